@@ -26,7 +26,7 @@ pub record IsFirstLineFault (source : List (List ℕ)) (fault : AsmFault) : Type
   pub split : source ≡ before ++ here ∷ behind
   pub number : fault.line ≡ length before + 1
   pub lines : List SourceLine
-  pub said : AreLines before lines
+  pub spelled : AreLines before lines
   pub once : EachLabelOnce lines
   pub faulty : IsLineFault lines here fault.kind
 
@@ -89,7 +89,7 @@ pub record IsFirstOperandFault (lines : List SourceLine) (fault : AsmFault) : Ty
 -- before all faults of operands.
 pub record IsLabelFault (source : List (List ℕ)) (fault : AsmFault) : Type 0 where
   pub lines : List SourceLine
-  pub said : AreLines source lines
+  pub spelled : AreLines source lines
   pub once : EachLabelOnce lines
   pub faulty : IsFirstDangling lines fault ⊎ (((at : ℕ) → ¬ IsDangling lines at) × IsFirstOperandFault lines fault)
 

@@ -36,5 +36,5 @@ pub record LinesMean (lines : List SourceLine) (code : List Instr) : Type 0 wher
 -- The source means this code.
 pub record IsMeaning (source : List ℕ) (code : List Instr) : Type 0 where
   pub lines : List SourceLine
-  pub said : AreLines (source_lines source) lines
+  pub spelled : AreLines (source_lines source) lines
   pub mean : LinesMean lines code

@@ -40,7 +40,7 @@ fn bad_number(text: &[u8]) -> bool
 /// Reads the rest of a line after its label.
 fn behind_label<'a>(label: &'a [u8], text: &'a [u8]) -> Option<LentLine<'a>>
     ensures { MatchOption result (body_in (Some label.entry.now) (tokens_in text.entry.now) ≡ None)
-        (λ said. body_in (Some label.entry.now) (tokens_in text.entry.now) ≡ Some (line_seen said)) }
+        (λ lent. body_in (Some label.entry.now) (tokens_in text.entry.now) ≡ Some (line_seen lent)) }
 {
     if at_end(text) {
         return Some(LentLine {
@@ -59,7 +59,7 @@ fn behind_label<'a>(label: &'a [u8], text: &'a [u8]) -> Option<LentLine<'a>>
 #[tactic(auto, unfolding(crate::specs::inner::Reading::line_in, crate::specs::inner::Reading::statement_in))]
 fn line_of(text: &[u8]) -> Option<LentLine<'_>>
     ensures { MatchOption result (line_in (tokens_in text.now) ≡ None)
-        (λ said. line_in (tokens_in text.now) ≡ Some (line_seen said)) }
+        (λ lent. line_in (tokens_in text.now) ≡ Some (line_seen lent)) }
 {
     let Some((name, rest)) = after_name(text) else {
         return if at_end(text) {
@@ -83,11 +83,11 @@ fn line_of(text: &[u8]) -> Option<LentLine<'_>>
 
 /// Reads a line, or returns the fault of its own.
 pub(crate) fn read_line(line: &[u8]) -> Result<LentLine<'_>, AsmKind>
-    ensures said { IfOk result (λ said. IsSourceLine line.now (line_seen said)) }
+    ensures spelled { IfOk result (λ lent. IsSourceLine line.now (line_seen lent)) }
     ensures fault { IfErr result (λ kind. (before : List SourceLine) → IsLineFault before line.now kind) }
 {
     match line_of(line) {
-        Some(said) => Ok(said),
+        Some(lent) => Ok(lent),
         // A line of the grammar has no bad number, so only other lines are searched for one.
         None if bad_number(line) => Err(AsmKind::BadNumber),
         None => Err(AsmKind::BadLine),

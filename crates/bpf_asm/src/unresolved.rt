@@ -55,15 +55,15 @@ fn first_form(statement: LentStatement<'_>) -> Instr
 }
 
 /// Returns the first line whose label no instruction follows yet, after one more line.
-fn pending_after(pending: Option<usize>, at: usize, said: &LentLine<'_>) -> Option<usize>
+fn pending_after(pending: Option<usize>, at: usize, lent: &LentLine<'_>) -> Option<usize>
     ensures { (before : List SourceLine) → length before ≡ at → IsPending before pending →
-        IsPending (before ++ line_seen said.now ∷ []) result }
+        IsPending (before ++ line_seen lent.now ∷ []) result }
 {
-    match said.statement {
+    match lent.statement {
         Some(_) => None,
         None => match pending {
             Some(first) => Some(first),
-            None => match said.label {
+            None => match lent.label {
                 Some(_) => Some(at),
                 None => None,
             },
@@ -92,18 +92,18 @@ impl<'a> Draft<'a> {
     }
 
     /// Sets the place of a line's label, if it has one, to the next place. Returns whether the label is new.
-    fn define(&mut self, said: LentLine<'a>) -> Result<bool, AllocError>
+    fn define(&mut self, lent: LentLine<'a>) -> Result<bool, AllocError>
         ensures code { self.new.code ≡ self.old.code }
         ensures unresolved { self.new.unresolved ≡ self.old.unresolved }
         ensures dangling { self.new.dangling ≡ self.old.dangling }
         ensures twice { IfOk result (λ fresh. fresh ≡ false → (lines : List SourceLine) (count : ℕ) →
-            AgreesWith lines (label_place self.old.labels) count → IsTwice lines (line_seen said.entry)) }
+            AgreesWith lines (label_place self.old.labels) count → IsTwice lines (line_seen lent.entry)) }
         ensures agree { IfOk result (λ fresh. IsTrue fresh → (lines : List SourceLine) →
             AgreesWith lines (label_place self.old.labels) (length self.old.code.items) →
-            AgreesWith (lines ++ line_seen said.entry ∷ []) (label_place self.new.labels)
-            (length self.old.code.items + statement_count (line_seen said.entry).statement)) }
+            AgreesWith (lines ++ line_seen lent.entry ∷ []) (label_place self.new.labels)
+            (length self.old.code.items + statement_count (line_seen lent.entry).statement)) }
     {
-        match said.label {
+        match lent.label {
             Some(label) => self.labels.define(label, self.code.len()),
             None => Ok(true),
         }
@@ -130,20 +130,20 @@ impl<'a> Draft<'a> {
     }
 
     /// Adds the label and the statement of a line, which is counted from 0.
-    fn add(&mut self, at: usize, said: LentLine<'a>) -> Result<(), AsmKind>
+    fn add(&mut self, at: usize, lent: LentLine<'a>) -> Result<(), AsmKind>
         requires { at < 2 ^ 64 - 1 }
         ensures drafts { OnOk result ((lines : List SourceLine) → length lines ≡ at → Drafts lines self.old →
-            Drafts (lines ++ line_seen said.entry ∷ []) self.new) }
+            Drafts (lines ++ line_seen lent.entry ∷ []) self.new) }
         ensures fault { (lines : List SourceLine) → Drafts lines self.old →
-            IfErr result (IsAddFault lines (line_seen said.entry)) }
+            IfErr result (IsAddFault lines (line_seen lent.entry)) }
     {
-        match self.define(said) {
+        match self.define(lent) {
             Ok(true) => {}
             Ok(false) => return Err(AsmKind::LabelTwice),
             Err(_) => return Err(AsmKind::NoMemory),
         }
-        self.dangling = pending_after(self.dangling, at, &said);
-        match said.statement {
+        self.dangling = pending_after(self.dangling, at, &lent);
+        match lent.statement {
             None => Ok(()),
             Some(statement) => self.put(at + 1, statement).map_err(|_| AsmKind::NoMemory),
         }
@@ -158,7 +158,7 @@ impl<'a> Draft<'a> {
             IfErr result (IsTakeFault lines line.entry.now) }
     {
         match read_line(line) {
-            Ok(said) => self.add(at, said),
+            Ok(lent) => self.add(at, lent),
             Err(kind) => Err(kind),
         }
     }

@@ -114,11 +114,11 @@ ends_apart format at octets (Some fault) frame begins (same, inr ends) =
 -- One thing is given of a frame.
 one_given : (count : ℕ) (held : Option (List ℕ)) (a b : Option Record) → IsGiven count held a → IsGiven count held b → a ≡ b
 one_given count None None None one other = refl
-one_given count None None (Some said) one other = absurd other
-one_given count None (Some said) b one other = absurd one
+one_given count None None (Some record_read) one other = absurd other
+one_given count None (Some record_read) b one other = absurd one
 one_given count (Some octets) None b one other = absurd one
-one_given count (Some octets) (Some said) None one other = absurd other
-one_given count (Some octets) (Some said) (Some second) one other = ap Some (one_saying (count + 1) octets said second one other)
+one_given count (Some octets) (Some record_read) None one other = absurd other
+one_given count (Some octets) (Some record_read) (Some second) one other = ap Some (one_saying (count + 1) octets record_read second one other)
 
 -- Octets are one list of frames.
 one_framing : (format : Format) (count at : ℕ) (octets : List ℕ) (frames others : List (Option Record)) (ending other : Option Fault)
@@ -129,20 +129,20 @@ one_framing format count at octets [] (given ∷ others) ending other one second
     absurd (ends_apart format at octets ending second.0 second.1 one)
 one_framing format count at octets (given ∷ frames) [] ending other one second =
     absurd (ends_apart format at octets other one.0 one.1 second)
-one_framing format count at octets (given ∷ frames) (told ∷ others) ending other one second =
+one_framing format count at octets (given ∷ frames) (rival ∷ others) ending other one second =
     let whole : Some (Ok second.0) ≡ Some (Ok one.0) = sym second.1 ∙ one.1 in
     let frame : second.0 ≡ one.0 = cc in
-    let P : Frame → Type 0 = λ f. IsGiven count f.held told
-    × IsFraming f.after (count_after count told) (at + f.size) (drop f.size octets) others other in
+    let P : Frame → Type 0 = λ f. IsGiven count f.held rival
+    × IsFraming f.after (count_after count rival) (at + f.size) (drop f.size octets) others other in
     let moved : P one.0 = subst P frame (second.2, second.3) in
-    let same : told ≡ given = one_given count one.0.held told given moved.0 one.2 in
+    let same : rival ≡ given = one_given count one.0.held rival given moved.0 one.2 in
     let Goes : Option Record → Type 0 = λ g.
     IsFraming one.0.after (count_after count g) (at + one.0.size) (drop one.0.size octets) others other in
     let later : (frames ≡ others) × (ending ≡ other) =
     one_framing one.0.after (count_after count given) (at + one.0.size) (drop one.0.size octets) frames others ending other one.3
     (subst Goes same moved.1)
     in
-    (ap (λ g. g ∷ frames) (sym same) ∙ ap (λ rest. told ∷ rest) later.0, later.1)
+    (ap (λ g. g ∷ frames) (sym same) ∙ ap (λ rest. rival ∷ rest) later.0, later.1)
 
 pub one_reading : HasOneReading
 one_reading format count at octets records others ending other one second =

@@ -74,7 +74,7 @@ some_content octets =
       ]
     ]
 
-some_saying : (number : ℕ) (octets : List ℕ) → (said : Record) × SaysRecord number octets said
+some_saying : (number : ℕ) (octets : List ℕ) → (record_read : Record) × SaysRecord number octets record_read
 some_saying number octets =
     let content = some_content octets in (
       record { number = number; interface = record_interface octets; time = record_time octets; content = content.0 },
@@ -83,18 +83,18 @@ some_saying number octets =
 
 some_given : (count : ℕ) (held : Option (List ℕ)) → (given : Option Record) × IsGiven count held given
 some_given count None = (None, tt)
-some_given count (Some octets) = let said = some_saying (count + 1) octets in (Some said.0, said.1)
+some_given count (Some octets) = let record_read = some_saying (count + 1) octets in (Some record_read.0, record_read.1)
 
 -- A frame has octets, and no more than there are.
-sized_some : (before least most said size : ℕ) → 0 < before + least → sized before least most said ≡ Ok size → 0 < size
-sized_some before least most said size some is =
-    elim (cases_lt said least) [
-      | inl short ↦ let bad = sym (when_below said least _ _ short) ∙ is in cc
-      | inr long ↦ elim (cases_lt most said) [
-        | inl far ↦ let bad = sym (when_above said least _ _ long ∙ when_below most said _ _ far) ∙ is in cc
+sized_some : (before least most stated size : ℕ) → 0 < before + least → sized before least most stated ≡ Ok size → 0 < size
+sized_some before least most stated size some is =
+    elim (cases_lt stated least) [
+      | inl short ↦ let bad = sym (when_below stated least _ _ short) ∙ is in cc
+      | inr long ↦ elim (cases_lt most stated) [
+        | inl far ↦ let bad = sym (when_above stated least _ _ long ∙ when_below most stated _ _ far) ∙ is in cc
         | inr near ↦
-            let same : Ok (before + said) ≡ Ok size = sym (when_above said least _ _ long ∙ when_above most said _ _ near) ∙ is in
-            let equal : before + said ≡ size = cc in omega arith
+            let same : Ok (before + stated) ≡ Ok size = sym (when_above stated least _ _ long ∙ when_above most stated _ _ near) ∙ is in
+            let equal : before + stated ≡ size = cc in omega arith
       ]
     ]
 

@@ -26,10 +26,10 @@ half_in_order LowestFirst octets = little_number 2 octets
 -- How many octets a frame has that says this number: those before what the number counts, and as many more as it says. The number has a
 -- least and a greatest value.
 abbrev pub sized : ℕ → ℕ → ℕ → ℕ → Result ℕ RecordFault
-sized before least most said =
-    if nat_lt said least then Err (ShortLength said)
-    else if nat_lt most said then Err (LongLength said)
-    else Ok (before + said)
+sized before least most stated =
+    if nat_lt stated least then Err (ShortLength stated)
+    else if nat_lt most stated then Err (LongLength stated)
+    else Ok (before + stated)
 
 -- The record in a packet: as much of the packet as the record says it has. It has its first header of 16 octets at least.
 abbrev pub record_in_packet : List ℕ → Result (List ℕ) RecordFault

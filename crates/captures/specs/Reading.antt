@@ -28,20 +28,20 @@ EndsReading format at octets (Some fault) = (fault.at ≡ at) × IsRecordFault f
 -- What is given of a frame after this many records: the record in it, or nothing if it holds none.
 abbrev pub IsGiven : ℕ → Option (List ℕ) → Option Record → Type 0
 IsGiven count None None = Unit {0}
-IsGiven count None (Some said) = ⊥
+IsGiven count None (Some record_read) = ⊥
 IsGiven count (Some octets) None = ⊥
-IsGiven count (Some octets) (Some said) = SaysRecord (count + 1) octets said
+IsGiven count (Some octets) (Some record_read) = SaysRecord (count + 1) octets record_read
 
 -- How many records there are after a frame.
 abbrev pub count_after : ℕ → Option Record → ℕ
 count_after count None = count
-count_after count (Some said) = count + 1
+count_after count (Some record_read) = count + 1
 
 -- The records that are given of frames.
 abbrev pub records_in : List (Option Record) → List Record
 records_in [] = []
 records_in (None ∷ frames) = records_in frames
-records_in (Some said ∷ frames) = said ∷ records_in frames
+records_in (Some record_read ∷ frames) = record_read ∷ records_in frames
 
 -- After this many records, at this place, the octets are frames of which this is given, in order, and then end: the whole capture was
 -- read, or this is its first fault.
@@ -78,7 +78,7 @@ pub record IsSamePlace (before after : Reader) : Type 0 where
 -- What comes next for a reader at octets, of which more may follow, and the reader after it: the frame with which they
 -- begin, what is given of it, and how many octets it has; or more octets are wanted; or a fault, whatever follows.
 abbrev pub ComesNext : Reader → List ℕ → Next → Reader → Type 0
-ComesNext before octets (Taken said own) after = TakesFrame before octets (Some said) own after
+ComesNext before octets (Taken record_read own) after = TakesFrame before octets (Some record_read) own after
 ComesNext before octets (Passed own) after = TakesFrame before octets None own after
 ComesNext before octets Unfinished after =
     (first_frame before.format before.at octets ≡ None) × (length octets < most_block) × IsSamePlace before after

@@ -5,8 +5,8 @@ use Rattle.captures.specs.RecordContent.{IsContent}
 use Rattle.captures.specs.declared.reader.Record.{Record}
 
 -- The record with this number says this.
-pub record SaysRecord (number : ℕ) (octets : List ℕ) (said : Record) : Type 0 where
-  pub numbered : said.number ≡ number
-  pub interface : said.interface ≡ record_interface octets
-  pub time : said.time ≡ record_time octets
-  pub content : IsContent octets said.content
+pub record SaysRecord (number : ℕ) (octets : List ℕ) (record_read : Record) : Type 0 where
+  pub numbered : record_read.number ≡ number
+  pub interface : record_read.interface ≡ record_interface octets
+  pub time : record_read.time ≡ record_time octets
+  pub content : IsContent octets record_read.content

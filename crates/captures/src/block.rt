@@ -2,7 +2,7 @@
 
 ghost use Rattle.std.specs.Prelude.{◌≡◌, ◌≤◌, ◌+◌, length, IfErr, IfOk, IfSome, Ok, Err, option_map};
 ghost use Rattle.captures.specs.Blocks.{block_order, block_size, block_held, even_block, held_of_type, is_section_header as begins_section, order_of_magic, record_of_packet, section_of_header, section_of_interface, whole_block_order};
-ghost use Rattle.captures.specs.Framing.{record_in_packet as record_of, sized as size_said};
+ghost use Rattle.captures.specs.Framing.{record_in_packet as record_of, sized as size_stated};
 
 use crate::fault::RecordFault;
 use crate::format::Order;
@@ -30,7 +30,7 @@ const ENHANCED_PACKET_OCTETS: usize = 32;
 /// Where the packet begins in its block.
 const PACKET_PLACE: usize = 28;
 
-/// What the blocks of a section of a pcapng file said so far.
+/// What the blocks of a section of a pcapng file stated so far.
 #[derive(Clone, Copy, PartialEq, Eq, Debug)]
 pub struct Section {
     /// In which order the octets of its numbers come.
@@ -115,8 +115,8 @@ impl Section {
         ensures { result ≡ block_size self octets.now }
     {
         let order = self.order_of(octets)?;
-        let said = order.number_in(from_place(octets, 4));
-        let size = sized(0, LEAST_BLOCK, MOST_BLOCK, said)?;
+        let stated = order.number_in(from_place(octets, 4));
+        let size = sized(0, LEAST_BLOCK, MOST_BLOCK, stated)?;
         even(size)
     }
 
@@ -199,11 +199,11 @@ impl Section {
         ensures { result ≡ whole_block_order self block.now }
     {
         let order = self.order_of(block)?;
-        let said = order.number_in(from_place(block, block.len() - 4));
-        if said as usize == block.len() {
+        let stated = order.number_in(from_place(block, block.len() - 4));
+        if stated as usize == block.len() {
             Ok(order)
         } else {
-            Err(RecordFault::LengthsDiffer(said))
+            Err(RecordFault::LengthsDiffer(stated))
         }
     }
 

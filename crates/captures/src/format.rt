@@ -30,7 +30,7 @@ pub enum Format {
     Erf,
     /// A file header of 24 octets, and then packets, each with a record. Numbers outside of the records are in this order.
     Pcap(Order),
-    /// Blocks, some with a record. The blocks so far said this of their section.
+    /// Blocks, some with a record. The blocks so far stated this of their section.
     PcapNg(Section),
 }
 

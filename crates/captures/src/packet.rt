@@ -2,7 +2,7 @@
 
 ghost use Rattle.std.specs.Prelude.{◌≡◌, ◌≤◌, ◌<◌, ◌+◌, ◌^◌, length, drop, IfErr, IfOk, Ok, Err};
 ghost use Rattle.captures.specs.Record.{record_length};
-ghost use Rattle.captures.specs.Framing.{record_in_packet as record_of, sized as size_said};
+ghost use Rattle.captures.specs.Framing.{record_in_packet as record_of, sized as size_stated};
 
 use crate::fault::RecordFault;
 use byteorder::{BigEndian, ByteOrder};
@@ -22,19 +22,19 @@ pub(crate) fn from_place(octets: &[u8], place: usize) -> &[u8]
 
 /// Returns the size of a frame that says this number.
 #[inline(always)]
-pub(crate) fn sized(before: usize, least: u32, most: u32, said: u32) -> Result<usize, RecordFault>
+pub(crate) fn sized(before: usize, least: u32, most: u32, stated: u32) -> Result<usize, RecordFault>
     requires { before ≤ 16 }
-    ensures size { result ≡ size_said before least most said }
+    ensures size { result ≡ size_stated before least most stated }
     ensures least { IfOk result (λ size. before + least ≤ size) }
     ensures most { IfOk result (λ size. size ≤ before + most) }
 {
-    if said < least {
-        return Err(RecordFault::ShortLength(said));
+    if stated < least {
+        return Err(RecordFault::ShortLength(stated));
     }
-    if most < said {
-        return Err(RecordFault::LongLength(said));
+    if most < stated {
+        return Err(RecordFault::LongLength(stated));
     }
-    Ok(before + said as usize)
+    Ok(before + stated as usize)
 }
 
 /// Returns the length that a record says it has.

@@ -13,7 +13,7 @@ use Rattle.card_core.specs.declared.connection_state.ConnectionState.{Connection
 use Rattle.card_core.specs.Agreement.{CoreView, CoreAgrees, seating_of}
 use Rattle.card_core.specs.ConnectionState.{IsStateIn}
 use Rattle.card_core.specs.World.{World, Connection, connection_in, handed_cells, kept_cells}
-use Rattle.card_core.specs.inner.Listing.{IsTold}
+use Rattle.card_core.specs.inner.Listing.{IsReadState}
 use Rattle.card_core.proofs.LookUps.{same_some, unmapped, mapped}
 
 -- The directory has no such connection, so the world has none.
@@ -23,10 +23,10 @@ missing-state core world vc agrees none =
     unmapped seating_of (connection_in world.connections vc) (sym (agrees.seatings.seatings vc) ∙ none)
 
 -- The values of the line of its seating are those of the connection.
-pub told-state : (core : CoreView) (world : World) (vc : Vc) (seating : Seating) (line : LineView) (told : ConnectionState)
+pub state-read : (core : CoreView) (world : World) (vc : Vc) (seating : Seating) (line : LineView) (read_state : ConnectionState)
     → CoreAgrees core world → seating_at core.directory vc ≡ Some seating → slice_get core.lines seating.line ≡ Some line
-    → IsTold seating line told → IsStateIn world vc told
-told-state core world vc seating line told agrees sits here values =
+    → IsReadState seating line read_state → IsStateIn world vc read_state
+state-read core world vc seating line read_state agrees sits here values =
     let found = mapped seating_of (connection_in world.connections vc) seating (sym (agrees.seatings.seatings vc) ∙ sits) in
     let connection : Connection = found.0 in
     let is : connection_in world.connections vc ≡ Some connection = found.1 in

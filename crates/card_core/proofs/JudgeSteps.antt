@@ -88,12 +88,12 @@ module _ (line next : LineView) (vc : Vc) (connection : Connection) (verdicts : 
       → answer ≡ Judged connection.line (number_with verdicts (verdict_on connection Cell)) found.moment found.named.value
       found.named.program (verdict_on connection Cell) (cell_after (verdict_on connection Cell) found.named.cell)
   judged-answer on =
-      let Told : ℕ → ℕ → Verdict → Answer = λ number many verdict.
+      let AnswerWith : ℕ → ℕ → Verdict → Answer = λ number many verdict.
       Judged number many found.moment found.named.value found.named.program verdict (cell_after verdict found.named.cell) in
       judges.answered
-      ∙ ap (λ (number : ℕ). Told number (count_of line.state.counts judges.entry.verdict + 1) judges.entry.verdict) on
-      ∙ ap (λ tally. Told connection.line (count_of tally judges.entry.verdict + 1) judges.entry.verdict) counts
-      ∙ ap (λ (verdict : Verdict). Told connection.line (count_of (tally_of verdicts) verdict + 1) verdict) judged-verdict
+      ∙ ap (λ (number : ℕ). AnswerWith number (count_of line.state.counts judges.entry.verdict + 1) judges.entry.verdict) on
+      ∙ ap (λ tally. AnswerWith connection.line (count_of tally judges.entry.verdict + 1) judges.entry.verdict) counts
+      ∙ ap (λ (verdict : Verdict). AnswerWith connection.line (count_of (tally_of verdicts) verdict + 1) verdict) judged-verdict
 
 -- The refusal of a picked cell, from the world's connection.
 refused-as : (world : World) (port : ℕ) (picking : Picking) → slice_get world.ports port ≡ Some (picked picking)

@@ -15,8 +15,8 @@ use Rattle.card_core.specs.Log.{Event, Run, Leads}
 use Rattle.card_core.specs.Headline.{Never, moves, changes, loads, retires, named_after, program_after, verdicts_on, cells_on, cells_judged_on, entering, picking, setting_up, HasEntered, StandsSince, IsLoadedOnce}
 use Rattle.card_core.proofs.Sound.{WorldInvariant}
 use Rattle.card_core.proofs.GivenOnce.{given-step, code-kept}
-use Rattle.card_core.proofs.Told.{Kept, IsFresh, kept, fresh, IsPickedNow, StepTold}
-use Rattle.card_core.proofs.Telling.{step-tells}
+use Rattle.card_core.proofs.Effects.{Kept, IsFresh, kept, fresh, IsPickedNow, StepEffects}
+use Rattle.card_core.proofs.EffectsOfSteps.{step-effects}
 use Rattle.card_core.proofs.LookUps.{same_some, replicated}
 use Rattle.card_core.proofs.SoundChanges.{opening-sound}
 use Rattle.card_core.proofs.SoundSteps.{sound-step}
@@ -141,12 +141,12 @@ pub record KnowsPick (shape : Shape) (log : List Event) (given : List Loading) (
 
 -- One more event that doesn't move the port.
 pick-more : (shape : Shape) (log : List Event) (before after : World) (step : Step) (reply : Reply) (port : ℕ) (pick : Picking)
-    → WorldInvariant before → StepTold shape before step reply after
+    → WorldInvariant before → StepEffects shape before step reply after
     → ((id : Id) (code : List Instr) → code_in before.given id ≡ Some code → code_in after.given id ≡ Some code)
     → slice_get before.ports port ≡ Some (picked pick) → moves port (event_of step reply) ≡ false
     → KnowsPick shape log before.given before.connections port pick
     → KnowsPick shape (log ++ event_of step reply ∷ []) after.given after.connections port pick
-pick-more shape log before after step reply port pick sound tells keeps_codes had still known =
+pick-more shape log before after step reply port pick sound effects keeps_codes had still known =
     let event : Event = event_of step reply in
     record {
       at_pick = known.at_pick;
@@ -158,7 +158,7 @@ pick-more shape log before after step reply port pick sound tells keeps_codes ha
       given_code = keeps_codes pick.program known.code known.given_code;
       loaded = known.loaded;
       gives = known.gives;
-      standing = λ connection found same. elim (tells.connections pick.vc connection found) [
+      standing = λ connection found same. elim (effects.connections pick.vc connection found) [
         | kept old at keeps ↦
             let on = known.standing old at (sym keeps.incarnation ∙ same) in
             record {
@@ -175,7 +175,7 @@ pick-more shape log before after step reply port pick sound tells keeps_codes ha
 
 -- The event in which the cell is picked.
 pick-now : (shape : Shape) (log : List Event) (before after : World) (step : Step) (reply : Reply) (port : ℕ) (pick : Picking)
-    → StepTold shape before step reply after
+    → StepEffects shape before step reply after
     → ((id : Id) (code : List Instr) → code_in before.given id ≡ Some code → code_in after.given id ≡ Some code)
     → KnowsCodes log before.given before.live
     → ((vc : Vc) (connection : Connection) → connection_in before.connections vc ≡ Some connection → KnowsConnection shape log vc connection)
@@ -183,7 +183,7 @@ pick-now : (shape : Shape) (log : List Event) (before after : World) (step : Ste
     → WorldInvariant before
     → IsPickedNow before port pick step reply
     → KnowsPick shape (log ++ event_of step reply ∷ []) after.given after.connections port pick
-pick-now shape log before after step reply port pick tells keeps_codes codes connections arrived sound now =
+pick-now shape log before after step reply port pick effects keeps_codes codes connections arrived sound now =
     let event : Event = event_of step reply in
     let event_is : event ≡ picking port =
     ap (λ (s : Step). event_of s reply) now.step_is ∙ ap (λ (r : Reply). event_of (Pick port) r) now.reply_is in
@@ -197,7 +197,7 @@ pick-now shape log before after step reply port pick tells keeps_codes codes con
       given_code = keeps_codes pick.program now.code now.given;
       loaded = codes.loaded pick.program now.code now.given;
       gives = now.gives;
-      standing = λ connection found same. elim (tells.connections pick.vc connection found) [
+      standing = λ connection found same. elim (effects.connections pick.vc connection found) [
         | kept old at keeps ↦
             let known = connections pick.vc old at in
             let named : pick.program ≡ old.program =
@@ -248,29 +248,29 @@ knows-opening shape = record {
 pub knows-step : (shape : Shape) (log : List Event) (before after : World) (step : Step) (reply : Reply) → WorldInvariant before
     → Knows shape log before → WorldStep before step reply after → Knows shape (log ++ event_of step reply ∷ []) after
 knows-step shape log before after step reply sound known w =
-    let tells = step-tells shape before step reply after sound known.shape_is w in
+    let effects = step-effects shape before step reply after sound known.shape_is w in
     let keeps_codes = code-kept before.given after.given (given-step before step reply after sound w) in
     record {
-      shape_is = tells.shape_same ∙ known.shape_is;
-      codes = codes-step log before after step reply sound known.codes tells.store;
-      connections = λ vc connection found. elim (tells.connections vc connection found) [
+      shape_is = effects.shape_same ∙ known.shape_is;
+      codes = codes-step log before after step reply sound known.codes effects.store;
+      connections = λ vc connection found. elim (effects.connections vc connection found) [
         | kept old at keeps ↦ connection-more shape log vc old connection step reply keeps (known.connections vc old at)
         | fresh new ↦ connection-fresh shape log before.used vc connection step reply new
       ];
-      entered_ports = λ port cell moment e. elim (tells.ports.entered_ports port cell moment e) [
+      entered_ports = λ port cell moment e. elim (effects.ports.entered_ports port cell moment e) [
         | inl stays ↦ entered-more log port cell moment step reply stays.1 (known.entered_ports port cell moment stays.0)
         | inr now ↦ entered-now log port cell moment step reply now.0 now.1
       ];
-      picked_ports = λ port pick e. elim (tells.ports.picked_ports port pick e) [
+      picked_ports = λ port pick e. elim (effects.ports.picked_ports port pick e) [
         | inl stays ↦
-            pick-more shape log before after step reply port pick sound tells keeps_codes stays.0 stays.1
+            pick-more shape log before after step reply port pick sound effects keeps_codes stays.0 stays.1
             (known.picked_ports port pick stays.0)
         | inr now ↦
-            pick-now shape log before after step reply port pick tells keeps_codes known.codes known.connections
+            pick-now shape log before after step reply port pick effects keeps_codes known.codes known.connections
             (known.entered_ports port pick.cell pick.moment now.had) sound now
       ];
       verdicts = λ line.
-          tells.verdicts line ∙ ap (λ verdicts. verdicts ++ verdicts_on line (event_of step reply ∷ [])) (known.verdicts line)
+          effects.verdicts line ∙ ap (λ verdicts. verdicts ++ verdicts_on line (event_of step reply ∷ [])) (known.verdicts line)
           ∙ sym (verdicts_on-append line log (event_of step reply ∷ []));
     }
 

@@ -13,7 +13,7 @@ use Rattle.card_core.specs.Log.{Event}
 use Rattle.card_core.specs.Headline.{Never, loads, retires, loading, IsLoadedOnce}
 use Rattle.card_core.proofs.Sound.{WorldInvariant}
 use Rattle.card_core.proofs.LogLemmas.{event_of, cut-more, never-nothing, never-more}
-use Rattle.card_core.proofs.Told.{StoreTold, store_same, store_loaded, store_retired}
+use Rattle.card_core.proofs.Effects.{StoreEffects, store_same, store_loaded, store_retired}
 use Rattle.card_core.proofs.CodeLemmas.{code-cases, without_code-was}
 
 -- One more event that loads nothing under the id.
@@ -58,7 +58,7 @@ none-given given id other code e = elim (id_cases other id) [
 ]
 
 pub codes-step : (log : List Event) (before after : World) (step : Step) (reply : Reply) → WorldInvariant before
-    → KnowsCodes log before.given before.live → StoreTold before after step reply
+    → KnowsCodes log before.given before.live → StoreEffects before after step reply
     → KnowsCodes (log ++ event_of step reply ∷ []) after.given after.live
 codes-step log before after step reply sound known (store_same given live none_loaded none_retired) =
     let event : Event = event_of step reply in

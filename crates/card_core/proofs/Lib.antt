@@ -41,7 +41,7 @@ pub mod Spares
 pub mod Standing
 pub mod StoreLemmas
 pub mod StoreSteps
-pub mod Telling
-pub mod TellingCells
-pub mod TellingRefusals
-pub mod Told
+pub mod EffectsOfSteps
+pub mod EffectsOfCells
+pub mod EffectsOfRefusals
+pub mod Effects

@@ -12,21 +12,21 @@ use Rattle.card_core.specs.Laws.{LogsBoundBursts}
 use Rattle.card_core.proofs.LookUps.{there_is}
 use Rattle.card_core.proofs.SoundSteps.{reached-sound}
 use Rattle.card_core.proofs.OneAnswer.{one-standing}
-use Rattle.card_core.proofs.Standing.{connections-told}
+use Rattle.card_core.proofs.Standing.{connections-of_log}
 
 -- The cells of a connection since its setup, by the log, are a history.
-told-history : (shape : Shape) (log : List Event) (world : World) → Leads shape log world
+history-of_log : (shape : Shape) (log : List Event) (world : World) → Leads shape log world
     → (vc : Vc) (ask : Ask) (since : List Event) → StandsSince log vc ask since → IsHistory (cells_judged_on shape vc since)
-told-history shape log world leads vc ask since stands =
-    let told = connections-told shape log world leads in
-    let found = there_is (connection_in world.connections vc) (told.there vc ask since stands) in
+history-of_log shape log world leads vc ask since stands =
+    let known = connections-of_log shape log world leads in
+    let found = there_is (connection_in world.connections vc) (known.there vc ask since stands) in
     let connection : Connection = found.0 in
-    let as_told = told.told vc connection found.1 in
-    let same = one-standing log vc as_told.ask ask as_told.since since as_told.stands stands in
-    let cells : connection.history ≡ cells_judged_on shape vc since = as_told.cells ∙ ap (cells_judged_on shape vc) same.1 in
+    let of_log = known.connections vc connection found.1 in
+    let same = one-standing log vc of_log.ask ask of_log.since since of_log.stands stands in
+    let cells : connection.history ≡ cells_judged_on shape vc since = of_log.cells ∙ ap (cells_judged_on shape vc) same.1 in
     subst IsHistory cells ((reached-sound shape log world leads).connections.each vc connection found.1).history
 
 pub logs-bound : LogsBoundBursts
 logs-bound shape log is vc ask since stands number contract named first span =
     (histories_bound_bursts ask.contracts.items empty_buckets 0 (cells_judged_on shape vc since)
-    (told-history shape log is.0 is.1 vc ask since stands) number contract named first span).0
+    (history-of_log shape log is.0 is.1 vc ask since stands) number contract named first span).0

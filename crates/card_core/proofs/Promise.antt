@@ -21,8 +21,8 @@ use Rattle.card_core.proofs.Sound.{WorldInvariant}
 use Rattle.card_core.proofs.LookUps.{same_some, there_is}
 use Rattle.card_core.proofs.Allowed.{IsAllowed, succeeded, starved, rejected, step-case, picking-allowed}
 use Rattle.card_core.proofs.SoundSteps.{history-more, reached-sound}
-use Rattle.card_core.proofs.TellingCells.{judgement_on}
-use Rattle.card_core.proofs.TellingRefusals.{CellRefused, at_no_time, with_answer, judge-refused}
+use Rattle.card_core.proofs.EffectsOfCells.{judgement_on}
+use Rattle.card_core.proofs.EffectsOfRefusals.{CellRefused, at_no_time, with_answer, judge-refused}
 use Rattle.card_core.proofs.LogLemmas.{first-cut, one-cut, never-joined, never-before, never-after}
 use Rattle.card_core.proofs.Knows.{Knows, KnowsPick, leads-knows}
 use Rattle.card_core.proofs.Returning.{returns-safely}

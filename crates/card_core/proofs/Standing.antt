@@ -16,7 +16,7 @@ use Rattle.card_core.specs.Refusals.{setup_fault}
 use Rattle.card_core.specs.Steps.{Succeeds, WorldStep, left_by, left_by_pick, left_by_judge, new_connection}
 use Rattle.card_core.specs.Log.{Event, Run, Leads}
 use Rattle.card_core.specs.Headline.{Never, changes, setting_up, StandsSince}
-use Rattle.card_core.specs.Laws.{IsAsTold, ConnectionsAreAsTold}
+use Rattle.card_core.specs.Laws.{IsConnectionOfLog, ConnectionsFollowFromTheLog}
 use Rattle.card_core.proofs.LookUps.{mapped}
 use Rattle.card_core.proofs.LogLemmas.{event_of, never-first, never-later}
 use Rattle.card_core.proofs.ConnectionLemmas.{with-here, with-others, without-others}
@@ -60,9 +60,9 @@ stays-success before (Setup ask) reply after vc there w still =
 stays-success before (Reload other program) reply after vc there w still =
     subst (λ (v : World). IsThere v vc) (sym w.world) (there-with before.connections other _ vc there)
 stays-success before (Release other) reply after vc there w still =
-    let told : is_same_vc vc other ≡ false = subst (λ (r : Reply). Unchanged vc (Release other) r) w.answer still in
+    let differs : is_same_vc vc other ≡ false = subst (λ (r : Reply). Unchanged vc (Release other) r) w.answer still in
     subst (λ (v : World). IsThere v vc) (sym w.world)
-    (ap is_some (without-others before.connections other vc (apart-from vc other told)) ∙ there)
+    (ap is_some (without-others before.connections other vc (apart-from vc other differs)) ∙ there)
 stays-success before (Cut other) reply after vc there w still =
     subst (λ (v : World). IsThere v vc) (sym w.world) (there-with before.connections other _ vc there)
 
@@ -128,9 +128,9 @@ standing-there shape log world leads vc ask since stands =
     (set-up-there parts.0 ask (record { vc = ask.vc; incarnation = stands.incarnation }) parts.2.0 parts.2.1) in
     stays-run parts.2.0 since world vc there parts.2.2 stands.standing
 
-as-told : (shape : Shape) (log : List Event) (vc : Vc) (connection : Connection) → KnowsConnection shape log vc connection
-    → IsAsTold shape log vc connection
-as-told shape log vc connection known = record {
+of-log : (shape : Shape) (log : List Event) (vc : Vc) (connection : Connection) → KnowsConnection shape log vc connection
+    → IsConnectionOfLog shape log vc connection
+of-log shape log vc connection known = record {
   ask = known.ask;
   since = known.since;
   stands = known.stood.stands;
@@ -141,8 +141,8 @@ as-told shape log vc connection known = record {
   held = known.stood.held;
 }
 
-pub connections-told : ConnectionsAreAsTold
-connections-told shape log world leads = record {
-  told = λ vc connection found. as-told shape log vc connection ((leads-knows shape log world leads).connections vc connection found);
+pub connections-of_log : ConnectionsFollowFromTheLog
+connections-of_log shape log world leads = record {
+  connections = λ vc connection found. of-log shape log vc connection ((leads-knows shape log world leads).connections vc connection found);
   there = standing-there shape log world leads;
 }

@@ -1,4 +1,4 @@
--- The state of a connection as a read of the card tells it, and the order in which reads list the connections.
+-- The state of a connection as a call that reads the card returns it, and the order in which reads list the connections.
 use Rattle.std.specs.Prelude.{◌≡◌, ◌^◌, ◌≤◌, ◌==◌, nat_lt, Bool, true, false, ◌&&◌, ◌||◌, length, Option, Some, None, IsSome}
 use Rattle.upc_cell.specs.declared.vc.Vc.{Vc}
 use Rattle.line_record.specs.StateAfter.{IsStateAfter}
@@ -9,22 +9,22 @@ use Rattle.card_core.specs.World.{World, Connection, connection_in, kept_cells}
 -- The world has the connection, and this is its state: its incarnation, line, program and contracts; levels that
 -- represent the buckets after its history, and the last moment of the history; the counts of all verdicts ever given on
 -- its line; and the number of its cells that no cut has returned.
-pub record IsStateIn (world : World) (vc : Vc) (told : ConnectionState) : Type 0 where
+pub record IsStateIn (world : World) (vc : Vc) (read_state : ConnectionState) : Type 0 where
   pub connection : Connection
   pub found : connection_in world.connections vc ≡ Some connection
-  pub incarnation : told.incarnation ≡ connection.incarnation
-  pub line : told.line ≡ connection.line
-  pub program : told.program ≡ connection.program
-  pub contracts : told.contracts.items ≡ connection.contracts
-  pub state : IsStateAfter connection.contracts connection.history told.state
-  pub counts : told.state.counts ≡ tally_of (world.judged connection.line)
-  pub entries : told.entries ≡ length (kept_cells connection)
+  pub incarnation : read_state.incarnation ≡ connection.incarnation
+  pub line : read_state.line ≡ connection.line
+  pub program : read_state.program ≡ connection.program
+  pub contracts : read_state.contracts.items ≡ connection.contracts
+  pub state : IsStateAfter connection.contracts connection.history read_state.state
+  pub counts : read_state.state.counts ≡ tally_of (world.judged connection.line)
+  pub entries : read_state.entries ≡ length (kept_cells connection)
 
 -- There are levels for each contract, at most four of them, and the last moment is at most 2^62.
-pub record HasLevelsForEach (told : ConnectionState) : Type 0 where
-  pub one_each : length told.state.levels.items ≡ length told.contracts.items
-  pub few : length told.contracts.items ≤ 4
-  pub last : told.state.last ≤ 2 ^ 62
+pub record HasLevelsForEach (read_state : ConnectionState) : Type 0 where
+  pub one_each : length read_state.state.levels.items ≡ length read_state.contracts.items
+  pub few : length read_state.contracts.items ≤ 4
+  pub last : read_state.state.last ≤ 2 ^ 62
 
 -- Whether the first connection comes before the other one: by path, and those of one path by channel.
 abbrev pub is_before : Vc → Vc → Bool

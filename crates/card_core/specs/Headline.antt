@@ -21,7 +21,7 @@ use Rattle.card_core.specs.declared.step.Step.{Step}
 use Rattle.card_core.specs.declared.step.Step.TheVariants.{Enter, Pick, Judge, Load, Retire, Setup, Reload, Release}
 use Rattle.upc_cell.specs.Header.{has_low_priority}
 use Rattle.upc_cell.specs.Connection.{vc_of}
-use Rattle.card_core.specs.Judged.{JudgedView, told}
+use Rattle.card_core.specs.Judged.{JudgedView, judgement_in}
 use Rattle.card_core.specs.Steps.{Gives, cell_after, named_cell, number_with}
 use Rattle.card_core.specs.Log.{Event, IsLog}
 use Rattle.card_core.specs.Returning.{ReturnsSafely}
@@ -86,7 +86,7 @@ program_after vc first log = fold (λ program event. named_after vc program even
 
 -- The judged cell of the reply, if it has one.
 abbrev pub judged_in : Reply → Option JudgedView
-judged_in (Answered answer) = told answer
+judged_in (Answered answer) = judgement_in answer
 judged_in _ = None
 
 -- The judged cells of the log.

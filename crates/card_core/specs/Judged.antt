@@ -17,8 +17,8 @@ pub record JudgedView : Type 0 where
   pub cell : List ℕ
 
 -- The judged cell of an answer, if the answer is Judged.
-abbrev pub told : Answer → Option JudgedView
-told (Judged line number moment value program verdict cell) = Some (record {
+abbrev pub judgement_in : Answer → Option JudgedView
+judgement_in (Judged line number moment value program verdict cell) = Some (record {
   line = line;
   number = number;
   moment = moment;
@@ -27,4 +27,4 @@ told (Judged line number moment value program verdict cell) = Some (record {
   verdict = verdict;
   cell = cell;
 })
-told _ = None
+judgement_in _ = None

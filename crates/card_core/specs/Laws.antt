@@ -115,7 +115,7 @@ SomeAnswersNeverCome = (shape : Shape) (before after : List Event) (event : Even
 -- The connection agrees with the log: it was set up by this request, with this incarnation, and was neither released
 -- nor set up again since. Its program is the latest that it was given. Its history is the list of the cells judged
 -- since then on its virtual connection, which are also those judged on its line.
-pub record IsAsTold (shape : Shape) (log : List Event) (vc : Vc) (connection : Connection) : Type 0 where
+pub record IsConnectionOfLog (shape : Shape) (log : List Event) (vc : Vc) (connection : Connection) : Type 0 where
   pub ask : Ask
   pub since : List Event
   pub stands : StandsSince log vc ask since
@@ -127,16 +127,16 @@ pub record IsAsTold (shape : Shape) (log : List Event) (vc : Vc) (connection : C
 
 -- Each connection of the world agrees with the log. Each connection that, by the log, was set up and neither released
 -- nor set up again since is in the world.
-pub record TellsConnections (shape : Shape) (log : List Event) (world : World) : Type 0 where
-  pub told : (vc : Vc) (connection : Connection) → connection_in world.connections vc ≡ Some connection
-      → IsAsTold shape log vc connection
+pub record HasConnectionsOfLog (shape : Shape) (log : List Event) (world : World) : Type 0 where
+  pub connections : (vc : Vc) (connection : Connection) → connection_in world.connections vc ≡ Some connection
+      → IsConnectionOfLog shape log vc connection
   pub there : (vc : Vc) (ask : Ask) (since : List Event) → StandsSince log vc ask since
       → IsSome (connection_in world.connections vc)
 
 -- This holds in every world that a log leads to.
-abbrev pub ConnectionsAreAsTold : Type 0
-ConnectionsAreAsTold = (shape : Shape) (log : List Event) (world : World) → Leads shape log world
-    → TellsConnections shape log world
+abbrev pub ConnectionsFollowFromTheLog : Type 0
+ConnectionsFollowFromTheLog = (shape : Shape) (log : List Event) (world : World) → Leads shape log world
+    → HasConnectionsOfLog shape log world
 
 -- The burst bound over the log alone, for the cells judged on a connection since it was set up that one of its
 -- contracts passed or tagged.

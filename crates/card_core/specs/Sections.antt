@@ -25,7 +25,7 @@ use Rattle.card_core.specs.declared.ask.Ask.{Ask}
 use Rattle.card_core.specs.declared.fault.DeskFault.{DeskFault}
 use Rattle.card_core.specs.declared.fault.DeskFault.TheVariants.{NoProgram, Taken, BadContracts, NoLine, Exhausted, Stale, NoMemory as DeskNoMemory}
 use Rattle.card_core.specs.Steps.{Gives, cell_after, named_cell}
-pub use Rattle.card_core.specs.Judged.{JudgedView, told}
+pub use Rattle.card_core.specs.Judged.{JudgedView, judgement_in}
 
 -- The value that a program gave for a cell: the program, the cell and the value.
 pub record NamedView : Type 0 where

@@ -2,7 +2,7 @@
 
 ghost use Rattle.std.specs.Prelude.{◌≡◌, length};
 ghost use Rattle.card_core.specs.ConnectionState.{HasLevelsForEach, is_before, is_after};
-ghost use Rattle.card_core.specs.inner.Listing.{IsNearest, IsTold, nearer};
+ghost use Rattle.card_core.specs.inner.Listing.{IsNearest, IsReadState, nearer};
 
 use arrayvec::ArrayVec;
 use gen_arena::Id;
@@ -30,7 +30,7 @@ pub struct ConnectionState {
 
 /// Returns the state of the connection with this seating, which this line serves.
 pub(crate) fn state_of(seating: &Seating, line: &Line) -> ConnectionState
-    ensures told { IsTold seating.now line.now result }
+    ensures read_state { IsReadState seating.now line.now result }
     ensures sized { HasLevelsForEach result }
 {
     ConnectionState {

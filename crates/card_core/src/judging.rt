@@ -5,7 +5,7 @@ ghost use Rattle.line_record.specs.History.{IsNoNumber};
 ghost use Rattle.line_record.specs.Line.{IsLine};
 ghost use Rattle.line_record.specs.Tally.{counted, count_of};
 ghost use Rattle.card_core.specs.Steps.{cell_after};
-ghost use Rattle.card_core.specs.Sections.{holder, is_owned_by, answer_to, judging_refusal, JudgesAt, told};
+ghost use Rattle.card_core.specs.Sections.{holder, is_owned_by, answer_to, judging_refusal, JudgesAt, judgement_in};
 
 use crate::answer::{Answer, Judgement, Unjudged};
 use crate::picking::Named;
@@ -24,24 +24,24 @@ pub fn judge_at(line: &mut Line, vc: Vc, seating: &Seating, named: &Named, momen
         (λ refused. (result ≡ refused) × (line.new ≡ line.old)) }
 
     // The answer to a judged cell.
-    ensures line { IfSome (told result) (λ judged. judged.line ≡ seating.now.line) }
-    ensures number { IfSome (told result) (λ judged.
+    ensures line { IfSome (judgement_in result) (λ judged. judged.line ≡ seating.now.line) }
+    ensures number { IfSome (judgement_in result) (λ judged.
         judged.number ≡ count_of line.old.state.counts judged.verdict + 1) }
-    ensures moment { IfSome (told result) (λ judged. judged.moment ≡ moment) }
-    ensures value { IfSome (told result) (λ judged. judged.value ≡ named.now.value) }
-    ensures program { IfSome (told result) (λ judged. judged.program ≡ named.now.program) }
-    ensures cell { IfSome (told result) (λ judged. judged.cell ≡ cell_after judged.verdict named.now.cell) }
+    ensures moment { IfSome (judgement_in result) (λ judged. judged.moment ≡ moment) }
+    ensures value { IfSome (judgement_in result) (λ judged. judged.value ≡ named.now.value) }
+    ensures program { IfSome (judgement_in result) (λ judged. judged.program ≡ named.now.program) }
+    ensures cell { IfSome (judgement_in result) (λ judged. judged.cell ≡ cell_after judged.verdict named.now.cell) }
 
     // A connection has at most four contracts.
-    ensures unnamed { IfSome (told result) (λ judged.
+    ensures unnamed { IfSome (judgement_in result) (λ judged.
         IsNoNumber judged.value → judged.verdict ≡ Verdict.Refuse) }
 
     // The line's invariant holds before. Its owner is unchanged, and it counts the cell exactly if the cell was judged.
     ensures kept { IsLine line.old }
     ensures owner { line.new.owner ≡ line.old.owner }
-    ensures counts { IfSome (told result) (λ judged.
+    ensures counts { IfSome (judgement_in result) (λ judged.
         line.new.state.counts ≡ counted line.old.state.counts judged.verdict) }
-    ensures unchanged { IfNone (told result) (line.new ≡ line.old) }
+    ensures unchanged { IfNone (judgement_in result) (line.new ≡ line.old) }
 
     // The answer is never NoMemory and never Stale: nothing is allocated, and no program is looked up.
     ensures memory { result ≢ Answer.NoMemory }
@@ -49,7 +49,7 @@ pub fn judge_at(line: &mut Line, vc: Vc, seating: &Seating, named: &Named, momen
     ensures connection { result ≢ Answer.NoConnection }
 {
     let cell = named.cell();
-    match tell_at(line, vc, seating, named, moment) {
+    match judge_without_cell(line, vc, seating, named, moment) {
         Ok(judged) => Answer::Judged {
             line: judged.line,
             number: judged.number,
@@ -65,7 +65,7 @@ pub fn judge_at(line: &mut Line, vc: Vc, seating: &Seating, named: &Named, momen
 
 /// Judges a cell as [`judge_at`] does, and returns the judgement without the leaving cell, so that no cell is copied.
 #[inline(always)]
-pub(crate) fn tell_at(
+pub(crate) fn judge_without_cell(
     line: &mut Line,
     vc: Vc,
     seating: &Seating,

@@ -1,7 +1,7 @@
 //! Laws of the worlds and logs of a card. Each function does nothing; its contract is the law.
 
 ghost use Rattle.card_core.specs.Headline.{TheHeadline};
-ghost use Rattle.card_core.specs.Laws.{NamedProgramsAreLive, IdsAreGivenOnce, IdsNameOneCode, ConnectionsAreApart, ConnectionsBoundBursts, StepsHaveReplies, SomeAnswersNeverCome, ConnectionsAreAsTold, LogsBoundBursts, PromisesLeaveOneAnswer};
+ghost use Rattle.card_core.specs.Laws.{NamedProgramsAreLive, IdsAreGivenOnce, IdsNameOneCode, ConnectionsAreApart, ConnectionsBoundBursts, StepsHaveReplies, SomeAnswersNeverCome, ConnectionsFollowFromTheLog, LogsBoundBursts, PromisesLeaveOneAnswer};
 
 /// The headline. An accepted program returns on every cell within as many instructions as it has, never leaving its
 /// code or reading an unwritten scratch word. The promise holds for each judged cell of a log.
@@ -51,8 +51,8 @@ pub fn promises_leave_one_answer()
 {}
 
 /// The connections are those of the log, each with the program and the history that it has by the log.
-pub fn connections_are_as_told()
-    ensures { ConnectionsAreAsTold }
+pub fn connections_follow_from_the_log()
+    ensures { ConnectionsFollowFromTheLog }
 {}
 
 /// The burst bound of each contract's bucket 1, over the cells of a connection in the log.

@@ -6,7 +6,7 @@ use crate::answer::{Answer, Judgement, Unjudged};
 use crate::ask::Ask;
 use crate::desk;
 use crate::fault::{CardFault, DeskFault};
-use crate::judging::{judge_at, tell_at};
+use crate::judging::{judge_at, judge_without_cell};
 use crate::picking::{Store, name, pick};
 use crate::port::{
     Came, Found, Port, are_outside, entered_at, is_idle_at, move_port, outside_ports, picked_at,
@@ -224,13 +224,13 @@ impl Core {
         cell: &Cell,
         moment: u64,
     ) -> Option<Result<Judgement, Unjudged>>
-        ensures answered { IfSome result (λ told.
-            AnswersArrival self.old port cell.now moment (answer_to cell.now told) self.new) }
+        ensures answered { IfSome result (λ decision.
+            AnswersArrival self.old port cell.now moment (answer_to cell.now decision) self.new) }
         ensures not_now { IfNone result (Follows self.old (Enter port cell.now moment) Reply.NotNow self.new) }
         ensures rest { self.new ≡ record self.old { lines = self.new.lines } }
         ensures unchanged { IfNone result (self.new ≡ self.old) }
-        ensures refused { IfSome result (λ told. OnErr told (self.new ≡ self.old)) }
-        ensures memory { IfSome result (λ told. answer_to cell.now told ≢ Answer.NoMemory) }
+        ensures refused { IfSome result (λ decision. OnErr decision (self.new ≡ self.old)) }
+        ensures memory { IfSome result (λ decision. answer_to cell.now decision ≢ Answer.NoMemory) }
     {
         if !is_idle_at(&self.ports, port) {
             return None;
@@ -239,7 +239,7 @@ impl Core {
         let side = self.shape.side;
         let picked = find_and_name(&self.store, &self.directory, side, cell, moment);
         match picked {
-            Ok(found) => Some(tell_line(&mut self.lines, &found)),
+            Ok(found) => Some(judge_line_without_cell(&mut self.lines, &found)),
             Err(reason) => Some(Err(reason)),
         }
     }
@@ -414,7 +414,7 @@ fn find_and_name(
 
 /// Judges a picked cell on its line. Returns the judgement without the leaving cell.
 #[inline(always)]
-fn tell_line(lines: &mut Vec<Line>, found: &Found) -> Result<Judgement, Unjudged>
+fn judge_line_without_cell(lines: &mut Vec<Line>, found: &Found) -> Result<Judgement, Unjudged>
     requires { found.now.seating.line < length lines.old.items }
     ensures line { ChangesLine lines.old.items found.now.seating.line
         (JudgesOrRefuses found.now (answer_to found.now.named.cell result)) lines.new.items }
@@ -422,7 +422,7 @@ fn tell_line(lines: &mut Vec<Line>, found: &Found) -> Result<Judgement, Unjudged
     ensures memory { answer_to found.now.named.cell result ≢ Answer.NoMemory }
 {
     let line = &mut lines[usize::from(found.seating.line)];
-    tell_at(line, found.vc, &found.seating, &found.named, found.moment)
+    judge_without_cell(line, found.vc, &found.seating, &found.named, found.moment)
 }
 
 /// Judges a picked cell on its line.

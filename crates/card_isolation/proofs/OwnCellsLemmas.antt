@@ -18,7 +18,7 @@ use Rattle.card_core.specs.declared.step.Step.TheVariants.{Enter, Pick, Judge, L
 use Rattle.card_core.specs.World.{World, Loading, PortState, outside, entered, picked, code_in, connection_in, opening_world}
 use Rattle.card_core.specs.Refusals.{refusal, pick_refusal, judge_refusal, picking_refusal, load_fault, retire_fault, setup_fault, reload_fault, missing_fault}
 use Rattle.card_core.specs.Steps.{Judges, Succeeds, FindsNoMemory, IsRefused, WorldStep, verdict_on, cell_of_picking, cell_after, without_memory}
-use Rattle.card_core.specs.Judged.{JudgedView, told}
+use Rattle.card_core.specs.Judged.{JudgedView, judgement_in}
 use Rattle.card_core.specs.Log.{Event, Run, Leads}
 use Rattle.card_core.specs.Headline.{judged_in, judged_cells}
 use Rattle.card_core.specs.inner.Sound.{WorldInvariant}
@@ -74,7 +74,7 @@ plain-own : (own : Bool) (act : Act) (outcome : Outcome) → judged_outcome outc
 plain-own true act outcome none = ap (λ (o : Option OwnAnswer). cons_option o []) none
 plain-own false act outcome none = refl
 
-plain-answer : (codes : List Loading) (answer : Answer) → told answer ≡ None → judged_outcome (outcome_of codes answer) ≡ None
+plain-answer : (codes : List Loading) (answer : Answer) → judgement_in answer ≡ None → judged_outcome (outcome_of codes answer) ≡ None
 plain-answer codes (Judged line number moment value program verdict cell) e = absurd (cc)
 plain-answer codes _ e = refl
 
@@ -92,7 +92,7 @@ plain-event side vc notes _ _ e = refl
 
 -- A refusal has no judged cell.
 
-plain-unjudged : (answer : Answer) → outcome_of [] answer ≡ was_not_judged answer → told answer ≡ None
+plain-unjudged : (answer : Answer) → outcome_of [] answer ≡ was_not_judged answer → judgement_in answer ≡ None
 plain-unjudged (Judged line number moment value program verdict cell) e = absurd (cc)
 plain-unjudged _ e = refl
 

@@ -2,10 +2,10 @@
 
 ghost use Rattle.std.specs.Prelude.{◌≡◌, ℕ, ◌+◌, ◌<◌, length, None, Some, IsSome, IfOk, IfSome, IfNone, replicate, slice_get, slice_set, option_copied};
 ghost use Rattle.gen_arena.specs.Slot.{greatest_generation};
-ghost use Rattle.gen_arena.specs.inner.Cells.{IsFilledTo};
+ghost use Rattle.gen_arena.specs.inner.Boxes.{IsFilledTo};
 ghost use Rattle.gen_arena.specs.inner.PlaceRow.{place_at, AreFresh, IsReached};
 
-use crate::block::{Cells, Deed, Start, give_back, make};
+use crate::block::{Boxes, Deed, Start, give_back, make};
 use std::alloc::{AllocError, Global};
 use std::marker::Model;
 use std_alloc::room::may_hold;
@@ -37,11 +37,11 @@ impl<T> Place<T> {
 
 /// A row of places, which owns its block.
 ///
-/// A place is fresh until it is first filled. The cells of the fresh places are blank, so making a row writes to none of
+/// A place is fresh until it is first filled. The boxes of the fresh places are blank, so making a row writes to none of
 /// its memory. A fresh place counts as an empty one that links to the place after it. The others come before it.
 pub struct PlaceRow<T> {
     start: Start<Place<T>>,
-    cells: Cells<Place<T>>,
+    boxes: Boxes<Place<T>>,
     deed: Deed<Place<T>, Global>,
     alloc: Global,
     count: u16,
@@ -57,13 +57,13 @@ impl<T> Model for PlaceRow<T> {
 
     ghost Value = { PlaceRowView T };
 
-    ghost view = { λ p. record { places = places_in p.used 0 p.cells.held; fresh = p.fresh } };
+    ghost view = { λ p. record { places = places_in p.used 0 p.boxes.held; fresh = p.fresh } };
 
-    ghost invariant = { λ p. (p.cells.start ≡ p.start.to) × (p.deed.start ≡ p.start.to) × (p.deed.count ≡ p.count) × (p.deed.from ≡ p.alloc) × IsRow p.cells.held p.count p.fresh };
+    ghost invariant = { λ p. (p.boxes.start ≡ p.start.to) × (p.deed.start ≡ p.start.to) × (p.deed.count ≡ p.count) × (p.deed.from ≡ p.alloc) × IsRow p.boxes.held p.count p.fresh };
 }
 
 impl<T> PlaceRow<T> {
-    /// Makes a row of `count` fresh places that count as having used generation `used`. Writes to no cell.
+    /// Makes a row of `count` fresh places that count as having used generation `used`. Writes to no box.
     pub(crate) fn new(alloc: Global, count: u16, used: u32) -> Result<Self, AllocError>
         ensures { IfOk result (λ row. AreFresh row.places count used) }
     {
@@ -71,10 +71,10 @@ impl<T> PlaceRow<T> {
         if !may_hold::<Place<T>>(room) {
             return Err(AllocError);
         }
-        let (start, cells, deed) = make(&alloc, room)?;
+        let (start, boxes, deed) = make(&alloc, room)?;
         Ok(PlaceRow {
             start,
-            cells,
+            boxes,
             deed,
             alloc,
             count,
@@ -91,7 +91,7 @@ impl<T> PlaceRow<T> {
         if slot >= self.fresh {
             return None;
         }
-        Some(self.cells.lend(self.start, usize::from(slot)))
+        Some(self.boxes.lend(self.start, usize::from(slot)))
     }
 
     /// Puts a value into an empty place under its next generation. Returns that generation and the place's link, the
@@ -109,7 +109,7 @@ impl<T> PlaceRow<T> {
         if slot == self.fresh {
             return self.fill_fresh(value);
         }
-        let place = self.cells.lend_mut(self.start, usize::from(slot));
+        let place = self.boxes.lend_mut(self.start, usize::from(slot));
         let next = place.next;
         (place.fill(value), next)
     }
@@ -131,7 +131,7 @@ impl<T> PlaceRow<T> {
             next,
             value: Some(value),
         };
-        self.cells.put(self.start, usize::from(slot), place);
+        self.boxes.put(self.start, usize::from(slot), place);
         self.fresh = next;
         (generation, next)
     }
@@ -145,7 +145,7 @@ impl<T> PlaceRow<T> {
         ensures fresh { self.new.fresh ≡ self.old.fresh }
         ensures below { slot < self.old.fresh }
     {
-        let place = self.cells.lend_mut(self.start, usize::from(slot));
+        let place = self.boxes.lend_mut(self.start, usize::from(slot));
         place.next = next;
         place.value.take()
     }
@@ -155,26 +155,26 @@ impl<T: Drop> Drop for PlaceRow<T> {
     fn drop(self) {
         let PlaceRow {
             start,
-            mut cells,
+            mut boxes,
             deed,
             alloc,
             count,
             fresh,
             used: _,
         } = self;
-        clear(&mut cells, start, fresh);
-        give_back(&alloc, start, usize::from(count), cells, deed);
+        clear(&mut boxes, start, fresh);
+        give_back(&alloc, start, usize::from(count), boxes, deed);
     }
 }
 
-/// Takes the place out of each of the first `count` cells and drops it. The other cells are blank before.
-fn clear<T: Drop>(cells: &mut Cells<Place<T>>, start: Start<Place<T>>, count: u16)
-    requires start { start.to ≡ cells.old.start }
-    requires filled { IsFilledTo cells.old.held count }
-    ensures start { cells.new.start ≡ cells.old.start }
-    ensures blank { cells.new.held ≡ replicate (length cells.old.held) None }
+/// Takes the place out of each of the first `count` boxes and drops it. The other boxes are blank before.
+fn clear<T: Drop>(boxes: &mut Boxes<Place<T>>, start: Start<Place<T>>, count: u16)
+    requires start { start.to ≡ boxes.old.start }
+    requires filled { IsFilledTo boxes.old.held count }
+    ensures start { boxes.new.start ≡ boxes.old.start }
+    ensures blank { boxes.new.held ≡ replicate (length boxes.old.held) None }
 {
     for k in 0..count {
-        drop(cells.take(start, usize::from(k)));
+        drop(boxes.take(start, usize::from(k)));
     }
 }

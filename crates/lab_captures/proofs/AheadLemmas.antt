@@ -91,20 +91,20 @@ reads_passed {World = World} rules before between after own old new reads takes 
     passed_text (capture_rules rules) between.reader after.reader (filter_state between.filter, world) between.window more text own done takes rest))
 
 -- A record is answered as the filter says.
-pub reads_record : {World : Type 0} (rules : CellRules World) (between : ReadingAhead) (filter : CellFilter) (said : Record) (found : Filtered)
+pub reads_record : {World : Type 0} (rules : CellRules World) (between : ReadingAhead) (filter : CellFilter) (record_read : Record) (found : Filtered)
     (world : World) (text : List ℕ) (next : Option (FilterState × World))
-    → filter_record (filter_state between.filter) said ≡ (found, filter_state filter)
-    → AnswersFiltered rules world found (filter_state filter) said.number text next
-    → (capture_rules rules).steps (filter_state between.filter, world) said text next
-reads_record rules between filter said found world text next read answers =
-    subst (λ (p : Filtered × FilterState). AnswersFiltered rules world p.0 p.1 said.number text next) (sym read) answers
+    → filter_record (filter_state between.filter) record_read ≡ (found, filter_state filter)
+    → AnswersFiltered rules world found (filter_state filter) record_read.number text next
+    → (capture_rules rules).steps (filter_state between.filter, world) record_read text next
+reads_record rules between filter record_read found world text next read answers =
+    subst (λ (p : Filtered × FilterState). AnswersFiltered rules world p.0 p.1 record_read.number text next) (sym read) answers
 
 -- A record that is passed over.
-pub reads_uncounted : {World : Type 0} (rules : CellRules World) (before between after : ReadingAhead) (said : Record) (own : ℕ) (old new : List CountedCell)
-    → ReadsSoFar rules before between old new → TakesFrame between.reader between.window (Some said) own after.reader
-    → filter_record (filter_state between.filter) said ≡ (Passed, filter_state after.filter)
+pub reads_uncounted : {World : Type 0} (rules : CellRules World) (before between after : ReadingAhead) (record_read : Record) (own : ℕ) (old new : List CountedCell)
+    → ReadsSoFar rules before between old new → TakesFrame between.reader between.window (Some record_read) own after.reader
+    → filter_record (filter_state between.filter) record_read ≡ (Passed, filter_state after.filter)
     → after ≡ after_frame between after.reader after.filter own → ReadsSoFar rules before after old new
-reads_uncounted {World = World} rules before between after said own old new reads takes read is =
+reads_uncounted {World = World} rules before between after record_read own old new reads takes read is =
     subst (λ (reading : ReadingAhead). ReadsSoFar rules before reading old new) (sym is)
     (reads_more rules before between after.reader after.filter own [] old new new reads (sym (append-nil new)) takes.some takes.within takes.at takes.near
     (λ world more text done queued.
@@ -113,43 +113,43 @@ reads_uncounted {World = World} rules before between after said own old new read
     subst (λ (w : World). IsTextFrom (capture_rules rules) after.reader (filter_state after.filter, w) (drop own between.window ++ more) text done) queued.4.1
     (subst (λ (xs : List ℕ). IsTextFrom (capture_rules rules) after.reader (filter_state after.filter, queued.2) (drop own between.window ++ more) xs done) (sym same) queued.5)
     in
-    taken_text (capture_rules rules) between.reader after.reader (filter_state between.filter, world) (filter_state after.filter, world) said
+    taken_text (capture_rules rules) between.reader after.reader (filter_state between.filter, world) (filter_state after.filter, world) record_read
     between.window more [] text own done takes
-    (reads_record rules between after.filter said Passed world [] (Some (filter_state after.filter, world)) read (refl, refl)) rest))
+    (reads_record rules between after.filter record_read Passed world [] (Some (filter_state after.filter, world)) read (refl, refl)) rest))
 
 -- A record with a cell that counts.
-pub reads_counted : {World : Type 0} (rules : CellRules World) (before between after : ReadingAhead) (said : Record) (moment : ℕ) (cell : List ℕ) (own : ℕ)
+pub reads_counted : {World : Type 0} (rules : CellRules World) (before between after : ReadingAhead) (record_read : Record) (moment : ℕ) (cell : List ℕ) (own : ℕ)
     (old new newer : List CountedCell) (counted : CountedCell)
-    → ReadsSoFar rules before between old new → TakesFrame between.reader between.window (Some said) own after.reader
-    → filter_record (filter_state between.filter) said ≡ (Counts moment cell, filter_state after.filter)
-    → counted ≡ record { number = said.number; moment = moment; cell = cell } → newer ≡ new ++ counted ∷ []
+    → ReadsSoFar rules before between old new → TakesFrame between.reader between.window (Some record_read) own after.reader
+    → filter_record (filter_state between.filter) record_read ≡ (Counts moment cell, filter_state after.filter)
+    → counted ≡ record { number = record_read.number; moment = moment; cell = cell } → newer ≡ new ++ counted ∷ []
     → after ≡ after_frame between after.reader after.filter own → ReadsSoFar rules before after old newer
-reads_counted {World = World} rules before between after said moment cell own old new newer counted reads takes read made grew is =
-    let one : CountedCell = record { number = said.number; moment = moment; cell = cell } in
+reads_counted {World = World} rules before between after record_read moment cell own old new newer counted reads takes read made grew is =
+    let one : CountedCell = record { number = record_read.number; moment = moment; cell = cell } in
     subst (λ (reading : ReadingAhead). ReadsSoFar rules before reading old newer) (sym is)
     (reads_more rules before between after.reader after.filter own (one ∷ []) old new newer reads
     (grew ∙ ap (λ (c : CountedCell). new ++ c ∷ []) made) takes.some takes.within takes.at takes.near
     (λ world more text done queued.
     let step = one_step rules world queued.2 one queued.0 queued.4 in
     subst (λ (xs : List ℕ). IsTextAfter rules between world (between.window ++ more) xs done) (sym queued.3)
-    (taken_text (capture_rules rules) between.reader after.reader (filter_state between.filter, world) (filter_state after.filter, queued.2) said
+    (taken_text (capture_rules rules) between.reader after.reader (filter_state between.filter, world) (filter_state after.filter, queued.2) record_read
     between.window more queued.0 queued.1 own done takes
-    (reads_record rules between after.filter said (Counts moment cell) world queued.0 (Some (filter_state after.filter, queued.2)) read (queued.2, step, refl))
+    (reads_record rules between after.filter record_read (Counts moment cell) world queued.0 (Some (filter_state after.filter, queued.2)) read (queued.2, step, refl))
     queued.5)))
 
 -- After a record the reading is farther than at first.
-pub reads_moved : {World : Type 0} (rules : CellRules World) (before between : ReadingAhead) (reader : Reader) (said : Record) (own : ℕ) (old new : List CountedCell)
-    → ReadsSoFar rules before between old new → TakesFrame between.reader between.window (Some said) own reader → before.reader.at < reader.at
-reads_moved rules before between reader said own old new reads takes =
+pub reads_moved : {World : Type 0} (rules : CellRules World) (before between : ReadingAhead) (reader : Reader) (record_read : Record) (own : ℕ) (old new : List CountedCell)
+    → ReadsSoFar rules before between old new → TakesFrame between.reader between.window (Some record_read) own reader → before.reader.at < reader.at
+reads_moved rules before between reader record_read own old new reads takes =
     let cut = ap (λ (xs : List ℕ). length xs) reads.cut in
     omega (arith, reads.place, takes.some, takes.at, cut, length-append reads.own between.window)
 
 -- A cell of a second interface ends the run.
-pub reads_several : {World : Type 0} (rules : CellRules World) (before between after : ReadingAhead) (said : Record) (one other own : ℕ) (old new : List CountedCell)
-    → ReadsSoFar rules before between old new → TakesFrame between.reader between.window (Some said) own after.reader
-    → filter_record (filter_state between.filter) said ≡ (Several one other, filter_state after.filter)
+pub reads_several : {World : Type 0} (rules : CellRules World) (before between after : ReadingAhead) (record_read : Record) (one other own : ℕ) (old new : List CountedCell)
+    → ReadsSoFar rules before between old new → TakesFrame between.reader between.window (Some record_read) own after.reader
+    → filter_record (filter_state between.filter) record_read ≡ (Several one other, filter_state after.filter)
     → ReadsToEnd rules before (coming.Several one other) after old new
-reads_several rules before between after said one other own old new reads takes read = record {
+reads_several rules before between after record_read one other own old new reads takes read = record {
   fresh = reads.fresh;
   grew = reads.grew;
   ends = λ world last here more steps. reads.leads world more (here ++ several_line one other) Ended (
@@ -158,8 +158,8 @@ reads_several rules before between after said one other own old new reads takes 
     last,
     refl,
     steps,
-    ended_text (capture_rules rules) between.reader after.reader (filter_state between.filter, last) said between.window more (several_line one other) own takes
-        (reads_record rules between after.filter said (Several one other) last (several_line one other) None read (refl, refl)),
+    ended_text (capture_rules rules) between.reader after.reader (filter_state between.filter, last) record_read between.window more (several_line one other) own takes
+        (reads_record rules between after.filter record_read (Several one other) last (several_line one other) None read (refl, refl)),
   );
 }
 

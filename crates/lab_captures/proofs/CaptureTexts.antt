@@ -33,7 +33,7 @@ use Rattle.text_io.specs.declared.ending.RunFault.TheVariants.{ReadFailed, Write
 -- A file that is this has the text of it.
 by_opening : {World : Type 0} (rules : CaptureRules World) (world : World) (octets text : List ℕ) (opening : Opening) (done : Done)
     → opening_of octets ≡ opening → IsOpenedText rules world octets opening text done → IsCaptureText rules world octets text done
-by_opening rules world octets text opening done is told = subst (λ (o : Opening). IsOpenedText rules world octets o text done) (sym is) told
+by_opening rules world octets text opening done is printed = subst (λ (o : Opening). IsOpenedText rules world octets o text done) (sym is) printed
 
 -- Any file has a text, from each sound world.
 opened_some : {World : Type 0} (rules : CaptureRules World) → AnswersEachRecord rules
@@ -41,8 +41,8 @@ opened_some : {World : Type 0} (rules : CaptureRules World) → AnswersEachRecor
     → (text : List ℕ) × (done : Done) × IsOpenedText rules world octets opening text done
 opened_some rules total world octets (Opened format) sound =
     let reading = some_reading format 0 (format_start format) (drop (format_start format) octets) in
-    let told = records_some rules total reading.0 reading.1 world sound in
-    (told.0, told.1, (reading.0, reading.1, reading.2, told.2))
+    let printed = records_some rules total reading.0 reading.1 world sound in
+    (printed.0, printed.1, (reading.0, reading.1, reading.2, printed.2))
 opened_some rules total world octets Undecided sound = (rules.closes world (short_ending octets), done_at (short_ending octets), (refl, refl))
 opened_some rules total world octets (Refused fault) sound = (file_fault_line fault, Ended, (refl, refl))
 
@@ -81,7 +81,7 @@ pub opened_text : {World : Type 0} (rules : CaptureRules World) (world : World) 
     → opening_of window ≡ Opened format → reader.format ≡ format → reader.count ≡ 0 → reader.at ≡ format_start format
     → later ≡ drop (format_start format) window → (more text : List ℕ) (done : Done)
     → IsTextFrom rules reader world (later ++ more) text done → IsCaptureText rules world (window ++ more) text done
-opened_text rules world reader format window later is formats counts places dropped more text done told =
+opened_text rules world reader format window later is formats counts places dropped more text done printed =
     let decided : opening_of window ≢ Undecided = λ none. let bad : Opened format ≡ Undecided = sym is ∙ none in cc in
     let within : format_start format ≤ length window = header_within window format is in
     let octets : later ++ more ≡ drop (format_start format) (window ++ more) =
@@ -91,7 +91,7 @@ opened_text rules world reader format window later is formats counts places drop
     (subst (λ (xs : List ℕ). IsRecordsText rules format 0 (format_start format) world xs text done) octets
     (subst (λ (n : ℕ). IsRecordsText rules format 0 n world (later ++ more) text done) places
     (subst (λ (n : ℕ). IsRecordsText rules format n reader.at world (later ++ more) text done) counts
-    (subst (λ (f : Format). IsRecordsText rules f reader.count reader.at world (later ++ more) text done) formats told))))
+    (subst (λ (f : Format). IsRecordsText rules f reader.count reader.at world (later ++ more) text done) formats printed))))
 
 -- What was read has a text with the same end, with the header.
 pub opened_enough : {World : Type 0} (rules : CaptureRules World) (world : World) (reader : Reader) (format : Format) (whole window later rest0 rest : List ℕ) (done : Done)
@@ -109,7 +109,7 @@ opened_enough rules world reader format whole window later rest0 rest done is fo
 
 -- All that waits was needed.
 pub all_needed : (Whole : Texts) (whole window rest text : List ℕ) (done : Done) → whole ≡ window ++ rest
-    → Whole window text done → TakesEnough (λ octets. (said : List ℕ) × Whole octets said done) most_ahead whole rest
+    → Whole window text done → TakesEnough (λ octets. (record_read : List ℕ) × Whole octets record_read done) most_ahead whole rest
 all_needed Whole whole window rest text done all is =
     let none : length {A = ℕ} [] ≤ most_ahead = omega arith in (window, [], all, none, (text, is))
 
@@ -127,11 +127,11 @@ opened_one : {World : Type 0} (steps : World → Record → List ℕ × Option W
     → IsOpenedText (fixed_rules steps closes) world octets opening other other_ends → (one ≡ other) × (ends ≡ other_ends)
 opened_one steps closes world octets (Opened format) one other ends other_ends first second =
     let same = one_reading format 0 (format_start format) (drop (format_start format) octets) first.0 second.0 first.1 second.1 first.2 second.2 in
-    let told : (one, ends) ≡ (other, other_ends) =
+    let printed : (one, ends) ≡ (other, other_ends) =
     sym (fixed_is steps closes first.0 first.1 world one ends first.3) ∙ ap₂ (fixed_text steps closes world) same.0 same.1
     ∙ fixed_is steps closes second.0 second.1 world other other_ends second.3
     in
-    (ap (λ (p : List ℕ × Done). p.0) told, ap (λ (p : List ℕ × Done). p.1) told)
+    (ap (λ (p : List ℕ × Done). p.0) printed, ap (λ (p : List ℕ × Done). p.1) printed)
 opened_one steps closes world octets Undecided one other ends other_ends first second = (first.0 ∙ sym second.0, first.1 ∙ sym second.1)
 opened_one steps closes world octets (Refused fault) one other ends other_ends first second = (first.0 ∙ sym second.0, first.1 ∙ sym second.1)
 

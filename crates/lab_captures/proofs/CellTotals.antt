@@ -35,10 +35,10 @@ answered_some rules total world (Several one other) filter number sound = (sever
 
 pub records_total : {World : Type 0} (rules : CellRules World) → AnswersEachCell rules → AnswersEachRecord (capture_rules rules)
 records_total rules total = record {
-  keeps = λ before said here after sound steps.
-      answered_sound rules total before.1 (filter_record before.0 said).0 (filter_record before.0 said).1 said.number here after sound steps;
-  step = λ before said sound.
-      answered_some rules total before.1 (filter_record before.0 said).0 (filter_record before.0 said).1 said.number sound;
+  keeps = λ before record_read here after sound steps.
+      answered_sound rules total before.1 (filter_record before.0 record_read).0 (filter_record before.0 record_read).1 record_read.number here after sound steps;
+  step = λ before record_read sound.
+      answered_some rules total before.1 (filter_record before.0 record_read).0 (filter_record before.0 record_read).1 record_read.number sound;
 }
 
 cells_some : {World : Type 0} (rules : CellRules World) → AnswersEachCell rules → (world : World) (cells : List CountedCell) → rules.is_sound world

@@ -28,12 +28,12 @@ run-cells : (state last : FilterState) (records : List Record) → RunsThrough c
     → fixed_text cells_steps cells_closes state records ending
     ≡ (counted_lines (counted_cells state records) ++ closing_lines last.passed ending, done_at ending)
 run-cells state last [] leads ending = ap (λ (s : FilterState). (closing_lines s.passed ending, done_at ending)) (sym leads)
-run-cells state last (said ∷ records) (shown, next, step, leads) ending =
-    let read = filter_record state said in
+run-cells state last (record_read ∷ records) (shown, next, step, leads) ending =
+    let read = filter_record state record_read in
     let here = (cells_answer read.0 read.1).0 in
     let goes : FilterState → List ℕ × Done = λ s. fixed_text cells_steps cells_closes s records ending in
     let on : (cells_answer read.0 read.1).1 ≡ Some next = ap (λ (s : List ℕ × Option FilterState). s.1) step in
-    let is = written read.0 read.1 next said.number on in
+    let is = written read.0 read.1 next record_read.number on in
     let Rest : FilterState → Type 0 = λ s. goes next ≡ (counted_lines (counted_cells s records) ++ closing_lines last.passed ending, done_at ending) in
     let rest : Rest read.1 = subst Rest (sym is.state) (run-cells next last records leads ending) in
     let lines = counted_lines (counted_cells read.1 records) in

@@ -15,10 +15,10 @@ use Rattle.text_io.specs.declared.ending.Done.TheVariants.{Ended}
 pub fixed_is : {World : Type 0} (steps : World → Record → List ℕ × Option World) (closes : World → Option Fault → List ℕ)
     (records : List Record) (ending : Option Fault) (world : World) (text : List ℕ) (done : Done)
     → IsTextOfRecords (fixed_rules steps closes) world records ending text done → fixed_text steps closes world records ending ≡ (text, done)
-fixed_is steps closes [] ending world text done told = ap₂ (λ (t : List ℕ) (d : Done). (t, d)) (sym told.0) (sym told.1)
-fixed_is {World = World} steps closes (said ∷ records) ending world text done (here, more, next, is, step, rest) =
+fixed_is steps closes [] ending world text done printed = ap₂ (λ (t : List ℕ) (d : Done). (t, d)) (sym printed.0) (sym printed.1)
+fixed_is {World = World} steps closes (record_read ∷ records) ending world text done (here, more, next, is, step, rest) =
     ap (λ (s : List ℕ × Option World). text_then s.0 s.1 goes) step
-    ∙ then (λ v told. fixed_is steps closes records ending v more done told) next rest
+    ∙ then (λ v printed. fixed_is steps closes records ending v more done printed) next rest
   where
     goes : World → List ℕ × Done
     goes = λ w. fixed_text steps closes w records ending
@@ -30,8 +30,8 @@ fixed_is {World = World} steps closes (said ∷ records) ending world text done 
         → text_then here after goes ≡ (text, done)
     then later None (none, ended) =
         ap₂ (λ (t : List ℕ) (d : Done). (t, d)) (sym (is ∙ ap (λ xs. here ++ xs) none ∙ append-nil here)) (sym ended)
-    then later (Some v) told =
-        ap (λ (r : List ℕ × Done). (here ++ r.0, r.1)) (later v told) ∙ ap (λ (t : List ℕ). (t, done)) (sym is)
+    then later (Some v) printed =
+        ap (λ (r : List ℕ × Done). (here ++ r.0, r.1)) (later v printed) ∙ ap (λ (t : List ℕ). (t, done)) (sym is)
 
 -- So records have exactly one text.
 pub fixed_only : {World : Type 0} (steps : World → Record → List ℕ × Option World) (closes : World → Option Fault → List ℕ)
@@ -39,8 +39,8 @@ pub fixed_only : {World : Type 0} (steps : World → Record → List ℕ × Opti
     → fixed_text steps closes world records ending ≡ (whole, end)
     → IsTextOfRecords (fixed_rules steps closes) world records ending text done ↔ ((text ≡ whole) × (done ≡ end))
 fixed_only {World = World} steps closes records ending world whole text end done is = (
-  λ told.
-      let same : (text, done) ≡ (whole, end) = sym (fixed_is steps closes records ending world text done told) ∙ is in
+  λ printed.
+      let same : (text, done) ≡ (whole, end) = sym (fixed_is steps closes records ending world text done printed) ∙ is in
       (ap (λ (p : List ℕ × Done). p.0) same, ap (λ (p : List ℕ × Done). p.1) same),
   λ alike.
       let some = records_some (fixed_rules steps closes) (fixed_total steps closes) records ending world tt in

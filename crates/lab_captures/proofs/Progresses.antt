@@ -8,16 +8,16 @@ use Rattle.text_io.specs.declared.ending.Done.{Done}
 use Rattle.text_io.specs.declared.ending.RunFault.{RunFault}
 
 -- A text along equal octets.
-pub retold : (Whole : Texts) (octets octets' text text' : List ℕ) (done : Done)
+pub reprinted : (Whole : Texts) (octets octets' text text' : List ℕ) (done : Done)
     → octets ≡ octets' → text ≡ text' → Whole octets text done → Whole octets' text' done
-retold Whole octets octets' text text' done same alike is =
+reprinted Whole octets octets' text text' done same alike is =
     subst (λ (xs : List ℕ). Whole octets' xs done) alike (subst (λ (xs : List ℕ). Whole xs text done) same is)
 
 pub begun : (Whole : Texts) (Known Held : Type 0) (near rest before : List ℕ)
     → CaptureProgress Whole Whole Known Held near rest near rest before before []
 begun Whole Known Held near rest before = record {
   answered = [];
-  said = [];
+  printed = [];
   came = λ _. ([], refl, append-nil near);
   gave = λ _. ([], sym (append-nil before), refl);
   leads = λ more text done is. is;
@@ -47,7 +47,7 @@ pub stepped : (Whole Here Next : Texts) (Known Held : Type 0) (near0 rest0 near 
     → CaptureProgress Whole Next Known Held near0 rest0 later rest before now new
 stepped Whole Here Next Known Held near0 rest0 near own later rest before now old new here p cut grew leads = record {
   answered = p.answered ++ own;
-  said = p.said ++ here;
+  printed = p.printed ++ here;
   came = λ known.
       let came = p.came known in (
         came.0,
@@ -58,8 +58,8 @@ stepped Whole Here Next Known Held near0 rest0 near own later rest before now ol
       let gave = p.gave held in
       (gave.0, gave.1, ap (λ xs. xs ++ here) gave.2 ∙ append_assoc gave.0 old here ∙ ap (λ xs. gave.0 ++ xs) (sym grew));
   leads = λ more text done is.
-      retold Whole (p.answered ++ (near ++ more)) ((p.answered ++ own) ++ (later ++ more)) (p.said ++ (here ++ text)) ((p.said ++ here) ++ text) done
-      (parted p.answered own near later more cut) (sym (append_assoc p.said here text))
+      reprinted Whole (p.answered ++ (near ++ more)) ((p.answered ++ own) ++ (later ++ more)) (p.printed ++ (here ++ text)) ((p.printed ++ here) ++ text) done
+      (parted p.answered own near later more cut) (sym (append_assoc p.printed here text))
       (p.leads more (here ++ text) done (leads more text done is));
 }
 
@@ -69,7 +69,7 @@ pub given : (Whole Here : Texts) (Known Held : Type 0) (near0 rest0 near rest be
     → CaptureProgress Whole Here Known Held near0 rest0 near rest before now' waiting'
 given Whole Here Known Held near0 rest0 near rest before now now' waiting waiting' p moves = record {
   answered = p.answered;
-  said = p.said;
+  printed = p.printed;
   came = p.came;
   gave = λ held.
       let gave = p.gave held in
@@ -96,7 +96,7 @@ pub refilled : (Whole Here Next : Texts) (Known Held : Type 0) (near0 rest0 near
     → CaptureProgress Whole Next Known Held near0 rest0 near' rest' before now waiting
 refilled Whole Here Next Known Held near0 rest0 near near' fresh rest rest' before now waiting p longer same good = record {
   answered = p.answered;
-  said = p.said;
+  printed = p.printed;
   came = λ known.
       let came = p.came known in
       let read : rest ≡ fresh ++ rest' =
@@ -109,10 +109,10 @@ refilled Whole Here Next Known Held near0 rest0 near near' fresh rest rest' befo
       );
   gave = p.gave;
   leads = λ more text done is.
-      retold Whole (p.answered ++ (near ++ (fresh ++ more))) (p.answered ++ (near' ++ more)) (p.said ++ text) (p.said ++ text) done
+      reprinted Whole (p.answered ++ (near ++ (fresh ++ more))) (p.answered ++ (near' ++ more)) (p.printed ++ text) (p.printed ++ text) done
       (extended p.answered near fresh more near' longer) refl
       (p.leads (fresh ++ more) text done
-      (retold Here (near' ++ more) (near ++ (fresh ++ more)) text text done
+      (reprinted Here (near' ++ more) (near ++ (fresh ++ more)) text text done
       (ap (λ xs. xs ++ more) longer ∙ append_assoc near fresh more) refl (good (near' ++ more) text done is)));
 }
 
@@ -125,7 +125,7 @@ text_of Whole Here Known Held near0 rest0 near rest before now now' waiting here
     let gave = p.gave held in (
       gave.0 ++ (waiting ++ here),
       gives ∙ ap (λ xs. xs ++ (waiting ++ here)) gave.1 ∙ append_assoc before gave.0 (waiting ++ here),
-      retold Whole (p.answered ++ (near ++ rest)) (near0 ++ rest0) (p.said ++ here) (gave.0 ++ (waiting ++ here)) done
+      reprinted Whole (p.answered ++ (near ++ rest)) (near0 ++ rest0) (p.printed ++ here) (gave.0 ++ (waiting ++ here)) done
           (whole_is near0 rest0 came.0 p.answered near rest came.1 came.2) (ap (λ xs. xs ++ here) gave.2 ∙ append_assoc gave.0 waiting here)
           (p.leads rest here done is),
     )
@@ -142,7 +142,7 @@ front_of_last Whole Here Known Held near0 rest0 near rest before now now' waitin
       (
         part.1,
         done,
-        retold Whole (p.answered ++ (near ++ rest)) (near0 ++ rest0) (p.said ++ here) ((gave.0 ++ part.0) ++ part.1) done
+        reprinted Whole (p.answered ++ (near ++ rest)) (near0 ++ rest0) (p.printed ++ here) ((gave.0 ++ part.0) ++ part.1) done
             (whole_is near0 rest0 came.0 p.answered near rest came.1 came.2)
             (ap (λ xs. xs ++ here) gave.2 ∙ append_assoc gave.0 waiting here ∙ ap (λ xs. gave.0 ++ xs) part.2 ∙ sym (append_assoc gave.0 part.0 part.1))
             (p.leads rest here done is),
@@ -166,8 +166,8 @@ enough Whole Here Known Held near0 rest0 near rest before now waiting here done 
       came.0,
       came.1,
       (
-        p.said ++ here,
-        retold Whole (p.answered ++ (near ++ [])) (near0 ++ came.0) (p.said ++ here) (p.said ++ here) done
+        p.printed ++ here,
+        reprinted Whole (p.answered ++ (near ++ [])) (near0 ++ came.0) (p.printed ++ here) (p.printed ++ here) done
             (ap (λ xs. p.answered ++ xs) (append-nil near) ∙ sym came.2) refl (p.leads [] here done is),
       ),
     )

@@ -16,7 +16,7 @@ use Rattle.lab_captures.specs.inner.Ahead.{Advances, AdvancesToEnd, CameToQueue,
 use Rattle.lab_captures.specs.inner.Progress.{CaptureProgress, GivesFront, HasRead}
 use Rattle.lab_captures.proofs.AdvanceLemmas.{unqueued}
 use Rattle.lab_captures.proofs.CellTotals.{queued_some}
-use Rattle.lab_captures.proofs.Progresses.{begun, enough, front_of, front_of_last, given, part_at, refilled, retold, stepped, text_of}
+use Rattle.lab_captures.proofs.Progresses.{begun, enough, front_of, front_of_last, given, part_at, refilled, reprinted, stepped, text_of}
 use Rattle.lab_captures.proofs.Texts.{last_text}
 use Rattle.text_io.specs.Devices.{Adds, IsPart}
 use Rattle.text_io.specs.Printing.{IsFront}
@@ -141,7 +141,7 @@ queue_enough {rules = rules} {reading0 = reading0} {reading = reading} {cells = 
     let end = last at.present at.sound at.is_shown in
     let Here = IsQueuedText rules reading cells at.present in
     enough (IsTextAfter rules reading0 first) Here Known Held reading0.window rest0 reading.window rest before now waiting end.0 done at.goes known
-    (retold Here reading.window (reading.window ++ []) end.0 end.0 done (sym (append-nil reading.window)) refl end.1)
+    (reprinted Here reading.window (reading.window ++ []) end.0 end.0 done (sym (append-nil reading.window)) refl end.1)
 
 -- A step that ends the run has the last answers.
 pub end_text : {World : Type 0} {rules : CellRules World} {shown : World → Type 0} {reading : ReadingAhead} {cells : List CountedCell} {old new : List ℕ}
@@ -166,7 +166,7 @@ pub end_enough : {World : Type 0} {rules : CellRules World} {shown : World → T
     → OfEachWorld rules shown (λ world. (here : List ℕ) × IsQueuedText rules reading cells world reading.window here Ended)
 end_enough {rules = rules} {reading = reading} {cells = cells} last = λ world sound is_shown.
     let end = last world sound is_shown in
-    (end.here, retold (IsQueuedText rules reading cells world) (reading.window ++ []) reading.window end.here end.here Ended (append-nil reading.window) refl (end.ends []))
+    (end.here, reprinted (IsQueuedText rules reading cells world) (reading.window ++ []) reading.window end.here end.here Ended (append-nil reading.window) refl (end.ends []))
 
 -- The cells that wait were answered, and the octets at the end of the input, which are no whole frame.
 pub queue_finished : {World : Type 0} (rules : CellRules World) (shown shown' : World → Type 0) (reading : ReadingAhead) (cells : List CountedCell)

@@ -6,7 +6,7 @@ use Rattle.lab_captures.specs.CaptureText.{AnswersEachRecord, CaptureRules}
 use Rattle.lab_captures.specs.Following.{OfEachShown}
 use Rattle.lab_captures.specs.inner.Progress.{CaptureProgress, GivesFront, HasRead}
 use Rattle.lab_captures.specs.inner.Steps.{AnswersFrame, AnswersLastFrame, CameFromShown, IsTextFrom}
-use Rattle.lab_captures.proofs.Progresses.{begun, enough, front_of, front_of_last, given, part_at, refilled, retold, stepped, text_of}
+use Rattle.lab_captures.proofs.Progresses.{begun, enough, front_of, front_of_last, given, part_at, refilled, reprinted, stepped, text_of}
 use Rattle.lab_captures.proofs.Texts.{same_text, some_text}
 use Rattle.text_io.specs.Devices.{Adds, IsPart}
 use Rattle.text_io.specs.Printing.{IsFront}
@@ -50,9 +50,9 @@ shown_stepped {rules = rules} {reader0 = reader0} {reader = reader} {Known = Kno
       goes = stepped (IsTextFrom rules reader0 first) Here Next Known Held near0 rest0 near (take own octets) later rest before now waiting new frame.here
           at.goes cut frame.grew
           (λ more text done is.
-          retold Here (octets ++ more) (near ++ more) (frame.here ++ text) (frame.here ++ text) done (ap (λ xs. xs ++ more) same) refl
+          reprinted Here (octets ++ more) (near ++ more) (frame.here ++ text) (frame.here ++ text) done (ap (λ xs. xs ++ more) same) refl
           (frame.completes more text done
-          (retold Next (later ++ more) (drop own octets ++ more) text text done (ap (λ xs. xs ++ more) dropped) refl is)));
+          (reprinted Next (later ++ more) (drop own octets ++ more) text text done (ap (λ xs. xs ++ more) dropped) refl is)));
     }
 
 -- After some answers are written.
@@ -146,7 +146,7 @@ shown_enough {rules = rules} {reader0 = reader0} {reader = reader} {Known = Know
     let end = last at.present at.sound at.is_shown in
     let Here = IsTextFrom rules reader at.present in
     enough (IsTextFrom rules reader0 first) Here Known Held near0 rest0 near rest before now waiting end.0 done at.goes known
-    (retold Here near (near ++ []) end.0 end.0 done (sym (append-nil near)) refl end.1)
+    (reprinted Here near (near ++ []) end.0 end.0 done (sym (append-nil near)) refl end.1)
 
 -- A frame that ends the run has the last answers.
 pub last_frame_text : {World : Type 0} {rules : CaptureRules World} {shown : World → Type 0} {reader : Reader} {octets old new : List ℕ}
@@ -157,7 +157,7 @@ last_frame_text {rules = rules} {reader = reader} {octets = octets} near rest no
     let end = last world sound is_shown in (
       end.here,
       gives ∙ ap (λ xs. now ++ xs) end.grew,
-      retold (IsTextFrom rules reader world) (octets ++ rest) (near ++ rest) end.here end.here Ended (ap (λ xs. xs ++ rest) same) refl (end.ends rest),
+      reprinted (IsTextFrom rules reader world) (octets ++ rest) (near ++ rest) end.here end.here Ended (ap (λ xs. xs ++ rest) same) refl (end.ends rest),
     )
 
 -- Or a front of them.
@@ -171,7 +171,7 @@ last_frame_part {rules = rules} {reader = reader} {octets = octets} {old = old} 
       end.here,
       Ended,
       part_at now now' new (old ++ end.here) end.grew part,
-      retold (IsTextFrom rules reader world) (octets ++ rest) (near ++ rest) end.here end.here Ended (ap (λ xs. xs ++ rest) same) refl (end.ends rest),
+      reprinted (IsTextFrom rules reader world) (octets ++ rest) (near ++ rest) end.here end.here Ended (ap (λ xs. xs ++ rest) same) refl (end.ends rest),
     )
 
 -- And what was read has a text that ends there.
@@ -180,4 +180,4 @@ pub last_frame_enough : {World : Type 0} {rules : CaptureRules World} {shown : W
     → OfEachShown rules shown (λ world. (here : List ℕ) × IsTextFrom rules reader world near here Ended)
 last_frame_enough {rules = rules} {reader = reader} {octets = octets} near last same = λ world sound is_shown.
     let end = last world sound is_shown in
-    (end.here, retold (IsTextFrom rules reader world) (octets ++ []) near end.here end.here Ended (append-nil octets ∙ same) refl (end.ends []))
+    (end.here, reprinted (IsTextFrom rules reader world) (octets ++ []) near end.here end.here Ended (append-nil octets ∙ same) refl (end.ends []))

@@ -32,34 +32,34 @@ passed_text rules before after world octets more text own done takes rest =
     )
 
 -- A record has its own text.
-pub taken_text : {World : Type 0} (rules : CaptureRules World) (before after : Reader) (world next : World) (said : Record) (octets more here text : List ℕ) (own : ℕ) (done : Done)
-    → TakesFrame before octets (Some said) own after → rules.steps world said here (Some next)
+pub taken_text : {World : Type 0} (rules : CaptureRules World) (before after : Reader) (world next : World) (record_read : Record) (octets more here text : List ℕ) (own : ℕ) (done : Done)
+    → TakesFrame before octets (Some record_read) own after → rules.steps world record_read here (Some next)
     → IsTextFrom rules after next (drop own octets ++ more) text done → IsTextFrom rules before world (octets ++ more) (here ++ text) done
-taken_text rules before after world next said octets more here text own done takes step rest =
+taken_text rules before after world next record_read octets more here text own done takes step rest =
     let reading = rest.2 in (
-      said ∷ rest.0,
+      record_read ∷ rest.0,
       rest.1,
       (
-        Some said ∷ reading.0,
-        frames_in_order before after octets more (Some said) own reading.0 rest.1 takes reading.1,
-        ap (λ records. said ∷ records) reading.2,
+        Some record_read ∷ reading.0,
+        frames_in_order before after octets more (Some record_read) own reading.0 rest.1 takes reading.1,
+        ap (λ records. record_read ∷ records) reading.2,
       ),
       (here, text, Some next, refl, step, rest.3),
     )
 
 -- It may end the run, whatever follows.
-pub ended_text : {World : Type 0} (rules : CaptureRules World) (before after : Reader) (world : World) (said : Record) (octets more here : List ℕ) (own : ℕ)
-    → TakesFrame before octets (Some said) own after → rules.steps world said here None
+pub ended_text : {World : Type 0} (rules : CaptureRules World) (before after : Reader) (world : World) (record_read : Record) (octets more here : List ℕ) (own : ℕ)
+    → TakesFrame before octets (Some record_read) own after → rules.steps world record_read here None
     → IsTextFrom rules before world (octets ++ more) here Ended
-ended_text rules before after world said octets more here own takes step =
+ended_text rules before after world record_read octets more here own takes step =
     let rest = some_reading after.format after.count after.at (drop own octets ++ more) in
     let reading = rest.2 in (
-      said ∷ rest.0,
+      record_read ∷ rest.0,
       rest.1,
       (
-        Some said ∷ reading.0,
-        frames_in_order before after octets more (Some said) own reading.0 rest.1 takes reading.1,
-        ap (λ records. said ∷ records) reading.2,
+        Some record_read ∷ reading.0,
+        frames_in_order before after octets more (Some record_read) own reading.0 rest.1 takes reading.1,
+        ap (λ records. record_read ∷ records) reading.2,
       ),
       (here, [], None, sym (append-nil here), step, (refl, refl)),
     )
@@ -82,18 +82,18 @@ pub records_some : {World : Type 0} (rules : CaptureRules World) → AnswersEach
     → (records : List Record) (ending : Option Fault) (world : World) → rules.is_sound world
     → (text : List ℕ) × (done : Done) × IsTextOfRecords rules world records ending text done
 records_some rules total [] ending world sound = (rules.closes world ending, done_at ending, (refl, refl))
-records_some {World = World} rules total (said ∷ records) ending world sound =
-    let now = total.step world said sound in
+records_some {World = World} rules total (record_read ∷ records) ending world sound =
+    let now = total.step world record_read sound in
     let then = after (λ v is. records_some rules total records ending v is) now.0 now.1 now.2 in
     (now.0 ++ then.0, then.1, (now.0, then.0, now.1, refl, now.2, then.2))
   where
     Later : Type 0
     Later = (v : World) → rules.is_sound v → (more : List ℕ) × (done : Done) × IsTextOfRecords rules v records ending more done
 
-    after : Later → (here : List ℕ) (next : Option World) → rules.steps world said here next
+    after : Later → (here : List ℕ) (next : Option World) → rules.steps world record_read here next
         → (more : List ℕ) × (done : Done) × MatchOption next ((more ≡ []) × (done ≡ Ended)) (λ v. IsTextOfRecords rules v records ending more done)
     after later here None step = ([], Ended, (refl, refl))
-    after later here (Some v) step = later v (total.keeps world said here v sound step)
+    after later here (Some v) step = later v (total.keeps world record_read here v sound step)
 
 -- So have any octets.
 pub some_text : {World : Type 0} (rules : CaptureRules World) → AnswersEachRecord rules
@@ -101,8 +101,8 @@ pub some_text : {World : Type 0} (rules : CaptureRules World) → AnswersEachRec
     → (text : List ℕ) × (done : Done) × IsTextFrom rules reader world octets text done
 some_text rules total reader world octets sound =
     let reading = some_reading reader.format reader.count reader.at octets in
-    let told = records_some rules total reading.0 reading.1 world sound in
-    (told.0, told.1, (reading.0, reading.1, reading.2, told.2))
+    let printed = records_some rules total reading.0 reading.1 world sound in
+    (printed.0, printed.1, (reading.0, reading.1, reading.2, printed.2))
 
 -- A reader at the same place has the same texts.
 pub same_text : {World : Type 0} (rules : CaptureRules World) (reader reader' : Reader) (world : World)
@@ -129,28 +129,28 @@ passed_frame rules before after shown octets old own takes = λ world sound is_s
 
 -- A record is answered as the follower answers it.
 pub taken_frame : {World : Type 0} (rules : CaptureRules World) → AnswersEachRecord rules
-    → (before after : Reader) (shown shown' : World → Type 0) (said : Record) (octets old new : List ℕ) (own : ℕ)
-    → TakesFrame before octets (Some said) own after → FollowsRecord rules shown said GoesOn shown' old new
+    → (before after : Reader) (shown shown' : World → Type 0) (record_read : Record) (octets old new : List ℕ) (own : ℕ)
+    → TakesFrame before octets (Some record_read) own after → FollowsRecord rules shown record_read GoesOn shown' old new
     → OfEachShown rules shown (λ world. AnswersFrame rules before world octets own after shown' old new)
-taken_frame rules total before after shown shown' said octets old new own takes follows = λ world sound is_shown.
+taken_frame rules total before after shown shown' record_read octets old new own takes follows = λ world sound is_shown.
     let turns = follows.2 world sound is_shown in
     record {
       here = follows.0;
       next = turns.0;
       grew = follows.1;
-      sound = total.keeps world said follows.0 turns.0 sound turns.2;
+      sound = total.keeps world record_read follows.0 turns.0 sound turns.2;
       is_shown = turns.1;
-      completes = λ more text done rest. taken_text rules before after world turns.0 said octets more follows.0 text own done takes turns.2 rest;
+      completes = λ more text done rest. taken_text rules before after world turns.0 record_read octets more follows.0 text own done takes turns.2 rest;
     }
 
-pub ended_frame : {World : Type 0} (rules : CaptureRules World) (before after : Reader) (shown shown' : World → Type 0) (said : Record) (octets old new : List ℕ) (own : ℕ)
-    → TakesFrame before octets (Some said) own after → FollowsRecord rules shown said Ends shown' old new
+pub ended_frame : {World : Type 0} (rules : CaptureRules World) (before after : Reader) (shown shown' : World → Type 0) (record_read : Record) (octets old new : List ℕ) (own : ℕ)
+    → TakesFrame before octets (Some record_read) own after → FollowsRecord rules shown record_read Ends shown' old new
     → OfEachShown rules shown (λ world. AnswersLastFrame rules before world octets old new)
-ended_frame rules before after shown shown' said octets old new own takes follows = λ world sound is_shown.
+ended_frame rules before after shown shown' record_read octets old new own takes follows = λ world sound is_shown.
     record {
       here = follows.0;
       grew = follows.1;
-      ends = λ more. ended_text rules before after world said octets more follows.0 own takes (follows.2 world sound is_shown);
+      ends = λ more. ended_text rules before after world record_read octets more follows.0 own takes (follows.2 world sound is_shown);
     }
 
 pub broken_frame : {World : Type 0} (rules : CaptureRules World) (before after : Reader) (shown : World → Type 0) (fault : Fault) (octets old new : List ℕ)

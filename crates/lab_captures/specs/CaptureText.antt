@@ -25,15 +25,15 @@ pub record CaptureRules (World : Type 0) : Type 1 where
 
 -- In a sound world each record has some answer, and leads only to sound worlds.
 pub record AnswersEachRecord {World : Type 0} (rules : CaptureRules World) : Type 0 where
-  pub keeps : (before : World) (said : Record) (here : List ℕ) (after : World)
-      → rules.is_sound before → rules.steps before said here (Some after) → rules.is_sound after
-  pub step : (before : World) (said : Record) → rules.is_sound before
-      → (here : List ℕ) × (next : Option World) × rules.steps before said here next
+  pub keeps : (before : World) (record_read : Record) (here : List ℕ) (after : World)
+      → rules.is_sound before → rules.steps before record_read here (Some after) → rules.is_sound after
+  pub step : (before : World) (record_read : Record) → rules.is_sound before
+      → (here : List ℕ) × (next : Option World) × rules.steps before record_read here next
 
 -- Rules by which each record has one answer in each world.
 abbrev pub fixed_rules : {World : Type 0} → (World → Record → List ℕ × Option World) → (World → Option Fault → List ℕ) → CaptureRules World
 fixed_rules steps closes = record {
-  steps = λ world said here next. steps world said ≡ (here, next);
+  steps = λ world record_read here next. steps world record_read ≡ (here, next);
   closes = closes;
   is_sound = λ world. Unit {0};
 }
@@ -46,15 +46,15 @@ done_at (Some fault) = Ended
 -- From this world the text may answer these records in order, and then the end, and the run then ends in this way.
 abbrev pub IsTextOfRecords : {World : Type 0} → CaptureRules World → World → List Record → Option Fault → List ℕ → Done → Type 0
 IsTextOfRecords rules world [] ending text done = (text ≡ rules.closes world ending) × (done ≡ done_at ending)
-IsTextOfRecords {World = World} rules world (said ∷ records) ending text done =
-    (here : List ℕ) × (more : List ℕ) × (next : Option World) × (text ≡ here ++ more) × rules.steps world said here next
+IsTextOfRecords {World = World} rules world (record_read ∷ records) ending text done =
+    (here : List ℕ) × (more : List ℕ) × (next : Option World) × (text ≡ here ++ more) × rules.steps world record_read here next
     × MatchOption next ((more ≡ []) × (done ≡ Ended)) (λ world'. IsTextOfRecords rules world' records ending more done)
 
 -- A run over these records may go on after each, and then be in this world.
 abbrev pub RunsThrough : {World : Type 0} → CaptureRules World → World → List Record → World → Type 0
 RunsThrough rules world [] last = last ≡ world
-RunsThrough {World = World} rules world (said ∷ records) last =
-    (here : List ℕ) × (next : World) × rules.steps world said here (Some next) × RunsThrough rules next records last
+RunsThrough {World = World} rules world (record_read ∷ records) last =
+    (here : List ℕ) × (next : World) × rules.steps world record_read here (Some next) × RunsThrough rules next records last
 
 -- After this many records, at this place, in this world, the text may answer the octets, and the run then ends in this way.
 abbrev pub IsRecordsText : {World : Type 0} → CaptureRules World → Format → ℕ → ℕ → World → List ℕ → List ℕ → Done → Type 0

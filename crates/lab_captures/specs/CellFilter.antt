@@ -36,33 +36,33 @@ filter_start tick interface =
 
 -- A cell of the right interface, where the first record came at the one time and the latest cell at the other.
 abbrev pub filter_at_time : FilterState → ℕ → ℕ → Record → List ℕ → Filtered × FilterState
-filter_at_time state first latest said cell =
-    if nat_lt said.time latest
-    then (Passed, record state { clock = Some (first, latest); passed = record state.passed { back = one_more_record state.passed.back said.number } })
+filter_at_time state first latest record_read cell =
+    if nat_lt record_read.time latest
+    then (Passed, record state { clock = Some (first, latest); passed = record state.passed { back = one_more_record state.passed.back record_read.number } })
     else (
-      Counts (whole_ticks (said.time - first) state.tick) cell,
-      record state { clock = Some (first, max latest said.time) },
+      Counts (whole_ticks (record_read.time - first) state.tick) cell,
+      record state { clock = Some (first, max latest record_read.time) },
     )
 
 -- A cell of some interface.
 abbrev pub filter_at_interface : FilterState → ℕ → ℕ → Record → List ℕ → Option ℕ → Filtered × FilterState
-filter_at_interface state first latest said cell None =
-    filter_at_time (record state { interface = Some said.interface }) first latest said cell
-filter_at_interface state first latest said cell (Some interface) =
-    if interface == said.interface then filter_at_time state first latest said cell
+filter_at_interface state first latest record_read cell None =
+    filter_at_time (record state { interface = Some record_read.interface }) first latest record_read cell
+filter_at_interface state first latest record_read cell (Some interface) =
+    if interface == record_read.interface then filter_at_time state first latest record_read cell
     else if state.asked
-    then (Passed, record state { clock = Some (first, latest); passed = record state.passed { other_interface = one_more_record state.passed.other_interface said.number } })
-    else (Several interface said.interface, state)
+    then (Passed, record state { clock = Some (first, latest); passed = record state.passed { other_interface = one_more_record state.passed.other_interface record_read.number } })
+    else (Several interface record_read.interface, state)
 
 -- A record, by what it holds.
 abbrev pub filter_content : FilterState → ℕ × ℕ → Record → Result (List ℕ) NoCell → Filtered × FilterState
-filter_content state clock said (Err why) =
-    (Passed, record state { clock = Some clock; passed = without_cell state.passed why said.number })
-filter_content state clock said (Ok cell) = filter_at_interface state clock.0 clock.1 said cell state.interface
+filter_content state clock record_read (Err why) =
+    (Passed, record state { clock = Some clock; passed = without_cell state.passed why record_read.number })
+filter_content state clock record_read (Ok cell) = filter_at_interface state clock.0 clock.1 record_read cell state.interface
 
 -- What a record is in this state, and the next state. The first record's time is moment 0.
 abbrev pub filter_record : FilterState → Record → Filtered × FilterState
-filter_record state said = filter_content state (unwrap_or state.clock (said.time, said.time)) said said.content
+filter_record state record_read = filter_content state (unwrap_or state.clock (record_read.time, record_read.time)) record_read record_read.content
 
 -- The cells that count among a record with this number and those after it.
 abbrev pub counted_then : Filtered → ℕ → List CountedCell → List CountedCell
@@ -73,5 +73,5 @@ counted_then (Several one other) number later = []
 -- The cells that count among these records, in order, from this state on.
 abbrev pub counted_cells : FilterState → List Record → List CountedCell
 counted_cells state [] = []
-counted_cells state (said ∷ records) =
-    counted_then (filter_record state said).0 said.number (counted_cells (filter_record state said).1 records)
+counted_cells state (record_read ∷ records) =
+    counted_then (filter_record state record_read).0 record_read.number (counted_cells (filter_record state record_read).1 records)

@@ -36,8 +36,8 @@ AnswersFiltered rules world (Several one other) filter number text next = (text 
 -- The rules of the program for whole captures. Their worlds have the state of the filter before the program's own world.
 abbrev pub capture_rules : {World : Type 0} → CellRules World → CaptureRules (FilterState × World)
 capture_rules rules = record {
-  steps = λ before said text next.
-      AnswersFiltered rules before.1 (filter_record before.0 said).0 (filter_record before.0 said).1 said.number text next;
+  steps = λ before record_read text next.
+      AnswersFiltered rules before.1 (filter_record before.0 record_read).0 (filter_record before.0 record_read).1 record_read.number text next;
   closes = λ world ending. rules.closes world.1 world.0.passed ending;
   is_sound = λ world. rules.is_sound world.1;
 }

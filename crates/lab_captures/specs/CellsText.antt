@@ -23,7 +23,7 @@ cells_answer (Several one other) after = (several_line one other, None)
 
 -- The answer to a record.
 abbrev pub cells_steps : FilterState → Record → List ℕ × Option FilterState
-cells_steps state said = cells_answer (filter_record state said).0 (filter_record state said).1
+cells_steps state record_read = cells_answer (filter_record state record_read).0 (filter_record state record_read).1
 
 -- The answer to the end: the comments, and the fault if there is one.
 abbrev pub cells_closes : FilterState → Option Fault → List ℕ

@@ -13,13 +13,13 @@ OfEachShown {World = World} rules shown IsSo = (world : World) → rules.is_soun
 
 -- From the world before, this text answers the record. It ends the run, or leads to a world that is shown afterwards.
 abbrev pub TurnsAtRecord : {World : Type 0} → CaptureRules World → World → Record → List ℕ → Turn → (World → Type 0) → Type 0
-TurnsAtRecord rules before said here Ends shown = rules.steps before said here None
-TurnsAtRecord {World = World} rules before said here GoesOn shown = (after : World) × shown after × rules.steps before said here (Some after)
+TurnsAtRecord rules before record_read here Ends shown = rules.steps before record_read here None
+TurnsAtRecord {World = World} rules before record_read here GoesOn shown = (after : World) × shown after × rules.steps before record_read here (Some after)
 
 -- The answers grew by a text that answers the record, from each world that was shown.
 abbrev pub FollowsRecord : {World : Type 0} → CaptureRules World → (World → Type 0) → Record → Turn → (World → Type 0) → List ℕ → List ℕ → Type 0
-FollowsRecord rules shown said turn shown' old new =
-    (here : List ℕ) × (new ≡ old ++ here) × OfEachShown rules shown (λ before. TurnsAtRecord rules before said here turn shown')
+FollowsRecord rules shown record_read turn shown' old new =
+    (here : List ℕ) × (new ≡ old ++ here) × OfEachShown rules shown (λ before. TurnsAtRecord rules before record_read here turn shown')
 
 -- The answers grew by the text that answers the end of the capture, or its fault, in each world that is shown.
 abbrev pub ClosesCapture : {World : Type 0} → CaptureRules World → (World → Type 0) → Option Fault → List ℕ → List ℕ → Type 0

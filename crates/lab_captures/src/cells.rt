@@ -57,8 +57,12 @@ impl Follower for Cells {
 
     ghost rules = { cells_rules };
 
-    fn follow(&mut self, said: &Record<'_>, answers: &mut Vec<u8>) -> Result<Turn, AllocError> {
-        match self.filter.read(said) {
+    fn follow(
+        &mut self,
+        record_read: &Record<'_>,
+        answers: &mut Vec<u8>,
+    ) -> Result<Turn, AllocError> {
+        match self.filter.read(record_read) {
             Filtered::Counts(moment, cell) => {
                 add_cell(answers, moment, &cell)?;
                 Ok(Turn::GoesOn)

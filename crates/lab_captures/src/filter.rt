@@ -58,17 +58,17 @@ impl CellFilter {
     fn read_at<'a>(
         &mut self,
         mut clock: Clock,
-        said: &Record<'a>,
+        record_read: &Record<'a>,
         cell: &LentCell<'a>,
     ) -> Filtered<'a>
-        ensures { filter_at_time (filter_state self.old) clock.first clock.latest said.now cell.now
+        ensures { filter_at_time (filter_state self.old) clock.first clock.latest record_read.now cell.now
             ≡ (result, filter_state self.new) }
     {
-        let moment = clock.read(said.time, self.tick);
+        let moment = clock.read(record_read.time, self.tick);
         self.clock = Some(clock);
         match moment {
             None => {
-                self.passed.back = self.passed.back.with(said.number);
+                self.passed.back = self.passed.back.with(record_read.number);
                 Filtered::Passed
             }
             Some(moment) => Filtered::Counts(moment, cell.lend()),
@@ -80,43 +80,43 @@ impl CellFilter {
     fn read_cell<'a>(
         &mut self,
         clock: Clock,
-        said: &Record<'a>,
+        record_read: &Record<'a>,
         cell: &LentCell<'a>,
     ) -> Filtered<'a>
-        ensures { filter_at_interface (filter_state self.old) clock.first clock.latest said.now cell.now self.old.interface
+        ensures { filter_at_interface (filter_state self.old) clock.first clock.latest record_read.now cell.now self.old.interface
             ≡ (result, filter_state self.new) }
     {
         match self.interface {
-            None => self.interface = Some(said.interface),
-            Some(interface) if interface == said.interface => {}
+            None => self.interface = Some(record_read.interface),
+            Some(interface) if interface == record_read.interface => {}
             Some(interface) => {
                 if !self.asked {
-                    return Filtered::Several(interface, said.interface);
+                    return Filtered::Several(interface, record_read.interface);
                 }
-                self.passed.other_interface = self.passed.other_interface.with(said.number);
+                self.passed.other_interface = self.passed.other_interface.with(record_read.number);
                 self.clock = Some(clock);
                 return Filtered::Passed;
             }
         }
-        self.read_at(clock, said, cell)
+        self.read_at(clock, record_read, cell)
     }
 
     /// Reads the next record. After `Several` the filter is as before. It is inlined, as `Reader::next` is.
     #[inline(always)]
-    pub fn read<'a>(&mut self, said: &Record<'a>) -> Filtered<'a>
-        ensures { filter_record (filter_state self.old) said.now ≡ (result, filter_state self.new) }
+    pub fn read<'a>(&mut self, record_read: &Record<'a>) -> Filtered<'a>
+        ensures { filter_record (filter_state self.old) record_read.now ≡ (result, filter_state self.new) }
     {
         let clock = match self.clock {
             Some(clock) => clock,
-            None => Clock::new(said.time),
+            None => Clock::new(record_read.time),
         };
-        match &said.content {
+        match &record_read.content {
             Err(why) => {
                 self.clock = Some(clock);
-                self.passed.count(*why, said.number);
+                self.passed.count(*why, record_read.number);
                 Filtered::Passed
             }
-            Ok(cell) => self.read_cell(clock, said, cell),
+            Ok(cell) => self.read_cell(clock, record_read, cell),
         }
     }
 }

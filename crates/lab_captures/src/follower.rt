@@ -21,9 +21,13 @@ pub trait Follower {
     ghost rules: { CaptureRules World };
 
     /// Appends the answer to a record to the answers.
-    fn follow(&mut self, said: &Record<'_>, answers: &mut Vec<u8>) -> Result<Turn, AllocError>
+    fn follow(
+        &mut self,
+        record_read: &Record<'_>,
+        answers: &mut Vec<u8>,
+    ) -> Result<Turn, AllocError>
         ensures { IfOk result (λ turn.
-            FollowsRecord rules (shows self.old) said.now turn (shows self.new) answers.old.items answers.new.items) };
+            FollowsRecord rules (shows self.old) record_read.now turn (shows self.new) answers.old.items answers.new.items) };
 
     /// Appends the answer to the end of the capture, or to its fault, to the answers.
     fn close(&self, ending: Option<Fault>, answers: &mut Vec<u8>) -> Result<(), AllocError>
@@ -61,7 +65,7 @@ pub(crate) fn step_by<F: Follower>(
             follower.close(Some(fault), answers)?;
             Ok(Step::Ends)
         }
-        Next::Taken(said, own) => match follower.follow(&said, answers)? {
+        Next::Taken(record_read, own) => match follower.follow(&record_read, answers)? {
             Turn::GoesOn => Ok(Step::Goes(own)),
             Turn::Ends => Ok(Step::Ends),
         },

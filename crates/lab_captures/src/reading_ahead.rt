@@ -75,12 +75,12 @@ impl ReadingAhead {
                 Next::Unfinished => return Ok(Coming::Wants),
                 Next::Broken(fault) => return Ok(Coming::Broken(fault)),
                 Next::Passed(own) => self.window.skip(own),
-                Next::Taken(said, own) => match self.filter.read(&said) {
+                Next::Taken(record_read, own) => match self.filter.read(&record_read) {
                     Filtered::Passed => self.window.skip(own),
                     Filtered::Several(one, other) => return Ok(Coming::Several(one, other)),
                     Filtered::Counts(moment, cell) => {
                         cells.push(CountedCell {
-                            number: said.number,
+                            number: record_read.number,
                             moment,
                             cell: cell.cell(),
                         })?;

@@ -74,12 +74,12 @@ faulty-code source code never =
 -- A source without a line means no code that is accepted.
 no_code : (lines : List SourceLine) (code : List Instr) → AreLines (source_lines []) lines → MeanFrom lines 0 (statements_of lines) code → code ≡ []
 unfolding source_lines statements_of
-no_code [] code said meant = meant
-no_code (line ∷ lines) code said meant = let no = said in cc
+no_code [] code line_content meant = meant
+no_code (line ∷ lines) code line_content meant = let no = line_content in cc
 
 never-accepted : (code : List Instr) → IsMeaning [] code → IsAccepted code → ⊥
 never-accepted code means accepted =
-    let none : length code ≡ 0 = ap length (no_code means.lines code means.said means.mean.meant) in
+    let none : length code ≡ 0 = ap length (no_code means.lines code means.spelled means.mean.meant) in
     let some : 0 < length code = accepted.sized.least in
     omega (arith, none, some)
 
@@ -115,11 +115,11 @@ gathered-none octets sized = ap (λ n. if nat_lt most_source_octets n then None 
 pub enough : (octets left : List ℕ) (found : Option (List ℕ)) (text : List ℕ) (done : Done) → found ≡ gathered most_source_octets octets
     → LeavesBehind most_source_octets found octets left → ExplainsWithin found text done
     → TakesEnough (λ needed. (answered : List ℕ) × IsSourceText needed answered done) most_ahead octets left
-enough octets left None text done is later tells =
+enough octets left None text done is later prints =
     let P : Option (List ℕ) → Type 0 = λ found. ExplainsWithin found text done in
     let none : length {A = ℕ} [] ≤ most_ahead = omega arith in
-    (later.0, [], later.1, none, (text, subst P (sym (gathered-none later.0 later.2)) tells))
-enough octets left (Some source) text done is later tells =
+    (later.0, [], later.1, none, (text, subst P (sym (gathered-none later.0 later.2)) prints))
+enough octets left (Some source) text done is later prints =
     let P : Option (List ℕ) → Type 0 = λ found. ExplainsWithin found text done in
     let none : length {A = ℕ} [] ≤ most_ahead = omega arith in
-    (octets, [], sym (append-nil octets) ∙ ap (λ xs. octets ++ xs) (sym later), none, (text, subst P is tells))
+    (octets, [], sym (append-nil octets) ∙ ap (λ xs. octets ++ xs) (sym later), none, (text, subst P is prints))

@@ -13,7 +13,7 @@ use Rattle.text_io.specs.declared.ending.Done.{Done}
 use Rattle.text_io.specs.declared.ending.Done.TheVariants.{Whole, Ended}
 use Rattle.upc_codes.specs.CodeFaults.{verify_fault}
 use Rattle.upc_codes.specs.Program.{ProgramReading, is_program, is_refused, ChecksAs}
-use Rattle.upc_programs.specs.Check.{IsCheckAnswer, TellsSource}
+use Rattle.upc_programs.specs.Check.{IsCheckAnswer, PrintsSource}
 use Rattle.upc_programs.specs.SourceFaults.{asm_fault}
 
 both_whole : (checked text : List ℕ) (ended done : Done) → ended ≡ Whole → done ≡ Whole → NamesSameFault checked text ended done
@@ -33,7 +33,7 @@ reading-same source code (is_refused refused) checked text ended done checks ans
     both_ended checked text more ended done answered.1 found.3
     (found.2.2 ∙ ap (λ (f : Fault). verify_fault f ++ more) same ∙ ap (λ (xs : List ℕ). xs ++ more) (sym checks.2 ∙ sym answered.0))
 
-source-same : (source checked text : List ℕ) (ended done : Done) → TellsSource source checked ended → ExplainsSource source text done → NamesSameFault checked text ended done
+source-same : (source checked text : List ℕ) (ended done : Done) → PrintsSource source checked ended → ExplainsSource source text done → NamesSameFault checked text ended done
 source-same source checked text ended done (inl p) (inl q) =
     let same = meaning_once source q.0 p.0 q.1 p.1 in
     let explains = subst (λ (code : List Instr). ExplainsCode source code text done) same q.2 in

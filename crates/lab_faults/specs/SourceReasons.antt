@@ -43,14 +43,14 @@ failing_label lines fault text (first ∷ operands) =
 
 -- The token that a fault of this kind is about, if it is about one.
 abbrev pub blamed_token : List (List ℕ) → AsmFault → AsmKind → List ℕ → Option FoundToken
-blamed_token lines fault asm.BadLine said = wrong_token (without_comment said) (instruction_tokens said)
-blamed_token lines fault asm.BadNumber said = first_no_number (without_comment said) (tokens_of_line said)
-blamed_token lines fault asm.LabelTwice said = slice_get (tokens_of_line said) 0
-blamed_token lines fault asm.UnknownLabel said = failing_label lines fault (without_comment said) (instruction_tokens said)
-blamed_token lines fault asm.Backward said = failing_label lines fault (without_comment said) (instruction_tokens said)
-blamed_token lines fault asm.TooFar said = failing_label lines fault (without_comment said) (instruction_tokens said)
-blamed_token lines fault asm.DanglingLabel said = slice_get (tokens_of_line said) 0
-blamed_token lines fault asm.NoMemory said = None
+blamed_token lines fault asm.BadLine line_content = wrong_token (without_comment line_content) (instruction_tokens line_content)
+blamed_token lines fault asm.BadNumber line_content = first_no_number (without_comment line_content) (tokens_of_line line_content)
+blamed_token lines fault asm.LabelTwice line_content = slice_get (tokens_of_line line_content) 0
+blamed_token lines fault asm.UnknownLabel line_content = failing_label lines fault (without_comment line_content) (instruction_tokens line_content)
+blamed_token lines fault asm.Backward line_content = failing_label lines fault (without_comment line_content) (instruction_tokens line_content)
+blamed_token lines fault asm.TooFar line_content = failing_label lines fault (without_comment line_content) (instruction_tokens line_content)
+blamed_token lines fault asm.DanglingLabel line_content = slice_get (tokens_of_line line_content) 0
+blamed_token lines fault asm.NoMemory line_content = None
 
 -- The line that has a label, in words.
 abbrev pub label_words : List ℕ → Option ℕ → List ℕ
@@ -71,14 +71,14 @@ label_sentence _ label found = []
 
 -- The sentence about a fault, whose token has these octets.
 abbrev pub source_sentence : List (List ℕ) → AsmKind → List ℕ → List ℕ → List ℕ
-source_sentence lines asm.BadLine said blamed = bad_line_sentence (without_comment said) (instruction_tokens said)
-source_sentence lines asm.BadNumber said blamed = no_number_sentence blamed
-source_sentence lines kind said blamed = label_sentence kind blamed (label_line blamed 1 lines)
+source_sentence lines asm.BadLine line_content blamed = bad_line_sentence (without_comment line_content) (instruction_tokens line_content)
+source_sentence lines asm.BadNumber line_content blamed = no_number_sentence blamed
+source_sentence lines kind line_content blamed = label_sentence kind blamed (label_line blamed 1 lines)
 
 -- The explanation of a fault on a line that says this: its line, the column of the token that is wrong, and a sentence.
 abbrev pub line_explanation : List (List ℕ) → AsmFault → List ℕ → Option FoundToken → List ℕ
-line_explanation lines fault said blamed =
-    place_words fault.line (column_of blamed) ++ line (source_sentence lines fault.kind said (octets_of (without_comment said) blamed))
+line_explanation lines fault line_content blamed =
+    place_words fault.line (column_of blamed) ++ line (source_sentence lines fault.kind line_content (octets_of (without_comment line_content) blamed))
 
 -- The explanation of a fault of a source.
 abbrev pub source_explanation : List (List ℕ) → AsmFault → List ℕ

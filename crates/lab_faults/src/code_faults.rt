@@ -34,10 +34,14 @@ fn fault_place(size: usize, fault: Fault) -> usize
 }
 
 /// Returns the token of an instruction that the fault is about: its number, or its mnemonic.
-fn blamed_part(alloc: Global, fault: Fault, said: &[u8]) -> Result<Option<FoundToken>, AllocError>
-    ensures { IfOk result (λ token. token ≡ blamed_part fault said.now) }
+fn blamed_part(
+    alloc: Global,
+    fault: Fault,
+    line_content: &[u8],
+) -> Result<Option<FoundToken>, AllocError>
+    ensures { IfOk result (λ token. token ≡ blamed_part fault line_content.now) }
 {
-    let text = before_comment(said);
+    let text = before_comment(line_content);
     let tokens = tokens_of(alloc, text)?;
     let parts = after_label(text, &tokens);
     match fault {

@@ -38,10 +38,14 @@ fn is_past_cell(instr: Instr) -> bool
 }
 
 /// Returns the token of such an instruction that is wrong.
-fn hinted_token(alloc: Global, instr: Instr, said: &[u8]) -> Result<Option<FoundToken>, AllocError>
-    ensures { IfOk result (λ token. token ≡ hinted_token instr said.now) }
+fn hinted_token(
+    alloc: Global,
+    instr: Instr,
+    line_content: &[u8],
+) -> Result<Option<FoundToken>, AllocError>
+    ensures { IfOk result (λ token. token ≡ hinted_token instr line_content.now) }
 {
-    let text = before_comment(said);
+    let text = before_comment(line_content);
     let tokens = tokens_of(alloc, text)?;
     let parts = after_label(text, &tokens);
     match instr {

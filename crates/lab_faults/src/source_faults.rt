@@ -87,11 +87,11 @@ fn blamed_token(
     alloc: Global,
     source: &[u8],
     fault: AsmFault,
-    said: &[u8],
+    line_content: &[u8],
 ) -> Result<Option<FoundToken>, AllocError>
-    ensures { IfOk result (λ token. token ≡ blamed_token (source_lines source.now) fault fault.kind said.now) }
+    ensures { IfOk result (λ token. token ≡ blamed_token (source_lines source.now) fault fault.kind line_content.now) }
 {
-    let text = before_comment(said);
+    let text = before_comment(line_content);
     let tokens = tokens_of(alloc, text)?;
     match fault.kind {
         AsmKind::BadLine => Ok(wrong_token(text, after_label(text, &tokens))),
@@ -175,14 +175,14 @@ fn add_sentence(
     answers: &mut Vec<u8>,
     source: &[u8],
     kind: AsmKind,
-    said: &[u8],
+    line_content: &[u8],
     blamed: &[u8],
 ) -> Result<(), AllocError>
-    ensures { OnOk result (answers.new.items ≡ answers.old.items ++ source_sentence (source_lines source.now) kind said.now blamed.now) }
+    ensures { OnOk result (answers.new.items ≡ answers.old.items ++ source_sentence (source_lines source.now) kind line_content.now blamed.now) }
 {
     match kind {
         AsmKind::BadLine => {
-            let text = before_comment(said);
+            let text = before_comment(line_content);
             let tokens = tokens_of(alloc, text)?;
             add_bad_line(answers, text, after_label(text, &tokens))
         }
@@ -201,11 +201,11 @@ pub(crate) fn add_source_explanation(
 ) -> Result<(), AllocError>
     ensures { OnOk result (answers.new.items ≡ answers.old.items ++ source_explanation (source_lines source.now) fault) }
 {
-    let said = line_numbered(source, fault.line);
-    let blamed = blamed_token(alloc, source, fault, said)?;
+    let line_content = line_numbered(source, fault.line);
+    let blamed = blamed_token(alloc, source, fault, line_content)?;
     add_place(answers, fault.line, column_of(blamed))?;
-    let octets = octets_of(before_comment(said), blamed);
-    add_sentence(alloc, answers, source, fault.kind, said, octets)?;
+    let octets = octets_of(before_comment(line_content), blamed);
+    add_sentence(alloc, answers, source, fault.kind, line_content, octets)?;
     answers.push(b'\n')?;
     Ok(())
 }

@@ -39,64 +39,64 @@ IsNext tick earliest (Several one other) after = ⊤
 abbrev Reads : ℕ → ℕ → Filtered × FilterState → Type 0
 Reads tick earliest read = IsNext tick earliest read.0 read.1
 
-module _ (said : Record) (first latest earliest : ℕ) (ordered : first ≤ latest) where
+module _ (record_read : Record) (first latest earliest : ℕ) (ordered : first ≤ latest) where
   at-time : (state : FilterState) (cell : List ℕ) → 0 < state.tick → earliest ≤ whole_ticks (latest - first) state.tick
-      → Reads state.tick earliest (filter_at_time state first latest said cell)
+      → Reads state.tick earliest (filter_at_time state first latest record_read cell)
   at-time state cell some on =
       let back : Filtered × FilterState = (
         Passed,
-        record state { clock = Some (first, latest); passed = record state.passed { back = one_more_record state.passed.back said.number } },
+        record state { clock = Some (first, latest); passed = record state.passed { back = one_more_record state.passed.back record_read.number } },
       ) in
-      let moment = whole_ticks (said.time - first) state.tick in
-      let counts : Filtered × FilterState = (Counts moment cell, record state { clock = Some (first, max latest said.time) }) in
-      let choice : (b : Bool) → nat_lt said.time latest ≡ b → Reads state.tick earliest (cond b back counts) = elim [
+      let moment = whole_ticks (record_read.time - first) state.tick in
+      let counts : Filtered × FilterState = (Counts moment cell, record state { clock = Some (first, max latest record_read.time) }) in
+      let choice : (b : Bool) → nat_lt record_read.time latest ≡ b → Reads state.tick earliest (cond b back counts) = elim [
         | true ↦ λ e. ((ordered, on), refl)
         | false ↦ λ e.
-            let late : latest ≤ said.time = ltb-false said.time latest e in
+            let late : latest ≤ record_read.time = ltb-false record_read.time latest e in
             let later : whole_ticks (latest - first) state.tick ≤ moment =
-            ticks-grow (latest - first) (said.time - first) state.tick some (omega (arith, late)) in
-            let up : said.time - first ≤ max latest said.time - first = omega (arith, late) in
-            let here : first ≤ max latest said.time = omega (arith, late, ordered) in
-            (omega (arith, on, later), ((here, ticks-grow (said.time - first) (max latest said.time - first) state.tick some up), refl))
+            ticks-grow (latest - first) (record_read.time - first) state.tick some (omega (arith, late)) in
+            let up : record_read.time - first ≤ max latest record_read.time - first = omega (arith, late) in
+            let here : first ≤ max latest record_read.time = omega (arith, late, ordered) in
+            (omega (arith, on, later), ((here, ticks-grow (record_read.time - first) (max latest record_read.time - first) state.tick some up), refl))
       ] in
-      choice (nat_lt said.time latest) refl
+      choice (nat_lt record_read.time latest) refl
 
   at-interface : (state : FilterState) (cell : List ℕ) (interface : Option ℕ) → 0 < state.tick → earliest ≤ whole_ticks (latest - first) state.tick
-      → Reads state.tick earliest (filter_at_interface state first latest said cell interface)
-  at-interface state cell None some on = at-time (record state { interface = Some said.interface }) cell some on
+      → Reads state.tick earliest (filter_at_interface state first latest record_read cell interface)
+  at-interface state cell None some on = at-time (record state { interface = Some record_read.interface }) cell some on
   at-interface state cell (Some interface) some on =
       let other : Filtered × FilterState = (
         Passed,
-        record state { clock = Some (first, latest); passed = record state.passed { other_interface = one_more_record state.passed.other_interface said.number } },
+        record state { clock = Some (first, latest); passed = record state.passed { other_interface = one_more_record state.passed.other_interface record_read.number } },
       ) in
-      let several : Filtered × FilterState = (Several interface said.interface, state) in
+      let several : Filtered × FilterState = (Several interface record_read.interface, state) in
       let asked : (b : Bool) → Reads state.tick earliest (cond b other several) = elim [
         | true ↦ ((ordered, on), refl)
         | false ↦ tt
       ] in
-      let choice : (b : Bool) → Reads state.tick earliest (cond b (filter_at_time state first latest said cell) (cond state.asked other several)) = elim [
+      let choice : (b : Bool) → Reads state.tick earliest (cond b (filter_at_time state first latest record_read cell) (cond state.asked other several)) = elim [
         | true ↦ at-time state cell some on
         | false ↦ asked state.asked
       ] in
-      choice (interface == said.interface)
+      choice (interface == record_read.interface)
 
   at-content : (state : FilterState) (content : Result (List ℕ) NoCell) → 0 < state.tick → earliest ≤ whole_ticks (latest - first) state.tick
-      → Reads state.tick earliest (filter_content state (first, latest) said content)
+      → Reads state.tick earliest (filter_content state (first, latest) record_read content)
   at-content state (Err why) some on = ((ordered, on), refl)
   at-content state (Ok cell) some on = at-interface state cell state.interface some on
 
-at-clock : (state : FilterState) (said : Record) (earliest : ℕ) (clock : Option (ℕ × ℕ)) → 0 < state.tick
+at-clock : (state : FilterState) (record_read : Record) (earliest : ℕ) (clock : Option (ℕ × ℕ)) → 0 < state.tick
     → MatchOption clock (earliest ≡ 0) (λ clock. (clock.0 ≤ clock.1) × (earliest ≤ whole_ticks (clock.1 - clock.0) state.tick))
-    → Reads state.tick earliest (filter_content state (unwrap_or clock (said.time, said.time)) said said.content)
-at-clock state said earliest None some on =
-    let same : said.time ≤ said.time = omega arith in
-    let none : earliest ≤ whole_ticks (said.time - said.time) state.tick = omega (arith, on) in
-    at-content said said.time said.time earliest same state said.content some none
-at-clock state said earliest (Some clock) some on = at-content said clock.0 clock.1 earliest on.0 state said.content some on.1
+    → Reads state.tick earliest (filter_content state (unwrap_or clock (record_read.time, record_read.time)) record_read record_read.content)
+at-clock state record_read earliest None some on =
+    let same : record_read.time ≤ record_read.time = omega arith in
+    let none : earliest ≤ whole_ticks (record_read.time - record_read.time) state.tick = omega (arith, on) in
+    at-content record_read record_read.time record_read.time earliest same state record_read.content some none
+at-clock state record_read earliest (Some clock) some on = at-content record_read clock.0 clock.1 earliest on.0 state record_read.content some on.1
 
-reads-on : (state : FilterState) (said : Record) (earliest : ℕ) → 0 < state.tick → IsOn state earliest
-    → Reads state.tick earliest (filter_record state said)
-reads-on state said earliest some on = at-clock state said earliest state.clock some on
+reads-on : (state : FilterState) (record_read : Record) (earliest : ℕ) → 0 < state.tick → IsOn state earliest
+    → Reads state.tick earliest (filter_record state record_read)
+reads-on state record_read earliest some on = at-clock state record_read earliest state.clock some on
 
 counted-on : (answer : Filtered) (after : FilterState) (tick earliest number : ℕ) (later : List CountedCell) → IsNext tick earliest answer after
     → ((from : ℕ) → IsOn after from → after.tick ≡ tick → GoesOn from (moments_counted later))
@@ -108,9 +108,9 @@ counted-on (Several one other) after tick earliest number later next rest = tt
 cells-go-on : (state : FilterState) (records : List Record) (earliest : ℕ) → 0 < state.tick → IsOn state earliest
     → GoesOn earliest (moments_counted (counted_cells state records))
 cells-go-on state [] earliest some on = tt
-cells-go-on state (said ∷ records) earliest some on =
-    let read = filter_record state said in
-    counted-on read.0 read.1 state.tick earliest said.number (counted_cells read.1 records) (reads-on state said earliest some on)
+cells-go-on state (record_read ∷ records) earliest some on =
+    let read = filter_record state record_read in
+    counted-on read.0 read.1 state.tick earliest record_read.number (counted_cells read.1 records) (reads-on state record_read earliest some on)
     (λ from ahead same. cells-go-on read.1 records from (subst (λ n. 0 < n) (sym same) some) ahead)
 
 -- So do those of some of the cells.

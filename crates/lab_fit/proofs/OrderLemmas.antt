@@ -173,9 +173,9 @@ apart-next world (Several one other) after number next goes apart = absurd (let 
 
 run-apart : (world last : FitWorld) (records : List Record) → RunsThrough fit_rules world records last → AreApart world.fits → AreApart last.fits
 run-apart world last [] leads apart = subst (λ (w : FitWorld). AreApart w.fits) (sym leads) apart
-run-apart world last (said ∷ records) (here, next, step, leads) apart =
-    let read = filter_record world.filter said in
-    run-apart next last records leads (apart-next world read.0 read.1 said.number next (ap (λ (s : List ℕ × Option FitWorld). s.1) step) apart)
+run-apart world last (record_read ∷ records) (here, next, step, leads) apart =
+    let read = filter_record world.filter record_read in
+    run-apart next last records leads (apart-next world read.0 read.1 record_read.number next (ap (λ (s : List ℕ × Option FitWorld). s.1) step) apart)
 
 or-none : (found : Option ConnectionFit) → or_else found None ≡ found
 or-none None = refl

@@ -180,9 +180,9 @@ goes-on world (Several one other) after number next goes = absurd (let no : None
 run-fits : (world last : FitWorld) (records : List Record) → RunsThrough fit_rules world records last → (vc : Vc)
     → fit_in vc last.fits ≡ over world.increment vc (fit_in vc world.fits) (cells_of_vc world.side vc (counted_cells world.filter records))
 run-fits world last [] leads vc = ap (λ (w : FitWorld). fit_in vc w.fits) leads
-run-fits world last (said ∷ records) (here, next, step, leads) vc =
-    let read = filter_record world.filter said in
-    let goes = goes-on world read.0 read.1 said.number next (ap (λ (s : List ℕ × Option FitWorld). s.1) step) in
+run-fits world last (record_read ∷ records) (here, next, step, leads) vc =
+    let read = filter_record world.filter record_read in
+    let goes = goes-on world read.0 read.1 record_read.number next (ap (λ (s : List ℕ × Option FitWorld). s.1) step) in
     let later = counted_cells read.1 records in
     let Rest : ℕ → Side → FilterState → Type 0 = λ increment side filter.
     fit_in vc last.fits ≡ over increment vc (fit_in vc next.fits) (cells_of_vc side vc (counted_cells filter records)) in
@@ -213,12 +213,12 @@ fits-are-least increment tick interface side records last leads vc =
 run-text : (world last : FitWorld) (records : List Record) → RunsThrough fit_rules world records last → (ending : Option Fault)
     → fixed_text fit_steps fit_closes world records ending ≡ (fit_closes last ending, done_at ending)
 run-text world last [] leads ending = ap (λ (w : FitWorld). (fit_closes w ending, done_at ending)) (sym leads)
-run-text world last (said ∷ records) (here, next, step, leads) ending =
-    let read = filter_record world.filter said in
-    let on : (fit_answer world read.0 read.1 said.number).1 ≡ Some next = ap (λ (s : List ℕ × Option FitWorld). s.1) step in
-    let goes = goes-on world read.0 read.1 said.number next on in
+run-text world last (record_read ∷ records) (here, next, step, leads) ending =
+    let read = filter_record world.filter record_read in
+    let on : (fit_answer world read.0 read.1 record_read.number).1 ≡ Some next = ap (λ (s : List ℕ × Option FitWorld). s.1) step in
+    let goes = goes-on world read.0 read.1 record_read.number next on in
     let rest : FitWorld → List ℕ × Done = λ w. fixed_text fit_steps fit_closes w records ending in
-    ap (λ (text : List ℕ). text_then text (fit_answer world read.0 read.1 said.number).1 rest) goes.silent
+    ap (λ (text : List ℕ). text_then text (fit_answer world read.0 read.1 record_read.number).1 rest) goes.silent
     ∙ ap (λ (after : Option FitWorld). text_then [] after rest) on
     ∙ run-text next last records leads ending
 

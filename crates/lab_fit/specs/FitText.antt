@@ -81,7 +81,7 @@ fit_answer world (Several one other) after number = (several_line one other, Non
 
 -- The answer to a record.
 abbrev pub fit_steps : FitWorld → Record → List ℕ × Option FitWorld
-fit_steps world said = fit_answer world (filter_record world.filter said).0 (filter_record world.filter said).1 said.number
+fit_steps world record_read = fit_answer world (filter_record world.filter record_read).0 (filter_record world.filter record_read).1 record_read.number
 
 -- The answer to the end: the table, the comments, and the fault if there is one.
 abbrev pub fit_closes : FitWorld → Option Fault → List ℕ

@@ -84,10 +84,14 @@ impl Follower for FitRun {
 
     ghost rules = { fit_rules };
 
-    fn follow(&mut self, said: &Record<'_>, answers: &mut Vec<u8>) -> Result<Turn, AllocError> {
-        match self.filter.read(said) {
+    fn follow(
+        &mut self,
+        record_read: &Record<'_>,
+        answers: &mut Vec<u8>,
+    ) -> Result<Turn, AllocError> {
+        match self.filter.read(record_read) {
             Filtered::Counts(moment, cell) => {
-                self.take_cell(moment, &cell.cell(), said.number, answers)
+                self.take_cell(moment, &cell.cell(), record_read.number, answers)
             }
             Filtered::Passed => Ok(Turn::GoesOn),
             Filtered::Several(one, other) => {

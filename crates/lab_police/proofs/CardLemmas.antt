@@ -22,7 +22,7 @@ use Rattle.upc_cell.specs.declared.vc.Vc.{Vc}
 use Rattle.upc_run.proofs.Public.{arrives}
 use Rattle.upc_run.specs.RunText.{TakesCommand, id_loaded}
 use Rattle.upc_run.specs.ShownCard.{Held}
-use Rattle.upc_run.specs.inner.CardSteps.{cut-told}
+use Rattle.upc_run.specs.inner.CardSteps.{cut-printed}
 use Rattle.upc_run.specs.inner.RunLaws.{cut-led}
 use Rattle.upc_script.specs.ScriptCommands.{cut}
 use Rattle.lab_police.specs.PoliceText.{TakesCell, connection_of_cell}
@@ -30,14 +30,14 @@ use Rattle.lab_police.specs.inner.CardArrival.{ArrivesOnce, ArrivesWithRoom, Cut
 use Rattle.lab_police.specs.inner.PoliceTotal.{taken_led}
 
 -- A cell that takes all its steps.
-pub arrives_once : (old new : CoreView) (cell : List ℕ) (moment : ℕ) (told : Option (Result Judgement Unjudged))
-    → IfSome told (λ t. AnswersArrival old 0 cell moment (answer_to cell t) new)
-    → IfNone told (Follows old (Enter 0 cell moment) NotNow new)
-    → ArrivesOnce old cell moment (option_map (λ t. answer_to cell t) told) new
-arrives_once old new cell moment told goes not before led agrees =
+pub arrives_once : (old new : CoreView) (cell : List ℕ) (moment : ℕ) (decision : Option (Result Judgement Unjudged))
+    → IfSome decision (λ t. AnswersArrival old 0 cell moment (answer_to cell t) new)
+    → IfNone decision (Follows old (Enter 0 cell moment) NotNow new)
+    → ArrivesOnce old cell moment (option_map (λ t. answer_to cell t) decision) new
+arrives_once old new cell moment decision goes not before led agrees =
     let held : Held = record { core = old; names = before.names } in
     let held' : Held = record { core = new; names = before.names } in
-    let on = (arrives held held' cell moment told refl goes not).1 before led (record { agrees = agrees; names = refl }) in (
+    let on = (arrives held held' cell moment decision refl goes not).1 before led (record { agrees = agrees; names = refl }) in (
       on.0,
       on.1,
       record { world = on.2; names = before.names },
@@ -50,14 +50,14 @@ pub cuts_off : (old new : CoreView) (vc : Vc) (reply : Reply) → Follows old (C
     → CutsOff old vc new
 cuts_off old new vc reply follows spares none before led agrees =
     let on = follows led.shape led.log before.world led.leads agrees in
-    let told = cut-told before.world on.after vc (length before.names) reply on.stepped spares in (
-      told.0,
+    let printed = cut-printed before.world on.after vc (length before.names) reply on.stepped spares in (
+      printed.0,
       record { world = on.after; names = before.names },
       record {
         reply = reply;
         stepped = on.stepped;
         named = sym (append-nil before.names) ∙ ap (λ (ids : List Id). before.names ++ ids) (sym none);
-        told = told.1;
+        printed = printed.1;
       },
       on.agrees,
     )

@@ -150,7 +150,7 @@ judges_as before after picking given had step =
     by None e (inl goes) =
         let one : Some (picked picking) ≡ Some (picked goes.picking) = sym had ∙ goes.had in
         let same : picking ≡ goes.picking = cc in
-        let told : Answered given ≡ Answered (judgement_of before goes.picking goes.connection) = goes.answer in
+        let same_answer : Answered given ≡ Answered (judgement_of before goes.picking goes.connection) = goes.answer in
         let is : given ≡ judgement_of before goes.picking goes.connection = cc in
         let free : picking_refusal before goes.picking (Some goes.connection) ≡ None =
         sym (ap (picking_refusal before goes.picking) goes.found)
@@ -171,14 +171,14 @@ judges_as before after picking given had step =
           judged = refl;
           forward = refusal_forward before goes.picking goes.connection free;
         } in
-        let Told : Picking → Answer → Type 0 = λ p a. LeavesConnection before.connections after.connections p.vc (has_low_priority p.cell) a in
+        let LeavesBy : Picking → Answer → Type 0 = λ p a. LeavesConnection before.connections after.connections p.vc (has_low_priority p.cell) a in
         inr (
-          subst (λ (p : Picking). Told p given) (sym same) (subst (λ (a : Answer). Told goes.picking a) (sym is) judged),
+          subst (λ (p : Picking). LeavesBy p given) (sym same) (subst (λ (a : Answer). LeavesBy goes.picking a) (sym is) judged),
           λ full. let no : judgement_of before goes.picking goes.connection ≡ answer.JournalFull = sym is ∙ full in cc,
         )
     by None e (inr lacks) = let no = lacks.answer in cc
     by (Some reason) e is =
-        let told : Answered given ≡ Answered reason = is.answer in
+        let same_answer : Answered given ≡ Answered reason = is.answer in
         let same : reason ≡ given = cc in
         let world : after ≡ with_port before 0 outside = is.world ∙ ap (left_by_judge before 0) had in
         inl (
@@ -223,7 +223,7 @@ answered_leaves before entering after cell moment given free came answered = by 
     by : IsAnswered entering given after → Leaves before after (vc_of before.shape.side cell) (has_low_priority cell) given
     by (inl pick) = elim (picks entering after cell moment (Answered given) had pick) [
       | inl lacks ↦
-          let told : Answered given ≡ Answered answer.NoConnection = lacks.0 in
+          let same_answer : Answered given ≡ Answered answer.NoConnection = lacks.0 in
           let same : answer.NoConnection ≡ given = cc in
           inl (subst Silent same (λ one other vc clp. tt), lacks.1 ∙ listed, lacks.2 ∙ shaped)
       | inr goes ↦ let no = goes.0 in cc

@@ -116,9 +116,9 @@ module _ {Source Sink : Type 0} (I : InputView Source) (O : OutputView Sink) (so
   served_as IsText IsWanted is served = record {
     text = λ ki ko. IfOk-weaker result _ _ (λ done adds. (adds.0, adds.1, is (I.rest source) adds.0 done adds.2)) (served.text ki ko);
     front = λ ki ko. on_fault result _ _ (served.front ki ko)
-        (λ (text, grew, (more, done, told)). (text, grew, (more, done, is (I.rest source) (text ++ more) done told)));
+        (λ (text, grew, (more, done, printed)). (text, grew, (more, done, is (I.rest source) (text ++ more) done printed)));
     left = λ ki. IfOk-weaker result _ _
-        (λ done (needed, ahead, cut, few, (text, told)). (needed, ahead, cut, few, (text, is needed text done told))) (served.left ki);
+        (λ done (needed, ahead, cut, few, (text, printed)). (needed, ahead, cut, few, (text, is needed text done printed))) (served.left ki);
     whole = served.whole;
     reading = served.reading;
     writing = served.writing;

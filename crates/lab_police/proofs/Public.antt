@@ -16,8 +16,8 @@ police_some : (lines : CellLines) (tick : ℕ) (interface : Option ℕ) (script 
 police_some lines tick interface script octets text Ended explained = (text, Ended, inl (explained, refl))
 police_some lines tick interface script octets text Whole explained =
     let set = set_up_some script (text, explained) in
-    let told = some_cells_capture police_rules police-total (filter_start tick interface, police_start lines set.0) octets set.2 in
-    (told.0, told.1, inr (set.0, set.1, told.2))
+    let printed = some_cells_capture police_rules police-total (filter_start tick interface, police_start lines set.0) octets set.2 in
+    (printed.0, printed.1, inr (set.0, set.1, printed.2))
 
 -- A setup script and a capture have a text.
 pub some_police_text : (lines : CellLines) (tick : ℕ) (interface : Option ℕ) (script octets : List ℕ)

@@ -5,7 +5,7 @@ use Rattle.std.specs.Option.{MatchOption}
 use Rattle.lab_scripts.specs.ScriptText.{ClosesScript, ExplainsLine, ScriptWorld, after_answer, before_script, script_rules}
 use Rattle.text_io.proofs.Public.{prints-end}
 use Rattle.text_io.specs.Limits.{is_over}
-use Rattle.text_io.specs.Lines.{Line, lines_of, said}
+use Rattle.text_io.specs.Lines.{Line, lines_of, line_content}
 use Rattle.text_io.specs.Printing.{EndsAt, Prints}
 use Rattle.text_io.specs.declared.ending.Done.TheVariants.{Whole, Ended}
 use Rattle.upc_run.proofs.Public.{one-run_text, run-total}
@@ -31,10 +31,10 @@ next_whole met world here more lines (Some run) later h = later (after_answer wo
 line_whole : (met : ℕ) (world : ScriptWorld) (line : Line) (lines : List Line) (text : List ℕ) (over : Bool)
     → ((next : ScriptWorld) (text : List ℕ) → Prints script_rules (met + 1) next lines text Whole → RunsOn (met + 1) next.run lines)
     → MatchBool over ((text ≡ script_rules.too_long) × (Whole ≡ Ended))
-    ((here : List ℕ) × (more : List ℕ) × (next : Option ScriptWorld) × (text ≡ here ++ more) × ExplainsLine world (said line) here next
+    ((here : List ℕ) × (more : List ℕ) × (next : Option ScriptWorld) × (text ≡ here ++ more) × ExplainsLine world (line_content line) here next
     × MatchOption next ((more ≡ []) × (Whole ≡ Ended)) (λ world'. Prints script_rules (met + 1) world' lines more Whole))
     → (answers : List ℕ) × MatchBool over ((answers ≡ run_rules.too_long) × (Whole ≡ Ended))
-    ((here : List ℕ) × (more : List ℕ) × (next : Option RunWorld) × (answers ≡ here ++ more) × RunSteps world.run (said line) here next
+    ((here : List ℕ) × (more : List ℕ) × (next : Option RunWorld) × (answers ≡ here ++ more) × RunSteps world.run (line_content line) here next
     × MatchOption next ((more ≡ []) × (Whole ≡ Ended)) (λ world'. Prints run_rules (met + 1) world' lines more Whole))
 line_whole met world line lines text true later h = let no = h.1 in cc
 line_whole met world line lines text false later h =
@@ -67,7 +67,7 @@ ends_sound [] met world last text sound ends =
     subst (λ (it : RunWorld). IsSoundRun it × ((answers : List ℕ) × RunCloses it answers Whole)) (sym ends.0) (sound, (text, ends.1))
 ends_sound (line ∷ lines) met world last text sound ends =
     let on = ends.1 in
-    ends_sound lines (met + 1) on.2 last on.1 (run-total.keeps world (said line) on.0 on.2 sound on.4) on.5
+    ends_sound lines (met + 1) on.2 last on.1 (run-total.keeps world (line_content line) on.0 on.2 sound on.4) on.5
 
 -- Lines that lead to an end without a fault lead to a card that a log leads to.
 pub ends_card : (script text : List ℕ) (last : RunWorld) → EndsAt run_rules 0 None (lines_of script) text last

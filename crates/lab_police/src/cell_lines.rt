@@ -86,12 +86,12 @@ fn columns_without(reason: Unjudged) -> &'static [u8]
 #[tactic(auto, using(std::proofs::lemmas::List::append_assoc))]
 fn add_answer(
     answers: &mut Vec<u8>,
-    told: &Result<Judgement, Unjudged>,
+    decision: &Result<Judgement, Unjudged>,
     excess: Option<Excess>,
 ) -> Result<(), AllocError>
-    ensures { (cell : List ℕ) → OnOk result (answers.new.items ≡ answers.old.items ++ answer_columns (answer_to cell told.now) excess) }
+    ensures { (cell : List ℕ) → OnOk result (answers.new.items ≡ answers.old.items ++ answer_columns (answer_to cell decision.now) excess) }
 {
-    match told {
+    match decision {
         Ok(judged) => {
             add_number_column(answers, u64::from(judged.value))?;
             add_word_column(answers, word_of(judged.verdict))?;
@@ -135,14 +135,14 @@ fn add_police_line(
     moment: u64,
     vc: Vc,
     clp: bool,
-    told: &Result<Judgement, Unjudged>,
+    decision: &Result<Judgement, Unjudged>,
     excess: Option<Excess>,
 ) -> Result<(), AllocError>
     ensures { (cell : List ℕ) → OnOk result (answers.new.items ≡ answers.old.items
-        ++ police_line number moment vc clp (answer_to cell told.now) excess) }
+        ++ police_line number moment vc clp (answer_to cell decision.now) excess) }
 {
     add_arrival(answers, number, moment, vc, clp)?;
-    add_answer(answers, told, excess)
+    add_answer(answers, decision, excess)
 }
 
 /// Appends the line of a cell, after the heading if that isn't written yet.
@@ -154,35 +154,35 @@ pub(crate) fn add_line(
     moment: u64,
     vc: Vc,
     clp: bool,
-    told: &Result<Judgement, Unjudged>,
+    decision: &Result<Judgement, Unjudged>,
     excess: Option<Excess>,
 ) -> Result<(), AllocError>
     ensures { (cell : List ℕ) → OnOk result (answers.new.items ≡ answers.old.items
-        ++ ((if begun then [] else verdict_heading) ++ police_line number moment vc clp (answer_to cell told.now) excess)) }
+        ++ ((if begun then [] else verdict_heading) ++ police_line number moment vc clp (answer_to cell decision.now) excess)) }
 {
     if begun {
-        return add_police_line(answers, number, moment, vc, clp, told, excess);
+        return add_police_line(answers, number, moment, vc, clp, decision, excess);
     }
     add_verdict_heading(answers)?;
-    add_police_line(answers, number, moment, vc, clp, told, excess)
+    add_police_line(answers, number, moment, vc, clp, decision, excess)
 }
 
 /// Returns whether a cell with this result has a line.
-pub(crate) fn has_line(lines: CellLines, told: &Result<Judgement, Unjudged>) -> bool
-    ensures { (cell : List ℕ) → result ≡ has_line lines (answer_to cell told.now) }
+pub(crate) fn has_line(lines: CellLines, decision: &Result<Judgement, Unjudged>) -> bool
+    ensures { (cell : List ℕ) → result ≡ has_line lines (answer_to cell decision.now) }
 {
     match lines {
         CellLines::All => true,
         CellLines::Nothing => false,
-        CellLines::Refused => !is_pass_answer(told),
+        CellLines::Refused => !is_pass_answer(decision),
     }
 }
 
 /// Returns whether the cell passes.
-fn is_pass_answer(told: &Result<Judgement, Unjudged>) -> bool
-    ensures { (cell : List ℕ) → result ≡ is_pass_answer (answer_to cell told.now) }
+fn is_pass_answer(decision: &Result<Judgement, Unjudged>) -> bool
+    ensures { (cell : List ℕ) → result ≡ is_pass_answer (answer_to cell decision.now) }
 {
-    match told {
+    match decision {
         Ok(judged) => judged.verdict == Verdict::Pass,
         Err(_) => false,
     }

@@ -19,12 +19,12 @@ pub struct NotJudged {
     pub back: Tally,
     /// Their moment is above 2^62.
     pub late: Tally,
-    /// The journal of their connection is full, even after a cut: 2^62 cells with one verdict were judged on its line.
+    /// The journal of their connection is full, even after a cut: 2^62 cells were judged on its line.
     pub full: Tally,
 }
 
 impl NotJudged {
-    /// Returns that each cell was judged.
+    /// The counts before any cell.
     pub(crate) fn none() -> NotJudged
         ensures { result ≡ all_judged }
     {
@@ -38,10 +38,10 @@ impl NotJudged {
     }
 
     /// Counts a cell with this answer, whose record has this number, if it wasn't judged.
-    pub(crate) fn count(&mut self, number: u64, told: &Result<Judgement, Unjudged>)
-        ensures { (cell : List ℕ) → self.new ≡ not_judged_after self.old number (answer_to cell told.now) }
+    pub(crate) fn count(&mut self, number: u64, decision: &Result<Judgement, Unjudged>)
+        ensures { (cell : List ℕ) → self.new ≡ not_judged_after self.old number (answer_to cell decision.now) }
     {
-        if let Err(reason) = told {
+        if let Err(reason) = decision {
             self.count_for(number, *reason);
         }
     }

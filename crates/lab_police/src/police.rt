@@ -34,7 +34,7 @@ const PORT: u8 = 0;
 /// Takes all steps of a cell at the port and returns its answer. None if the port has a cell; between cells it never has.
 #[inline(always)]
 fn arrive(core: &mut Core, cell: &Cell, moment: u64) -> Option<Result<Judgement, Unjudged>>
-    ensures { ArrivesOnce core.old cell.now moment (option_map (λ told. answer_to cell.now told) result) core.new }
+    ensures { ArrivesOnce core.old cell.now moment (option_map (λ decision. answer_to cell.now decision) result) core.new }
 {
     core.arrive(PORT, cell, moment)
 }
@@ -61,10 +61,10 @@ fn cut_connection(core: &mut Core, vc: Vc) -> Result<(), AllocError>
 
 /// Returns whether the journal of the cell's connection is full.
 #[inline(always)]
-fn is_full(told: &Option<Result<Judgement, Unjudged>>) -> bool
-    ensures { (cell : List ℕ) → result ≡ is_full (option_map (λ told. answer_to cell told) told.now) }
+fn is_full(answered: &Option<Result<Judgement, Unjudged>>) -> bool
+    ensures { (cell : List ℕ) → result ≡ is_full (option_map (λ decision. answer_to cell decision) answered.now) }
 {
-    match told {
+    match answered {
         Some(Err(Unjudged::Refused(LineFault::Full))) => true,
         _ => false,
     }
@@ -77,12 +77,12 @@ fn arrive_with_room(
     cell: &Cell,
     moment: u64,
 ) -> Result<Option<Result<Judgement, Unjudged>>, AllocError>
-    ensures { IfOk result (λ told. ArrivesWithRoom core.old cell.now moment (option_map (λ told. answer_to cell.now told) told) core.new) }
+    ensures { IfOk result (λ answered. ArrivesWithRoom core.old cell.now moment (option_map (λ decision. answer_to cell.now decision) answered) core.new) }
 {
     let vc = cell.vc_at(core.shape().side);
-    let told = arrive(core, cell, moment);
-    if !is_full(&told) {
-        return Ok(told);
+    let decision = arrive(core, cell, moment);
+    if !is_full(&decision) {
+        return Ok(decision);
     }
     cut_connection(core, vc)?;
     Ok(arrive(core, cell, moment))
@@ -126,12 +126,17 @@ fn excess_left(line: &Line, judged: &Judgement, clp: bool) -> Option<Excess>
 
 /// Returns by how much a cell came too early that arrived with this answer. Only the line of a cell that didn't pass is read, and only
 /// after the cell: what a cell doesn't conform to it doesn't change.
-fn excess_of(core: &Core, vc: Vc, clp: bool, told: &Result<Judgement, Unjudged>) -> Option<Excess>
+fn excess_of(
+    core: &Core,
+    vc: Vc,
+    clp: bool,
+    decision: &Result<Judgement, Unjudged>,
+) -> Option<Excess>
     ensures { (before after : World) (cell : List ℕ) → CoreAgrees core.now after
-        → LeavesConnection before.connections after.connections vc clp (answer_to cell told.now)
-        → result ≡ excess_of_answer before vc clp (answer_to cell told.now) }
+        → LeavesConnection before.connections after.connections vc clp (answer_to cell decision.now)
+        → result ≡ excess_of_answer before vc clp (answer_to cell decision.now) }
 {
-    let Ok(judged) = told else {
+    let Ok(judged) = decision else {
         return None;
     };
     if judged.verdict == Verdict::Pass {
@@ -151,17 +156,17 @@ fn add_cell(
     moment: u64,
     vc: Vc,
     clp: bool,
-    told: &Result<Judgement, Unjudged>,
+    decision: &Result<Judgement, Unjudged>,
     core: &Core,
 ) -> Result<bool, AllocError>
-    ensures { (cell : List ℕ) → IfOk result (AddsCell lines begun number moment vc clp (answer_to cell told.now) core.now
+    ensures { (cell : List ℕ) → IfOk result (AddsCell lines begun number moment vc clp (answer_to cell decision.now) core.now
         answers.old.items answers.new.items) }
 {
-    if !has_line(lines, told) {
+    if !has_line(lines, decision) {
         return Ok(begun);
     }
-    let excess = excess_of(core, vc, clp, told);
-    add_line(answers, begun, number, moment, vc, clp, told, excess)?;
+    let excess = excess_of(core, vc, clp, decision);
+    add_line(answers, begun, number, moment, vc, clp, decision, excess)?;
     Ok(true)
 }
 
@@ -207,7 +212,7 @@ impl CellFollower for PoliceRun {
         let cell = &counted.cell;
         let moment = counted.moment;
         let vc = cell.vc_at(self.core.shape().side);
-        let Some(told) = arrive_with_room(&mut self.core, cell, moment)? else {
+        let Some(decision) = arrive_with_room(&mut self.core, cell, moment)? else {
             return Ok(());
         };
         self.begun = add_cell(
@@ -218,10 +223,10 @@ impl CellFollower for PoliceRun {
             moment,
             vc,
             cell.clp(),
-            &told,
+            &decision,
             &self.core,
         )?;
-        self.not_judged.count(counted.number, &told);
+        self.not_judged.count(counted.number, &decision);
         Ok(())
     }
 
@@ -253,7 +258,7 @@ fn write_faults<O: Output>(output: &mut O, mut text: Vec<u8>) -> Result<Done, Ru
 
 /// Polices the cells of a capture by a card that a setup script opens. A script with a fault is explained, and nothing is policed. Cells
 /// count, and have their moments, as in `upc-lab cells`. A connection whose journal is full is cut, so that any number of cells is judged.
-/// Which cells have lines is said by `lines`; a table has the counts of each connection. docs/LAB.md has the format.
+/// `lines` chooses the cells that have lines; a table has the counts of each connection. docs/LAB.md has the format.
 ///
 /// With `threads` above 1, records are read on one thread while the cells of earlier ones are judged on another, as in
 /// [`follow_cells`]. The output is the same.

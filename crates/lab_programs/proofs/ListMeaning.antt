@@ -26,7 +26,7 @@ use Rattle.std.specs.Result.{result_ok}
 use Rattle.text_io.specs.declared.ending.Done.TheVariants.{Whole}
 use Rattle.upc_codes.specs.CodeFaults.{decode_fault}
 use Rattle.upc_codes.specs.Program.{ReadsAs, is_program, is_refused}
-use Rattle.upc_programs.specs.Check.{TellsSource, accepted_text}
+use Rattle.upc_programs.specs.Check.{PrintsSource, accepted_text}
 use Rattle.upc_words.specs.Hexadecimal.{octets_of_digits}
 use Rattle.lab_programs.proofs.Fits.{fits_all}
 use Rattle.lab_programs.proofs.Lists.{drop_one}
@@ -86,21 +86,21 @@ lines_listed place (i ∷ code) h =
 -- A line parses alike with a comment.
 source_line : (listed comment : List ℕ) (line : SourceLine) → all_inline listed ≡ true → IsSourceLine listed line → IsSourceLine (listed ++ (codes " ; " ++ comment)) line
 unfolding IsSourceLine
-source_line listed comment line h said = subst (λ (tokens : List Token). AreLineTokens tokens line) (sym (tokens_commented listed comment h)) said
+source_line listed comment line h spelled = subst (λ (tokens : List Token). AreLineTokens tokens line) (sym (tokens_commented listed comment h)) spelled
 
 -- The same lines with octets parse as the lines without them.
-commented_said : (listed : List (List ℕ)) (place : ℕ) (code : List Instr) (lines : List SourceLine) → HaveLines place code → listed_from place code ≡ drop place listed
+commented_spelled : (listed : List (List ℕ)) (place : ℕ) (code : List Instr) (lines : List SourceLine) → HaveLines place code → listed_from place code ≡ drop place listed
     → AreLines (listed_from place code) lines → AreLines (source_lines (octet_lines listed place code)) lines
 unfolding source_lines listed_from octet_lines
-commented_said listed place [] lines h left said = said
-commented_said listed place (i ∷ code) [] h left said = absurd said
-commented_said listed place (i ∷ code) (line ∷ lines) h left said =
+commented_spelled listed place [] lines h left spelled = spelled
+commented_spelled listed place (i ∷ code) [] h left spelled = absurd spelled
+commented_spelled listed place (i ∷ code) (line ∷ lines) h left spelled =
     let octets = code_octets (i ∷ []) in
     let zero_more : place + 0 ≡ place = omega arith in
     let found : listed_at place i ≡ get_or listed place [] =
     ap (λ (ls : List (List ℕ)). get_or ls 0 []) left ∙ get_or-drop place listed 0 [] ∙ ap (λ (n : ℕ). get_or listed n []) zero_more in
-    let later = commented_said listed (place + 1) code lines h.1 (drop_one place listed (listed_at place i ∷ listed_from (place + 1) code) left) said.1 in
-    let parsed = source_line (listed_at place i) (octets_text i) line h.0 said.0 in
+    let later = commented_spelled listed (place + 1) code lines h.1 (drop_one place listed (listed_at place i ∷ listed_from (place + 1) code) left) spelled.1 in
+    let parsed = source_line (listed_at place i) (octets_text i) line h.0 spelled.0 in
     let P : List ℕ → Type 0 = λ first. AreLines (source_lines (commented first (octets_text i) ++ octet_lines listed (place + 1) code)) (line ∷ lines) in
     let Q : List (List ℕ) → Type 0 = λ ls. AreLines ls (line ∷ lines) in
     subst P found (subst Q (sym (line_commented (listed_at place i) octets (octet_lines listed (place + 1) code) h.0)) (parsed, later))
@@ -116,7 +116,7 @@ commented_means code h wide stays =
     let lines : source_lines (listing_of code) ≡ listed_from 0 code = lines_listed 0 code have in
     record {
       lines = means.lines;
-      said = commented_said (listed_lines code) 0 code means.lines have (sym lines) (subst (λ (ls : List (List ℕ)). AreLines ls means.lines) lines means.said);
+      spelled = commented_spelled (listed_lines code) 0 code means.lines have (sym lines) (subst (λ (ls : List (List ℕ)). AreLines ls means.lines) lines means.spelled);
       mean = means.mean;
     }
 
@@ -151,7 +151,7 @@ listing-means word octets code e reads =
     accepted_means code read.1 (fits_all octets code (digits-bytes word octets e) read.0)
 
 -- So `upc check` answers it with the program.
-pub listing-checks : (word octets : List ℕ) (code : List Instr) → octets_of_digits word ≡ Some octets → ReadsAs octets (is_program code) → TellsSource (program_listing code) (accepted_text code) Whole
+pub listing-checks : (word octets : List ℕ) (code : List Instr) → octets_of_digits word ≡ Some octets → ReadsAs octets (is_program code) → PrintsSource (program_listing code) (accepted_text code) Whole
 listing-checks word octets code e reads =
     let read = read-program octets code reads in
     inl (code, listing-means word octets code e reads, (is_program code, (read.1, refl), (refl, refl)))

@@ -13,20 +13,20 @@ first_left listed some at first left same =
 
 module _ (listed : List (List ℕ)) (code : List Instr) (whole : List ℕ) where
   -- One line more.
-  pub told_more : (at : ℕ) (d : Instr) (answers more first : List ℕ) → at < length code → first ≡ get_or listed at []
+  pub printed_more : (at : ℕ) (d : Instr) (answers more first : List ℕ) → at < length code → first ≡ get_or listed at []
       → more ≡ answers ++ commented first (octets_text (get_or code at d))
       → answers ++ octet_lines listed at (drop at code) ≡ whole → more ++ octet_lines listed (at + 1) (drop (at + 1) code) ≡ whole
   unfolding octet_lines
-  told_more at d answers more first within same added told =
+  printed_more at d answers more first within same added printed =
       let here = commented (get_or listed at []) (octets_text (get_or code at d)) in
       let rest = octet_lines listed (at + 1) (drop (at + 1) code) in
       let added_here : more ≡ answers ++ here = added ∙ ap (λ (l : List ℕ). answers ++ commented l (octets_text (get_or code at d))) same in
       let parted : octet_lines listed at (drop at code) ≡ here ++ rest = ap (octet_lines listed at) (drop_more code at d within) in
-      ap (λ (ts : List ℕ). ts ++ rest) added_here ∙ append_assoc answers here rest ∙ ap (λ (ts : List ℕ). answers ++ ts) (sym parted) ∙ told
+      ap (λ (ts : List ℕ). ts ++ rest) added_here ∙ append_assoc answers here rest ∙ ap (λ (ts : List ℕ). answers ++ ts) (sym parted) ∙ printed
 
   -- No line is left.
-  pub told_all : (at : ℕ) (answers : List ℕ) → length code ≤ at → answers ++ octet_lines listed at (drop at code) ≡ whole → answers ≡ whole
+  pub printed_all : (at : ℕ) (answers : List ℕ) → length code ≤ at → answers ++ octet_lines listed at (drop at code) ≡ whole → answers ≡ whole
   unfolding octet_lines
-  told_all at answers past told =
+  printed_all at answers past printed =
       let none : octet_lines listed at (drop at code) ≡ [] = ap (octet_lines listed at) (drop_all at code past) in
-      sym (append-nil answers) ∙ ap (λ (ts : List ℕ). answers ++ ts) (sym none) ∙ told
+      sym (append-nil answers) ∙ ap (λ (ts : List ℕ). answers ++ ts) (sym none) ∙ printed

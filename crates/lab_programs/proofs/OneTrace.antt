@@ -6,7 +6,7 @@ use Rattle.bpf_code.specs.declared.instr.Instr.{Instr}
 use Rattle.bpf_interp.specs.State.{State, At, Ended}
 use Rattle.bpf_interp.specs.Step.{Step}
 use Rattle.lab_programs.proofs.OneState.{step_once}
-use Rattle.lab_programs.specs.Trace.{GoesThrough, IsTraceText, ReadsOrTraces, TellsTrace, TraceLine, TraceSteps, TracesOn, step_lines, trace_rules}
+use Rattle.lab_programs.specs.Trace.{GoesThrough, IsTraceText, ReadsOrTraces, PrintsTrace, TraceLine, TraceSteps, TracesOn, step_lines, trace_rules}
 use Rattle.lab_programs.specs.inner.TraceLaws.{trace-total}
 use Rattle.text_io.proofs.Public.{one-text, some-text}
 use Rattle.text_io.specs.Answering.{EndsBy}
@@ -43,14 +43,14 @@ Same one other next next' = (one ≡ other) × (next ≡ next')
 ends-same : (fault text text' : List ℕ) (next next' : Option EvalWorld) → EndsBy fault text next → EndsBy fault text' next' → Same text text' next next'
 ends-same fault text text' next next' p q = (p.0 ∙ sym q.0, p.1 ∙ sym q.1)
 
-told-once : (reading : ProgramReading) (text text' : List ℕ) (next next' : Option EvalWorld) → IsProgramAnswer reading text next → IsProgramAnswer reading text' next' → Same text text' next next'
-told-once (is_program code) text text' next next' p q = (p.0 ∙ sym q.0, p.1 ∙ sym q.1)
-told-once (is_refused fault) text text' next next' p q = ends-same fault text text' next next' p q
+printed-once : (reading : ProgramReading) (text text' : List ℕ) (next next' : Option EvalWorld) → IsProgramAnswer reading text next → IsProgramAnswer reading text' next' → Same text text' next next'
+printed-once (is_program code) text text' next next' p q = (p.0 ∙ sym q.0, p.1 ∙ sym q.1)
+printed-once (is_refused fault) text text' next next' p q = ends-same fault text text' next next' p q
 
 reads-same : (octets text text' : List ℕ) (next next' : Option EvalWorld) → ReadsProgram octets text next → ReadsProgram octets text' next' → Same text text' next next'
 reads-same octets text text' next next' p q =
     let P : ProgramReading → Type 0 = λ reading. IsProgramAnswer reading text' next' in
-    told-once p.0 text text' next next' p.2 (subst P (reads-once octets q.0 p.0 q.1 p.1) q.2)
+    printed-once p.0 text text' next next' p.2 (subst P (reads-once octets q.0 p.0 q.1 p.1) q.2)
 
 word-same : (octets : Option (List ℕ)) (text text' : List ℕ) (next next' : Option EvalWorld)
     → MatchOption octets (EndsBy bad_hex text next) (λ found. ReadsProgram found text next)
@@ -67,24 +67,24 @@ line-same (word ∷ other ∷ words) text text' next next' p q = ends-same bad_l
 abbrev trace_text : List Instr → List State → ℕ → List ℕ
 trace_text code later value = step_lines code (At 0 0 0 []) later ++ line (codes "value " ++ decimal value ++ codes " steps " ++ decimal (length later))
 
-trace-same : (code : List Instr) (octets text text' : List ℕ) → TellsTrace code octets text → TellsTrace code octets text' → text ≡ text'
+trace-same : (code : List Instr) (octets text text' : List ℕ) → PrintsTrace code octets text → PrintsTrace code octets text' → text ≡ text'
 trace-same code octets text text' p q =
     let same = through-once code octets (At 0 0 0 []) p.0 q.0 p.1 q.1 p.2 q.2 in
     p.3 ∙ ap (λ (later : List State). trace_text code later p.1) same.0 ∙ ap (λ (v : ℕ). trace_text code q.0 v) same.1 ∙ sym q.3
 
-traces-same : (code : List Instr) (octets text text' : List ℕ) (b : Bool) → MatchBool b (TellsTrace code octets text) (text ≡ wrong_length (length octets))
-    → MatchBool b (TellsTrace code octets text') (text' ≡ wrong_length (length octets)) → text ≡ text'
+traces-same : (code : List Instr) (octets text text' : List ℕ) (b : Bool) → MatchBool b (PrintsTrace code octets text) (text ≡ wrong_length (length octets))
+    → MatchBool b (PrintsTrace code octets text') (text' ≡ wrong_length (length octets)) → text ≡ text'
 traces-same code octets text text' true p q = trace-same code octets text text' p q
 traces-same code octets text text' false p q = p ∙ sym q
 
-told-same : (code : List Instr) (octets : Option (List ℕ)) (text text' : List ℕ) → MatchOption octets (text ≡ bad_hex) (λ found. TracesOn code (cell_of_octets found) text)
+printed-same : (code : List Instr) (octets : Option (List ℕ)) (text text' : List ℕ) → MatchOption octets (text ≡ bad_hex) (λ found. TracesOn code (cell_of_octets found) text)
     → MatchOption octets (text' ≡ bad_hex) (λ found. TracesOn code (cell_of_octets found) text') → text ≡ text'
-told-same code None text text' p q = p ∙ sym q
-told-same code (Some octets) text text' p q = traces-same code (cell_of_octets octets) text text' (length (cell_of_octets octets) == 52) p q
+printed-same code None text text' p q = p ∙ sym q
+printed-same code (Some octets) text text' p q = traces-same code (cell_of_octets octets) text text' (length (cell_of_octets octets) == 52) p q
 
 cell-same : (code : List Instr) (words : List (List ℕ)) (text text' : List ℕ) → TraceLine code words text → TraceLine code words text' → text ≡ text'
 cell-same code [] text text' p q = p ∙ sym q
-cell-same code (word ∷ []) text text' p q = told-same code (octets_of_digits word) text text' p q
+cell-same code (word ∷ []) text text' p q = printed-same code (octets_of_digits word) text text' p q
 cell-same code (word ∷ other ∷ words) text text' p q = p ∙ sym q
 
 asks-same : (world : EvalWorld) (words : List (List ℕ)) (text text' : List ℕ) (next next' : Option EvalWorld) → ReadsOrTraces world words text next → ReadsOrTraces world words text' next' → Same text text' next next'
@@ -97,8 +97,8 @@ silent-same : (world : EvalWorld) (words : List (List ℕ)) (text text' : List �
 silent-same world words text text' next next' true p q = (p.0 ∙ sym q.0, p.1 ∙ sym q.1)
 silent-same world words text text' next next' false p q = asks-same world words text text' next next' p q
 
-steps-same : (world : EvalWorld) (said : List ℕ) (text text' : List ℕ) (next next' : Option EvalWorld) → TraceSteps world said text next → TraceSteps world said text' next' → Same text text' next next'
-steps-same world said text text' next next' p q = silent-same world (words_of said) text text' next next' (is_silent (words_of said)) p q
+steps-same : (world : EvalWorld) (line_content : List ℕ) (text text' : List ℕ) (next next' : Option EvalWorld) → TraceSteps world line_content text next → TraceSteps world line_content text' next' → Same text text' next next'
+steps-same world line_content text text' next next' p q = silent-same world (words_of line_content) text text' next next' (is_silent (words_of line_content)) p q
 
 closes-same : (world : EvalWorld) (text text' : List ℕ) (done done' : Done) → EvalCloses world text done → EvalCloses world text' done' → (text ≡ text') × (done ≡ done')
 closes-same None text text' done done' p q = (p.0 ∙ sym q.0, p.1 ∙ sym q.1)

@@ -19,7 +19,7 @@ use Rattle.upc_words.specs.FaultLines.{line}
 use Rattle.lab_programs.proofs.Lists.{drop_further}
 use Rattle.lab_programs.proofs.OneState.{does_once, does_reads}
 use Rattle.lab_programs.specs.Comments.{commented, listed_lines}
-use Rattle.lab_programs.specs.Trace.{GoesThrough, TellsTrace, instruction_line, result_text, step_line, step_lines}
+use Rattle.lab_programs.specs.Trace.{GoesThrough, PrintsTrace, instruction_line, result_text, step_line, step_lines}
 use Rattle.lab_programs.specs.inner.Registers.{HoldsWords, memory_after, state_after}
 use Rattle.lab_programs.specs.inner.SoFar.{IsTraced, Joins}
 use Rattle.lab_programs.specs.declared.registers.Registers.{Registers}
@@ -95,9 +95,9 @@ module _ (code : List Instr) (packet before : List ℕ) where
             let found : listed ≡ get_or (listed_lines code) registers.pc [] =
             first ∙ ap (λ (ls : List (List ℕ)). get_or ls 0 []) traced.left ∙ get_or-drop registers.pc (listed_lines code) 0 []
             ∙ ap (λ (n : ℕ). get_or (listed_lines code) n []) zero_more in
-            let told : commented listed (result_text i s) ≡ commented (get_or (listed_lines code) registers.pc []) (result_text i s) =
+            let printed : commented listed (result_text i s) ≡ commented (get_or (listed_lines code) registers.pc []) (result_text i s) =
             ap (λ (l : List ℕ). commented l (result_text i s)) found in
-            told ∙ sym (ap (λ (o : Option Instr). instruction_line code registers.pc o s) stands)
+            printed ∙ sym (ap (λ (o : Option Instr). instruction_line code registers.pc o s) stands)
 
         -- The states from here on, with the line of the step.
         joined : (now : List ℕ) → now ≡ after ++ step_line code here s → (later : List State) (value : ℕ) → GoesThrough code packet s later value
@@ -138,15 +138,15 @@ module _ (code : List Instr) (packet before : List ℕ) where
           → Does packet i registers.pc registers.a registers.x traced.memory (Ended value)
           → listed ≡ get_or (source_lines lines) 0 []
           → now ≡ after ++ commented listed (result_text i (Ended value))
-          → (told : List ℕ) → told ≡ now ++ value_line value (steps + 1)
-          → Adds (TellsTrace code packet) before told
-      traced_out value listed now does first added told ended =
+          → (printed : List ℕ) → printed ≡ now ++ value_line value (steps + 1)
+          → Adds (PrintsTrace code packet) before printed
+      traced_out value listed now does first added printed ended =
           let whole = joined (Ended value) does now (added ∙ ap (λ (l : List ℕ). after ++ l) (line_same (Ended value) does listed first)) [] value refl in
           let count : length whole.0 ≡ steps + 1 + 0 = whole.2 in
           let counted : steps + 1 ≡ length whole.0 = omega arith in
           let all : before ++ step_lines code (At 0 0 0 []) whole.0 ≡ now = whole.3 ∙ append-nil now in
           let text = step_lines code (At 0 0 0 []) whole.0 ++ value_line value (length whole.0) in
-          let same : told ≡ before ++ text =
+          let same : printed ≡ before ++ text =
           ended ∙ ap (λ (ts : List ℕ). ts ++ value_line value (steps + 1)) (sym all)
           ∙ append_assoc before (step_lines code (At 0 0 0 []) whole.0) (value_line value (steps + 1))
           ∙ ap (λ (n : ℕ). before ++ (step_lines code (At 0 0 0 []) whole.0 ++ value_line value n)) counted in

@@ -3,8 +3,8 @@ use Rattle.std.proofs.Common.{◌≡◌, ℕ, List, [], ◌∷◌, ◌++◌, len
 use Rattle.bpf_code.specs.declared.instr.Instr.{Instr}
 use Rattle.bpf_interp.specs.State.{State, At}
 use Rattle.bpf_interp.specs.Value.{EndsIn}
-use Rattle.lab_programs.specs.Trace.{GoesThrough, TellsTrace, step_lines}
-use Rattle.upc_programs.specs.Eval.{TellsValue}
+use Rattle.lab_programs.specs.Trace.{GoesThrough, PrintsTrace, step_lines}
+use Rattle.upc_programs.specs.Eval.{PrintsValue}
 use Rattle.upc_words.specs.FaultLines.{line}
 
 -- As many steps as later states lead to the value.
@@ -12,10 +12,10 @@ through-ends : (code : List Instr) (packet : List ℕ) (here : State) (later : L
 through-ends code packet here [] value goes = goes
 through-ends code packet here (next ∷ later) value goes = (next, goes.0, through-ends code packet next later value goes.1)
 
-pub ends_as_eval : (code : List Instr) (octets text : List ℕ) → TellsTrace code octets text → (lines answer : List ℕ) × (text ≡ lines ++ answer) × TellsValue code octets answer
-ends_as_eval code octets text told = (
-  step_lines code (At 0 0 0 []) told.0,
-  line (codes "value " ++ decimal told.1 ++ codes " steps " ++ decimal (length told.0)),
-  told.3,
-  (told.1, length told.0, through-ends code octets (At 0 0 0 []) told.0 told.1 told.2, refl),
+pub ends_as_eval : (code : List Instr) (octets text : List ℕ) → PrintsTrace code octets text → (lines answer : List ℕ) × (text ≡ lines ++ answer) × PrintsValue code octets answer
+ends_as_eval code octets text printed = (
+  step_lines code (At 0 0 0 []) printed.0,
+  line (codes "value " ++ decimal printed.1 ++ codes " steps " ++ decimal (length printed.0)),
+  printed.3,
+  (printed.1, length printed.0, through-ends code octets (At 0 0 0 []) printed.0 printed.1 printed.2, refl),
 )

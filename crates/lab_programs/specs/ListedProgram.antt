@@ -6,7 +6,7 @@ use Rattle.bpf_code.specs.declared.instr.Instr.{Instr}
 use Rattle.hex.specs.Hex.{encode_lower}
 use Rattle.lab_programs.specs.Comments.{commented, listed_lines}
 use Rattle.text_io.specs.Answering.{EndsBy}
-use Rattle.text_io.specs.Lines.{Line, lines_of, said}
+use Rattle.text_io.specs.Lines.{Line, lines_of, line_content}
 use Rattle.text_io.specs.Printing.{Rules, Prints}
 use Rattle.text_io.specs.Words.{words_of, is_silent}
 use Rattle.text_io.specs.declared.ending.Done.{Done}
@@ -76,7 +76,7 @@ pub record ListsLine (lines : List Line) (text : List ℕ) (code : List Instr) :
   pub rest : List Line
   pub split : lines ≡ before ++ here ∷ rest
   pub word : List ℕ
-  pub alone : words_of (said here) ≡ word ∷ []
+  pub alone : words_of (line_content here) ≡ word ∷ []
   pub octets : List ℕ
   pub spelled : octets_of_digits word ≡ Some octets
   pub read : ReadsAs octets (is_program code)

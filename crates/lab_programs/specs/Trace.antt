@@ -66,14 +66,14 @@ step_lines code here (next ∷ later) = step_line code here next ++ step_lines c
 
 -- The answer to a cell: the lines of the steps from place 0, with A and X at 0 and no scratch word written, and then the
 -- program's value and the number of those lines.
-abbrev pub TellsTrace : List Instr → List ℕ → List ℕ → Type 0
-TellsTrace code octets text =
+abbrev pub PrintsTrace : List Instr → List ℕ → List ℕ → Type 0
+PrintsTrace code octets text =
     (later : List State) × (value : ℕ) × GoesThrough code octets (At 0 0 0 []) later value
     × (text ≡ step_lines code (At 0 0 0 []) later ++ line (codes "value " ++ decimal value ++ codes " steps " ++ decimal (length later)))
 
 -- The answer to octets on a cell line: the trace if they are a cell, otherwise an error with their number.
 abbrev pub TracesOn : List Instr → List ℕ → List ℕ → Type 0
-TracesOn code octets text = MatchBool (length octets == 52) (TellsTrace code octets text) (text ≡ wrong_length (length octets))
+TracesOn code octets text = MatchBool (length octets == 52) (PrintsTrace code octets text) (text ≡ wrong_length (length octets))
 
 -- The answer to a cell line, which has one hexadecimal word.
 abbrev pub TraceLine : List Instr → List (List ℕ) → List ℕ → Type 0
@@ -89,8 +89,8 @@ ReadsOrTraces (Some code) words text next = TraceLine code words text × (next �
 -- The answer to a line, and the next world (none if the line ends the run). A line without words and a comment have
 -- an empty answer.
 abbrev pub TraceSteps : EvalWorld → List ℕ → List ℕ → Option EvalWorld → Type 0
-TraceSteps world said text next =
-    MatchBool (is_silent (words_of said)) ((text ≡ []) × (next ≡ Some world)) (ReadsOrTraces world (words_of said) text next)
+TraceSteps world line_content text next =
+    MatchBool (is_silent (words_of line_content)) ((text ≡ []) × (next ≡ Some world)) (ReadsOrTraces world (words_of line_content) text next)
 
 -- The rules of `trace`. The world and the end of the input are those of `upc eval`.
 abbrev pub trace_rules : Rules EvalWorld

@@ -4,17 +4,17 @@ ghost use Rattle.std.specs.Prelude.{◌≡◌, ◌++◌, ℕ, List};
 ghost use Rattle.bpf_asm.specs.Meaning.{IsMeaning};
 ghost use Rattle.bpf_code.specs.declared.instr.Instr.{Instr};
 ghost use Rattle.lab_programs.specs.ListedProgram.{IsListText, ListsLine};
-ghost use Rattle.lab_programs.specs.Trace.{IsTraceText, TellsTrace};
+ghost use Rattle.lab_programs.specs.Trace.{IsTraceText, PrintsTrace};
 ghost use Rattle.text_io.specs.Lines.{lines_of};
 ghost use Rattle.text_io.specs.declared.ending.Done.{Done as TheDone};
 ghost use Rattle.text_io.specs.declared.ending.Done.TheVariants.{Whole};
-ghost use Rattle.upc_programs.specs.Check.{TellsSource, accepted_text};
-ghost use Rattle.upc_programs.specs.Eval.{TellsValue};
+ghost use Rattle.upc_programs.specs.Check.{PrintsSource, accepted_text};
+ghost use Rattle.upc_programs.specs.Eval.{PrintsValue};
 
 /// The last line of a cell's trace is the answer of `upc eval` to that cell.
 pub fn a_trace_ends_with_the_answer_of_eval()
-    ensures { (code : List Instr) (octets text : List ℕ) → TellsTrace code octets text
-        → (lines answer : List ℕ) × (text ≡ lines ++ answer) × TellsValue code octets answer }
+    ensures { (code : List Instr) (octets text : List ℕ) → PrintsTrace code octets text
+        → (lines answer : List ℕ) × (text ≡ lines ++ answer) × PrintsValue code octets answer }
 {}
 
 /// Each input has a trace.
@@ -33,7 +33,7 @@ pub fn an_input_has_one_trace()
 pub fn a_whole_listing_means_the_program()
     ensures { (input text : List ℕ) → IsListText input text Whole
         → (code : List Instr) × ListsLine (lines_of input) text code × IsMeaning text code
-        × TellsSource text (accepted_text code) Whole }
+        × PrintsSource text (accepted_text code) Whole }
 {}
 
 /// Each input has an output of `list`.

@@ -5,7 +5,7 @@ ghost use Rattle.bpf_asm.specs.Listing.{listing_of};
 ghost use Rattle.text_io.specs.Answering.{Answers};
 ghost use Rattle.text_io.specs.Devices.{Adds};
 ghost use Rattle.text_io.specs.Serving.{IsServed};
-ghost use Rattle.lab_programs.specs.Trace.{IsTraceText, TellsTrace, TraceLine, TraceSteps, trace_rules};
+ghost use Rattle.lab_programs.specs.Trace.{IsTraceText, PrintsTrace, TraceLine, TraceSteps, trace_rules};
 ghost use Rattle.upc_programs.specs.Eval.{ProgramLine};
 
 use crate::answer_texts::{add_accepted, add_no_program, add_value};
@@ -52,7 +52,7 @@ fn add_trace(
     answers: &mut Vec<u8>,
 ) -> Result<(), AllocError>
     requires { listing.now ≡ listing_of program.now }
-    ensures { OnOk result (Adds (TellsTrace program.now cell.now) answers.old.items answers.new.items) }
+    ensures { OnOk result (Adds (PrintsTrace program.now cell.now) answers.old.items answers.new.items) }
 {
     let code = program.code();
     let mut registers = Registers::FIRST;
@@ -77,7 +77,7 @@ fn add_trace(
 impl Listed {
     /// Answers a cell with the steps of the program.
     fn answer_cell(&self, cell: &Cell, answers: &mut Vec<u8>) -> Result<(), AllocError>
-        ensures { OnOk result (Adds (TellsTrace self.now cell.now) answers.old.items answers.new.items) }
+        ensures { OnOk result (Adds (PrintsTrace self.now cell.now) answers.old.items answers.new.items) }
     {
         add_trace(&self.program, &self.listing, cell, answers)
     }

@@ -42,15 +42,15 @@ gathered-none octets sized =
 -- The octets read are enough for the answer.
 pub enough : (octets left : List ℕ) (found : Option (List ℕ)) (answer : List ℕ) (done : Done) → found ≡ gathered most_rules_octets octets
     → LeavesBehind most_rules_octets found octets left → AnswersAsm found answer done
-    → TakesEnough (λ needed. (told : List ℕ) × MayBeAsmText needed told done) most_ahead octets left
-enough octets left None answer done is behind tells =
+    → TakesEnough (λ needed. (printed : List ℕ) × MayBeAsmText needed printed done) most_ahead octets left
+enough octets left None answer done is behind prints =
     let P : Option (List ℕ) → Type 0 = λ found. AnswersAsm found answer done in
     let none : length {A = ℕ} [] ≤ most_ahead = omega arith in
-    (behind.0, [], behind.1, none, (answer, inl (subst P (sym (gathered-none behind.0 behind.2)) tells)))
-enough octets left (Some text) answer done is behind tells =
+    (behind.0, [], behind.1, none, (answer, inl (subst P (sym (gathered-none behind.0 behind.2)) prints)))
+enough octets left (Some text) answer done is behind prints =
     let P : Option (List ℕ) → Type 0 = λ found. AnswersAsm found answer done in
     let none : length {A = ℕ} [] ≤ most_ahead = omega arith in
-    (octets, [], sym (append-nil octets) ∙ ap (λ xs. octets ++ xs) (sym behind), none, (answer, inl (subst P is tells)))
+    (octets, [], sym (append-nil octets) ∙ ap (λ xs. octets ++ xs) (sym behind), none, (answer, inl (subst P is prints)))
 
 -- What was added is an output also where any code may be too long.
 pub adds-may : (octets before after : List ℕ) (done : Done) → Adds (λ answer. IsAsmText octets answer done) before after

@@ -190,11 +190,11 @@ module _ (more lines : List SourceLine) (adds : AddsBlanks lines more) where
 -- A source means the same code with comment lines added.
 pub comments_mean_nothing : CommentLinesMeanNothing
 comments_mean_nothing source other code adds means =
-    let found = lines_added (source_lines other) (source_lines source) means.lines adds means.said in
+    let found = lines_added (source_lines other) (source_lines source) means.lines adds means.spelled in
     let blanks = found.2 in
     record {
       lines = found.0;
-      said = found.1;
+      spelled = found.1;
       mean = record {
         once = once_same found.0 means.lines blanks means.mean.once;
         followed = λ at d. let there = dangling_same found.0 means.lines at blanks d in means.mean.followed there.0 there.1;

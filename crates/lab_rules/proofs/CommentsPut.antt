@@ -9,7 +9,7 @@ use Rattle.bpf_asm.specs.Meaning.{IsMeaning}
 use Rattle.bpf_asm.specs.SourceLines.{source_lines}
 use Rattle.bpf_code.specs.declared.instr.Instr.{Instr}
 use Rattle.rules_text.specs.declared.compiler.NumberedCode.{NumberedCode}
-use Rattle.text_io.specs.Lines.{Line, begun_with, lines_of, said, without_return}
+use Rattle.text_io.specs.Lines.{Line, begun_with, lines_of, line_content, without_return}
 use Rattle.lab_rules.specs.AsmText.{asm_text, comment_at, comment_line, comments_from, line_after, lines_with, next_length, rule_comment, whole_line}
 use Rattle.lab_rules.specs.CommentLines.{AddsComments, is_comment}
 use Rattle.lab_rules.proofs.CommentsAdded.{comments_mean_nothing}
@@ -81,7 +81,7 @@ last_line octet (next ∷ line) f = rw f.0 (ap (begun_with octet) (last_line nex
 
 pub ended_source : (line rest : List ℕ) → AllFree line → source_lines (line ++ 10 ∷ rest) ≡ without_return line ∷ source_lines rest
 unfolding source_lines
-ended_source line rest f = ap (map said) (ended_lines line rest f)
+ended_source line rest f = ap (map line_content) (ended_lines line rest f)
 
 free_without : (octets : List ℕ) → AllFree octets → AllFree (without_return octets)
 free_without octets f = go (get_or octets (length octets - 1) 0 == 13)
@@ -90,8 +90,8 @@ free_without octets f = go (get_or octets (length octets - 1) 0 == 13)
     go true = free_take (length octets - 1) octets f
     go false = f
 
-pub free_said : (line : Line) → AllFree line.octets → AllFree (said line)
-free_said line f = go line.ended
+pub free_content : (line : Line) → AllFree line.octets → AllFree (line_content line)
+free_content line f = go line.ended
   where
     go : (is : Bool) → AllFree (if is then without_return line.octets else line.octets)
     go true = free_without line.octets f
@@ -102,13 +102,13 @@ abbrev AllLinesFree : List (List ℕ) → Type 0
 AllLinesFree [] = Unit {0}
 AllLinesFree (line ∷ lines) = AllFree line × AllLinesFree lines
 
-said_free : (lines : List Line) → AreCut lines → AllLinesFree (map said lines)
-said_free [] c = tt
-said_free (line ∷ lines) c = (free_said line c.0, said_free lines c.2)
+content_free : (lines : List Line) → AreCut lines → AllLinesFree (map line_content lines)
+content_free [] c = tt
+content_free (line ∷ lines) c = (free_content line c.0, content_free lines c.2)
 
 source_free : (octets : List ℕ) → AllLinesFree (source_lines octets)
 unfolding source_lines
-source_free octets = said_free (lines_of octets) (cut octets)
+source_free octets = content_free (lines_of octets) (cut octets)
 
 line_free : (lines : List (List ℕ)) (before : ℕ) → AllLinesFree lines → AllFree (line_after lines before)
 line_free [] before f = tt
@@ -163,40 +163,40 @@ module _ (lines : List (List ℕ)) (numbers : List ℕ) (free : AllLinesFree lin
 -- ---- the whole
 
 module _ (put : ℕ → List ℕ) (puts : (place : ℕ) → PutsComments (put place)) where
-  line_put : (line : Line) (lines : List Line) (rest : List ℕ) → AllFree line.octets → AddsComments (map said lines) (source_lines rest) → line.ended ≡ true
-      → AddsComments (said line ∷ map said lines) (source_lines (whole_line line ++ rest))
+  line_put : (line : Line) (lines : List Line) (rest : List ℕ) → AllFree line.octets → AddsComments (map line_content lines) (source_lines rest) → line.ended ≡ true
+      → AddsComments (line_content line ∷ map line_content lines) (source_lines (whole_line line ++ rest))
   line_put line lines rest f adds ended =
       let whole : whole_line line ++ rest ≡ line.octets ++ 10 ∷ rest =
       ap (λ (is : Bool). (if is then line.octets ++ codes "\n" else line.octets) ++ rest) ended ∙ append_assoc line.octets (codes "\n") rest in
-      let says : without_return line.octets ≡ said line = sym (ap (λ (is : Bool). if is then without_return line.octets else line.octets) ended) in
-      let split : source_lines (whole_line line ++ rest) ≡ said line ∷ source_lines rest =
+      let says : without_return line.octets ≡ line_content line = sym (ap (λ (is : Bool). if is then without_return line.octets else line.octets) ended) in
+      let split : source_lines (whole_line line ++ rest) ≡ line_content line ∷ source_lines rest =
       ap source_lines whole ∙ ended_source line.octets rest f ∙ ap (λ (l : List ℕ). l ∷ source_lines rest) says in
-      subst (λ (ls : List (List ℕ)). AddsComments (said line ∷ map said lines) ls) (sym split) (inr (map said lines, refl, adds))
+      subst (λ (ls : List (List ℕ)). AddsComments (line_content line ∷ map line_content lines) ls) (sym split) (inr (map line_content lines, refl, adds))
 
-  last_put : (line : Line) (octets : List ℕ) → line.octets ≡ octets → AllFree octets → 0 < length octets → line.ended ≡ false → source_lines (whole_line line) ≡ said line ∷ []
+  last_put : (line : Line) (octets : List ℕ) → line.octets ≡ octets → AllFree octets → 0 < length octets → line.ended ≡ false → source_lines (whole_line line) ≡ line_content line ∷ []
   unfolding source_lines
   last_put line [] is f some ended = absurd (omega arith)
   last_put line (octet ∷ octets) is f some ended =
       let whole : whole_line line ≡ octet ∷ octets = ap (λ (e : Bool). if e then line.octets ++ codes "\n" else line.octets) ended ∙ is in
-      let says : said line ≡ octet ∷ octets = ap (λ (e : Bool). if e then without_return line.octets else line.octets) ended ∙ is in
-      ap (λ (t : List ℕ). map said (lines_of t)) whole ∙ ap (map said) (last_line octet octets f) ∙ ap (λ (l : List ℕ). l ∷ []) (sym says)
+      let says : line_content line ≡ octet ∷ octets = ap (λ (e : Bool). if e then without_return line.octets else line.octets) ended ∙ is in
+      ap (λ (t : List ℕ). map line_content (lines_of t)) whole ∙ ap (map line_content) (last_line octet octets f) ∙ ap (λ (l : List ℕ). l ∷ []) (sym says)
 
   one_put : (line : Line) (lines : List Line) (place : ℕ) → AllFree line.octets
       → ((line.ended ≡ true) ⊎ ((line.ended ≡ false) × (lines ≡ []) × (0 < length line.octets)))
-      → AddsComments (map said lines) (source_lines (lines_with put place lines))
-      → AddsComments (said line ∷ map said lines) (source_lines (whole_line line ++ lines_with put place lines))
+      → AddsComments (map line_content lines) (source_lines (lines_with put place lines))
+      → AddsComments (line_content line ∷ map line_content lines) (source_lines (whole_line line ++ lines_with put place lines))
   one_put line lines place f (inl e) adds = line_put line lines (lines_with put place lines) f adds e
   one_put line lines place f (inr h) adds =
-      let alone : source_lines (whole_line line ++ []) ≡ said line ∷ [] = ap source_lines (append-nil (whole_line line)) ∙ last_put line line.octets refl f h.2 h.0 in
-      let none : AddsComments (said line ∷ []) (said line ∷ []) = inr ([], refl, refl) in
-      subst (λ (ls : List Line). AddsComments (said line ∷ map said ls) (source_lines (whole_line line ++ lines_with put place ls))) (sym h.1)
-      (subst (λ (ls : List (List ℕ)). AddsComments (said line ∷ []) ls) (sym alone) none)
+      let alone : source_lines (whole_line line ++ []) ≡ line_content line ∷ [] = ap source_lines (append-nil (whole_line line)) ∙ last_put line line.octets refl f h.2 h.0 in
+      let none : AddsComments (line_content line ∷ []) (line_content line ∷ []) = inr ([], refl, refl) in
+      subst (λ (ls : List Line). AddsComments (line_content line ∷ map line_content ls) (source_lines (whole_line line ++ lines_with put place ls))) (sym h.1)
+      (subst (λ (ls : List (List ℕ)). AddsComments (line_content line ∷ []) ls) (sym alone) none)
 
-  lines_put : (place : ℕ) (lines : List Line) → AreCut lines → AddsComments (map said lines) (source_lines (lines_with put place lines))
+  lines_put : (place : ℕ) (lines : List Line) → AreCut lines → AddsComments (map line_content lines) (source_lines (lines_with put place lines))
   unfolding source_lines
   lines_put place [] c = refl
   lines_put place (line ∷ lines) c =
-      puts place (said line ∷ map said lines) (whole_line line ++ lines_with put (place + 1) lines)
+      puts place (line_content line ∷ map line_content lines) (whole_line line ++ lines_with put (place + 1) lines)
       (one_put line lines (place + 1) c.0 c.1 (lines_put (place + 1) lines c.2))
 
 text_put : (put : ℕ → List ℕ) → ((place : ℕ) → PutsComments (put place)) → (text : List ℕ) → AddsComments (source_lines text) (source_lines (lines_with put 0 (lines_of text)))

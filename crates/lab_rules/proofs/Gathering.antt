@@ -3,10 +3,10 @@ use Rattle.std.proofs.Common.{◌≡◌, ℕ, ◌-◌, ◌==◌, if◌then◌els
 use Rattle.std.proofs.lemmas.List.{length_push}
 use Rattle.bpf_asm.specs.SourceLines.{source_lines}
 use Rattle.rules_text.specs.TextOfRules.{no_text_read, numbered_from, numbered_in}
-use Rattle.text_io.specs.Lines.{Line, lines_of, said, without_return}
+use Rattle.text_io.specs.Lines.{Line, lines_of, line_content, without_return}
 use Rattle.lab_rules.specs.WhyGathering.{RulesAreGatheredAsWritten, gathered_from}
 use Rattle.lab_rules.specs.WhyText.{with_rules_line}
-use Rattle.lab_rules.proofs.CommentsPut.{AllFree, AreCut, cut, ended_source, free_append, free_said}
+use Rattle.lab_rules.proofs.CommentsPut.{AllFree, AreCut, cut, ended_source, free_append, free_content}
 
 -- ---- a carriage return at the end of a line
 
@@ -36,15 +36,15 @@ return_dropped line =
 -- The lines one after another, each ended by a carriage return and a line feed.
 abbrev all_ended : List Line → List ℕ
 all_ended [] = []
-all_ended (line ∷ lines) = (said line ++ 13 ∷ []) ++ 10 ∷ all_ended lines
+all_ended (line ∷ lines) = (line_content line ++ 13 ∷ []) ++ 10 ∷ all_ended lines
 
 gathered_is : (lines : List Line) (text : List ℕ) → gathered_from text lines ≡ text ++ all_ended lines
 unfolding with_rules_line
 gathered_is [] text = sym (append-nil text)
 gathered_is (line ∷ lines) text =
-    gathered_is lines (text ++ (said line ++ 13 ∷ 10 ∷ []))
-    ∙ (append_assoc text (said line ++ 13 ∷ 10 ∷ []) (all_ended lines)
-    ∙ ap (λ (xs : List ℕ). text ++ xs) (append_assoc (said line) (13 ∷ 10 ∷ []) (all_ended lines) ∙ sym (append_assoc (said line) (13 ∷ []) (10 ∷ all_ended lines))))
+    gathered_is lines (text ++ (line_content line ++ 13 ∷ 10 ∷ []))
+    ∙ (append_assoc text (line_content line ++ 13 ∷ 10 ∷ []) (all_ended lines)
+    ∙ ap (λ (xs : List ℕ). text ++ xs) (append_assoc (line_content line) (13 ∷ 10 ∷ []) (all_ended lines) ∙ sym (append_assoc (line_content line) (13 ∷ []) (10 ∷ all_ended lines))))
 
 -- No line has a line feed.
 abbrev AreFree : List Line → Type 0
@@ -55,24 +55,24 @@ free_front : (front more : List Line) → AreCut (front ++ more) → AreFree fro
 free_front [] more c = tt
 free_front (line ∷ front) more c = (c.0, free_front front more c.2)
 
-ended_lines_are : (lines : List Line) → AreFree lines → source_lines (all_ended lines) ≡ map said lines
+ended_lines_are : (lines : List Line) → AreFree lines → source_lines (all_ended lines) ≡ map line_content lines
 unfolding source_lines
 ended_lines_are [] f = refl
 ended_lines_are (line ∷ lines) f =
-    ended_source (said line ++ 13 ∷ []) (all_ended lines) (free_append (said line) (13 ∷ []) (free_said line f.0) (refl, tt))
-    ∙ (ap (λ (first : List ℕ). first ∷ source_lines (all_ended lines)) (return_dropped (said line)) ∙ ap (λ (more : List (List ℕ)). said line ∷ more) (ended_lines_are lines f.1))
+    ended_source (line_content line ++ 13 ∷ []) (all_ended lines) (free_append (line_content line) (13 ∷ []) (free_content line f.0) (refl, tt))
+    ∙ (ap (λ (first : List ℕ). first ∷ source_lines (all_ended lines)) (return_dropped (line_content line)) ∙ ap (λ (more : List (List ℕ)). line_content line ∷ more) (ended_lines_are lines f.1))
 
 module _ (octets : List ℕ) (front more : List Line) (e : lines_of octets ≡ front ++ more) where
-  lines_kept : source_lines (gathered_from [] front) ≡ map said front
+  lines_kept : source_lines (gathered_from [] front) ≡ map line_content front
   lines_kept = ap source_lines (gathered_is front []) ∙ ended_lines_are front (free_front front more (subst (λ (ls : List Line). AreCut ls) e (cut octets)))
 
-  rules_kept : numbered_in (gathered_from [] front) ≡ numbered_from no_text_read 1 (map said front)
+  rules_kept : numbered_in (gathered_from [] front) ≡ numbered_from no_text_read 1 (map line_content front)
   unfolding numbered_in
   rules_kept = ap (λ (lines : List (List ℕ)). numbered_from no_text_read 1 lines) lines_kept
 
-  whole_is : more ≡ [] → map said front ≡ source_lines octets
+  whole_is : more ≡ [] → map line_content front ≡ source_lines octets
   unfolding source_lines
-  whole_is none = ap (map said) (sym (append-nil front) ∙ (ap (λ (ls : List Line). front ++ ls) (sym none) ∙ sym e))
+  whole_is none = ap (map line_content) (sym (append-nil front) ∙ (ap (λ (ls : List Line). front ++ ls) (sym none) ∙ sym e))
 
   whole_kept : more ≡ [] → numbered_in (gathered_from [] front) ≡ numbered_in octets
   unfolding numbered_in

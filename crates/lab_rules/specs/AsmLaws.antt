@@ -2,15 +2,15 @@
 use Rattle.std.specs.Prelude.{ℕ, List}
 use Rattle.rules_text.specs.declared.compiler.NumberedCode.{NumberedCode}
 use Rattle.text_io.specs.declared.ending.Done.TheVariants.{Whole}
-use Rattle.lab_rules.specs.AsmText.{TellsAsmCode}
-use Rattle.lab_rules.specs.RulesText.{TellsRules}
-use Rattle.upc_programs.specs.Check.{TellsSource, accepted_text}
+use Rattle.lab_rules.specs.AsmText.{PrintsAsmCode}
+use Rattle.lab_rules.specs.RulesText.{PrintsRules}
+use Rattle.upc_programs.specs.Check.{PrintsSource, accepted_text}
 
 -- `upc check` answers such a source as `upc-lab rules` answers the text of the rules.
 pub record IsCheckedAlike (text answer : List ℕ) (made : NumberedCode) : Type 0 where
-  pub checked : TellsSource answer (accepted_text made.placed.code.items) Whole
-  pub compiled : TellsRules text (accepted_text made.placed.code.items) Whole
+  pub checked : PrintsSource answer (accepted_text made.placed.code.items) Whole
+  pub compiled : PrintsRules text (accepted_text made.placed.code.items) Whole
 
 -- For every text and answer.
 abbrev pub SourcesAreCheckedAlike : Type 0
-SourcesAreCheckedAlike = (text answer : List ℕ) (made : NumberedCode) → TellsAsmCode text answer made → IsCheckedAlike text answer made
+SourcesAreCheckedAlike = (text answer : List ℕ) (made : NumberedCode) → PrintsAsmCode text answer made → IsCheckedAlike text answer made

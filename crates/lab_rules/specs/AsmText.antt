@@ -16,7 +16,7 @@ use Rattle.text_io.specs.Lines.{Line, lines_of}
 use Rattle.text_io.specs.declared.ending.Done.{Done}
 use Rattle.text_io.specs.declared.ending.Done.TheVariants.{Whole, Ended}
 use Rattle.lab_rules.specs.RuleFaults.{rule_fault}
-use Rattle.lab_rules.specs.RulesText.{AreRules, TellsLongCode, most_rules_octets}
+use Rattle.lab_rules.specs.RulesText.{AreRules, PrintsLongCode, most_rules_octets}
 use Rattle.upc_words.specs.FaultLines.{too_long}
 
 -- The octets of a line, with its line feed if one ends it.
@@ -68,7 +68,7 @@ asm_text lines made =
 
 -- The answer is the listing with its comments, and it means the code, which is accepted and on every cell gives the value of the
 -- text's rules.
-pub record TellsAsmCode (text answer : List ℕ) (made : NumberedCode) : Type 0 where
+pub record PrintsAsmCode (text answer : List ℕ) (made : NumberedCode) : Type 0 where
   pub accepted : IsAccepted made.placed.code.items
   pub follows : FollowsText text made.placed.code.items
   pub places : IsNumberedCode text made
@@ -76,20 +76,20 @@ pub record TellsAsmCode (text answer : List ℕ) (made : NumberedCode) : Type 0 
   pub meaning : IsMeaning answer made.placed.code.items
 
 -- The answer to a text of rules: the source of its program, or its fault, or the code of its rules is too long.
-abbrev pub TellsAsm : List ℕ → List ℕ → Done → Type 0
-TellsAsm text answer done =
-    ((made : NumberedCode) × TellsAsmCode text answer made × (done ≡ Whole))
+abbrev pub PrintsAsm : List ℕ → List ℕ → Done → Type 0
+PrintsAsm text answer done =
+    ((made : NumberedCode) × PrintsAsmCode text answer made × (done ≡ Whole))
     ⊎ ((fault : RuleFault) × (rules_in text ≡ Err fault) × (answer ≡ rule_fault fault) × (done ≡ Ended))
-    ⊎ (IsTooLong text × TellsLongCode answer done)
+    ⊎ (IsTooLong text × PrintsLongCode answer done)
 
 -- The answer to the text, or `too_long` if the input is over the limit.
 abbrev pub AnswersAsm : Option (List ℕ) → List ℕ → Done → Type 0
-AnswersAsm found answer done = MatchOption found ((answer ≡ too_long) × (done ≡ Ended)) (λ text. TellsAsm text answer done)
+AnswersAsm found answer done = MatchOption found ((answer ≡ too_long) × (done ≡ Ended)) (λ text. PrintsAsm text answer done)
 
 -- The output for a whole input, and how the run ends.
 abbrev pub IsAsmText : List ℕ → List ℕ → Done → Type 0
 IsAsmText octets answer done = AnswersAsm (gathered most_rules_octets octets) answer done
 
--- The same, but that the code of any rules may be said to be too long, as in `MayBeRulesText`.
+-- The same, but that the code of any rules may be reported as too long, as in `MayBeRulesText`.
 abbrev pub MayBeAsmText : List ℕ → List ℕ → Done → Type 0
-MayBeAsmText octets answer done = IsAsmText octets answer done ⊎ (AreRules octets × TellsLongCode answer done)
+MayBeAsmText octets answer done = IsAsmText octets answer done ⊎ (AreRules octets × PrintsLongCode answer done)

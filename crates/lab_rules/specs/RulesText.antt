@@ -21,20 +21,20 @@ abbrev pub most_rules_octets : ℕ
 most_rules_octets = 1048576
 
 -- The answer says that the code of the rules has too many instructions.
-abbrev pub TellsLongCode : List ℕ → Done → Type 0
-TellsLongCode answer done = (answer ≡ rule_fault (placed_fault 0 0 TooLong)) × (done ≡ Ended)
+abbrev pub PrintsLongCode : List ℕ → Done → Type 0
+PrintsLongCode answer done = (answer ≡ rule_fault (placed_fault 0 0 TooLong)) × (done ≡ Ended)
 
 -- The answer to a text of rules. If it is a program, that is accepted, and on every cell the machine gives the value of the
 -- text's rules. If it is a fault, it is the one that reading the text meets, or the code of the rules is too long.
-abbrev pub TellsRules : List ℕ → List ℕ → Done → Type 0
-TellsRules text answer done =
+abbrev pub PrintsRules : List ℕ → List ℕ → Done → Type 0
+PrintsRules text answer done =
     ((code : List Instr) × IsAccepted code × FollowsText text code × (answer ≡ accepted_text code) × (done ≡ Whole))
     ⊎ ((fault : RuleFault) × (rules_in text ≡ Err fault) × (answer ≡ rule_fault fault) × (done ≡ Ended))
-    ⊎ (IsTooLong text × TellsLongCode answer done)
+    ⊎ (IsTooLong text × PrintsLongCode answer done)
 
 -- The answer to the text, or `too_long` if the input is over the limit.
 abbrev pub AnswersRules : Option (List ℕ) → List ℕ → Done → Type 0
-AnswersRules found answer done = MatchOption found ((answer ≡ too_long) × (done ≡ Ended)) (λ text. TellsRules text answer done)
+AnswersRules found answer done = MatchOption found ((answer ≡ too_long) × (done ≡ Ended)) (λ text. PrintsRules text answer done)
 
 -- The output for a whole input, and how the run ends.
 abbrev pub IsRulesText : List ℕ → List ℕ → Done → Type 0
@@ -44,7 +44,7 @@ IsRulesText octets answer done = AnswersRules (gathered most_rules_octets octets
 abbrev pub AreRules : List ℕ → Type 0
 AreRules octets = (text : List ℕ) × (rules : RulesRead) × (gathered most_rules_octets octets ≡ Some text) × (rules_in text ≡ Ok rules)
 
--- The same, but that the code of any rules may be said to be too long. Every input has such an output, so if a device fails,
+-- The same, but that the code of any rules may be reported as too long. Every input has such an output, so if a device fails,
 -- what was written is the beginning of one.
 abbrev pub MayBeRulesText : List ℕ → List ℕ → Done → Type 0
-MayBeRulesText octets answer done = IsRulesText octets answer done ⊎ (AreRules octets × TellsLongCode answer done)
+MayBeRulesText octets answer done = IsRulesText octets answer done ⊎ (AreRules octets × PrintsLongCode answer done)

@@ -5,7 +5,7 @@ ghost use Rattle.bpf_asm.specs.Meaning.{IsMeaning};
 ghost use Rattle.bpf_asm.specs.SourceLines.{source_lines};
 ghost use Rattle.text_io.specs.Devices.{Adds};
 ghost use Rattle.text_io.specs.Serving.{IsServed};
-ghost use Rattle.lab_rules.specs.AsmText.{AnswersAsm, IsAsmText, MayBeAsmText, TellsAsm, asm_text};
+ghost use Rattle.lab_rules.specs.AsmText.{AnswersAsm, IsAsmText, MayBeAsmText, PrintsAsm, asm_text};
 
 use crate::annotating::add_annotated;
 use crate::compiling::MOST_RULES_OCTETS;
@@ -35,7 +35,7 @@ fn add_source(
 /// Answers a text: the source of the program of its rules, or its fault.
 fn answer_text(alloc: Global, text: &[u8], answers: &mut Vec<u8>) -> Result<Done, AllocError>
     ensures { IfOk result (λ done.
-        Adds (λ answer. TellsAsm text.now answer done) answers.old.items answers.new.items) }
+        Adds (λ answer. PrintsAsm text.now answer done) answers.old.items answers.new.items) }
 {
     match compile_numbered(alloc, text) {
         Ok(made) => {
@@ -85,7 +85,7 @@ pub fn assemble_rules<I: Input, O: Output>(
     output: &mut O,
 ) -> Result<Done, RunFault>
     ensures served { IsServed MayBeAsmText I.Input input.old input.new O.Output output.old output.new result }
-    ensures told { I.is_known → O.is_known → IfOk result (λ done.
+    ensures printed { I.is_known → O.is_known → IfOk result (λ done.
         Adds (λ answer. IsAsmText (I.rest input.old) answer done) (O.held output.old) (O.held output.new)) }
 {
     let found = match gather(alloc, input, MOST_RULES_OCTETS) {

@@ -3,7 +3,7 @@
 ghost use Rattle.std.specs.Prelude.{IfOk, option_map};
 ghost use Rattle.text_io.specs.Devices.{Adds};
 ghost use Rattle.text_io.specs.Serving.{IsServed};
-ghost use Rattle.lab_rules.specs.RulesText.{AnswersRules, IsRulesText, MayBeRulesText, TellsRules};
+ghost use Rattle.lab_rules.specs.RulesText.{AnswersRules, IsRulesText, MayBeRulesText, PrintsRules};
 
 use crate::fault_lines::add_rule_fault;
 use rules_text::{RuleFault, RuleKind, compile_text};
@@ -18,7 +18,7 @@ pub(crate) const MOST_RULES_OCTETS: u32 = 1048576;
 /// Answers a text: the program of its rules, or its fault.
 fn answer_text(alloc: Global, text: &[u8], answers: &mut Vec<u8>) -> Result<Done, AllocError>
     ensures { IfOk result (λ done.
-        Adds (λ answer. TellsRules text.now answer done) answers.old.items answers.new.items) }
+        Adds (λ answer. PrintsRules text.now answer done) answers.old.items answers.new.items) }
 {
     match compile_text(alloc, text) {
         Ok(code) => {
@@ -69,7 +69,7 @@ pub fn compile_rules<I: Input, O: Output>(
     output: &mut O,
 ) -> Result<Done, RunFault>
     ensures served { IsServed MayBeRulesText I.Input input.old input.new O.Output output.old output.new result }
-    ensures told { I.is_known → O.is_known → IfOk result (λ done.
+    ensures printed { I.is_known → O.is_known → IfOk result (λ done.
         Adds (λ answer. IsRulesText (I.rest input.old) answer done) (O.held output.old) (O.held output.new)) }
 {
     let found = match gather(alloc, input, MOST_RULES_OCTETS) {

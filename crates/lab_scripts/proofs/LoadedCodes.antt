@@ -238,7 +238,7 @@ module _ (before after : Card) (text digits : List ℕ) where
   load_reading : (octets : List ℕ) → octets_of_digits digits ≡ Some octets → (reading : ProgramReading) → ReadsAs octets reading
       → TakesReading before digits reading text after → Follows
   load_reading octets read (is_program code) reads takes =
-      load_replied octets code read (reading_spells octets code reads) (load_fault before.world) takes.reply takes.stepped takes.told
+      load_replied octets code read (reading_spells octets code reads) (load_fault before.world) takes.reply takes.stepped takes.printed
   load_reading octets read (is_refused fault) reads refused = load_refused fault (reading_other octets fault reads) refused
 
   load_digits_follow : (found : Option (List ℕ)) → octets_of_digits digits ≡ found
@@ -283,23 +283,23 @@ opened_codes : (text : List ℕ) (card : Card) (found : Option Shape)
 opened_codes text card None ends = let no = ends.1 in absurd cc
 opened_codes text card (Some shape) opens = new_codes shape text card (shape_fault shape) opens
 
-line_follows : (b : Bool) (world after : RunWorld) (said text : List ℕ)
-    → MatchBool b ((text ≡ []) × (Some after ≡ Some world)) (OpensOrObeys world (words_of said) text (Some after))
-    → CodesAfter (loaded_digits (run_side world) said text) (loaded_codes world) (loaded_codes after)
-line_follows true None after said text silent =
+line_follows : (b : Bool) (world after : RunWorld) (line_content text : List ℕ)
+    → MatchBool b ((text ≡ []) × (Some after ≡ Some world)) (OpensOrObeys world (words_of line_content) text (Some after))
+    → CodesAfter (loaded_digits (run_side world) line_content text) (loaded_codes world) (loaded_codes after)
+line_follows true None after line_content text silent =
     let same : after ≡ None = let e = silent.1 in cc in
     ap loaded_codes same
-line_follows true (Some card) after said text silent =
+line_follows true (Some card) after line_content text silent =
     let same : after ≡ Some card = let e = silent.1 in cc in
-    unloaded (says_loaded text) (load_digits (command_of card.world.shape.side (words_of said))) (card_codes card) (loaded_codes after) (ap says_loaded silent.0) (ap loaded_codes same)
-line_follows false None None said text opens = refl
-line_follows false None (Some card) said text opens = opened_codes text card (card_line_shape (words_of said)) opens
-line_follows false (Some before) after said text obeys =
+    unloaded (says_loaded text) (load_digits (command_of card.world.shape.side (words_of line_content))) (card_codes card) (loaded_codes after) (ap says_loaded silent.0) (ap loaded_codes same)
+line_follows false None None line_content text opens = refl
+line_follows false None (Some card) line_content text opens = opened_codes text card (card_line_shape (words_of line_content)) opens
+line_follows false (Some before) after line_content text obeys =
     let same : after ≡ Some obeys.0 = let e = obeys.2 in cc in
-    let Follows : RunWorld → Type 0 = λ world. CodesAfter (if says_loaded text then load_digits (command_of before.world.shape.side (words_of said)) else None) (card_codes before) (loaded_codes world) in
-    subst Follows (sym same) (command_follows before obeys.0 text (command_of before.world.shape.side (words_of said)) obeys.1)
+    let Follows : RunWorld → Type 0 = λ world. CodesAfter (if says_loaded text then load_digits (command_of before.world.shape.side (words_of line_content)) else None) (card_codes before) (loaded_codes world) in
+    subst Follows (sym same) (command_follows before obeys.0 text (command_of before.world.shape.side (words_of line_content)) obeys.1)
 
 -- The programs after a line are those before it, and perhaps that of the line.
-pub codes_follow : (world after : RunWorld) (said text : List ℕ) → RunSteps world said text (Some after)
-    → CodesAfter (loaded_digits (run_side world) said text) (loaded_codes world) (loaded_codes after)
-codes_follow world after said text steps = line_follows (is_silent (words_of said)) world after said text steps
+pub codes_follow : (world after : RunWorld) (line_content text : List ℕ) → RunSteps world line_content text (Some after)
+    → CodesAfter (loaded_digits (run_side world) line_content text) (loaded_codes world) (loaded_codes after)
+codes_follow world after line_content text steps = line_follows (is_silent (words_of line_content)) world after line_content text steps

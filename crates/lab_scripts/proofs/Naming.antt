@@ -2,7 +2,7 @@
 use Rattle.std.proofs.Common.{◌≡◌, ℕ, ◌+◌, Bool, true, false, List, [], ◌∷◌, ◌++◌, Option, Some, None, option_map, append_assoc, refl, sym, ap, ◌∙◌, subst}
 use Rattle.std.specs.Bool.{MatchBool}
 use Rattle.std.specs.Option.{MatchOption}
-use Rattle.text_io.specs.Lines.{Line, lines_of, said}
+use Rattle.text_io.specs.Lines.{Line, lines_of, line_content}
 use Rattle.text_io.specs.Limits.{is_over}
 use Rattle.text_io.specs.Printing.{Prints}
 use Rattle.text_io.specs.declared.ending.Done.{Done}
@@ -41,7 +41,7 @@ closes-names met (Some card) world text done e = faulty-names world.faulty met w
 
 -- A line within the limits.
 runs-here : (met : ℕ) (run : RunWorld) (line : Line) (lines : List Line) (answers : List ℕ) (ended : Done) → is_over met line ≡ false
-    → ((here : List ℕ) × (more : List ℕ) × (next : Option RunWorld) × (answers ≡ here ++ more) × RunSteps run (said line) here next
+    → ((here : List ℕ) × (more : List ℕ) × (next : Option RunWorld) × (answers ≡ here ++ more) × RunSteps run (line_content line) here next
     × MatchOption next ((more ≡ []) × (ended ≡ Ended)) (λ v. Prints run_rules (met + 1) v lines more ended))
     → Prints run_rules met run (line ∷ lines) answers ended
 runs-here met run line lines answers ended over answered = rw over answered
@@ -50,18 +50,18 @@ runs-over : (met : ℕ) (run : RunWorld) (line : Line) (lines : List Line) → i
 runs-over met run line lines over = rw over (refl, refl)
 
 abbrev answered_line : ScriptWorld → Line → List ℕ → AnsweredLine
-answered_line world line answer = record { programs = loaded_programs world.run; side = run_side world.run; number = one_line_more world.met; said = said line; answer = answer }
+answered_line world line answer = record { programs = loaded_programs world.run; side = run_side world.run; number = one_line_more world.met; line_content = line_content line; answer = answer }
 
 -- One line more.
 names-more : (one : AnsweredLine) (answers text : List ℕ) → NamesFaultsAt answers text
-    → NamesFaultsAt (one.answer ++ answers) (explained one.programs one.side one.number one.said one.answer ++ text)
+    → NamesFaultsAt (one.answer ++ answers) (explained one.programs one.side one.number one.line_content one.answer ++ text)
 names-more one answers text names = record {
   lines = one ∷ names.lines;
   last = names.last;
   more = names.more;
   answered = ap (λ (xs : List ℕ). one.answer ++ xs) names.answered ∙ sym (append_assoc one.answer (answers_of names.lines) names.last);
-  explains = ap (λ (xs : List ℕ). explained one.programs one.side one.number one.said one.answer ++ xs) names.explains
-      ∙ sym (append_assoc (explained one.programs one.side one.number one.said one.answer) (explained_of names.lines) (names.last ++ names.more));
+  explains = ap (λ (xs : List ℕ). explained one.programs one.side one.number one.line_content one.answer ++ xs) names.explains
+      ∙ sym (append_assoc (explained one.programs one.side one.number one.line_content one.answer) (explained_of names.lines) (names.last ++ names.more));
 }
 
 nothing-more : NamesFaultsAt [] []
@@ -70,15 +70,15 @@ nothing-more = record { lines = []; last = []; more = []; answered = refl; expla
 module _ (met : ℕ) (world : ScriptWorld) (line : Line) (lines : List Line) (text here more : List ℕ) (done : Done) (is : text ≡ here ++ more)
     (within : is_over met line ≡ false)
     (later : (next : ScriptWorld) → Prints script_rules (met + 1) next lines more done → NamesRun (met + 1) next.run lines more) where
-  line-names : (answer : List ℕ) (after : Option RunWorld) (next : Option ScriptWorld) → RunSteps world.run (said line) answer after
-      → here ≡ explained (loaded_programs world.run) (run_side world.run) (one_line_more world.met) (said line) answer → next ≡ option_map (after_answer world answer) after
+  line-names : (answer : List ℕ) (after : Option RunWorld) (next : Option ScriptWorld) → RunSteps world.run (line_content line) answer after
+      → here ≡ explained (loaded_programs world.run) (run_side world.run) (one_line_more world.met) (line_content line) answer → next ≡ option_map (after_answer world answer) after
       → MatchOption next ((more ≡ []) × (done ≡ Ended)) (λ world'. Prints script_rules (met + 1) world' lines more done)
       → NamesRun met world.run (line ∷ lines) text
   line-names answer None next steps e to rest =
       let End : Option ScriptWorld → Type 0 = λ next. MatchOption next ((more ≡ []) × (done ≡ Ended)) (λ world'. Prints script_rules (met + 1) world' lines more done) in
       let ends = subst End to rest in
       let one = answered_line world line answer in
-      let same : here ++ more ≡ explained one.programs one.side one.number one.said answer ++ [] = ap (λ (xs : List ℕ). xs ++ more) e ∙ ap (λ (xs : List ℕ). explained one.programs one.side one.number one.said answer ++ xs) ends.0 in
+      let same : here ++ more ≡ explained one.programs one.side one.number one.line_content answer ++ [] = ap (λ (xs : List ℕ). xs ++ more) e ∙ ap (λ (xs : List ℕ). explained one.programs one.side one.number one.line_content answer ++ xs) ends.0 in
       record {
         answers = answer ++ [];
         ended = Ended;
@@ -89,7 +89,7 @@ module _ (met : ℕ) (world : ScriptWorld) (line : Line) (lines : List Line) (te
       let End : Option ScriptWorld → Type 0 = λ next. MatchOption next ((more ≡ []) × (done ≡ Ended)) (λ world'. Prints script_rules (met + 1) world' lines more done) in
       let next_names = later (after_answer world answer run) (subst End to rest) in
       let one = answered_line world line answer in
-      let same : here ++ more ≡ explained one.programs one.side one.number one.said answer ++ more = ap (λ (xs : List ℕ). xs ++ more) e in
+      let same : here ++ more ≡ explained one.programs one.side one.number one.line_content answer ++ more = ap (λ (xs : List ℕ). xs ++ more) e in
       record {
         answers = answer ++ next_names.answers;
         ended = next_names.ended;
@@ -100,7 +100,7 @@ module _ (met : ℕ) (world : ScriptWorld) (line : Line) (lines : List Line) (te
 over-names : (met : ℕ) (world : ScriptWorld) (line : Line) (lines : List Line) (text : List ℕ) (done : Done) (b : Bool) → is_over met line ≡ b
     → ((next : ScriptWorld) (more : List ℕ) (done : Done) → Prints script_rules (met + 1) next lines more done → NamesRun (met + 1) next.run lines more)
     → MatchBool b ((text ≡ too_long ++ too_long_at_all) × (done ≡ Ended))
-    ((here : List ℕ) × (more : List ℕ) × (next : Option ScriptWorld) × (text ≡ here ++ more) × ExplainsLine world (said line) here next
+    ((here : List ℕ) × (more : List ℕ) × (next : Option ScriptWorld) × (text ≡ here ++ more) × ExplainsLine world (line_content line) here next
     × MatchOption next ((more ≡ []) × (done ≡ Ended)) (λ world'. Prints script_rules (met + 1) world' lines more done))
     → NamesRun met world.run (line ∷ lines) text
 over-names met world line lines text done true over later is = record {

@@ -2,7 +2,7 @@
 use Rattle.std.proofs.Common.{◌≡◌, ◌⊎◌, inr, ℕ, ◌+◌, List, [], ◌++◌, Option, Some, None, refl, sym, ap, subst, ◌∙◌, append-nil, append_assoc}
 use Rattle.std.specs.Option.{MatchOption}
 use Rattle.bpf_code.specs.declared.instr.Instr.{Instr}
-use Rattle.text_io.specs.Lines.{Line, lines_of, said}
+use Rattle.text_io.specs.Lines.{Line, lines_of, line_content}
 use Rattle.lab_rules.specs.AsmText.{whole_line}
 use Rattle.lab_setups.specs.FaultyRules.{HasFaultIn, HasFaultyRules, IsRulesFaultAt}
 use Rattle.lab_setups.specs.RulesFiles.{IsFaultOfRules, IsProgramOfRules, later_texts, next_text}
@@ -35,14 +35,14 @@ module _ (script : List ℕ) (texts : List (List ℕ)) (made : List ℕ) (met : 
     replaces : (name : Option (List ℕ)) (expanded : List ℕ) → rules_name content ≡ name → ReplacesAt name cut.line (lines_of rest) texts_left expanded
         → HasPrograms script texts (made ++ expanded)
     replaces name expanded named is =
-        let here : rules_name (said cut.line) ≡ name = ap rules_name (sym cut.says) ∙ named in
+        let here : rules_name (line_content cut.line) ≡ name = ap rules_name (sym cut.says) ∙ named in
         so.programs expanded (subst (λ (ls : List Line). HasProgramsIn ls texts_left expanded) (sym cut.lines)
         (subst (λ (n : Option (List ℕ)). ReplacesAt n cut.line (lines_of rest) texts_left expanded) (sym here) is))
 
     fails : (name : Option (List ℕ)) (text : List ℕ) → rules_name content ≡ name → FailsAt IsFaultOfRules name met (lines_of rest) texts_left text
         → HasFaultyRules IsFaultOfRules script texts text
     fails name text named is =
-        let here : rules_name (said cut.line) ≡ name = ap rules_name (sym cut.says) ∙ named in
+        let here : rules_name (line_content cut.line) ≡ name = ap rules_name (sym cut.says) ∙ named in
         so.faults text (subst (λ (ls : List Line). HasFaultIn IsFaultOfRules met ls texts_left text) (sym cut.lines)
         (subst (λ (n : Option (List ℕ)). FailsAt IsFaultOfRules n met (lines_of rest) texts_left text) (sym here) is))
 

@@ -5,7 +5,7 @@ use Rattle.rules_text.specs.TextOfRules.{placed_fault, rules_in}
 use Rattle.rules_text.specs.declared.fault.RuleFault.{RuleFault}
 use Rattle.rules_text.specs.declared.fault.RuleKind.TheVariants.{TooLong}
 use Rattle.text_io.specs.Gathered.{gathered}
-use Rattle.text_io.specs.Lines.{Line, lines_of, said}
+use Rattle.text_io.specs.Lines.{Line, lines_of, line_content}
 use Rattle.text_io.specs.declared.ending.Done.{Done}
 use Rattle.text_io.specs.declared.ending.Done.TheVariants.{Ended}
 use Rattle.lab_captures.specs.declared.cell_lines.CellLines.{CellLines}
@@ -49,7 +49,7 @@ abbrev LeadsOn : ℕ → List Line → List (List ℕ) → Type 0
 LeadsOn met lines texts =
     ((text : List ℕ) × HasFaultIn MayBeFaultOfRules met lines texts text) ⊎ ((expanded : List ℕ) × HasProgramsIn lines texts expanded)
 
-line_leads : (name : Option (List ℕ)) (met : ℕ) (line : Line) (lines : List Line) (texts : List (List ℕ)) → rules_name (said line) ≡ name
+line_leads : (name : Option (List ℕ)) (met : ℕ) (line : Line) (lines : List Line) (texts : List (List ℕ)) → rules_name (line_content line) ≡ name
     → LeadsOn (met + 1) lines texts → LeadsOn met (line ∷ lines) texts
 line_leads None met line lines texts named (inl on) =
     inl (on.0, subst (λ (n : Option (List ℕ)). FailsAt MayBeFaultOfRules n met lines texts on.0) (sym named) on.1)
@@ -62,19 +62,19 @@ line_leads (Some name) met line lines texts named on =
 
 leads_on : (lines : List Line) (met : ℕ) (texts : List (List ℕ)) → LeadsOn met lines texts
 leads_on [] met texts = inr ([], refl)
-leads_on (line ∷ lines) met texts = line_leads (rules_name (said line)) met line lines texts refl (leads_on lines (met + 1) texts)
+leads_on (line ∷ lines) met texts = line_leads (rules_name (line_content line)) met line lines texts refl (leads_on lines (met + 1) texts)
 
 polices : (lines : CellLines) (tick : ℕ) (interface : Option ℕ) (setup : List ℕ) (texts : List (List ℕ)) (octets : List ℕ) → LeadsOn 0 (lines_of setup) texts
     → (text : List ℕ) × (done : Done) × MayBeSetupPoliced lines tick interface setup texts octets text done
 polices lines tick interface setup texts octets (inl faulty) = (faulty.0, Ended, inl (faulty.1, refl))
 polices lines tick interface setup texts octets (inr made) =
-    let told = some_police_text lines tick interface made.0 octets in
-    (told.0, told.1, inr (made.0, made.1, told.2))
+    let printed = some_police_text lines tick interface made.0 octets in
+    (printed.0, printed.1, inr (made.0, made.1, printed.2))
 
 pub polices_each : PolicesEachSetup
 polices_each lines tick interface setup texts octets = polices lines tick interface setup texts octets (leads_on (lines_of setup) 0 texts)
 
--- ---- what is said of rules may be said
+-- ---- what is reported of rules may be reported
 
 pub may_be_fault : (text fault : List ℕ) → IsFaultOfRules text fault → MayBeFaultOfRules text fault
 may_be_fault text fault is = inl is
@@ -83,13 +83,13 @@ fault_at_may : (name : Option (List ℕ)) (met : ℕ) (lines : List Line) (texts
     → ((texts : List (List ℕ)) → HasFaultIn IsFaultOfRules (met + 1) lines texts text → HasFaultIn MayBeFaultOfRules (met + 1) lines texts text)
     → FailsAt IsFaultOfRules name met lines texts text → FailsAt MayBeFaultOfRules name met lines texts text
 fault_at_may None met lines texts text on is = on texts is
-fault_at_may (Some name) met lines texts text on (inl (fault, is, told)) = inl (fault, may_be_fault (next_text texts) fault is, told)
+fault_at_may (Some name) met lines texts text on (inl (fault, is, printed)) = inl (fault, may_be_fault (next_text texts) fault is, printed)
 fault_at_may (Some name) met lines texts text on (inr (code, program, is)) = inr (code, program, on (later_texts texts) is)
 
 fault_may : (lines : List Line) (met : ℕ) (texts : List (List ℕ)) (text : List ℕ) → HasFaultIn IsFaultOfRules met lines texts text → HasFaultIn MayBeFaultOfRules met lines texts text
 fault_may [] met texts text is = is
 fault_may (line ∷ lines) met texts text is =
-    fault_at_may (rules_name (said line)) met lines texts text (λ texts is. fault_may lines (met + 1) texts text is) is
+    fault_at_may (rules_name (line_content line)) met lines texts text (λ texts is. fault_may lines (met + 1) texts text is) is
 
 pub may_be_policed : (lines : CellLines) (tick : ℕ) (interface : Option ℕ) (setup : List ℕ) (texts : List (List ℕ)) (octets text : List ℕ) (done : Done)
     → IsSetupPoliced lines tick interface setup texts octets text done → MayBeSetupPoliced lines tick interface setup texts octets text done

@@ -10,7 +10,7 @@ pub some_setup_text : (lines : CellLines) (tick : ℕ) (interface : Option ℕ) 
     → (text : List ℕ) × (done : Done) × MayBeSetupPoliced lines tick interface setup texts octets text done
 some_setup_text = existence.polices_each
 
--- A text by the rules as they are is one where the code of any rules may be said to be too long.
+-- A text by the rules as they are is one where the code of any rules may be reported as too long.
 pub setup_text_may_be : (lines : CellLines) (tick : ℕ) (interface : Option ℕ) (setup : List ℕ) (texts : List (List ℕ)) (octets text : List ℕ) (done : Done)
     → IsSetupPoliced lines tick interface setup texts octets text done → MayBeSetupPoliced lines tick interface setup texts octets text done
 setup_text_may_be = existence.may_be_policed

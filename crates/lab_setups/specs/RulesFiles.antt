@@ -32,7 +32,7 @@ pub record IsProgramOfRules (text : List ℕ) (code : List Instr) : Type 0 where
 abbrev pub IsFaultOfRules : List ℕ → List ℕ → Type 0
 IsFaultOfRules text fault = IsRulesText text fault Ended
 
--- The same, but that the code of any rules may be said to be too long.
+-- The same, but that the code of any rules may be reported as too long.
 abbrev pub MayBeFaultOfRules : List ℕ → List ℕ → Type 0
 MayBeFaultOfRules text fault = MayBeRulesText text fault Ended
 

@@ -1,7 +1,7 @@
 -- The lines of a setup script that name files of rules.
 use Rattle.std.specs.Prelude.{ℕ, if◌then◌else◌, List, [], ◌∷◌, codes, Option, Some, None}
 use Rattle.std.specs.Str.{bytes_eq}
-use Rattle.text_io.specs.Lines.{Line, lines_of, said}
+use Rattle.text_io.specs.Lines.{Line, lines_of, line_content}
 use Rattle.text_io.specs.Words.{words_of}
 
 -- The second of exactly two words, if the first is `rules`.
@@ -23,7 +23,7 @@ with_rules_name (Some name) names = name ∷ names
 -- The names of these lines, in order.
 abbrev pub names_in : List Line → List (List ℕ)
 names_in [] = []
-names_in (line ∷ lines) = with_rules_name (rules_name (said line)) (names_in lines)
+names_in (line ∷ lines) = with_rules_name (rules_name (line_content line)) (names_in lines)
 
 -- The names of a script's lines, in order.
 abbrev pub rules_names : List ℕ → List (List ℕ)

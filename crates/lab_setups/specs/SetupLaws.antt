@@ -3,7 +3,7 @@ use Rattle.std.specs.Prelude.{◌≡◌, ℕ, List, [], ◌∷◌, length, Optio
 use Rattle.bpf_code.specs.Encoding.{code_octets}
 use Rattle.bpf_code.specs.declared.instr.Instr.{Instr}
 use Rattle.lab_captures.specs.declared.cell_lines.CellLines.{CellLines}
-use Rattle.text_io.specs.Lines.{Line, lines_of, said}
+use Rattle.text_io.specs.Lines.{Line, lines_of, line_content}
 use Rattle.text_io.specs.Words.{words_of}
 use Rattle.text_io.specs.declared.ending.Done.{Done}
 use Rattle.upc_cell.specs.declared.side.Side.{Side}
@@ -25,9 +25,9 @@ PolicesEachSetup = (lines : CellLines) (tick : ℕ) (interface : Option ℕ) (se
 abbrev pub AreReplaced : List Line → List (List ℕ) → List Line → Type 0
 AreReplaced [] texts others = others ≡ []
 AreReplaced (line ∷ lines) texts [] = ⊥
-AreReplaced (line ∷ lines) texts (other ∷ others) = MatchOption (rules_name (said line))
+AreReplaced (line ∷ lines) texts (other ∷ others) = MatchOption (rules_name (line_content line))
     ((other ≡ line) × AreReplaced lines texts others)
-    (λ name. (code : List Instr) × IsProgramOfRules (next_text texts) code × (said other ≡ load_command code) × AreReplaced lines (later_texts texts) others)
+    (λ name. (code : List Instr) × IsProgramOfRules (next_text texts) code × (line_content other ≡ load_command code) × AreReplaced lines (later_texts texts) others)
 
 -- The lines of a script with its programs are those of the script, replaced one for one. So each has its number.
 pub record KeepsLines (script : List ℕ) (texts : List (List ℕ)) (expanded : List ℕ) : Type 0 where

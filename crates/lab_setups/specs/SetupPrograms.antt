@@ -1,7 +1,7 @@
 -- A setup script with the programs of its files of rules.
 use Rattle.std.specs.Prelude.{◌≡◌, ℕ, List, [], ◌∷◌, ◌++◌, codes, MatchOption}
 use Rattle.bpf_code.specs.declared.instr.Instr.{Instr}
-use Rattle.text_io.specs.Lines.{Line, lines_of, said}
+use Rattle.text_io.specs.Lines.{Line, lines_of, line_content}
 use Rattle.lab_rules.specs.AsmText.{whole_line}
 use Rattle.upc_words.specs.FaultLines.{line as ended_by_feed}
 use Rattle.lab_setups.specs.RulesFiles.{IsProgramOfRules, later_texts, next_text, program_digits}
@@ -19,7 +19,7 @@ load_line code = ended_by_feed (load_command code)
 -- has the first of these texts, the next one the next. Every other line is as it is.
 abbrev pub HasProgramsIn : List Line → List (List ℕ) → List ℕ → Type 0
 HasProgramsIn [] texts expanded = expanded ≡ []
-HasProgramsIn (line ∷ lines) texts expanded = MatchOption (rules_name (said line))
+HasProgramsIn (line ∷ lines) texts expanded = MatchOption (rules_name (line_content line))
     ((rest : List ℕ) × HasProgramsIn lines texts rest × (expanded ≡ whole_line line ++ rest))
     (λ name. (code : List Instr) × IsProgramOfRules (next_text texts) code
     × ((rest : List ℕ) × HasProgramsIn lines (later_texts texts) rest × (expanded ≡ load_line code ++ rest)))

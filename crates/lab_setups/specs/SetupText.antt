@@ -20,7 +20,7 @@ IsSetupPolicedBy IsFault lines tick interface setup texts octets text done =
 abbrev pub IsSetupPoliced : CellLines → ℕ → Option ℕ → List ℕ → List (List ℕ) → List ℕ → List ℕ → Done → Type 0
 IsSetupPoliced = IsSetupPolicedBy IsFaultOfRules
 
--- The same, but that the code of any rules may be said to be too long. Every setup script, texts and capture have such a text, so if a call
+-- The same, but that the code of any rules may be reported as too long. Every setup script, texts and capture have such a text, so if a call
 -- fails, what was written is the beginning of one.
 abbrev pub MayBeSetupPoliced : CellLines → ℕ → Option ℕ → List ℕ → List (List ℕ) → List ℕ → List ℕ → Done → Type 0
 MayBeSetupPoliced = IsSetupPolicedBy MayBeFaultOfRules

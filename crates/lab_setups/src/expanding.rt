@@ -55,7 +55,7 @@ fn add_rules_place(answers: &mut Vec<u8>, number: usize, name: &[u8]) -> Result<
 }
 
 /// Returns a script with the line that loads a program of its text in place of each line `rules NAME`. If a text has a fault, it returns
-/// what is said about the first such text.
+/// the report about the first such text.
 fn replaced(alloc: Global, script: &[u8], texts: &[Vec<u8>]) -> Result<Expanded, AllocError>
     ensures { IfOk result (ExpandsTo script.now (octets_of_texts texts.now)) }
 {

@@ -1,4 +1,4 @@
-//! Codes: decoding, encoding, assembling and listing.
+//! Codes: decoding, encoding, assembling and listing. Few functions here have a contract, since they are a test.
 
 use crate::trial::{Attempt, Call, ample_if, refused_if, try_out};
 use bpf_asm::{AsmKind, ListFault, assemble, listing};

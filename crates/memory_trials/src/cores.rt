@@ -1,4 +1,4 @@
-//! The card, step by step.
+//! The card, step by step. Few functions here have a contract, since they are a test.
 
 use crate::trial::{Attempt, Call, ample_if, refused_if, try_out};
 use arrayvec::ArrayVec;

@@ -1,7 +1,8 @@
 //! Makes each call that may fail with NoMemory, and makes it again if it failed.
 //!
 //! Prints one line for each: its name, and whether it succeeded at once or only when it was made again. Anything else
-//! is status 1. `tests/memory-trials` runs this program so that its first allocation fails, then its second, and so on.
+//! is status 1. `tests/memory-trials` runs this program so that its first allocation fails, then its second, and so on. The program is a test: what
+//! it prints is compared, so few of its functions have a contract.
 #![tactic(auto)]
 
 mod codes;
@@ -52,16 +53,16 @@ fn main(rt: HostRuntime) -> ExitCode {
     let mut ends_well = true;
     for (name, trial) in trials {
         if is_asked(&asked, name) {
-            ends_well &= tell(&rt, name, trial(rt.alloc()));
+            ends_well &= report(&rt, name, trial(rt.alloc()));
         }
     }
     // Calls that may wait, for a lock or a thread, can't be in the table.
     if is_asked(&asked, "Desk::setup, cut, Card::close") {
         let outcome = running::try_card(&rt, rt.alloc());
-        ends_well &= tell(&rt, "Desk::setup, cut, Card::close", outcome);
+        ends_well &= report(&rt, "Desk::setup, cut, Card::close", outcome);
     }
     if is_asked(&asked, "run_ports") {
-        ends_well &= tell(&rt, "run_ports", texts::try_ports(&rt, rt.alloc()));
+        ends_well &= report(&rt, "run_ports", texts::try_ports(&rt, rt.alloc()));
     }
     if ends_well {
         ExitCode::SUCCESS
@@ -79,11 +80,11 @@ fn is_asked(asked: &Option<String>, name: &str) -> bool {
 }
 
 /// Prints how a trial ended, and returns whether it ended well.
-fn tell(rt: &HostRuntime, name: &str, outcome: Attempt) -> bool {
-    let said = match outcome {
+fn report(rt: &HostRuntime, name: &str, outcome: Attempt) -> bool {
+    let word = match outcome {
         Attempt::Ample => "answered",
         Attempt::Refused => "refused, and answered when made again",
         Attempt::Otherwise => "OTHERWISE",
     };
-    println!(rt; "{name}: {said}").is_ok() && outcome != Attempt::Otherwise
+    println!(rt; "{name}: {word}").is_ok() && outcome != Attempt::Otherwise
 }

@@ -1,4 +1,4 @@
-//! The running card: made, and closed.
+//! The running card: made, and closed. Few functions here have a contract, since they are a test.
 
 ghost use Rattle.std.specs.Prelude.{◌≡◌, IfSome, IsSomeAnd};
 ghost use Rattle.port_card.specs.Names.{AreFor};

@@ -1,4 +1,4 @@
-//! Arenas, lines and directories.
+//! Arenas, lines and directories. Few functions here have a contract, since they are a test.
 
 ghost use Rattle.std.specs.Prelude.{◌≡◌, ◌<◌, length};
 

@@ -1,4 +1,4 @@
-//! The subcommands, over an input and an output in memory.
+//! The subcommands, over an input and an output in memory. Few functions here have a contract, since they are a test.
 
 use crate::trial::{Attempt, Call, ample_if, made_again, refused_if, try_out};
 use arrayvec::ArrayVec;

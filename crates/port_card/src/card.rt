@@ -45,7 +45,7 @@ impl<S: Ledgers> Model for Card<S> {
 impl<S: Ledgers> Card<S> {
     ghost use Rattle.std.specs.Prelude.{◌≡◌, ◌≢◌, ◌<◌, ◌≤◌, ◌⊎◌, length, None, Some, IfOk, IfSome, MatchResult};
     ghost use Rattle.card_core.specs.Shapes.{shape_fault};
-    ghost use Rattle.card_core.specs.Sections.{told};
+    ghost use Rattle.card_core.specs.Sections.{judgement_in};
     ghost use Rattle.port_card.specs.Names.{AreFor};
     ghost use Rattle.port_card.specs.Seats.{AreNewSeats, counts_after, seat_after, tally_of_seat};
     ghost use Rattle.gen_arena.specs.Live.{live_value};
@@ -130,11 +130,11 @@ impl<S: Ledgers> Card<S> {
         gate: &G,
     ) -> Answer
         // The seat counts the cell, on its line and by its verdict, exactly if the cell was judged.
-        ensures tallied { seat.new ≡ seat_after seat.old (told result) }
-        ensures total { tally_of_seat seat.new ≡ counts_after (tally_of_seat seat.old) (told result) }
-        ensures there { IfSome (told result) (λ judged. judged.line < self.now.lines) }
+        ensures tallied { seat.new ≡ seat_after seat.old (judgement_in result) }
+        ensures total { tally_of_seat seat.new ≡ counts_after (tally_of_seat seat.old) (judgement_in result) }
+        ensures there { IfSome (judgement_in result) (λ judged. judged.line < self.now.lines) }
 
-        ensures told { IfSome (told result) (IsJudgedAnswer cell.now moment) }
+        ensures judged { IfSome (judgement_in result) (IsJudgedAnswer cell.now moment) }
         ensures blames { BlamesRightly moment result }
         ensures memory { result ≢ Answer.NoMemory }
     {
@@ -160,15 +160,15 @@ impl<S: Ledgers> Card<S> {
         requires { seating.now.line < self.now.lines }
 
         // The value is what the connection's program, as it was looked up, gives for the cell.
-        ensures program { IfSome (told result) (λ judged. judged.program ≡ seating.now.program) }
-        ensures given { IfSome (told result) (λ judged. IsGivenBy store.now judged.program cell.now judged.value) }
+        ensures program { IfSome (judgement_in result) (λ judged. judged.program ≡ seating.now.program) }
+        ensures given { IfSome (judgement_in result) (λ judged. IsGivenBy store.now judged.program cell.now judged.value) }
         ensures stale { live_value store.now seating.now.program ≡ None → result ≡ Answer.Stale }
 
         // As `arrive`.
-        ensures tallied { seat.new ≡ seat_after seat.old (told result) }
-        ensures total { tally_of_seat seat.new ≡ counts_after (tally_of_seat seat.old) (told result) }
-        ensures there { IfSome (told result) (λ judged. judged.line ≡ seating.now.line) }
-        ensures told { IfSome (told result) (IsJudgedAnswer cell.now moment) }
+        ensures tallied { seat.new ≡ seat_after seat.old (judgement_in result) }
+        ensures total { tally_of_seat seat.new ≡ counts_after (tally_of_seat seat.old) (judgement_in result) }
+        ensures there { IfSome (judgement_in result) (λ judged. judged.line ≡ seating.now.line) }
+        ensures judged { IfSome (judgement_in result) (IsJudgedAnswer cell.now moment) }
         ensures blames { BlamesRightly moment result }
         ensures memory { result ≢ Answer.NoMemory }
     {

@@ -1,7 +1,7 @@
 //! A line of the running card, with the marks of its counts.
 
 ghost use Rattle.std.specs.Prelude.{◌≡◌, option_map};
-ghost use Rattle.card_core.specs.Sections.{told};
+ghost use Rattle.card_core.specs.Sections.{judgement_in};
 
 use crate::books::Books;
 use crate::ledgers::Ledgers;
@@ -29,7 +29,7 @@ impl<S: Ledgers> CountedLine<S> {
     ghost use Rattle.line_record.specs.Line.{IsLine, OpensLine};
     ghost use Rattle.line_record.specs.Piece.{IsJournalOf, IsPiece};
     ghost use Rattle.line_record.specs.Tally.{nothing, HasRoom};
-    ghost use Rattle.card_core.specs.Sections.{holder, judging_refusal, IsUncut, IsUnready, MayBecomeReady, JudgesAt, told};
+    ghost use Rattle.card_core.specs.Sections.{holder, judging_refusal, IsUncut, IsUnready, MayBecomeReady, JudgesAt, judgement_in};
     ghost use Rattle.card_core.specs.Steps.{cell_after};
     ghost use Rattle.port_card.specs.Seats.{counts_after, seat_after, tally_of_seat};
     ghost use Rattle.port_card.specs.Answers.{BlamesRightly, IsOfSetup, IsOfRelease, IsOfCut};
@@ -71,18 +71,18 @@ impl<S: Ledgers> CountedLine<S> {
         ensures kept { HasRoom books.old → IsLine self.old.line }
 
         // The seat counts the cell exactly if it was judged.
-        ensures tallied { seat.new ≡ seat_after seat.old (told result) }
-        ensures total { tally_of_seat seat.new ≡ counts_after (tally_of_seat seat.old) (told result) }
+        ensures tallied { seat.new ≡ seat_after seat.old (judgement_in result) }
+        ensures total { tally_of_seat seat.new ≡ counts_after (tally_of_seat seat.old) (judgement_in result) }
 
         // The answer to a judged cell. The moment is the error only if it is too late or goes back.
-        ensures there { IfSome (told result) (λ judged. judged.line ≡ seating.now.line) }
-        ensures moment { IfSome (told result) (λ judged. judged.moment ≡ moment) }
-        ensures value { IfSome (told result) (λ judged. judged.value ≡ named.now.value) }
-        ensures program { IfSome (told result) (λ judged. judged.program ≡ named.now.program) }
-        ensures cell { IfSome (told result) (λ judged. judged.cell ≡ cell_after judged.verdict named.now.cell) }
-        ensures unnamed { IfSome (told result) (λ judged.
+        ensures there { IfSome (judgement_in result) (λ judged. judged.line ≡ seating.now.line) }
+        ensures moment { IfSome (judgement_in result) (λ judged. judged.moment ≡ moment) }
+        ensures value { IfSome (judgement_in result) (λ judged. judged.value ≡ named.now.value) }
+        ensures program { IfSome (judgement_in result) (λ judged. judged.program ≡ named.now.program) }
+        ensures cell { IfSome (judgement_in result) (λ judged. judged.cell ≡ cell_after judged.verdict named.now.cell) }
+        ensures unnamed { IfSome (judgement_in result) (λ judged.
             IsNoNumber judged.value → judged.verdict ≡ Verdict.Refuse) }
-        ensures in_time { IsSome (told result) → moment ≤ 2 ^ 62 }
+        ensures in_time { IsSome (judgement_in result) → moment ≤ 2 ^ 62 }
         ensures blames { BlamesRightly moment result }
         ensures memory { result ≢ Answer.NoMemory }
     {
@@ -173,7 +173,7 @@ impl<S: Ledgers> CountedLine<S> {
 /// The line's number and the verdict if the cell was judged, otherwise none.
 #[inline]
 fn judged_on(answer: &Answer) -> Option<(u16, Verdict)>
-    ensures { result ≡ option_map (λ judged. (judged.line, judged.verdict)) (told answer.now) }
+    ensures { result ≡ option_map (λ judged. (judged.line, judged.verdict)) (judgement_in answer.now) }
 {
     match *answer {
         Answer::Judged { line, verdict, .. } => Some((line, verdict)),

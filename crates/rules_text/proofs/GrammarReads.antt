@@ -3,12 +3,12 @@ use Rattle.std.proofs.Common.{◌≡◌, ℕ, suc, ◌+◌, ◌≤◌, ◌<◌, 
 use Rattle.std.proofs.lemmas.Bool.{le-ltb, lt-leb, lt-ltb}
 use Rattle.bpf_code.specs.declared.instr.Size.{Size}
 use Rattle.match_code.specs.declared.part.Span.{Span}
-use Rattle.rules_text.specs.LineGrammar.{Awaited, GroupRead, LineContext, Reading, SaidRead, SubjectRead, awaits_start, awaits_unit, awaits_operator, awaits_offset, awaits_relation, awaits_mask, awaits_sign, awaits_constant, awaits_dots, awaits_high, awaits_comma, awaits_low, awaits_value, awaits_end, both_of, group_after_or, group_test, group_with, no_group, nothing_read, read_awaited, read_comma, read_constant, read_dots, read_high, read_low, read_mask, read_offset, read_operator, read_relation, read_sign, read_start, read_token, read_unit, range_of_one, read_value, said_at_end, says_line, subject_of, whole_test, with_block, with_close, with_head, with_list, with_open, with_range, with_unit}
+use Rattle.rules_text.specs.LineGrammar.{Awaited, GroupRead, LineContext, Reading, StatementRead, SubjectRead, awaits_start, awaits_unit, awaits_operator, awaits_offset, awaits_relation, awaits_mask, awaits_sign, awaits_constant, awaits_dots, awaits_high, awaits_comma, awaits_low, awaits_value, awaits_end, both_of, group_after_or, group_test, group_with, no_group, nothing_read, read_awaited, read_comma, read_constant, read_dots, read_high, read_low, read_mask, read_offset, read_operator, read_relation, read_sign, read_start, read_token, read_unit, range_of_one, read_value, statement_at_end, says_line, subject_of, whole_test, with_block, with_close, with_head, with_list, with_open, with_range, with_unit}
 use Rattle.rules_text.specs.RuleGrammar.{FieldFits, HighFits, ListFits, MaskFits, PartFits, PartForm, RangeForm, SubjectFits, TestFits, TestForm, UnitFits, UnitForm, any_unit, oam_unit, user_unit, sign_unit, list_unit, not_unit, parenthesis_unit, one_unit, and_unit, one_part, or_part, field_tokens, high_tokens, list_tokens, mask_tokens, part_count, units_tokens, part_written, span_from, spans_written, subject_tokens, test_count, test_tokens, test_written, unit_count, unit_tokens, unit_written}
 use Rattle.rules_text.specs.RulesRead.{FieldRead, SignRead, TestRead, any_cell, oam_cell, user_cell, comparing, compared, listed, block_line, rule_line, gfc_field, vpi_field, vci_field, pti_field, clp_field, octets_field}
 use Rattle.rules_text.specs.RuleTokens.{RuleFound, RuleToken, any_word, oam_word, user_word, not_word, and_word, or_word, field_word, size_word, number_word, arrow_mark, open_brace, open_parenthesis, close_parenthesis, mask_mark, comma_mark, dots_mark, sign_mark}
-use Rattle.rules_text.specs.TextOfRules.{said_from}
-use Rattle.rules_text.proofs.ReadingSteps.{said_end, said_more}
+use Rattle.rules_text.specs.TextOfRules.{statement_from}
+use Rattle.rules_text.proofs.ReadingSteps.{statement_end, statement_more}
 use Rattle.rules_text.specs.Subjects.{header_read, most_of_field, octets_read}
 
 -- What was read, with these parts of it.
@@ -489,45 +489,45 @@ arrow_step context column group outermost comparisons test e = rw e refl
 
 value_step : (context : LineContext) (column : ℕ) (reading : Reading) (value : ℕ) → 0 < value
     → read_token context column (record reading { awaited = awaits_value }) (number_word value)
-    ≡ Ok (record reading { test = any_cell; said = says_line (rule_line reading.test value); awaited = awaits_end })
+    ≡ Ok (record reading { test = any_cell; statement = says_line (rule_line reading.test value); awaited = awaits_end })
 unfolding read_awaited read_value
 value_step context column reading value some = rw (lt-ltb 0 value some) refl
 
 block_step : (context : LineContext) (column : ℕ) (group : GroupRead) (outermost comparisons : ℕ) (test : TestRead) → group_test group ≡ Some test → context.blocks < 64
     → read_token context column (after_unit nothing_read group outermost comparisons) open_brace
-    ≡ Ok (record (after_unit nothing_read group outermost comparisons) { said = says_line (block_line test); group = no_group; awaited = awaits_end })
+    ≡ Ok (record (after_unit nothing_read group outermost comparisons) { statement = says_line (block_line test); group = no_group; awaited = awaits_end })
 unfolding read_awaited read_operator with_block whole_test
 block_step context column group outermost comparisons test e h = rw (e, lt-leb 64 context.blocks h) refl
 
--- Where this is said, reading ends.
-abbrev Says : SaidRead → Reading → Type 0
-Says said reading = said_at_end reading.awaited reading.said ≡ Ok said
+-- After this statement, reading ends.
+abbrev Says : StatementRead → Reading → Type 0
+Says statement reading = statement_at_end reading.awaited reading.statement ≡ Ok statement
 
-said_read : (context : LineContext) (number : ℕ) (found : List RuleFound) (reading : Reading) (column : ℕ) (said : SaidRead)
-    → Reads context reading (map (λ it. it.token) found) (Says said) → said_from context number reading column found ≡ Ok said
-said_read context number [] reading column said h = said_end context number column reading said h
-said_read context number (first ∷ rest) reading column said h =
-    said_more context number column reading (h first.column).0 first rest (h first.column).1 ∙ said_read context number rest (h first.column).0 first.after said (h first.column).2
+statement_read : (context : LineContext) (number : ℕ) (found : List RuleFound) (reading : Reading) (column : ℕ) (statement : StatementRead)
+    → Reads context reading (map (λ it. it.token) found) (Says statement) → statement_from context number reading column found ≡ Ok statement
+statement_read context number [] reading column statement h = statement_end context number column reading statement h
+statement_read context number (first ∷ rest) reading column statement h =
+    statement_more context number column reading (h first.column).0 first rest (h first.column).1 ∙ statement_read context number rest (h first.column).0 first.after statement (h first.column).2
 
 -- A line that begins with the tokens of a test says what it says after the test.
-line_begins : (context : LineContext) (number : ℕ) (found : List RuleFound) (test : TestForm) (rest : List RuleToken) (said : SaidRead)
+line_begins : (context : LineContext) (number : ℕ) (found : List RuleFound) (test : TestForm) (rest : List RuleToken) (statement : StatementRead)
     → TestFits context context.blocks test → test_count test ≤ 4096 → map (λ it. it.token) found ≡ test_tokens test ++ rest
-    → ((last : ℕ) (end : Reading) → Ended context end (after_unit nothing_read (group_written test) last (test_count test)) → Reads context end rest (Says said))
-    → said_from context number nothing_read 1 found ≡ Ok said
-line_begins context number found test rest said fits bound same h =
+    → ((last : ℕ) (end : Reading) → Ended context end (after_unit nothing_read (group_written test) last (test_count test)) → Reads context end rest (Says statement))
+    → statement_from context number nothing_read 1 found ≡ Ok statement
+line_begins context number found test rest statement fits bound same h =
     let none : context.blocks ≡ context.blocks + length nothing_read.around = omega arith in
     let count : test_count test ≡ 0 + test_count test = omega arith in
-    said_read context number found nothing_read 1 said
-    (subst (λ (tokens : List RuleToken). Reads context nothing_read tokens (Says said)) (sym same)
-    (reads_append context (test_tokens test) rest nothing_read (Says said)
-    (test_reads context test awaits_start nothing_read 0 (test_count test) (λ next. Reads context next rest (Says said)) (begins_start context)
+    statement_read context number found nothing_read 1 statement
+    (subst (λ (tokens : List RuleToken). Reads context nothing_read tokens (Says statement)) (sym same)
+    (reads_append context (test_tokens test) rest nothing_read (Says statement)
+    (test_reads context test awaits_start nothing_read 0 (test_count test) (λ next. Reads context next rest (Says statement)) (begins_start context)
     (subst (λ (k : ℕ). TestFits context k test) none fits) count bound h)))
 
 -- A rule.
 pub rule_is_read : (context : LineContext) (number : ℕ) (found : List RuleFound) (test : TestForm) (value : ℕ)
     → TestFits context context.blocks test → test_count test ≤ 4096 → 0 < value
     → map (λ it. it.token) found ≡ test_tokens test ++ (arrow_mark ∷ number_word value ∷ [])
-    → said_from context number nothing_read 1 found ≡ Ok (says_line (rule_line (test_written test) value))
+    → statement_from context number nothing_read 1 found ≡ Ok (says_line (rule_line (test_written test) value))
 rule_is_read context number found test value fits bound some same =
     line_begins context number found test (arrow_mark ∷ number_word value ∷ []) (says_line (rule_line (test_written test) value)) fits bound same (λ last end ended.
     λ column. (
@@ -540,7 +540,7 @@ rule_is_read context number found test value fits bound some same =
 pub head_is_read : (context : LineContext) (number : ℕ) (found : List RuleFound) (test : TestForm)
     → TestFits context context.blocks test → test_count test ≤ 4096 → context.blocks < 64
     → map (λ it. it.token) found ≡ test_tokens test ++ (open_brace ∷ [])
-    → said_from context number nothing_read 1 found ≡ Ok (says_line (block_line (test_written test)))
+    → statement_from context number nothing_read 1 found ≡ Ok (says_line (block_line (test_written test)))
 head_is_read context number found test fits bound room same =
     line_begins context number found test (open_brace ∷ []) (says_line (block_line (test_written test))) fits bound same (λ last end ended.
     λ column. (_, ended column open_brace refl ∙ block_step context column (group_written test) last (test_count test) (test_written test) (written_test test) room, refl))

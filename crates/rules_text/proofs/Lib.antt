@@ -4,5 +4,5 @@ pub mod Values
 pub mod GrammarReads
 pub mod Chains
 pub mod DecisionsSame
-pub mod NumbersSaid
+pub mod StatementNumbers
 pub mod Public

@@ -1,11 +1,11 @@
 -- A line read token by token, and a text line by line.
 use Rattle.std.proofs.Common.{◌≡◌, ◌≢◌, inl, inr, IsErrAnd, IfErr, IfOk, ℕ, ◌+◌, true, false, List, [], ◌∷◌, Result, Ok, Err, refl, sym, ap, ◌∙◌, subst}
 use Rattle.bpf_asm.specs.SourceLines.{source_lines}
-use Rattle.rules_text.specs.LineGrammar.{LineContext, Reading, SaidRead, nothing_read, read_token, said_at_end}
+use Rattle.rules_text.specs.LineGrammar.{LineContext, Reading, StatementRead, nothing_read, read_token, statement_at_end}
 use Rattle.rules_text.specs.NumberedText.{numbered_read}
 use Rattle.rules_text.specs.RuleTokens.{RuleFound, rule_tokens}
 use Rattle.rules_text.specs.TextFaults.{IsFaultOf}
-use Rattle.rules_text.specs.TextOfRules.{NumberedRead, TextReading, context_of, fault_column, no_text_read, placed_fault, numbered_at_end, numbered_from, numbered_in, rules_in, said_from, text_with, text_with_line}
+use Rattle.rules_text.specs.TextOfRules.{NumberedRead, TextReading, context_of, fault_column, no_text_read, placed_fault, numbered_at_end, numbered_from, numbered_in, rules_in, statement_from, text_with, text_with_line}
 use Rattle.rules_text.specs.declared.fault.RuleFault.{RuleFault}
 use Rattle.rules_text.specs.declared.fault.RuleKind.{RuleKind}
 use Rattle.rules_text.specs.declared.fault.RuleKind.TheVariants.{BadLine, BadNumber, TooLarge, OutsideCell, AfterOtherwise, Unbalanced, TooDeep, TooLong, NoMemory}
@@ -13,30 +13,30 @@ use Rattle.rules_text.specs.declared.reader.NumberedRules.{NumberedRules}
 use Rattle.rules_text.specs.inner.SeenFaults.{fault_seen}
 
 -- One more token.
-pub said_more : (context : LineContext) (number column : ℕ) (reading next : Reading) (found : RuleFound) (rest : List RuleFound)
+pub statement_more : (context : LineContext) (number column : ℕ) (reading next : Reading) (found : RuleFound) (rest : List RuleFound)
     → read_token context found.column reading found.token ≡ Ok next
-    → said_from context number reading column (found ∷ rest) ≡ said_from context number next found.after rest
-unfolding said_from
-said_more context number column reading next found rest e = rw e refl
+    → statement_from context number reading column (found ∷ rest) ≡ statement_from context number next found.after rest
+unfolding statement_from
+statement_more context number column reading next found rest e = rw e refl
 
 -- A token that is a fault.
-pub said_fault : (context : LineContext) (number column : ℕ) (reading : Reading) (found : RuleFound) (rest : List RuleFound) (kind : RuleKind)
+pub statement_fault : (context : LineContext) (number column : ℕ) (reading : Reading) (found : RuleFound) (rest : List RuleFound) (kind : RuleKind)
     → read_token context found.column reading found.token ≡ Err kind
-    → said_from context number reading column (found ∷ rest) ≡ Err (placed_fault number (fault_column reading kind found.column) kind)
-unfolding said_from
-said_fault context number column reading found rest kind e = rw e refl
+    → statement_from context number reading column (found ∷ rest) ≡ Err (placed_fault number (fault_column reading kind found.column) kind)
+unfolding statement_from
+statement_fault context number column reading found rest kind e = rw e refl
 
 -- The end of a line that may end here.
-pub said_end : (context : LineContext) (number column : ℕ) (reading : Reading) (said : SaidRead)
-    → said_at_end reading.awaited reading.said ≡ Ok said → said_from context number reading column [] ≡ Ok said
-unfolding said_from
-said_end context number column reading said e = rw e refl
+pub statement_end : (context : LineContext) (number column : ℕ) (reading : Reading) (statement : StatementRead)
+    → statement_at_end reading.awaited reading.statement ≡ Ok statement → statement_from context number reading column [] ≡ Ok statement
+unfolding statement_from
+statement_end context number column reading statement e = rw e refl
 
 -- The end of a line that ends too early.
-pub said_early : (context : LineContext) (number column : ℕ) (reading : Reading) (kind : RuleKind)
-    → said_at_end reading.awaited reading.said ≡ Err kind → said_from context number reading column [] ≡ Err (placed_fault number column kind)
-unfolding said_from
-said_early context number column reading kind e = rw e refl
+pub statement_early : (context : LineContext) (number column : ℕ) (reading : Reading) (kind : RuleKind)
+    → statement_at_end reading.awaited reading.statement ≡ Err kind → statement_from context number reading column [] ≡ Err (placed_fault number column kind)
+unfolding statement_from
+statement_early context number column reading kind e = rw e refl
 
 -- One more line.
 pub rules_more : (text next : TextReading) (number : ℕ) (line : List ℕ) (rest : List (List ℕ))
@@ -67,21 +67,21 @@ unfolding text_with_line
 line_closed text number line first rest e closed = rw (e, closed) refl
 
 -- A line that says something.
-pub line_said : (text : TextReading) (number : ℕ) (line : List ℕ) (first : RuleFound) (rest : List RuleFound) (said : SaidRead)
-    → rule_tokens line ≡ first ∷ rest → text.closed ≡ false → said_from (context_of text) number nothing_read 1 (rule_tokens line) ≡ Ok said
-    → text_with_line text number line ≡ Ok (text_with text number first.column said)
+pub line_statement : (text : TextReading) (number : ℕ) (line : List ℕ) (first : RuleFound) (rest : List RuleFound) (statement : StatementRead)
+    → rule_tokens line ≡ first ∷ rest → text.closed ≡ false → statement_from (context_of text) number nothing_read 1 (rule_tokens line) ≡ Ok statement
+    → text_with_line text number line ≡ Ok (text_with text number first.column statement)
 unfolding text_with_line
-line_said text number line first rest said e closed s =
-    let t : said_from (context_of text) number nothing_read 1 (first ∷ rest) ≡ Ok said = ap (said_from (context_of text) number nothing_read 1) (sym e) ∙ s in
+line_statement text number line first rest statement e closed s =
+    let t : statement_from (context_of text) number nothing_read 1 (first ∷ rest) ≡ Ok statement = ap (statement_from (context_of text) number nothing_read 1) (sym e) ∙ s in
     rw (e, closed, t) refl
 
 -- A line with a fault.
 pub line_fault : (text : TextReading) (number : ℕ) (line : List ℕ) (first : RuleFound) (rest : List RuleFound) (fault : RuleFault)
-    → rule_tokens line ≡ first ∷ rest → text.closed ≡ false → said_from (context_of text) number nothing_read 1 (rule_tokens line) ≡ Err fault
+    → rule_tokens line ≡ first ∷ rest → text.closed ≡ false → statement_from (context_of text) number nothing_read 1 (rule_tokens line) ≡ Err fault
     → text_with_line text number line ≡ Err fault
 unfolding text_with_line
 line_fault text number line first rest fault e closed s =
-    let t : said_from (context_of text) number nothing_read 1 (first ∷ rest) ≡ Err fault = ap (said_from (context_of text) number nothing_read 1) (sym e) ∙ s in
+    let t : statement_from (context_of text) number nothing_read 1 (first ∷ rest) ≡ Err fault = ap (statement_from (context_of text) number nothing_read 1) (sym e) ∙ s in
     rw (e, closed, t) refl
 
 -- A fault that has no place but its token's.

@@ -21,11 +21,11 @@ pub record LineContext : Type 0 where
   pub begun : Bool
 
 -- What a line says.
-pub data SaidRead : Type 0 where
-  says_nothing : SaidRead
-  says_side : Side → SaidRead
-  says_line : LineRead → SaidRead
-  says_otherwise : ℕ → SaidRead
+pub data StatementRead : Type 0 where
+  says_nothing : StatementRead
+  says_side : Side → StatementRead
+  says_line : LineRead → StatementRead
+  says_otherwise : ℕ → StatementRead
 
 -- A field with a mask, if there is one.
 pub record SubjectRead : Type 0 where
@@ -93,7 +93,7 @@ pub record Reading : Type 0 where
   -- the whole test, once `->` came
   pub test : TestRead
   -- what the line says
-  pub said : SaidRead
+  pub statement : StatementRead
 
 -- Reading goes on, or there is a fault.
 abbrev pub LineStep : Type 0
@@ -118,7 +118,7 @@ nothing_read = record {
   spans = [];
   comparisons = 0;
   test = any_cell;
-  said = says_nothing;
+  statement = says_nothing;
 }
 
 -- The test, denied if a `not` applies to it.
@@ -197,13 +197,13 @@ unfoldable pub whole_test : Reading → Result TestRead RuleKind
 whole_test reading = if nat_lt 0 (length reading.around) then Err Unbalanced else some_test (group_test reading.group)
 
 -- The line says this, and nothing comes after it.
-abbrev pub saying : Reading → SaidRead → Reading
-saying reading said = record reading { said = said; group = no_group; awaited = awaits_end }
+abbrev pub with_statement : Reading → StatementRead → Reading
+with_statement reading statement = record reading { statement = statement; group = no_group; awaited = awaits_end }
 
 -- `{` after a test.
 unfoldable pub with_block : LineContext → Reading → LineStep
 with_block context reading = found_then (whole_test reading) (λ test.
-    if nat_le 64 context.blocks then Err TooDeep else Ok (saying reading (says_line (block_line test))))
+    if nat_le 64 context.blocks then Err TooDeep else Ok (with_statement reading (says_line (block_line test))))
 
 -- `->` after a test.
 unfoldable pub with_head : Reading → LineStep
@@ -242,7 +242,7 @@ read_start context column reading otherwise_word =
 read_start context column reading side_word =
     if context.begun then Err BadLine else Ok (record reading { awaited = awaits_side })
 read_start context column reading close_brace =
-    if nat_lt 0 context.blocks then Ok (record reading { said = says_line end_line; awaited = awaits_end }) else Err Unbalanced
+    if nat_lt 0 context.blocks then Ok (record reading { statement = says_line end_line; awaited = awaits_end }) else Err Unbalanced
 read_start context column reading token = read_unit context column reading token
 
 -- The offset of octets.
@@ -312,17 +312,17 @@ read_arrow reading _ = Err BadLine
 -- The value of a rule.
 unfoldable pub read_value : Reading → RuleToken → LineStep
 read_value reading token = found_then (value_read token) (λ value.
-    Ok (record reading { test = any_cell; said = says_line (rule_line reading.test value); awaited = awaits_end }))
+    Ok (record reading { test = any_cell; statement = says_line (rule_line reading.test value); awaited = awaits_end }))
 
 -- The value after `otherwise ->`.
 unfoldable pub read_rest : Reading → RuleToken → LineStep
 read_rest reading token =
-    found_then (value_read token) (λ value. Ok (record reading { said = says_otherwise value; awaited = awaits_end }))
+    found_then (value_read token) (λ value. Ok (record reading { statement = says_otherwise value; awaited = awaits_end }))
 
 -- The name of the side.
 unfoldable pub read_side : Reading → RuleToken → LineStep
-read_side reading uni_word = Ok (record reading { said = says_side side_of.Uni; awaited = awaits_end })
-read_side reading nni_word = Ok (record reading { said = says_side side_of.Nni; awaited = awaits_end })
+read_side reading uni_word = Ok (record reading { statement = says_side side_of.Uni; awaited = awaits_end })
+read_side reading nni_word = Ok (record reading { statement = says_side side_of.Nni; awaited = awaits_end })
 read_side reading _ = Err BadLine
 
 -- A token at this column, where this is awaited.
@@ -350,7 +350,7 @@ abbrev pub read_token : LineContext → ℕ → Reading → RuleToken → LineSt
 read_token context column reading token = read_awaited reading.awaited context column reading token
 
 -- What the line says where its tokens end, if it may end there.
-abbrev pub said_at_end : Awaited → SaidRead → Result SaidRead RuleKind
-said_at_end awaits_start said = Ok said
-said_at_end awaits_end said = Ok said
-said_at_end _ said = Err BadLine
+abbrev pub statement_at_end : Awaited → StatementRead → Result StatementRead RuleKind
+statement_at_end awaits_start statement = Ok statement
+statement_at_end awaits_end statement = Ok statement
+statement_at_end _ statement = Err BadLine

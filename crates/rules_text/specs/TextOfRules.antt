@@ -5,7 +5,7 @@ use Rattle.upc_cell.specs.declared.side.Side.{Side}
 use Rattle.upc_cell.specs.declared.side.Side.TheVariants.{Uni}
 use Rattle.rules_text.specs.RulesRead.{LineRead, RulesRead, rule_line, block_line, end_line}
 use Rattle.rules_text.specs.RuleTokens.{RuleFound, rule_tokens}
-use Rattle.rules_text.specs.LineGrammar.{LineContext, Reading, SaidRead, says_nothing, says_side, says_line, says_otherwise, nothing_read, read_token, said_at_end}
+use Rattle.rules_text.specs.LineGrammar.{LineContext, Reading, StatementRead, says_nothing, says_side, says_line, says_otherwise, nothing_read, read_token, statement_at_end}
 use Rattle.rules_text.specs.declared.fault.RuleFault.{RuleFault}
 use Rattle.rules_text.specs.declared.fault.RuleKind.{RuleKind}
 use Rattle.rules_text.specs.declared.fault.RuleKind.TheVariants.{AfterOtherwise, Unbalanced}
@@ -25,13 +25,13 @@ abbrev pub placed_fault : ℕ → ℕ → RuleKind → RuleFault
 placed_fault line column kind = record { line = line; column = column; kind = kind }
 
 -- What the tokens say, read on from here. The column is the one after the last token. Lines and columns count from 1.
-unfoldable pub said_from : LineContext → ℕ → Reading → ℕ → List RuleFound → Result SaidRead RuleFault
-said_from context number reading column [] =
-    read_then (said_at_end reading.awaited reading.said) (λ kind. placed_fault number column kind) (λ said. Ok said)
-said_from context number reading column (found ∷ rest) =
+unfoldable pub statement_from : LineContext → ℕ → Reading → ℕ → List RuleFound → Result StatementRead RuleFault
+statement_from context number reading column [] =
+    read_then (statement_at_end reading.awaited reading.statement) (λ kind. placed_fault number column kind) (λ statement. Ok statement)
+statement_from context number reading column (found ∷ rest) =
     read_then (read_token context found.column reading found.token)
     (λ kind. placed_fault number (fault_column reading kind found.column) kind)
-    (λ next. said_from context number next found.after rest)
+    (λ next. statement_from context number next found.after rest)
 
 -- What was read of a text.
 pub record TextReading : Type 0 where
@@ -87,11 +87,11 @@ with_line text end_line line column = record text {
 }
 
 -- What was read, with what a line says that begins at this place.
-abbrev pub text_with : TextReading → ℕ → ℕ → SaidRead → TextReading
+abbrev pub text_with : TextReading → ℕ → ℕ → StatementRead → TextReading
 text_with text line column says_nothing = text
 text_with text line column (says_side side) = record text { side = side; begun = true }
 text_with text line column (says_otherwise value) = record text { otherwise = value; closed = true; begun = true }
-text_with text line column (says_line said) = with_line text said line column
+text_with text line column (says_line statement) = with_line text statement line column
 
 -- What a line must know of the text before it.
 abbrev pub context_of : TextReading → LineContext
@@ -102,8 +102,8 @@ abbrev pub text_with_tokens : TextReading → ℕ → List RuleFound → Result 
 text_with_tokens text number [] = Ok text
 text_with_tokens text number (first ∷ rest) =
     if text.closed then Err (placed_fault number first.column AfterOtherwise) else (
-    read_then (said_from (context_of text) number nothing_read 1 (first ∷ rest)) (λ fault. fault)
-    (λ said. Ok (text_with text number first.column said)))
+    read_then (statement_from (context_of text) number nothing_read 1 (first ∷ rest)) (λ fault. fault)
+    (λ statement. Ok (text_with text number first.column statement)))
 
 -- What was read, with a line.
 unfoldable pub text_with_line : TextReading → ℕ → List ℕ → Result TextReading RuleFault

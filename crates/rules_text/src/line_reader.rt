@@ -1,12 +1,12 @@
 //! The reader of a line, token by token.
 
 ghost use Rattle.std.specs.Prelude.{◌≡◌, ◌≢◌, ◌+◌, ℕ, Ok, Err, IfOk, IfErr};
-ghost use Rattle.rules_text.specs.LineGrammar.{no_group, nothing_read, read_arrow, read_comma, read_constant, read_dots, read_high, read_low, read_mask, read_offset, read_operator, read_relation, read_rest, read_side, read_sign, read_start, read_token, read_unit, read_value, said_at_end, whole_test, with_block, with_close, with_list, with_open, with_range, with_head, with_unit};
+ghost use Rattle.rules_text.specs.LineGrammar.{no_group, nothing_read, read_arrow, read_comma, read_constant, read_dots, read_high, read_low, read_mask, read_offset, read_operator, read_relation, read_rest, read_side, read_sign, read_start, read_token, read_unit, read_value, statement_at_end, whole_test, with_block, with_close, with_list, with_open, with_range, with_head, with_unit};
 ghost use Rattle.rules_text.specs.RulesRead.{comparing, field_read, relation_read, test_read};
 ghost use Rattle.rules_text.specs.TextOfRules.{fault_column};
 ghost use Rattle.rules_text.specs.declared.fault.RuleKind.TheVariants.{BadLine, NoMemory, Unbalanced};
 ghost use Rattle.rules_text.specs.inner.Seen.{sign_seen, rule_token_seen};
-ghost use Rattle.rules_text.specs.inner.SeenReading.{context_seen, group_seen, reading_seen, said_found, said_seen, subject_seen, wants_seen};
+ghost use Rattle.rules_text.specs.inner.SeenReading.{context_seen, group_seen, reading_seen, statement_found, rule_statement_seen, subject_seen, wants_seen};
 
 use crate::fault::RuleKind;
 use crate::group::Group;
@@ -64,7 +64,7 @@ pub(crate) enum Wants {
 
 /// What a line is.
 #[derive(Drop)]
-pub(crate) enum Said {
+pub(crate) enum Statement {
     /// Nothing.
     Blank,
     /// The side at which headers are read.
@@ -104,7 +104,7 @@ pub(crate) struct LineReader {
     /// The whole test, once it was read.
     pub test: Test,
     /// What the line is.
-    pub said: Said,
+    pub statement: Statement,
 }
 
 impl LineReader {
@@ -120,7 +120,7 @@ impl LineReader {
             spans: Vec::new(alloc),
             comparisons: 0,
             test: Test::Any,
-            said: Said::Blank,
+            statement: Statement::Blank,
         }
     }
 
@@ -158,12 +158,12 @@ impl LineReader {
     }
 
     /// What the line is, once its last token was read.
-    pub(crate) fn finish(self) -> Result<Said, RuleKind>
-        ensures said { said_found result ≡ said_at_end (wants_seen self.wants) (said_seen self.said) }
+    pub(crate) fn finish(self) -> Result<Statement, RuleKind>
+        ensures statement { statement_found result ≡ statement_at_end (wants_seen self.wants) (rule_statement_seen self.statement) }
         ensures early { IfErr result (λ kind. kind ≡ BadLine) }
     {
         match self.wants {
-            Wants::Start | Wants::End => Ok(self.said),
+            Wants::Start | Wants::End => Ok(self.statement),
             _ => Err(RuleKind::BadLine),
         }
     }
@@ -210,7 +210,7 @@ impl LineReader {
                 if context.blocks == 0 {
                     return Err(RuleKind::Unbalanced);
                 }
-                self.said = Said::Line(RuleLine::End);
+                self.statement = Statement::Line(RuleLine::End);
                 self.wants = Wants::End;
                 Ok(())
             }
@@ -358,7 +358,7 @@ impl LineReader {
         if context.blocks >= MOST_DEEP {
             return Err(RuleKind::TooDeep);
         }
-        self.said = Said::Line(RuleLine::Block { test });
+        self.statement = Statement::Line(RuleLine::Block { test });
         self.wants = Wants::End;
         Ok(())
     }
@@ -599,7 +599,7 @@ impl LineReader {
     {
         let value = value_of(token)?;
         let test = std::mem::replace(&mut self.test, Test::Any);
-        self.said = Said::Line(RuleLine::Rule { test, value });
+        self.statement = Statement::Line(RuleLine::Rule { test, value });
         self.wants = Wants::End;
         Ok(())
     }
@@ -611,7 +611,7 @@ impl LineReader {
         ensures err { IfErr result (λ kind. read_rest (reading_seen self.old) (rule_token_seen token) ≡ Err kind) }
     {
         let value = value_of(token)?;
-        self.said = Said::Otherwise(value);
+        self.statement = Statement::Otherwise(value);
         self.wants = Wants::End;
         Ok(())
     }
@@ -624,12 +624,12 @@ impl LineReader {
     {
         match token {
             Token::Uni => {
-                self.said = Said::Side(Side::Uni);
+                self.statement = Statement::Side(Side::Uni);
                 self.wants = Wants::End;
                 Ok(())
             }
             Token::Nni => {
-                self.said = Said::Side(Side::Nni);
+                self.statement = Statement::Side(Side::Nni);
                 self.wants = Wants::End;
                 Ok(())
             }

@@ -6,13 +6,13 @@ ghost use Rattle.rules_text.specs.RulesRead.{line_read};
 ghost use Rattle.rules_text.specs.RuleTokens.{rule_tokens};
 ghost use Rattle.rules_text.specs.NumberedText.{HasNumbered, numbered_read};
 ghost use Rattle.rules_text.specs.TextFaults.{IsFaultOf, HasRules};
-ghost use Rattle.rules_text.specs.TextOfRules.{numbered_at_end, numbered_in, placed_fault, rules_in, said_from, text_with, text_with_line, with_line};
+ghost use Rattle.rules_text.specs.TextOfRules.{numbered_at_end, numbered_in, placed_fault, rules_in, statement_from, text_with, text_with_line, with_line};
 ghost use Rattle.rules_text.specs.declared.fault.RuleKind.TheVariants.{NoMemory};
-ghost use Rattle.rules_text.specs.inner.SeenReading.{context_seen, said_seen, text_seen};
+ghost use Rattle.rules_text.specs.inner.SeenReading.{context_seen, rule_statement_seen, text_seen};
 
 use crate::fault::{RuleFault, RuleKind, fault_at};
 use crate::lexer::next_token;
-use crate::line_reader::{Context, LineReader, Said};
+use crate::line_reader::{Context, LineReader, Statement};
 use bpf_asm::next_line;
 use cell_rules::{RuleLine, Rules};
 use std::alloc::Global;
@@ -52,9 +52,14 @@ struct TextReader {
 }
 
 /// Reads what a line says.
-fn said_in(alloc: Global, context: Context, number: usize, line: &[u8]) -> Result<Said, RuleFault>
-    ensures ok { IfOk result (λ said. said_from (context_seen context) number nothing_read 1 (rule_tokens line.now) ≡ Ok (said_seen said)) }
-    ensures err { IfErr result (IsFaultOf (said_from (context_seen context) number nothing_read 1 (rule_tokens line.now))) }
+fn statement_in(
+    alloc: Global,
+    context: Context,
+    number: usize,
+    line: &[u8],
+) -> Result<Statement, RuleFault>
+    ensures ok { IfOk result (λ statement. statement_from (context_seen context) number nothing_read 1 (rule_tokens line.now) ≡ Ok (rule_statement_seen statement)) }
+    ensures err { IfErr result (IsFaultOf (statement_from (context_seen context) number nothing_read 1 (rule_tokens line.now))) }
 {
     let mut reader = LineReader::new(alloc);
     let mut from = 0;
@@ -70,7 +75,7 @@ fn said_in(alloc: Global, context: Context, number: usize, line: &[u8]) -> Resul
         }
     }
     match reader.finish() {
-        Ok(said) => Ok(said),
+        Ok(statement) => Ok(statement),
         Err(kind) => Err(fault_at(kind, number, from + 1)),
     }
 }
@@ -100,26 +105,26 @@ impl TextReader {
     }
 
     /// Takes what a line says, which begins at a place.
-    fn take(&mut self, said: Said, place: Place) -> Result<(), RuleKind>
+    fn take(&mut self, statement: Statement, place: Place) -> Result<(), RuleKind>
         requires { self.old.blocks < 2 ^ 63 }
-        ensures ok { IfOk result (λ _. text_with (text_seen self.old) place.line place.column (said_seen said) ≡ text_seen self.new) }
+        ensures ok { IfOk result (λ _. text_with (text_seen self.old) place.line place.column (rule_statement_seen statement) ≡ text_seen self.new) }
         ensures blocks { self.new.blocks ≤ self.old.blocks + 1 }
         ensures err { IfErr result (λ kind. kind ≡ NoMemory) }
     {
-        match said {
-            Said::Blank => Ok(()),
-            Said::Side(side) => {
+        match statement {
+            Statement::Blank => Ok(()),
+            Statement::Side(side) => {
                 self.rules.side = side;
                 self.begun = true;
                 Ok(())
             }
-            Said::Otherwise(value) => {
+            Statement::Otherwise(value) => {
                 self.rules.otherwise = value;
                 self.closed = true;
                 self.begun = true;
                 Ok(())
             }
-            Said::Line(line) => self.take_line(line, place),
+            Statement::Line(line) => self.take_line(line, place),
         }
     }
 
@@ -142,12 +147,12 @@ impl TextReader {
             blocks: self.blocks,
             begun: self.begun,
         };
-        let said = said_in(alloc, context, number, line)?;
+        let statement = statement_in(alloc, context, number, line)?;
         let place = Place {
             line: number,
             column,
         };
-        match self.take(said, place) {
+        match self.take(statement, place) {
             Ok(()) => Ok(()),
             Err(kind) => Err(fault_at(kind, number, column)),
         }

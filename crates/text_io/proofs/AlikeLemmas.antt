@@ -3,7 +3,7 @@ use Rattle.std.proofs.Common.{◌≡◌, ℕ, ◌+◌, ◌<◌, Bool, true, fals
 use Rattle.std.proofs.lemmas.Bool.{or_parts, leb-false}
 use Rattle.std.specs.Bool.{MatchBool}
 use Rattle.std.specs.Option.{MatchOption}
-use Rattle.text_io.specs.Lines.{Line, said}
+use Rattle.text_io.specs.Lines.{Line, line_content}
 use Rattle.text_io.specs.Limits.{is_over, most_input_lines, most_line_octets}
 use Rattle.text_io.specs.Printing.{Rules, IsFunctional, Prints}
 use Rattle.text_io.specs.inner.Alike.{LeadAlike, KeepsAlike}
@@ -34,14 +34,14 @@ one-text_alike {World = World} rules AreAlike keeps (first ∷ lines) met one ot
     behind later (Some v) (Some w) more more' is a b = later v w more more' is a b
 
     here : Later → (over : Bool) → is_over met first ≡ over
-        → MatchBool over ((text ≡ rules.too_long) × (done ≡ Ended)) ((begun : List ℕ) × (more : List ℕ) × (next : Option World) × (text ≡ begun ++ more) × rules.steps one (said first) begun next
+        → MatchBool over ((text ≡ rules.too_long) × (done ≡ Ended)) ((begun : List ℕ) × (more : List ℕ) × (next : Option World) × (text ≡ begun ++ more) × rules.steps one (line_content first) begun next
         × MatchOption next ((more ≡ []) × (done ≡ Ended)) (λ v. Prints rules (met + 1) v lines more done))
-        → MatchBool over ((text' ≡ rules.too_long) × (done' ≡ Ended)) ((begun : List ℕ) × (more : List ℕ) × (next : Option World) × (text' ≡ begun ++ more) × rules.steps other (said first) begun next
+        → MatchBool over ((text' ≡ rules.too_long) × (done' ≡ Ended)) ((begun : List ℕ) × (more : List ℕ) × (next : Option World) × (text' ≡ begun ++ more) × rules.steps other (line_content first) begun next
         × MatchOption next ((more ≡ []) × (done' ≡ Ended)) (λ v. Prints rules (met + 1) v lines more done'))
         → (text ≡ text') × (done ≡ done')
     here later true e a b = (a.0 ∙ sym b.0, a.1 ∙ sym b.1)
     here later false e a b =
-        let same = keeps.step met one other (said first) a.0 b.0 a.2 b.2 (within met first e) alike a.4 b.4 in
+        let same = keeps.step met one other (line_content first) a.0 b.0 a.2 b.2 (within met first e) alike a.4 b.4 in
         let rest = behind later a.2 b.2 a.1 b.1 same.1 a.5 b.5 in
         (a.3 ∙ ap (λ xs. xs ++ a.1) same.0 ∙ ap (λ xs. b.0 ++ xs) rest.0 ∙ sym b.3, rest.1)
 

@@ -53,9 +53,9 @@ none-at {O = O} {window = window} e none =
     let P : List ℕ → Type 0 = λ xs. (k : ℕ) → k < length xs → get_or xs k 0 ≢ 10 in subst P (sym e) none
 
 -- Transport of a text along equalities.
-pub retold : {World : Type 0} (rules : Rules World) (start : World) (octets octets' text text' : List ℕ) (done : Done)
+pub reprinted : {World : Type 0} (rules : Rules World) (start : World) (octets octets' text text' : List ℕ) (done : Done)
     → octets ≡ octets' → text ≡ text' → Prints rules 0 start (lines_of octets) text done → Prints rules 0 start (lines_of octets') text' done
-retold {World = World} rules start octets octets' text text' done same alike prints =
+reprinted {World = World} rules start octets octets' text text' done same alike prints =
     let P : List ℕ → Type 0 = λ xs. Prints {World = World} rules 0 start (lines_of xs) text done in
     let Q : List ℕ → Type 0 = λ xs. Prints {World = World} rules 0 start (lines_of octets') xs done in
     subst Q alike (subst P same prints)
@@ -73,7 +73,7 @@ pub begin : {World : Type 0} (rules : Rules World) (shown : World → Type 0) (K
     → Progress rules shown shown Known Held whole whole before before [] 0
 begin rules shown Known Held whole before = record {
   answered = [];
-  said = [];
+  printed = [];
   came = λ _. refl;
   gave = λ _. ([], sym (append-nil before), refl);
   reaches = λ start sound is_shown. record { present = start; sound = sound; is_shown = is_shown; leads = λ behind more done prints. prints; reaches = λ behind more last leads. leads };
@@ -91,7 +91,7 @@ pub progress-line : {World : Type 0} (rules : Rules World) (shown now now' : Wor
     → Progress rules shown now Known Held whole left before held old met → Progress rules shown now' Known Held whole behind before held new (met + 1)
 progress-line {World = World} rules shown now now' Known Held whole left line behind before held old new met none cut passes p = record {
   answered = p.answered ++ (line ++ 10 ∷ []);
-  said = p.said ++ passes.0;
+  printed = p.printed ++ passes.0;
   came = λ known. p.came known ∙ ap (λ xs. p.answered ++ xs) cut ∙ line-front p.answered line behind;
   gave = λ is_held.
       let gave = p.gave is_held in
@@ -105,16 +105,16 @@ progress-line {World = World} rules shown now now' Known Held whole left line be
         is_shown = after.2;
         leads = λ rest more done prints.
             let Q : List Line → Type 0 = λ lines. Prints {World = World} rules met r.present lines (passes.0 ++ more) done in
-            retold rules start (p.answered ++ (line ++ 10 ∷ rest)) ((p.answered ++ (line ++ 10 ∷ [])) ++ rest)
-            (p.said ++ (passes.0 ++ more)) ((p.said ++ passes.0) ++ more) done
-            (line-front p.answered line rest) (sym (append_assoc p.said passes.0 more))
+            reprinted rules start (p.answered ++ (line ++ 10 ∷ rest)) ((p.answered ++ (line ++ 10 ∷ [])) ++ rest)
+            (p.printed ++ (passes.0 ++ more)) ((p.printed ++ passes.0) ++ more) done
+            (line-front p.answered line rest) (sym (append_assoc p.printed passes.0 more))
             (r.leads (line ++ 10 ∷ rest) (passes.0 ++ more) done
             (subst Q (sym (lines-at_feed line rest none)) (after.3 (lines_of rest) more done prints)));
         reaches = λ rest more last leads.
             let Q : List Line → Type 0 = λ lines. EndsAt {World = World} rules met r.present lines (passes.0 ++ more) last in
             led rules start last (p.answered ++ (line ++ 10 ∷ rest)) ((p.answered ++ (line ++ 10 ∷ [])) ++ rest)
-            (p.said ++ (passes.0 ++ more)) ((p.said ++ passes.0) ++ more)
-            (line-front p.answered line rest) (sym (append_assoc p.said passes.0 more))
+            (p.printed ++ (passes.0 ++ more)) ((p.printed ++ passes.0) ++ more)
+            (line-front p.answered line rest) (sym (append_assoc p.printed passes.0 more))
             (r.reaches (line ++ 10 ∷ rest) (passes.0 ++ more) last
             (subst Q (sym (lines-at_feed line rest none)) (after.4 (lines_of rest) more last leads)));
       };
@@ -127,7 +127,7 @@ pub progress-given : {World : Type 0} (rules : Rules World) (shown now : World �
     → Progress rules shown now Known Held whole left before held waiting met → Progress rules shown now Known Held whole left before held' waiting' met
 progress-given rules shown now Known Held whole left before held held' waiting waiting' met moves p = record {
   answered = p.answered;
-  said = p.said;
+  printed = p.printed;
   came = p.came;
   gave = λ is_held.
       let gave = p.gave is_held in
@@ -149,7 +149,7 @@ pub progress-left : {World : Type 0} (rules : Rules World) (shown now : World �
     → Progress rules shown now Known Held whole left before held waiting met → Progress rules shown now Known Held whole left' before held waiting met
 progress-left rules shown now Known Held whole left left' before held waiting met same p = record {
   answered = p.answered;
-  said = p.said;
+  printed = p.printed;
   came = λ known. p.came known ∙ ap (λ xs. p.answered ++ xs) (same known);
   gave = p.gave;
   reaches = p.reaches;
@@ -166,7 +166,7 @@ text-of rules shown now Known Held whole left before held held' old here met don
     let gave = p.gave is_held in (
       gave.0 ++ (old ++ here),
       given ∙ ap (λ xs. xs ++ (old ++ here)) gave.1 ∙ append_assoc before gave.0 (old ++ here),
-      retold rules start (p.answered ++ left) whole (p.said ++ here) (gave.0 ++ (old ++ here)) done
+      reprinted rules start (p.answered ++ left) whole (p.printed ++ here) (gave.0 ++ (old ++ here)) done
           (sym (p.came known)) (ap (λ xs. xs ++ here) gave.2 ∙ append_assoc gave.0 old here)
           (r.leads left here done (closes r.present r.sound r.is_shown)),
     )
@@ -182,10 +182,10 @@ pub world-of : {World : Type 0} (rules : Rules World) (shown now after : World �
 world-of rules shown now after Known Held whole left before held held' old here met known closes given p = λ start sound is_shown.
     let r = p.reaches start sound is_shown in
     let end = closes r.present r.sound r.is_shown in (
-      p.said ++ here,
+      p.printed ++ here,
       end.0,
       end.1,
-      led rules start end.0 (p.answered ++ left) whole (p.said ++ here) (p.said ++ here) (sym (p.came known)) refl (r.reaches left here end.0 end.2),
+      led rules start end.0 (p.answered ++ left) whole (p.printed ++ here) (p.printed ++ here) (sym (p.came known)) refl (r.reaches left here end.0 end.2),
       λ is_held.
           let gave = p.gave is_held in
           given is_held ∙ ap (λ xs. xs ++ (old ++ here)) gave.1 ∙ append_assoc before gave.0 (old ++ here)
@@ -209,7 +209,7 @@ front-of-last rules shown now Known Held whole left before held held' old met kn
       (
         part.1,
         last.1,
-        retold rules start (p.answered ++ left) whole (p.said ++ here) ((gave.0 ++ part.0) ++ part.1) last.1
+        reprinted rules start (p.answered ++ left) whole (p.printed ++ here) ((gave.0 ++ part.0) ++ part.1) last.1
             (sym (p.came known))
             (ap (λ xs. xs ++ here) gave.2 ∙ append_assoc gave.0 old here ∙ ap (λ xs. gave.0 ++ xs) part.2 ∙ sym (append_assoc gave.0 part.0 part.1))
             (r.leads left here last.1 last.3),
@@ -245,7 +245,7 @@ enough rules shown now Known Held whole left near ahead rest before held old her
       ahead,
       p.came known ∙ ap (λ xs. p.answered ++ xs) cut ∙ sym (append_assoc p.answered near (ahead ++ rest)),
       short,
-      (p.said ++ here, r.leads near here done (closes r.present r.sound r.is_shown)),
+      (p.printed ++ here, r.leads near here done (closes r.present r.sound r.is_shown)),
     )
 
 -- A line that ends the run, whatever follows.

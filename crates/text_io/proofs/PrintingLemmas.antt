@@ -2,7 +2,7 @@
 use Rattle.std.proofs.Common.{◌≡◌, ℕ, ◌+◌, ◌<◌, Bool, true, false, List, [], ◌∷◌, ◌++◌, Option, Some, None, length, refl, ap, sym, ◌∙◌, subst, append_assoc, append-nil}
 use Rattle.std.specs.Option.{MatchOption}
 use Rattle.std.specs.Prelude.{MatchBool}
-use Rattle.text_io.specs.Lines.{Line, said}
+use Rattle.text_io.specs.Lines.{Line, line_content}
 use Rattle.text_io.specs.Limits.{is_over}
 use Rattle.text_io.specs.Printing.{Rules, IsTotal, Prints, EndsAt}
 use Rattle.text_io.specs.Answering.{OfEach, Answers, AnswersEnd, TurnsFrom}
@@ -16,14 +16,14 @@ use Rattle.text_io.specs.declared.machine.Turn.TheVariants.{GoesOn, Ends}
 -- An answered line within the limits.
 prints-here : {World : Type 0} (rules : Rules World) (met : ℕ) (world : World) (line : Line) (lines : List Line) (text : List ℕ) (done : Done)
     → is_over met line ≡ false
-    → ((here : List ℕ) × (more : List ℕ) × (next : Option World) × (text ≡ here ++ more) × rules.steps world (said line) here next
+    → ((here : List ℕ) × (more : List ℕ) × (next : Option World) × (text ≡ here ++ more) × rules.steps world (line_content line) here next
     × MatchOption next ((more ≡ []) × (done ≡ Ended)) (λ v. Prints rules (met + 1) v lines more done))
     → Prints rules met world (line ∷ lines) text done
 prints-here rules met world line lines text done over answered = rw over answered
 
 -- A line that leads on.
 ends-here : {World : Type 0} (rules : Rules World) (met : ℕ) (world next last : World) (line : Line) (lines : List Line) (here more : List ℕ)
-    → is_over met line ≡ false → rules.steps world (said line) here (Some next) → EndsAt rules (met + 1) next lines more last
+    → is_over met line ≡ false → rules.steps world (line_content line) here (Some next) → EndsAt rules (met + 1) next lines more last
     → EndsAt rules met world (line ∷ lines) (here ++ more) last
 ends-here rules met world next last line lines here more over step behind = (over, (here, more, next, refl, step, behind))
 
@@ -38,7 +38,7 @@ ends-print rules met world last (line ∷ lines) text (over, (here, more, next, 
 -- A text of lines that aren't ended early leads to a world.
 next-ends : {World : Type 0} (rules : Rules World) (met : ℕ) (world : World) (line : Line) (lines : List Line) (text here more : List ℕ)
     → ((v : World) (left : List ℕ) → Prints rules (met + 1) v lines left Whole → (last : World) × EndsAt rules (met + 1) v lines left last)
-    → (next : Option World) → is_over met line ≡ false → text ≡ here ++ more → rules.steps world (said line) here next
+    → (next : Option World) → is_over met line ≡ false → text ≡ here ++ more → rules.steps world (line_content line) here next
     → MatchOption next ((more ≡ []) × (Whole ≡ Ended)) (λ v. Prints rules (met + 1) v lines more Whole)
     → (last : World) × EndsAt rules met world (line ∷ lines) text last
 next-ends rules met world line lines text here more behind None over is step rest = let no : Whole ≡ Ended = rest.1 in cc
@@ -49,10 +49,10 @@ line-ends-at : {World : Type 0} (rules : Rules World) (met : ℕ) (world : World
     → ((v : World) (left : List ℕ) → Prints rules (met + 1) v lines left Whole → (last : World) × EndsAt rules (met + 1) v lines left last)
     → (over : Bool) → is_over met line ≡ over
     → MatchBool over ((text ≡ rules.too_long) × (Whole ≡ Ended))
-    ((here : List ℕ) × (more : List ℕ) × (next : Option World) × (text ≡ here ++ more) × rules.steps world (said line) here next
+    ((here : List ℕ) × (more : List ℕ) × (next : Option World) × (text ≡ here ++ more) × rules.steps world (line_content line) here next
     × MatchOption next ((more ≡ []) × (Whole ≡ Ended)) (λ v. Prints rules (met + 1) v lines more Whole))
     → (last : World) × EndsAt rules met world (line ∷ lines) text last
-line-ends-at rules met world line lines text behind true over told = let no : Whole ≡ Ended = told.1 in cc
+line-ends-at rules met world line lines text behind true over printed = let no : Whole ≡ Ended = printed.1 in cc
 line-ends-at rules met world line lines text behind false over (here, more, next, is, step, rest) =
     next-ends rules met world line lines text here more behind next over is step rest
 
@@ -77,26 +77,26 @@ some-text {World = World} rules total (line ∷ lines) met world sound =
     Behind : Type 0
     Behind = (v : World) → rules.is_sound v → (more : List ℕ) × (done : Done) × Prints rules (met + 1) v lines more done
 
-    after : Behind → (here : List ℕ) (next : Option World) → rules.steps world (said line) here next
+    after : Behind → (here : List ℕ) (next : Option World) → rules.steps world (line_content line) here next
         → (more : List ℕ) × (done : Done) × MatchOption next ((more ≡ []) × (done ≡ Ended)) (λ v. Prints rules (met + 1) v lines more done)
     after behind here None step = ([], Ended, (refl, refl))
-    after behind here (Some v) step = behind v (total.keeps world (said line) here v sound step)
+    after behind here (Some v) step = behind v (total.keeps world (line_content line) here v sound step)
 
     go : Behind → (over : Bool) → is_over met line ≡ over → (text : List ℕ) × (done : Done) × Prints rules met world (line ∷ lines) text done
     go behind true e = (rules.too_long, Ended, prints-over rules met world line lines e)
     go behind false e =
-        let now = total.step world (said line) sound in
+        let now = total.step world (line_content line) sound in
         let then = after behind now.0 now.1 now.2 in
         (now.0 ++ then.0, then.1, prints-here rules met world line lines (now.0 ++ then.0) then.1 e (now.0, then.0, now.1, refl, now.2, then.2))
 
 -- One line from one world.
 passes-from : {World : Type 0} (rules : Rules World) → IsTotal rules → (met : ℕ) (before : World) (line : Line) (here : List ℕ) (turn : Turn) (shown' : World → Type 0)
-    → rules.is_sound before → is_over met line ≡ false → TurnsFrom rules before (said line) here turn shown' → PassesBy rules met before line here turn shown'
+    → rules.is_sound before → is_over met line ≡ false → TurnsFrom rules before (line_content line) here turn shown' → PassesBy rules met before line here turn shown'
 passes-from rules total met before line here Ends shown' sound over turns =
     λ lines. prints-here rules met before line lines here Ended over (here, [], None, sym (append-nil here), turns, (refl, refl))
 passes-from rules total met before line here GoesOn shown' sound over turns = (
   turns.0,
-  total.keeps before (said line) here turns.0 sound turns.2,
+  total.keeps before (line_content line) here turns.0 sound turns.2,
   turns.1,
   λ lines more done prints. prints-here rules met before line lines (here ++ more) done over (here, more, Some turns.0, refl, turns.2, prints),
   λ lines more last leads. ends-here rules met before turns.0 last line lines here more over turns.2 leads,
@@ -104,7 +104,7 @@ passes-from rules total met before line here GoesOn shown' sound over turns = (
 
 -- A line within the limits, as the machine answers it.
 pub passes-answered : {World : Type 0} (rules : Rules World) → IsTotal rules → (met : ℕ) (shown : World → Type 0) (line : Line) (turn : Turn) (shown' : World → Type 0) (old new : List ℕ)
-    → is_over met line ≡ false → Answers rules shown (said line) turn shown' old new → Passes rules met shown line turn shown' old new
+    → is_over met line ≡ false → Answers rules shown (line_content line) turn shown' old new → Passes rules met shown line turn shown' old new
 passes-answered rules total met shown line turn shown' old new over answers = (
   answers.0,
   answers.1,

@@ -24,5 +24,5 @@ without_return octets =
     if slice_index octets (length octets - 1) == 13 then take (length octets - 1) octets else octets
 
 -- The content of a line: its octets, without a carriage return just before its line feed.
-abbrev pub said : Line → List ℕ
-said line = if line.ended then without_return line.octets else line.octets
+abbrev pub line_content : Line → List ℕ
+line_content line = if line.ended then without_return line.octets else line.octets

@@ -1,7 +1,7 @@
 -- The text that answers an input, line by line. The rules of a machine say how: they are steps from world to world,
 -- and a line that ends the run leads to no world.
 use Rattle.std.specs.Prelude.{◌≡◌, ℕ, ◌+◌, List, [], ◌∷◌, ◌++◌, false, Option, Some, MatchOption, MatchBool}
-use Rattle.text_io.specs.Lines.{Line, said}
+use Rattle.text_io.specs.Lines.{Line, line_content}
 use Rattle.text_io.specs.Limits.{is_over}
 use Rattle.text_io.specs.declared.ending.Done.{Done}
 use Rattle.text_io.specs.declared.ending.Done.TheVariants.{Whole, Ended}
@@ -39,7 +39,7 @@ Prints rules met world [] text done = rules.closes world text done
 Prints {World = World} rules met world (line ∷ lines) text done =
     MatchBool (is_over met line)
     ((text ≡ rules.too_long) × (done ≡ Ended))
-    ((here : List ℕ) × (more : List ℕ) × (next : Option World) × (text ≡ here ++ more) × rules.steps world (said line) here next
+    ((here : List ℕ) × (more : List ℕ) × (next : Option World) × (text ≡ here ++ more) × rules.steps world (line_content line) here next
     × MatchOption next ((more ≡ []) × (done ≡ Ended)) (λ world'. Prints rules (met + 1) world' lines more done))
 
 -- From this world, after `met` lines, the text answers these lines and the end of the input, and the lines lead to the
@@ -48,7 +48,7 @@ abbrev pub EndsAt : {World : Type 0} → Rules World → ℕ → World → List 
 EndsAt rules met world [] text last = (last ≡ world) × rules.closes world text Whole
 EndsAt {World = World} rules met world (line ∷ lines) text last =
     (is_over met line ≡ false)
-    × ((here : List ℕ) × (more : List ℕ) × (next : World) × (text ≡ here ++ more) × rules.steps world (said line) here (Some next)
+    × ((here : List ℕ) × (more : List ℕ) × (next : World) × (text ≡ here ++ more) × rules.steps world (line_content line) here (Some next)
     × EndsAt rules (met + 1) next lines more last)
 
 -- The text is a prefix of one of the whole texts.

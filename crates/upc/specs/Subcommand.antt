@@ -16,6 +16,6 @@ IsTextOf Run = IsRunText
 IsTextOf Ports = IsPortsText
 
 -- The subcommands whose output the definition fixes. For `ports` it leaves open the answers to cells.
-abbrev pub IsToldWhole : Choice → Type 0
-IsToldWhole Ports = ⊥
-IsToldWhole _ = ⊤
+abbrev pub HasOneText : Choice → Type 0
+HasOneText Ports = ⊥
+HasOneText _ = ⊤

@@ -14,7 +14,7 @@ use std::sync::Wait;
 use std::thread::Threads;
 use text_io::{Done, Input, Output, RunFault, give_all};
 use upc_choice::{Choice, Stop};
-use upc_exit::{status, tell};
+use upc_exit::{status, write_message};
 use upc_ports::run_ports;
 
 /// The message for a failure.
@@ -31,12 +31,12 @@ fn line_of(fault: RunFault) -> &'static [u8]
 /// Writes the message for a failed run, and returns the exit status of any run.
 fn report<E: Output>(errors: &mut E, ended: Result<Done, RunFault>) -> u8
     ensures status { result ≡ status_of ended }
-    ensures told { E.is_known → Reports failure_line E.Output errors.old errors.new ended }
+    ensures reported { E.is_known → Reports failure_line E.Output errors.old errors.new ended }
 {
     match ended {
         Ok(_) => status(&ended),
         Err(fault) => {
-            tell(errors, line_of(fault));
+            write_message(errors, line_of(fault));
             status(&ended)
         }
     }
@@ -66,7 +66,7 @@ pub fn carry_out_alone<I: Input, O: Output, E: Output>(
             Err(_) => report(errors, Err(RunFault::WriteFailed)),
         },
         Err(Stop::Words(text)) => {
-            tell(errors, text.as_bytes());
+            write_message(errors, text.as_bytes());
             2
         }
         Err(Stop::NoMemory) => report(errors, Err(RunFault::NoMemory)),

@@ -2,7 +2,7 @@
 
 ghost use Rattle.std.specs.Prelude.{◌≡◌, ℕ, List};
 ghost use Rattle.text_io.specs.declared.ending.Done.{Done as TheDone};
-ghost use Rattle.upc.specs.Subcommand.{IsTextOf, IsToldWhole};
+ghost use Rattle.upc.specs.Subcommand.{IsTextOf, HasOneText};
 ghost use Rattle.upc_choice.specs.declared.choice.Choice.{Choice as TheChoice};
 
 /// Each subcommand has a text for every input.
@@ -14,6 +14,6 @@ pub fn an_input_has_a_text()
 /// are written.
 pub fn an_input_has_one_text()
     ensures { (choice : TheChoice) (octets : List ℕ) (one other : List ℕ) (ends other_ends : TheDone)
-        → IsToldWhole choice → IsTextOf choice octets one ends → IsTextOf choice octets other other_ends
+        → HasOneText choice → IsTextOf choice octets one ends → IsTextOf choice octets other other_ends
         → (one ≡ other) × (ends ≡ other_ends) }
 {}

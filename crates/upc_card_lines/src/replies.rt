@@ -34,7 +34,7 @@ fn add_moment_back(answers: &mut Vec<u8>, last: u64) -> Result<(), AllocError>
 
 /// Adds the answer to a cell that arrived in this form and has this verdict.
 #[inline(never)]
-fn add_told(
+fn add_judged_line(
     answers: &mut Vec<u8>,
     verdict: Verdict,
     vc: Vc,
@@ -73,7 +73,7 @@ pub fn add_judged(
     ensures { OnOk result (AddsSome (numbered_answer_text number vc (answer_to cell.now (Ok judged.now)))
         answers.old.items answers.new.items) }
 {
-    add_told(answers, judged.verdict, vc, number, judged.value, cell)
+    add_judged_line(answers, judged.verdict, vc, number, judged.value, cell)
 }
 
 /// Adds the answer to a cell that arrived on this connection and wasn't judged. It isn't inlined, so that its caller

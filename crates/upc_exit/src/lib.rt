@@ -5,4 +5,4 @@ mod exit;
 mod messages;
 
 pub use exit::status;
-pub use messages::tell;
+pub use messages::write_message;

@@ -23,7 +23,7 @@ use std::alloc::Global;
 use std::thread::Threads;
 use text_io::{Done, Output, RunFault, give_all};
 use upc_choice::Stop;
-use upc_exit::{status, tell};
+use upc_exit::{status, write_message};
 
 /// The message for a failure of a run over these devices.
 fn line_of<'a, I: Reasoned, O: Reasoned>(fault: RunFault, input: &'a I, output: &'a O) -> &'a [u8]
@@ -57,7 +57,7 @@ fn report<I: Reasoned, O: Reasoned, E: Output>(
     match ended {
         Ok(_) => status(&ended),
         Err(fault) => {
-            tell(errors, line_of(fault, input, output));
+            write_message(errors, line_of(fault, input, output));
             status(&ended)
         }
     }
@@ -160,7 +160,7 @@ fn carry_out_with<R: Threads, I: Ahead + Reasoned + Send, O: Output + Reasoned, 
             Err(_) => report(Err(RunFault::WriteFailed), input, output, errors),
         },
         Err(Stop::Words(text)) => {
-            tell(errors, text.as_bytes());
+            write_message(errors, text.as_bytes());
             2
         }
         Err(Stop::NoMemory) => report(Err(RunFault::NoMemory), input, output, errors),
@@ -186,7 +186,7 @@ pub fn carry_out<R: Threads, I: Ahead + Reasoned + Send, O: Output + Reasoned, E
     match setup {
         Ok(files) => carry_out_with(rt, alloc, chosen, files, input, output, errors),
         Err(unreadable) => {
-            tell(errors, unreadable.message());
+            write_message(errors, unreadable.message());
             3
         }
     }

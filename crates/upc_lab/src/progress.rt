@@ -9,7 +9,7 @@ use crate::reason::Reasoned;
 use std::alloc::{AllocError, Global};
 use text_io::{Failed, Input, Output};
 use upc_choice::Stop;
-use upc_exit::tell;
+use upc_exit::write_message;
 use upc_words::{add_number, add_text};
 
 /// The number of octets after which a new text is shown: 16 MiB.
@@ -88,7 +88,7 @@ impl<I, E: Output> Counted<I, E> {
         if let Some(device) = &mut self.shown_on
             && let Ok(text) = progress_text(self.alloc, self.count / STEP * 16)
         {
-            tell(device, &text);
+            write_message(device, &text);
         }
     }
 
@@ -101,7 +101,7 @@ impl<I, E: Output> Counted<I, E> {
         if let Some(device) = &mut self.shown_on
             && STEP <= self.count
         {
-            tell(device, b"\n");
+            write_message(device, b"\n");
         }
     }
 }

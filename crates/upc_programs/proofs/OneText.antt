@@ -8,7 +8,7 @@ use Rattle.text_io.specs.Answering.{EndsBy}
 use Rattle.text_io.specs.Lines.{lines_of}
 use Rattle.text_io.specs.Printing.{IsFunctional}
 use Rattle.text_io.proofs.Public.{one-text, some-text}
-use Rattle.upc_programs.specs.Eval.{EvalWorld, IsProgramAnswer, ReadsProgram, ProgramLine, TellsValue, RunsOn, CellLine, ReadsOrRuns, EvalSteps, EvalCloses, IsEvalText, eval_rules}
+use Rattle.upc_programs.specs.Eval.{EvalWorld, IsProgramAnswer, ReadsProgram, ProgramLine, PrintsValue, RunsOn, CellLine, ReadsOrRuns, EvalSteps, EvalCloses, IsEvalText, eval_rules}
 use Rattle.upc_codes.specs.Program.{ProgramReading, is_program, is_refused}
 use Rattle.upc_codes.proofs.Public.{reads-once}
 use Rattle.upc_programs.specs.inner.EvalLaws.{eval-total}
@@ -24,14 +24,14 @@ Same one other next next' = (one ≡ other) × (next ≡ next')
 ends-same : (fault text text' : List ℕ) (next next' : Option EvalWorld) → EndsBy fault text next → EndsBy fault text' next' → Same text text' next next'
 ends-same fault text text' next next' p q = (p.0 ∙ sym q.0, p.1 ∙ sym q.1)
 
-told-once : (reading : ProgramReading) (text text' : List ℕ) (next next' : Option EvalWorld) → IsProgramAnswer reading text next → IsProgramAnswer reading text' next' → Same text text' next next'
-told-once (is_program code) text text' next next' p q = (p.0 ∙ sym q.0, p.1 ∙ sym q.1)
-told-once (is_refused fault) text text' next next' p q = ends-same fault text text' next next' p q
+printed-once : (reading : ProgramReading) (text text' : List ℕ) (next next' : Option EvalWorld) → IsProgramAnswer reading text next → IsProgramAnswer reading text' next' → Same text text' next next'
+printed-once (is_program code) text text' next next' p q = (p.0 ∙ sym q.0, p.1 ∙ sym q.1)
+printed-once (is_refused fault) text text' next next' p q = ends-same fault text text' next next' p q
 
 reads-same : (octets text text' : List ℕ) (next next' : Option EvalWorld) → ReadsProgram octets text next → ReadsProgram octets text' next' → Same text text' next next'
 reads-same octets text text' next next' p q =
     let P : ProgramReading → Type 0 = λ reading. IsProgramAnswer reading text' next' in
-    told-once p.0 text text' next next' p.2 (subst P (reads-once octets q.0 p.0 q.1 p.1) q.2)
+    printed-once p.0 text text' next next' p.2 (subst P (reads-once octets q.0 p.0 q.1 p.1) q.2)
 
 word-same : (octets : Option (List ℕ)) (text text' : List ℕ) (next next' : Option EvalWorld)
     → MatchOption octets (EndsBy bad_hex text next) (λ found. ReadsProgram found text next)
@@ -44,25 +44,25 @@ line-same [] text text' next next' p q = ends-same bad_line text text' next next
 line-same (word ∷ []) text text' next next' p q = word-same (octets_of_digits word) text text' next next' p q
 line-same (word ∷ other ∷ words) text text' next next' p q = ends-same bad_line text text' next next' p q
 
-value-same : (code : List Instr) (octets text text' : List ℕ) → TellsValue code octets text → TellsValue code octets text' → text ≡ text'
+value-same : (code : List Instr) (octets text text' : List ℕ) → PrintsValue code octets text → PrintsValue code octets text' → text ≡ text'
 value-same code octets text text' p q =
     let same = Value-unique code octets p.0 q.0 p.1 q.1 p.2 q.2 in
     p.3 ∙ ap (λ v. line (codes "value " ++ decimal v ++ codes " steps " ++ decimal p.1)) same.0
     ∙ ap (λ n. line (codes "value " ++ decimal q.0 ++ codes " steps " ++ decimal n)) same.1 ∙ sym q.3
 
-runs-same : (code : List Instr) (octets text text' : List ℕ) (b : Bool) → MatchBool b (TellsValue code octets text) (text ≡ wrong_length (length octets))
-    → MatchBool b (TellsValue code octets text') (text' ≡ wrong_length (length octets)) → text ≡ text'
+runs-same : (code : List Instr) (octets text text' : List ℕ) (b : Bool) → MatchBool b (PrintsValue code octets text) (text ≡ wrong_length (length octets))
+    → MatchBool b (PrintsValue code octets text') (text' ≡ wrong_length (length octets)) → text ≡ text'
 runs-same code octets text text' true p q = value-same code octets text text' p q
 runs-same code octets text text' false p q = p ∙ sym q
 
-told-same : (code : List Instr) (octets : Option (List ℕ)) (text text' : List ℕ) → MatchOption octets (text ≡ bad_hex) (λ found. RunsOn code (cell_of_octets found) text)
+printed-same : (code : List Instr) (octets : Option (List ℕ)) (text text' : List ℕ) → MatchOption octets (text ≡ bad_hex) (λ found. RunsOn code (cell_of_octets found) text)
     → MatchOption octets (text' ≡ bad_hex) (λ found. RunsOn code (cell_of_octets found) text') → text ≡ text'
-told-same code None text text' p q = p ∙ sym q
-told-same code (Some octets) text text' p q = runs-same code (cell_of_octets octets) text text' (length (cell_of_octets octets) == 52) p q
+printed-same code None text text' p q = p ∙ sym q
+printed-same code (Some octets) text text' p q = runs-same code (cell_of_octets octets) text text' (length (cell_of_octets octets) == 52) p q
 
 cell-same : (code : List Instr) (words : List (List ℕ)) (text text' : List ℕ) → CellLine code words text → CellLine code words text' → text ≡ text'
 cell-same code [] text text' p q = p ∙ sym q
-cell-same code (word ∷ []) text text' p q = told-same code (octets_of_digits word) text text' p q
+cell-same code (word ∷ []) text text' p q = printed-same code (octets_of_digits word) text text' p q
 cell-same code (word ∷ other ∷ words) text text' p q = p ∙ sym q
 
 asks-same : (world : EvalWorld) (words : List (List ℕ)) (text text' : List ℕ) (next next' : Option EvalWorld) → ReadsOrRuns world words text next → ReadsOrRuns world words text' next' → Same text text' next next'

@@ -29,18 +29,18 @@ IsCheckAnswer (is_program code) text done = (text ≡ accepted_text code) × (do
 IsCheckAnswer (is_refused fault) text done = (text ≡ fault) × (done ≡ Ended)
 
 -- The answer to a code, which is a program or is refused.
-abbrev pub TellsCode : List Instr → List ℕ → Done → Type 0
-TellsCode code text done = (reading : ProgramReading) × ChecksAs code reading × IsCheckAnswer reading text done
+abbrev pub PrintsCode : List Instr → List ℕ → Done → Type 0
+PrintsCode code text done = (reading : ProgramReading) × ChecksAs code reading × IsCheckAnswer reading text done
 
 -- The answer to a source: that of the code that it means, or the line of its error.
-abbrev pub TellsSource : List ℕ → List ℕ → Done → Type 0
-TellsSource source text done =
-    ((code : List Instr) × IsMeaning source code × TellsCode code text done)
+abbrev pub PrintsSource : List ℕ → List ℕ → Done → Type 0
+PrintsSource source text done =
+    ((code : List Instr) × IsMeaning source code × PrintsCode code text done)
     ⊎ ((fault : AsmFault) × IsFault source fault × (text ≡ asm_fault fault) × (done ≡ Ended))
 
 -- The answer to the source, or `too_long` if the input is over the limit.
 abbrev pub AnswersSource : Option (List ℕ) → List ℕ → Done → Type 0
-AnswersSource found text done = MatchOption found ((text ≡ too_long) × (done ≡ Ended)) (λ source. TellsSource source text done)
+AnswersSource found text done = MatchOption found ((text ≡ too_long) × (done ≡ Ended)) (λ source. PrintsSource source text done)
 
 -- The output for a whole input, and how the run ends.
 abbrev pub IsCheckText : List ℕ → List ℕ → Done → Type 0

@@ -35,13 +35,13 @@ ProgramLine (word ∷ []) text next = MatchOption (octets_of_digits word) (EndsB
 ProgramLine (word ∷ other ∷ words) text next = EndsBy bad_line text next
 
 -- The answer to a cell: the program's value, and the number of instructions executed.
-abbrev pub TellsValue : List Instr → List ℕ → List ℕ → Type 0
-TellsValue code octets text =
+abbrev pub PrintsValue : List Instr → List ℕ → List ℕ → Type 0
+PrintsValue code octets text =
     (value : ℕ) × (steps : ℕ) × Value code octets value steps × (text ≡ line (codes "value " ++ decimal value ++ codes " steps " ++ decimal steps))
 
 -- The answer to octets on a cell line: the value if they are a cell, otherwise an error with their number.
 abbrev pub RunsOn : List Instr → List ℕ → List ℕ → Type 0
-RunsOn code octets text = MatchBool (length octets == 52) (TellsValue code octets text) (text ≡ wrong_length (length octets))
+RunsOn code octets text = MatchBool (length octets == 52) (PrintsValue code octets text) (text ≡ wrong_length (length octets))
 
 -- The answer to a cell line, which has one hexadecimal word.
 abbrev pub CellLine : List Instr → List (List ℕ) → List ℕ → Type 0
@@ -57,8 +57,8 @@ ReadsOrRuns (Some code) words text next = CellLine code words text × (next ≡ 
 -- The answer to a line, and the next world (none if the line ends the run). A line without words and a comment have
 -- an empty answer.
 abbrev pub EvalSteps : EvalWorld → List ℕ → List ℕ → Option EvalWorld → Type 0
-EvalSteps world said text next =
-    MatchBool (is_silent (words_of said)) ((text ≡ []) × (next ≡ Some world)) (ReadsOrRuns world (words_of said) text next)
+EvalSteps world line_content text next =
+    MatchBool (is_silent (words_of line_content)) ((text ≡ []) × (next ≡ Some world)) (ReadsOrRuns world (words_of line_content) text next)
 
 -- The end of the input. It is an error if there was no program line.
 abbrev pub EvalCloses : EvalWorld → List ℕ → Done → Type 0

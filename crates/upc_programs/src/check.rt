@@ -1,7 +1,7 @@
 //! `upc check`: assembles and checks a source.
 
 ghost use Rattle.std.specs.Prelude.{IfOk, option_map};
-ghost use Rattle.upc_programs.specs.Check.{IsCheckText, AnswersSource, TellsCode, TellsSource};
+ghost use Rattle.upc_programs.specs.Check.{IsCheckText, AnswersSource, PrintsCode, PrintsSource};
 ghost use Rattle.text_io.specs.Devices.{Adds};
 ghost use Rattle.text_io.specs.Serving.{IsServed};
 
@@ -19,7 +19,7 @@ const MOST_SOURCE_OCTETS: u32 = 1048576;
 /// Answers a code: its octets, or its first error.
 fn answer_code(alloc: Global, code: Vec<Instr>, answers: &mut Vec<u8>) -> Result<Done, AllocError>
     ensures { IfOk result (λ done.
-        Adds (λ text. TellsCode code.items text done) answers.old.items answers.new.items) }
+        Adds (λ text. PrintsCode code.items text done) answers.old.items answers.new.items) }
 {
     match check_code(code, answers)? {
         Some(code) => {
@@ -33,7 +33,7 @@ fn answer_code(alloc: Global, code: Vec<Instr>, answers: &mut Vec<u8>) -> Result
 /// Answers a source: its code, or its error.
 fn answer_source(alloc: Global, source: &[u8], answers: &mut Vec<u8>) -> Result<Done, AllocError>
     ensures { IfOk result (λ done.
-        Adds (λ text. TellsSource source.now text done) answers.old.items answers.new.items) }
+        Adds (λ text. PrintsSource source.now text done) answers.old.items answers.new.items) }
 {
     match assemble(alloc, source) {
         Ok(code) => answer_code(alloc, code, answers),

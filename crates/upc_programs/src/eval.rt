@@ -4,7 +4,7 @@ ghost use Rattle.std.specs.Prelude.{◌≡◌, ◌∷◌, [], Some, None, IfOk, 
 ghost use Rattle.text_io.specs.Answering.{Answers};
 ghost use Rattle.text_io.specs.Devices.{Adds};
 ghost use Rattle.text_io.specs.Serving.{IsServed};
-ghost use Rattle.upc_programs.specs.Eval.{CellLine, ProgramLine, TellsValue, EvalSteps, IsEvalText, eval_rules};
+ghost use Rattle.upc_programs.specs.Eval.{CellLine, ProgramLine, PrintsValue, EvalSteps, IsEvalText, eval_rules};
 
 use crate::answer_texts::{add_accepted, add_no_program, add_value};
 use bpf_interp::run;
@@ -21,7 +21,7 @@ use upc_words::{
 /// Answers a cell with the value of the program.
 #[inline(always)]
 fn answer_cell(program: &Program, cell: &Cell, answers: &mut Vec<u8>) -> Result<(), AllocError>
-    ensures { OnOk result (Adds (TellsValue program.now cell.now) answers.old.items answers.new.items) }
+    ensures { OnOk result (Adds (PrintsValue program.now cell.now) answers.old.items answers.new.items) }
 {
     let outcome = run(program, cell);
     add_value(answers, outcome.value, outcome.steps)

@@ -62,18 +62,18 @@ arrives-not held held' octets moment names enters = (
       let no = came.0 in cc,
 )
 
-pub arrives : (held held' : Held) (octets : List ℕ) (moment : ℕ) (told : Option (Result Judgement Unjudged)) → held'.names ≡ held.names
-    → IfSome told (λ t. AnswersArrival held.core 0 octets moment (answer_to octets t) held'.core)
-    → IfNone told (Follows held.core (Enter 0 octets moment) NotNow held'.core)
-    → AnswersCell held octets moment (option_map (λ t. answer_to octets t) told) held'
+pub arrives : (held held' : Held) (octets : List ℕ) (moment : ℕ) (printed : Option (Result Judgement Unjudged)) → held'.names ≡ held.names
+    → IfSome printed (λ t. AnswersArrival held.core 0 octets moment (answer_to octets t) held'.core)
+    → IfNone printed (Follows held.core (Enter 0 octets moment) NotNow held'.core)
+    → AnswersCell held octets moment (option_map (λ t. answer_to octets t) printed) held'
 arrives held held' octets moment (Some t) names goes not = arrives-answered held held' octets moment (answer_to octets t) names goes
 arrives held held' octets moment None names goes not = arrives-not held held' octets moment names not
 
 -- A cell is policed if its answer is appended.
-pub polices-told : (held held' : Held) (side : Side) (octets : List ℕ) (moment : ℕ) (given : Answer) (text old new : List ℕ) → held.core.shape.side ≡ side
+pub polices-printed : (held held' : Held) (side : Side) (octets : List ℕ) (moment : ℕ) (given : Answer) (text old new : List ℕ) → held.core.shape.side ≡ side
     → AnswersCell held octets moment (Some given) held' → numbered_answer_text (number_of_judging held.names given) (vc_of side octets) given ≡ Some text
     → new ≡ old ++ text → Moves (λ before. PolicesCell before moment octets) held held' old new
-polices-told held held' side octets moment given text old new is answers told added = (
+polices-printed held held' side octets moment given text old new is answers printed added = (
   text,
   added,
   λ before led shows.
@@ -86,10 +86,10 @@ polices-told held held' side octets moment given text old new is answers told ad
           answer = goes.0;
           arrived = goes.3;
           same = refl;
-          told =
+          printed =
               ap (λ answer. answer_text before.names (vc_of before.world.shape.side octets) answer) same
               ∙ ap (λ s. answer_text before.names (vc_of s octets) given) (sym here)
-              ∙ ap (λ (names : List Id). answer_text names (vc_of side octets) given) (sym shows.names) ∙ told;
+              ∙ ap (λ (names : List Id). answer_text names (vc_of side octets) given) (sym shows.names) ∙ printed;
         },
       ),
 )

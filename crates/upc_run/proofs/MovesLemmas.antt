@@ -38,7 +38,7 @@ taken : (held held' : Held) (command : Command) (step : Step) (reply : Reply) (t
     → held'.names ≡ held.names ++ id_loaded reply
     → ((before after : World) → WorldStep before step reply after → reply_text command (length held.names) reply ≡ Some text)
     → MovesBy (λ before. TakesCommand before command step) held text held'
-taken held held' command step reply text follows named told before led shows =
+taken held held' command step reply text follows named printed before led shows =
     let on = follows led.shape led.log before.world led.leads shows.agrees in
     let names : held'.names ≡ before.names ++ id_loaded reply = named ∙ ap (λ (ids : List Id). ids ++ id_loaded reply) shows.names in
     let count : length held.names ≡ length before.names = ap length shows.names in (
@@ -48,7 +48,7 @@ taken held held' command step reply text follows named told before led shows =
         reply = reply;
         stepped = on.stepped;
         named = refl;
-        told = ap (λ n. reply_text command n reply) (sym count) ∙ told before.world on.after on.stepped;
+        printed = ap (λ n. reply_text command n reply) (sym count) ∙ printed before.world on.after on.stepped;
       },
     )
 
@@ -57,8 +57,8 @@ pub moves-taken : (held held' : Held) (command : Command) (step : Step) (reply :
     → Follows held.core step reply held'.core → held'.names ≡ held.names ++ id_loaded reply → new ≡ old ++ text
     → ((before after : World) → WorldStep before step reply after → reply_text command (length held.names) reply ≡ Some text)
     → Moves (λ before. TakesCommand before command step) held held' old new
-moves-taken held held' command step reply text old new follows named added told =
-    (text, added, taken held held' command step reply text follows named told)
+moves-taken held held' command step reply text old new follows named added printed =
+    (text, added, taken held held' command step reply text follows named printed)
 
 -- A program that has a name, and one that has none.
 pub moves-named : (TakesWith : Card → Id → List ℕ → Card → Type 0) (command : Command) (number : ℕ) (id : Id) (held held' : Held) (old new : List ℕ)

@@ -21,8 +21,8 @@ line-asks words Several is which = is.0
 
 steps : (world : RunWorld) (line text : List ℕ) (next : Option RunWorld) → is_silent (words_of line) ≡ false → OpensOrObeys world (words_of line) text next
     → RunSteps world line text next
-steps world line text next asks told =
-    subst (λ (b : Bool). MatchBool b ((text ≡ []) × (next ≡ Some world)) (OpensOrObeys world (words_of line) text next)) (sym asks) told
+steps world line text next asks printed =
+    subst (λ (b : Bool). MatchBool b ((text ≡ []) × (next ≡ Some world)) (OpensOrObeys world (words_of line) text next)) (sym asks) printed
 
 -- A line that changes the card.
 pub turn-moved : (line old new : List ℕ) (held held' : Held) → Moves (SaysLine line) held held' old new

@@ -64,7 +64,7 @@ pub record TakesCommand (before : Card) (command : Command) (step : Step) (text 
   pub reply : Reply
   pub stepped : WorldStep before.world step reply after.world
   pub named : after.names ≡ before.names ++ id_loaded reply
-  pub told : reply_text command (length before.names) reply ≡ Some text
+  pub printed : reply_text command (length before.names) reply ≡ Some text
 
 -- The program is loaded, or the answer is the fault line of its octets.
 abbrev pub TakesReading : Card → List ℕ → ProgramReading → List ℕ → Card → Type 0
@@ -112,7 +112,7 @@ pub record PolicesCell (before : Card) (moment : ℕ) (octets : List ℕ) (text 
   pub answer : Answer
   pub arrived : Arrives before.world octets moment answer after.world
   pub same : after.names ≡ before.names
-  pub told : answer_text before.names (vc_of before.world.shape.side octets) answer ≡ Some text
+  pub printed : answer_text before.names (vc_of before.world.shape.side octets) answer ≡ Some text
 
 -- The cell of 52 octets arrives. Any other number of octets is an error and changes nothing.
 abbrev pub PolicesOctets : Card → ℕ → List ℕ → List ℕ → Card → Type 0
@@ -160,8 +160,8 @@ OpensOrObeys (Some before) words text next =
 -- The line has this answer and leads to the next state, or to none if it ends the run. A line without words and a
 -- comment line have no answer.
 abbrev pub RunSteps : RunWorld → List ℕ → List ℕ → Option RunWorld → Type 0
-RunSteps world said text next =
-    MatchBool (is_silent (words_of said)) ((text ≡ []) × (next ≡ Some world)) (OpensOrObeys world (words_of said) text next)
+RunSteps world line_content text next =
+    MatchBool (is_silent (words_of line_content)) ((text ≡ []) × (next ≡ Some world)) (OpensOrObeys world (words_of line_content) text next)
 
 -- The end of the input. Without a card it is an error.
 abbrev pub RunCloses : RunWorld → List ℕ → Done → Type 0

@@ -235,7 +235,7 @@ impl ScriptCard {
     /// never has.
     #[inline(always)]
     fn arrive(&mut self, cell: &Cell, moment: u64) -> Option<Result<Judgement, Unjudged>>
-        ensures { AnswersCell self.old cell.now moment (option_map (λ told. answer_to cell.now told) result) self.new }
+        ensures { AnswersCell self.old cell.now moment (option_map (λ decision. answer_to cell.now decision) result) self.new }
     {
         self.core.arrive(PORT, cell, moment)
     }
@@ -247,10 +247,10 @@ impl ScriptCard {
             self.old self.new answers.old.items answers.new.items) }
     {
         let vc = cell.vc_at(self.core.shape().side);
-        let Some(told) = self.arrive(cell, moment) else {
+        let Some(decision) = self.arrive(cell, moment) else {
             return Ok(());
         };
-        let judged = match told {
+        let judged = match decision {
             Ok(judged) => judged,
             Err(reason) => return add_unjudged(answers, vc, reason),
         };

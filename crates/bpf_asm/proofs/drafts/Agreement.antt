@@ -152,14 +152,14 @@ twice_is lines line label find places is old a = twice_by lines line label (find
 
 -- No line is read.
 pub read_none : (source : List (List ℕ)) → IsReadTo source source [] 0
-read_none source = record { done = []; split = refl; said = refl; counted = refl }
+read_none source = record { done = []; split = refl; spelled = refl; counted = refl }
 
 -- One more line is read.
 pub read_more : (source left : List (List ℕ)) (octets : List ℕ) (lines : List SourceLine) (line : SourceLine) (count : ℕ) → IsSourceLine octets line → IsReadTo source (octets ∷ left) lines count → IsReadTo source left (lines ++ line ∷ []) (count + 1)
 read_more source left octets lines line count is r = record {
   done = r.done ++ octets ∷ [];
   split = r.split ∙ sym (append_assoc r.done (octets ∷ []) left);
-  said = are_more r.done lines octets line is r.said;
+  spelled = are_more r.done lines octets line is r.spelled;
   counted = ap (λ (n : ℕ). n + 1) r.counted ∙ sym (length-append r.done (octets ∷ []));
 }
 

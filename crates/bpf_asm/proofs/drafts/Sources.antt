@@ -30,7 +30,7 @@ first_by source left octets lines count kind fault r once f at = record {
   split = r.split;
   number = at.0 ∙ ap (λ (n : ℕ). n + 1) r.counted;
   lines = lines;
-  said = r.said;
+  spelled = r.spelled;
   once = once;
   faulty = subst (λ (k : AsmKind). IsLineFault lines octets k) (sym at.1) f;
 }
@@ -49,7 +49,7 @@ first_fault source left octets lines count NoMemory fault r once f at = inr at
 taken_by : (source left : List (List ℕ)) (octets : List ℕ) (lines : List SourceLine) (draft : Draft) (count : ℕ) → IsReadTo source (octets ∷ left) lines count → length lines ≡ count → AddsLine lines draft octets → IsDraftTo source left draft (count + 1)
 taken_by source left octets lines draft count r n t = record {
   lines = lines ++ t.line ∷ [];
-  read = read_more source left octets lines t.line count t.said r;
+  read = read_more source left octets lines t.line count t.spelled r;
   counted = length-append lines (t.line ∷ []) ∙ ap (λ (m : ℕ). m + 1) n;
   drafts = t.drafts;
 }
@@ -62,4 +62,4 @@ taken_more source left octets old draft count r t = taken_by source left octets 
 pub all_read : (source left : List (List ℕ)) (lines : List SourceLine) (count : ℕ) → left ≡ [] → IsReadTo source left lines count → AreLines source lines
 all_read source left lines count e r =
     let whole : source ≡ r.done = r.split ∙ ap (λ (rest : List (List ℕ)). r.done ++ rest) e ∙ append-nil r.done in
-    rw whole r.said
+    rw whole r.spelled

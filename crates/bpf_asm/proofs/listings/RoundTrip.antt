@@ -58,9 +58,9 @@ unfolding tokens_of pieces_of
 colon_token = refl
 
 -- One line parses as the line of the listing.
-line_said : (place : ℕ) (i : Instr) → FitsFields i → StaysWithin (2 ^ 64) place i → place < 2 ^ 64 → (all_inline (spelling_octets (line_parts place i)) ≡ true) × IsSourceLine (spelling_octets (line_parts place i)) (line_at place i)
+line_spelled : (place : ℕ) (i : Instr) → FitsFields i → StaysWithin (2 ^ 64) place i → place < 2 ^ 64 → (all_inline (spelling_octets (line_parts place i)) ≡ true) × IsSourceLine (spelling_octets (line_parts place i)) (line_at place i)
 unfolding IsSourceLine tokens_in tokens_read
-line_said place i w s h =
+line_spelled place i w s h =
     let parts = line_parts place i in
     let row = first_spelling (spellings (statement_at place i)) in
     let both = and_parts (is_good parts) (is_some_row (spellings (statement_at place i))) (row_good place i) in
@@ -74,13 +74,13 @@ line_said place i w s h =
     (inline, (spelling_tokens row, tokens ∙ behind, row_first (spellings (statement_at place i)) both.1))
 
 -- The lines of a listing parse as these.
-lines_said : (place : ℕ) (code : List Instr) → IsListable (2 ^ 64) place code → place + length code ≤ 2 ^ 64 → AreLines (source_lines (listing_from place code)) (lines_in place code)
+lines_spelled : (place : ℕ) (code : List Instr) → IsListable (2 ^ 64) place code → place + length code ≤ 2 ^ 64 → AreLines (source_lines (listing_from place code)) (lines_in place code)
 unfolding lines_in source_lines listing_from
-lines_said place [] l h = refl
-lines_said place (i ∷ code) l h =
-    let here = line_said place i l.0.0 l.0.1 (omega arith) in
+lines_spelled place [] l h = refl
+lines_spelled place (i ∷ code) l h =
+    let here = line_spelled place i l.0.0 l.0.1 (omega arith) in
     let octets = spelling_octets (line_parts place i) in
-    let later = lines_said (place + 1) code l.1 (omega arith) in
+    let later = lines_spelled (place + 1) code l.1 (omega arith) in
     let cut : line_text place i ++ listing_from (place + 1) code ≡ octets ++ 10 ∷ listing_from (place + 1) code =
     ap (λ (ts : List ℕ). ts ++ listing_from (place + 1) code) (line_octets place i) ∙ append_assoc octets (10 ∷ []) (listing_from (place + 1) code) in
     let split : source_lines (line_text place i ++ listing_from (place + 1) code) ≡ octets ∷ source_lines (listing_from (place + 1) code) =
@@ -190,7 +190,7 @@ listing_means code h wide stays =
     let l = listable_from (length code) 0 code (λ k i e. let z : k ≡ 0 + k = omega arith in (wide k i e, subst (λ (p : ℕ). StaysWithin (length code) p i) z (stays k i e))) in
     record {
       lines = lines_in 0 code;
-      said = lines_said 0 code (listable_more (length code) (2 ^ 64) 0 code h l) (omega arith);
+      spelled = lines_spelled 0 code (listable_more (length code) (2 ^ 64) 0 code h l) (omega arith);
       mean = record {
         once = labels_once code h;
         followed = λ at d. some_statement 0 code at (line_label 0 code at d.1.0 d.1.1).0 d.2;

@@ -187,15 +187,15 @@ abbrev StatementsFit : List Statement → Type 0
 StatementsFit [] = Unit {0}
 StatementsFit (s ∷ ss) = StatementFits s × StatementsFit ss
 
-said_fits : (s : Option Statement) (tokens : List Token) (ss : List Statement) → all_small tokens ≡ true → IsStatement tokens s → StatementsFit ss → StatementsFit (cons_option s ss)
-said_fits None tokens ss h is more = more
-said_fits (Some s) tokens ss h is more = (row_fits s tokens h is, more)
+spelled_fits : (s : Option Statement) (tokens : List Token) (ss : List Statement) → all_small tokens ≡ true → IsStatement tokens s → StatementsFit ss → StatementsFit (cons_option s ss)
+spelled_fits None tokens ss h is more = more
+spelled_fits (Some s) tokens ss h is more = (row_fits s tokens h is, more)
 
 line_fits : (octets : List ℕ) (line : SourceLine) (ss : List Statement) → IsSourceLine octets line → StatementsFit ss → StatementsFit (cons_option line.statement ss)
 unfolding IsSourceLine
 line_fits octets line ss is more =
     let small = small_parts (label_tokens line.label) is.0 (ap all_small (sym is.1) ∙ line_small octets) in
-    said_fits line.statement is.0 ss small.1 is.2 more
+    spelled_fits line.statement is.0 ss small.1 is.2 more
 
 lines_fit : (source : List (List ℕ)) (lines : List SourceLine) → AreLines source lines → StatementsFit (statements_of lines)
 unfolding statements_of
@@ -223,7 +223,7 @@ mean_fit lines from (s ∷ ss) (j ∷ code) f m (suc place) i e = mean_fit lines
 
 -- Each instruction that a source means fits its fields.
 pub meaning-fits : (source : List ℕ) (code : List Instr) → IsMeaning source code → (place : ℕ) (i : Instr) → StandsAt code place i → FitsFields i
-meaning-fits source code m = mean_fit m.lines 0 (statements_of m.lines) code (lines_fit (source_lines source) m.lines m.said) m.mean.meant
+meaning-fits source code m = mean_fit m.lines 0 (statements_of m.lines) code (lines_fit (source_lines source) m.lines m.spelled) m.mean.meant
 
 -- So the octets of its code spell it, with 0 in all unused fields.
 pub meaning-plainly : (source : List ℕ) (code : List Instr) → IsMeaning source code → SpellsPlainly (code_octets code) code

@@ -62,16 +62,16 @@ pub record Parts (before : List (List ℕ)) (here : List ℕ) (lines : List Sour
   pub line : SourceLine
   pub back : List SourceLine
   pub split : lines ≡ front ++ line ∷ back
-  pub said : AreLines before front
+  pub spelled : AreLines before front
   pub is : IsSourceLine here line
 
 pub parts_of : (before : List (List ℕ)) (here : List ℕ) (behind : List (List ℕ)) (lines : List SourceLine) → AreLines (before ++ here ∷ behind) lines → Parts before here lines
 parts_of [] here behind [] a = absurd a
-parts_of [] here behind (line ∷ lines) a = record { front = []; line = line; back = lines; split = refl; said = refl; is = a.0 }
+parts_of [] here behind (line ∷ lines) a = record { front = []; line = line; back = lines; split = refl; spelled = refl; is = a.0 }
 parts_of (first ∷ before) here behind [] a = absurd a
 parts_of (first ∷ before) here behind (line ∷ lines) a =
     let later = parts_of before here behind lines a.1 in
-    record { front = line ∷ later.front; line = later.line; back = later.back; split = ap (λ (ls : List SourceLine). line ∷ ls) later.split; said = (a.0, later.said); is = later.is }
+    record { front = line ∷ later.front; line = later.line; back = later.back; split = ap (λ (ls : List SourceLine). line ∷ ls) later.split; spelled = (a.0, later.spelled); is = later.is }
 
 twice_never : (lines front : List SourceLine) (line : SourceLine) (back : List SourceLine) (label : List ℕ) (earlier : ℕ) → lines ≡ front ++ line ∷ back → EachLabelOnce lines → line.label ≡ Some label → HasLabel front earlier label → ⊥
 twice_never lines front line back label earlier e once l h =
@@ -82,17 +82,17 @@ twice_never lines front line back label earlier e once l h =
     omega arith
 
 pub line_never : (before : List (List ℕ)) (here : List ℕ) (lines known : List SourceLine) (kind : AsmKind) → Parts before here lines → EachLabelOnce lines → AreLines before known → IsLineFault known here kind → ⊥
-line_never before here lines known BadNumber p once said f = line_numbers here p.line p.is f
-line_never before here lines known BadLine p once said f = f.1 p.line p.is
-line_never before here lines known LabelTwice p once said f =
-    let same : known ≡ p.front = lines_once before known p.front said p.said in
+line_never before here lines known BadNumber p once spelled f = line_numbers here p.line p.is f
+line_never before here lines known BadLine p once spelled f = f.1 p.line p.is
+line_never before here lines known LabelTwice p once spelled f =
+    let same : known ≡ p.front = lines_once before known p.front spelled p.spelled in
     let line : f.0 ≡ p.line = line_once here f.0 p.line f.1 p.is in
     twice_never lines p.front p.line p.back f.2 f.4 p.split once (sym (ap (λ (l : SourceLine). l.label) line) ∙ f.3) (subst (λ (ls : List SourceLine). HasLabel ls f.4 f.2) same f.5)
-line_never before here lines known UnknownLabel p once said f = f
-line_never before here lines known Backward p once said f = f
-line_never before here lines known TooFar p once said f = f
-line_never before here lines known DanglingLabel p once said f = f
-line_never before here lines known NoMemory p once said f = f
+line_never before here lines known UnknownLabel p once spelled f = f
+line_never before here lines known Backward p once spelled f = f
+line_never before here lines known TooFar p once spelled f = f
+line_never before here lines known DanglingLabel p once spelled f = f
+line_never before here lines known NoMemory p once spelled f = f
 
 pub operand_never : (lines : List SourceLine) (place : ℕ) (operand : Operand) (kind : AsmKind) → EachLabelOnce lines → HasOffset lines place operand → IsOperandFault lines place operand kind → ⊥
 operand_never lines place operand UnknownLabel once o f = let h = stands_has lines operand.label (place + 1 + o.0) o.1.stands in f h.0 h.1
@@ -138,7 +138,7 @@ first_never lines fault code once m f =
 
 label_never : (source : List ℕ) (fault : AsmFault) (code : List Instr) (a : IsMeaning source code) → IsLabelFault (source_lines source) fault → ⊥
 label_never source fault code a g =
-    let same = lines_once (source_lines source) a.lines g.lines a.said g.said in
+    let same = lines_once (source_lines source) a.lines g.lines a.spelled g.spelled in
     let meant = subst (λ (lines : List SourceLine). MeanFrom lines 0 (statements_of lines) code) same a.mean.meant in
     let followed = subst (λ (lines : List SourceLine). (at : ℕ) → ¬ IsDangling lines at) same a.mean.followed in
     elim g.faulty [ inl d ↦ followed d.at d.dangling | inr o ↦ first_never g.lines fault code g.once meant o.1 ]
@@ -146,5 +146,5 @@ label_never source fault code a g =
 -- A source that means a code has no fault.
 pub never_both : (source : List ℕ) (code : List Instr) (fault : AsmFault) → IsMeaning source code → IsFault source fault → ⊥
 never_both source code fault a (inl f) =
-    line_never f.before f.here a.lines f.lines fault.kind (parts_of f.before f.here f.behind a.lines (rw f.split at a.said)) a.mean.once f.said f.faulty
+    line_never f.before f.here a.lines f.lines fault.kind (parts_of f.before f.here f.behind a.lines (rw f.split at a.spelled)) a.mean.once f.spelled f.faulty
 never_both source code fault a (inr g) = label_never source fault code a g

@@ -71,13 +71,13 @@ kind_once lines here NoMemory other f g = absurd f
 line_front : (source : List (List ℕ)) (one other : AsmFault) (f : IsFirstLineFault source one) (g : IsFirstLineFault source other) → InFront f.before f.here g.before → ⊥
 unfolding InFront
 line_front source one other f g front =
-    line_never f.before f.here g.lines f.lines one.kind (parts_of f.before f.here front.0 g.lines (rw front.1 at g.said)) g.once f.said f.faulty
+    line_never f.before f.here g.lines f.lines one.kind (parts_of f.before f.here front.0 g.lines (rw front.1 at g.spelled)) g.once f.spelled f.faulty
 
 line_fault_once : (source : List (List ℕ)) (one other : AsmFault) → IsFirstLineFault source one → IsFirstLineFault source other → one ≡ other
 line_fault_once source one other f g =
     elim (two_places f.before f.here f.behind g.before g.here g.behind (sym f.split ∙ g.split)) [
       | inl s ↦
-          let lines = lines_once f.before f.lines g.lines f.said (rw (sym s.0) at g.said) in
+          let lines = lines_once f.before f.lines g.lines f.spelled (rw (sym s.0) at g.spelled) in
           let there : IsLineFault f.lines f.here other.kind = subst (λ (ls : List SourceLine). IsLineFault ls f.here other.kind) (sym lines) (subst (λ (h : List ℕ). IsLineFault g.lines h other.kind) (sym s.1) g.faulty) in
           same_fault one other (f.number ∙ ap (λ (b : List (List ℕ)). length b + 1) s.0 ∙ sym g.number) (kind_once f.lines f.here one.kind other.kind f.faulty there)
       | inr h ↦ elim h [ inl a ↦ absurd (line_front source one other f g a) | inr a ↦ absurd (line_front source other one g f a) ]
@@ -85,7 +85,7 @@ line_fault_once source one other f g =
 
 line_or_label : (source : List (List ℕ)) (one other : AsmFault) → IsFirstLineFault source one → IsLabelFault source other → ⊥
 line_or_label source one other f g =
-    line_never f.before f.here g.lines f.lines one.kind (parts_of f.before f.here f.behind g.lines (rw f.split at g.said)) g.once f.said f.faulty
+    line_never f.before f.here g.lines f.lines one.kind (parts_of f.before f.here f.behind g.lines (rw f.split at g.spelled)) g.once f.spelled f.faulty
 
 dangling_once : (lines : List SourceLine) (one other : AsmFault) → IsFirstDangling lines one → IsFirstDangling lines other → one ≡ other
 dangling_once lines one other f g =
@@ -171,7 +171,7 @@ first_once lines one other once f g =
 
 label_once : (source : List (List ℕ)) (one other : AsmFault) → IsLabelFault source one → IsLabelFault source other → one ≡ other
 label_once source one other f g =
-    let same = lines_once source g.lines f.lines g.said f.said in
+    let same = lines_once source g.lines f.lines g.spelled f.spelled in
     let P : List SourceLine → Type 0 = λ lines. IsFirstDangling lines other ⊎ (((at : ℕ) → ¬ IsDangling lines at) × IsFirstOperandFault lines other) in
     let there = subst P same g.faulty in
     elim f.faulty [

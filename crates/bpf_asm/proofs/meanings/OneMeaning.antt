@@ -72,6 +72,6 @@ mean_once lines place (s ∷ ss) (i ∷ one) (j ∷ other) once a b =
 -- A source means at most one code.
 pub meaning_once : (source : List ℕ) (one other : List Instr) → IsMeaning source one → IsMeaning source other → one ≡ other
 meaning_once source one other a b =
-    let same = lines_once (source_lines source) b.lines a.lines b.said a.said in
+    let same = lines_once (source_lines source) b.lines a.lines b.spelled a.spelled in
     let meant = subst (λ (lines : List SourceLine). MeanFrom lines 0 (statements_of lines) other) same b.mean.meant in
     mean_once a.lines 0 (statements_of a.lines) one other a.mean.once a.mean.meant meant

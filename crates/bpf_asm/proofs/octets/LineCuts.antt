@@ -4,7 +4,7 @@ use Rattle.std.proofs.lemmas.Bool.{and_parts, not-true}
 use Rattle.std.proofs.lemmas.List.{drop_all, drop_more, take_all}
 use Rattle.bpf_asm.specs.SourceLines.{source_lines}
 use Rattle.bpf_asm.specs.inner.Feeds.{no_feed}
-use Rattle.text_io.specs.Lines.{begun_with, lines_of, said, without_return}
+use Rattle.text_io.specs.Lines.{begun_with, lines_of, line_content, without_return}
 
 ended : (line rest : List ℕ) → no_feed line ≡ true → lines_of (line ++ 10 ∷ rest) ≡ (record { octets = line; ended = true }) ∷ lines_of rest
 ended [] rest n = refl
@@ -23,13 +23,13 @@ last octet (next ∷ line) n =
 -- A line that ends with a line feed.
 pub line_ended : (line rest : List ℕ) → no_feed line ≡ true → source_lines (line ++ 10 ∷ rest) ≡ without_return line ∷ source_lines rest
 unfolding source_lines
-line_ended line rest n = ap (map said) (ended line rest n)
+line_ended line rest n = ap (map line_content) (ended line rest n)
 
 -- The last line, without a line feed.
 pub line_last : (line : List ℕ) → 0 < length line → no_feed line ≡ true → source_lines line ≡ line ∷ []
 unfolding source_lines
 line_last [] h n = absurd (omega arith)
-line_last (octet ∷ line) h n = ap (map said) (last octet line n)
+line_last (octet ∷ line) h n = ap (map line_content) (last octet line n)
 
 -- The first line ends at a line feed.
 pub line_cut : (text : List ℕ) (at : ℕ) → at < length text → no_feed (take at text) ≡ true → get_or text at 0 ≡ 10 → source_lines text ≡ without_return (take at text) ∷ source_lines (drop (at + 1) text)

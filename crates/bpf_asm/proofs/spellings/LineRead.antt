@@ -33,9 +33,9 @@ unfolding HasBadNumber
 bad_number_is line before h = h
 
 -- The line that was read is the line of the grammar.
-pub said_line : (line : List ℕ) (said : SourceLine) → line_in (tokens_in line) ≡ Some said → IsSourceLine line said
+pub spelled_line : (line : List ℕ) (spelled : SourceLine) → line_in (tokens_in line) ≡ Some spelled → IsSourceLine line spelled
 unfolding IsSourceLine
-said_line line said read = line_true (tokens_in line) said read
+spelled_line line spelled read = line_true (tokens_in line) spelled read
 
 -- A line that couldn't be read isn't in the grammar.
 pub bad_line_is : (line : List ℕ) (before : List SourceLine) → has_faulty (line_tokens line) ≡ false → line_in (tokens_in line) ≡ None → IsLineFault before line BadLine

@@ -76,20 +76,20 @@ mean-or_fault : (lines : List SourceLine) → MeanOrFaulty lines
 mean-or_fault lines = mean_behind lines [] lines [] refl (mean_none lines)
 
 -- Lines of the grammar with each label once mean a code or have a fault of labels.
-said-or_fault : (source : List ℕ) (lines : List SourceLine) (pending : Option ℕ) → AreLines (source_lines source) lines → EachLabelOnce lines → IsPending lines pending → ((code : List Instr) × IsMeaning source code) ⊎ ((fault : AsmFault) × IsFault source fault)
-said-or_fault source lines (Some at) said once pending =
+spelled-or_fault : (source : List ℕ) (lines : List SourceLine) (pending : Option ℕ) → AreLines (source_lines source) lines → EachLabelOnce lines → IsPending lines pending → ((code : List Instr) × IsMeaning source code) ⊎ ((fault : AsmFault) × IsFault source fault)
+spelled-or_fault source lines (Some at) spelled once pending =
     let fault : AsmFault = record { line = at + 1; kind = DanglingLabel } in
-    inr (fault, dangling_source source lines at fault said once pending (refl, refl))
-said-or_fault source lines None said once none =
+    inr (fault, dangling_source source lines at fault spelled once pending (refl, refl))
+spelled-or_fault source lines None spelled once none =
     elim (mean-or_fault lines) [
-      | inl mean ↦ inl (mean.0, means_source source lines mean.0 said once none mean.1)
-      | inr bad ↦ inr (bad.0, inr (record { lines = lines; said = said; once = once; faulty = inr (none, bad.1) }))
+      | inl mean ↦ inl (mean.0, means_source source lines mean.0 spelled once none mean.1)
+      | inr bad ↦ inr (bad.0, inr (record { lines = lines; spelled = spelled; once = once; faulty = inr (none, bad.1) }))
     ]
 
 -- A source means a code or has a fault.
 pub meaning-or_fault : (source : List ℕ) → ((code : List Instr) × IsMeaning source code) ⊎ ((fault : AsmFault) × IsFault source fault)
 meaning-or_fault source =
     elim (lines-or_fault (source_lines source)) [
-      | inl read ↦ let pending = dangling-or_none read.0 in said-or_fault source read.0 pending.0 read.1 read.2 pending.1
+      | inl read ↦ let pending = dangling-or_none read.0 in spelled-or_fault source read.0 pending.0 read.1 read.2 pending.1
       | inr bad ↦ inr (bad.0, inl bad.1)
     ]

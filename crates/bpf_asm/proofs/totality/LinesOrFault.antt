@@ -17,10 +17,10 @@ abbrev pub AddsOrFaulty : List SourceLine → List ℕ → Type 0
 AddsOrFaulty lines octets = ((line : SourceLine) × IsSourceLine octets line × EachLabelOnce (lines ++ line ∷ [])) ⊎ ((kind : AsmKind) × IsLineFault lines octets kind)
 
 -- A line that parses has a new label or none, or the label of an earlier line.
-said-or_twice : (lines : List SourceLine) (octets : List ℕ) (line : SourceLine) (label : Option (List ℕ)) → EachLabelOnce lines → IsSourceLine octets line → line.label ≡ label → AddsOrFaulty lines octets
-said-or_twice lines octets line None once is none =
+spelled-or_twice : (lines : List SourceLine) (octets : List ℕ) (line : SourceLine) (label : Option (List ℕ)) → EachLabelOnce lines → IsSourceLine octets line → line.label ≡ label → AddsOrFaulty lines octets
+spelled-or_twice lines octets line None once is none =
     inl (line, is, λ one other name f g. once one other name (no_last lines line one name none f) (no_last lines line other name none g))
-said-or_twice lines octets line (Some label) once is named =
+spelled-or_twice lines octets line (Some label) once is named =
     elim (stands-or_unknown lines label) [
       | inl found ↦ let h = stands_has lines label found.0 found.1 in inr (LabelTwice, (line, is, label, named, h.0, h.1))
       | inr new ↦ inl (line, is, λ one other name f g. both_once lines line label one other name named new once (label_split lines line one name f) (label_split lines line other name g))
@@ -30,7 +30,7 @@ said-or_twice lines octets line (Some label) once is named =
 line_behind : (lines : List SourceLine) (octets : List ℕ) → EachLabelOnce lines → AddsOrFaulty lines octets
 line_behind lines octets once =
     elim (line-or_fault octets) [
-      | inl said ↦ said-or_twice lines octets said.0 said.0.label once said.1 refl
+      | inl spelled ↦ spelled-or_twice lines octets spelled.0 spelled.0.label once spelled.1 refl
       | inr bad ↦ inr (bad.0, bad.1 lines)
     ]
 

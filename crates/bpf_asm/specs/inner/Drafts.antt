@@ -125,14 +125,14 @@ IsFaultAt line kind fault = (fault.line ≡ line) × (fault.kind ≡ kind)
 -- The line is in the grammar, and it was added to the lines.
 pub record AddsLine (lines : List SourceLine) (draft : Draft) (octets : List ℕ) : Type 0 where
   pub line : SourceLine
-  pub said : IsSourceLine octets line
+  pub spelled : IsSourceLine octets line
   pub drafts : Drafts (lines ++ line ∷ []) draft
 
 -- This many lines of the source were read, parsed as these, and these are left.
 pub record IsReadTo (source left : List (List ℕ)) (lines : List SourceLine) (count : ℕ) : Type 0 where
   pub done : List (List ℕ)
   pub split : source ≡ done ++ left
-  pub said : AreLines done lines
+  pub spelled : AreLines done lines
   pub counted : count ≡ length done
 
 -- The draft is that of this many lines of the source, and these are left.
@@ -145,7 +145,7 @@ pub record IsDraftTo (source left : List (List ℕ)) (draft : Draft) (count : �
 -- The draft is that of the whole source.
 pub record IsDraftOf (source : List ℕ) (draft : Draft) : Type 0 where
   pub lines : List SourceLine
-  pub said : AreLines (source_lines source) lines
+  pub spelled : AreLines (source_lines source) lines
   pub drafts : Drafts lines draft
 
 -- The fault of one side of a branch: that of its label, if it has one.

@@ -24,4 +24,4 @@ statement_seen (Branch test by met unmet) = branch test by (option_copied met) (
 
 -- A line whose label and statement borrow from the source.
 abbrev pub line_seen : LentLine → SourceLine
-line_seen said = record { label = option_copied said.label; statement = option_map statement_seen said.statement }
+line_seen spelled = record { label = option_copied spelled.label; statement = option_map statement_seen spelled.statement }

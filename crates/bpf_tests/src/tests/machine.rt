@@ -39,7 +39,7 @@ fn alu(op: Op, by: By) -> Instr {
 }
 
 #[test]
-fn a_program_tells_user_data_from_oam(rt: HostRuntime) -> Result<(), Fail> {
+fn a_program_separates_user_data_from_oam(rt: HostRuntime) -> Result<(), Fail> {
     let code = [
         load(Size::Octet, 3),
         alu(Op::And, By::Imm(0xe)),

@@ -4,7 +4,8 @@
 mod blocks;
 
 use captures::{
-    Clock, Fault, FileFault, Format, Next, NoCell, Opening, Order, Reader, RecordFault, Tick, open,
+    Clock, Fault, FileFault, Format, Next, NoCell, Opening, Order, Reader, RecordFault, Section,
+    Tick, open,
 };
 use std::test::Fail;
 

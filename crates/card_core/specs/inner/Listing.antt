@@ -36,10 +36,10 @@ pub record IsNearest (lines : List LineView) (below : ℕ) (earlier best : Optio
   pub least : (number : ℕ) (vc : Vc) → number < below → ServesAt lines number vc → is_after earlier vc ≡ true → HasReached best vc
 
 -- The values of a line and of the seating that leads to it.
-pub record IsTold (seating : Seating) (line : LineView) (told : ConnectionState) : Type 0 where
-  pub incarnation : told.incarnation ≡ seating.incarnation
-  pub number : told.line ≡ seating.line
-  pub program : told.program ≡ seating.program
-  pub contracts : told.contracts.items ≡ line.contracts
-  pub state : told.state ≡ line.state
-  pub entries : told.entries ≡ length line.entries
+pub record IsReadState (seating : Seating) (line : LineView) (read_state : ConnectionState) : Type 0 where
+  pub incarnation : read_state.incarnation ≡ seating.incarnation
+  pub number : read_state.line ≡ seating.line
+  pub program : read_state.program ≡ seating.program
+  pub contracts : read_state.contracts.items ≡ line.contracts
+  pub state : read_state.state ≡ line.state
+  pub entries : read_state.entries ≡ length line.entries

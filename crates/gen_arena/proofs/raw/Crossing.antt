@@ -1,4 +1,4 @@
--- Cells and deeds are `Send` and `Sync` when the values and the allocator are.
+-- Boxes and deeds are `Send` and `Sync` when the values and the allocator are.
 use Rattle.std.specs.Prelude.{ℕ, ◌+◌, List, [], ◌∷◌, Option, Some, None}
 use Rattle.std.specs.Mem.{type_size}
 use base.Fraction.{full_share}
@@ -10,38 +10,38 @@ use denote.Struct.Owning.{shape, fields, to}
 use denote.Param.Send.{IsSend, IsSync, Common, AllSend, part_keyless, owning_send, struct_send, struct_sync, sendable}
 use Rattle.core.specs.declared.alloc.Allocator.{Ghosts}
 use Rattle.std_alloc.proofs.SendSync.{FreesAnywhere, quiet}
-use Rattle.gen_arena.specs.inner.BlockMemory.{cells_owned, cells_lent, row_owned, row_lent}
-use Rattle.gen_arena.specs.contracts.block.Cells as Cells
+use Rattle.gen_arena.specs.inner.BlockMemory.{boxes_owned, boxes_lent, row_owned, row_lent}
+use Rattle.gen_arena.specs.contracts.block.Boxes as Boxes
 use Rattle.gen_arena.specs.contracts.block.Deed as Deed
 
 module _ (R : RattleType) where
-  cells_cross : IsSend R → (cells : List (Option R.Denot)) (b o : ℕ) → Keyless (cells_owned R b o cells)
-  cells_cross send [] b o = tt
-  cells_cross send (None ∷ later) b o = (tt, cells_cross send later b (o + type_size R))
-  cells_cross send (Some x ∷ later) b o = (part_keyless R send full_share x b o, cells_cross send later b (o + type_size R))
+  boxes_cross : IsSend R → (boxes : List (Option R.Denot)) (b o : ℕ) → Keyless (boxes_owned R b o boxes)
+  boxes_cross send [] b o = tt
+  boxes_cross send (None ∷ later) b o = (tt, boxes_cross send later b (o + type_size R))
+  boxes_cross send (Some x ∷ later) b o = (part_keyless R send full_share x b o, boxes_cross send later b (o + type_size R))
 
-  row_crosses : IsSend R → (p : Ptr) (cells : List (Option R.Denot)) → Keyless (row_owned R p cells)
-  row_crosses send null_ptr cells = tt
-  row_crosses send (block_ptr b o) cells = (tt, cells_cross send cells b o)
+  row_crosses : IsSend R → (p : Ptr) (boxes : List (Option R.Denot)) → Keyless (row_owned R p boxes)
+  row_crosses send null_ptr boxes = tt
+  row_crosses send (block_ptr b o) boxes = (tt, boxes_cross send boxes b o)
 
-  cells_are_common : IsSync R → (cells : List (Option R.Denot)) (b o : ℕ) → Common (cells_lent R b o cells)
-  cells_are_common sync [] b o κ = tt
-  cells_are_common sync (None ∷ later) b o κ = (tt, cells_are_common sync later b (o + type_size R) κ)
-  cells_are_common sync (Some x ∷ later) b o κ = (sync.shared x b o κ, cells_are_common sync later b (o + type_size R) κ)
+  boxes_are_common : IsSync R → (boxes : List (Option R.Denot)) (b o : ℕ) → Common (boxes_lent R b o boxes)
+  boxes_are_common sync [] b o κ = tt
+  boxes_are_common sync (None ∷ later) b o κ = (tt, boxes_are_common sync later b (o + type_size R) κ)
+  boxes_are_common sync (Some x ∷ later) b o κ = (sync.shared x b o κ, boxes_are_common sync later b (o + type_size R) κ)
 
-  row_is_common : IsSync R → (p : Ptr) (cells : List (Option R.Denot)) → Common (row_lent R p cells)
-  row_is_common sync null_ptr cells κ = tt
-  row_is_common sync (block_ptr b o) cells κ = (tt, cells_are_common sync cells b o κ)
+  row_is_common : IsSync R → (p : Ptr) (boxes : List (Option R.Denot)) → Common (row_lent R p boxes)
+  row_is_common sync null_ptr boxes κ = tt
+  row_is_common sync (block_ptr b o) boxes κ = (tt, boxes_are_common sync boxes b o κ)
 
-  pub cells_send : IsSend R → IsSend (Cells.the_row R)
-  cells_send send =
-      let O = Cells.the_type R in
+  pub boxes_send : IsSend R → IsSend (Boxes.the_row R)
+  boxes_send send =
+      let O = Boxes.the_type R in
       let mark : AllSend (fields O) = (search sendable, tt) in
       owning_send O mark (λ owner. row_crosses send owner.start owner.held) (λ k. quiet (to O) (exits_of k (fields O)) ((struct_send (shape O) mark).leaving k))
 
-  pub cells_sync : IsSync R → IsSync (Cells.the_row R)
-  cells_sync sync =
-      let O = Cells.the_type R in
+  pub boxes_sync : IsSync R → IsSync (Boxes.the_row R)
+  boxes_sync sync =
+      let O = Boxes.the_type R in
       record { shared = λ owner b o κ. ((struct_sync (shape O) (search sendable, tt)).shared (to O owner) b o κ, row_is_common sync owner.start owner.held κ) }
 
   module _ (A : RattleType) (g : Ghosts A.Denot) where

@@ -23,19 +23,19 @@ use denote.Struct.Tuple.{Tuple, tuple_type}
 use borrow.Table.OneValue.{part_out}
 use Rattle.core.proofs.mem.Param.{El, R, elτ, el_x, lawful, one}
 use Rattle.std_alloc.proofs.RcSteps.{Good, word}
-use Rattle.gen_arena.specs.contracts.block.Cells as cells
+use Rattle.gen_arena.specs.contracts.block.Boxes as boxes
 use Rattle.gen_arena.specs.contracts.block.Start as start
 
 module _ (E : El) where
   abbrev pub Owner : RattleType
-  Owner = cells.the_row (R E)
+  Owner = boxes.the_row (R E)
 
   abbrev pub Begin : RattleType
   Begin = start.the_row (R E)
 
-  -- The one field of `Cells`, which has size 0.
+  -- The one field of `Boxes`, which has size 0.
   abbrev pub Mark : RattleType
-  Mark = Struct (shape (cells.the_type (R E)))
+  Mark = Struct (shape (boxes.the_type (R E)))
 
 abbrev pub mark : Val
 mark = vstruct (vcons (vstruct vnil) vnil)

@@ -1,7 +1,7 @@
--- The places of an arena, in the cells of its block.
+-- The places of an arena, in the boxes of its block.
 use Rattle.std.specs.Prelude.{◌≡◌, ℕ, ◌+◌, ◌<◌, ◌≤◌, List, [], ◌∷◌, length, Option, Some, None, get_or}
 use Rattle.gen_arena.specs.declared.place.Place.{Place}
-use Rattle.gen_arena.specs.inner.Cells.{IsFilledTo}
+use Rattle.gen_arena.specs.inner.Boxes.{IsFilledTo}
 
 -- A row of places as the arena sees it: all places, and the number of the first one that was never used.
 pub record PlaceRowView (T : Type 0) : Type 0 where
@@ -26,24 +26,24 @@ module _ {T : Type 0} where
   AreFresh places count used =
       (length places ≡ count) × ((k : ℕ) → k < count → place_at places k ≡ fresh_place used k)
 
-  -- The place of number k, which is in this cell. A blank cell counts as a fresh place.
+  -- The place of number k, which is in this box. A blank box counts as a fresh place.
   abbrev pub place_in : ℕ → ℕ → Option (Place T) → Place T
   place_in used k None = fresh_place used k
   place_in used k (Some place) = place
 
-  -- The places in these cells, numbered from k on.
+  -- The places in these boxes, numbered from k on.
   abbrev pub places_in : ℕ → ℕ → List (Option (Place T)) → List (Place T)
   places_in used k [] = []
-  places_in used k (cell ∷ later) = place_in used k cell ∷ places_in used (k + 1) later
+  places_in used k (box ∷ later) = place_in used k box ∷ places_in used (k + 1) later
 
   -- The number is at most that of the first fresh place, or is the number of no place.
   abbrev pub IsReached : PlaceRowView T → ℕ → Type 0
   IsReached row k = k < length row.places → k ≤ row.fresh
 
-  -- The first `fresh` of `count` cells have places, none of which links to a place after the first fresh one. The other
-  -- cells are blank.
-  pub record IsRow (cells : List (Option (Place T))) (count fresh : ℕ) : Type 0 where
-    pub long : length cells ≡ count
+  -- The first `fresh` of `count` boxes have places, none of which links to a place after the first fresh one. The other
+  -- boxes are blank.
+  pub record IsRow (boxes : List (Option (Place T))) (count fresh : ℕ) : Type 0 where
+    pub long : length boxes ≡ count
     pub few : count ≤ 65535
-    pub filled : IsFilledTo cells fresh
-    pub linked : (k : ℕ) (place : Place T) → get_or cells k None ≡ Some place → place.next < count → place.next ≤ fresh
+    pub filled : IsFilledTo boxes fresh
+    pub linked : (k : ℕ) (place : Place T) → get_or boxes k None ≡ Some place → place.next < count → place.next ≤ fresh

@@ -13,8 +13,8 @@ use Rattle.text_io.specs.declared.machine.Turn.TheVariants.{GoesOn, Ends}
 pub fixed_total : {World : Type 0} (steps : World → Record → List ℕ × Option World) (closes : World → Option Fault → List ℕ)
     → AnswersEachRecord (fixed_rules steps closes)
 fixed_total steps closes = record {
-  keeps = λ before said here after sound step. tt;
-  step = λ before said sound. ((steps before said).0, (steps before said).1, refl);
+  keeps = λ before record_read here after sound step. tt;
+  step = λ before record_read sound. ((steps before record_read).0, (steps before record_read).1, refl);
 }
 
 -- The next world after a record, if the run goes on.
@@ -31,5 +31,5 @@ text_then here (Some next) goes = (here ++ (goes next).0, (goes next).1)
 abbrev pub fixed_text : {World : Type 0} → (World → Record → List ℕ × Option World) → (World → Option Fault → List ℕ) → World → List Record
     → Option Fault → List ℕ × Done
 fixed_text steps closes world [] ending = (closes world ending, done_at ending)
-fixed_text steps closes world (said ∷ records) ending =
-    text_then (steps world said).0 (steps world said).1 (λ next. fixed_text steps closes next records ending)
+fixed_text steps closes world (record_read ∷ records) ending =
+    text_then (steps world record_read).0 (steps world record_read).1 (λ next. fixed_text steps closes next records ending)

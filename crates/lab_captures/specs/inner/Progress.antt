@@ -15,10 +15,10 @@ Texts = List ℕ → List ℕ → Done → Type 0
 -- is near: a text that answers them from here completes a text that answers the whole.
 pub record CaptureProgress (Whole Here : Texts) (Known Held : Type 0) (near0 rest0 near rest before now waiting : List ℕ) : Type 0 where
   pub answered : List ℕ
-  pub said : List ℕ
+  pub printed : List ℕ
   pub came : Known → (fresh : List ℕ) × (rest0 ≡ fresh ++ rest) × (near0 ++ fresh ≡ answered ++ near)
-  pub gave : Held → (given : List ℕ) × (now ≡ before ++ given) × (said ≡ given ++ waiting)
-  pub leads : (more text : List ℕ) (done : Done) → Here (near ++ more) text done → Whole (answered ++ (near ++ more)) (said ++ text) done
+  pub gave : Held → (given : List ℕ) × (now ≡ before ++ given) × (printed ≡ given ++ waiting)
+  pub leads : (more text : List ℕ) (done : Done) → Here (near ++ more) text done → Whole (answered ++ (near ++ more)) (printed ++ text) done
 
 -- Of the rest these octets were read, and together with what was near before they have a text with this end.
 abbrev pub HasRead : Texts → List ℕ → List ℕ → List ℕ → Done → Type 0

@@ -21,8 +21,8 @@ lists-reading (is_refused fault) = (fault, None, (refl, refl))
 lists-program : (octets : List ℕ) → (text : List ℕ) × (next : Option Bool) × ListsProgram octets text next
 lists-program octets =
     let read = reads-as octets in
-    let told = lists-reading read.0 in
-    (told.0, told.1, (read.0, read.1, told.2))
+    let printed = lists-reading read.0 in
+    (printed.0, printed.1, (read.0, read.1, printed.2))
 
 lists-word : (octets : Option (List ℕ)) → (text : List ℕ) × (next : Option Bool) × MatchOption octets (EndsBy bad_hex text next) (λ found. ListsProgram found text next)
 lists-word None = (bad_hex, None, (refl, refl))
@@ -37,8 +37,8 @@ lists-words : (world : Bool) (words : List (List ℕ)) → (text : List ℕ) × 
 lists-words false words = listed-line words
 lists-words true words = (bad_line, None, (refl, refl))
 
-list-can_step : (world : Bool) (said : List ℕ) → (text : List ℕ) × (next : Option Bool) × ListSteps world said text next
-list-can_step world said = silent-or (ListsOrEnds world (words_of said)) world (is_silent (words_of said)) (lists-words world (words_of said))
+list-can_step : (world : Bool) (line_content : List ℕ) → (text : List ℕ) × (next : Option Bool) × ListSteps world line_content text next
+list-can_step world line_content = silent-or (ListsOrEnds world (words_of line_content)) world (is_silent (words_of line_content)) (lists-words world (words_of line_content))
 
 list-can_close : (world : Bool) → (text : List ℕ) × (done : Done) × ListCloses world text done
 list-can_close false = (no_program, Ended, (refl, refl))
@@ -46,4 +46,4 @@ list-can_close true = ([], Whole, (refl, refl))
 
 -- The rules of `list` are total.
 pub list-total : IsTotal list_rules
-list-total = record { keeps = λ world said text after sound steps. tt; step = λ world said sound. list-can_step world said; close = λ world sound. list-can_close world }
+list-total = record { keeps = λ world line_content text after sound steps. tt; step = λ world line_content sound. list-can_step world line_content; close = λ world sound. list-can_close world }

@@ -8,7 +8,7 @@ use Rattle.bpf_interp.proofs.Public.{Value-some}
 use Rattle.bpf_interp.specs.State.{State, At}
 use Rattle.bpf_interp.specs.Value.{EndsIn}
 use Rattle.bpf_verify.specs.Accepted.{IsAccepted}
-use Rattle.lab_programs.specs.Trace.{GoesThrough, ReadsOrTraces, TellsTrace, TraceLine, TraceSteps, TracesOn, trace_rules}
+use Rattle.lab_programs.specs.Trace.{GoesThrough, ReadsOrTraces, PrintsTrace, TraceLine, TraceSteps, TracesOn, trace_rules}
 use Rattle.text_io.proofs.Public.{silent-or, silent-sound}
 use Rattle.text_io.specs.Printing.{IsTotal}
 use Rattle.text_io.specs.Words.{words_of, is_silent}
@@ -24,14 +24,14 @@ states-through code packet here value (suc steps) ends =
     let rest = states-through code packet ends.0 value steps ends.2 in
     (ends.0 ∷ rest.0, (ends.1, rest.1))
 
-tells-trace : (code : List Instr) → IsAccepted code → (octets : List ℕ) → (text : List ℕ) × TellsTrace code octets text
-tells-trace code accepted octets =
+prints-trace : (code : List Instr) → IsAccepted code → (octets : List ℕ) → (text : List ℕ) × PrintsTrace code octets text
+prints-trace code accepted octets =
     let value = Value-some code octets accepted in
     let states = states-through code octets (At 0 0 0 []) value.0 value.1 value.2 in
     (_, (states.0, value.0, states.1, refl))
 
-traces-on : (code : List Instr) → IsAccepted code → (octets : List ℕ) → (b : Bool) → (text : List ℕ) × MatchBool b (TellsTrace code octets text) (text ≡ wrong_length (length octets))
-traces-on code accepted octets true = tells-trace code accepted octets
+traces-on : (code : List Instr) → IsAccepted code → (octets : List ℕ) → (b : Bool) → (text : List ℕ) × MatchBool b (PrintsTrace code octets text) (text ≡ wrong_length (length octets))
+traces-on code accepted octets true = prints-trace code accepted octets
 traces-on code accepted octets false = (wrong_length (length octets), refl)
 
 traces-word : (code : List Instr) → IsAccepted code → (octets : Option (List ℕ)) → (text : List ℕ) × MatchOption octets (text ≡ bad_hex) (λ found. TracesOn code (cell_of_octets found) text)
@@ -44,21 +44,21 @@ trace-line code accepted (word ∷ []) = traces-word code accepted (octets_of_di
 trace-line code accepted (word ∷ other ∷ words) = (bad_line, refl)
 
 -- Before the program line, each line has the answer of `upc eval`.
-trace-can_step : (world : EvalWorld) (said : List ℕ) → IsSoundWorld world → (text : List ℕ) × (next : Option EvalWorld) × TraceSteps world said text next
-trace-can_step None said sound = eval-total.step None said sound
-trace-can_step (Some code) said sound =
-    let told = trace-line code sound (words_of said) in
-    silent-or (ReadsOrTraces (Some code) (words_of said)) (Some code) (is_silent (words_of said)) (told.0, Some (Some code), (told.1, refl))
+trace-can_step : (world : EvalWorld) (line_content : List ℕ) → IsSoundWorld world → (text : List ℕ) × (next : Option EvalWorld) × TraceSteps world line_content text next
+trace-can_step None line_content sound = eval-total.step None line_content sound
+trace-can_step (Some code) line_content sound =
+    let printed = trace-line code sound (words_of line_content) in
+    silent-or (ReadsOrTraces (Some code) (words_of line_content)) (Some code) (is_silent (words_of line_content)) (printed.0, Some (Some code), (printed.1, refl))
 
 cell-sound : (code : List Instr) (after : EvalWorld) (words : List (List ℕ)) (text : List ℕ) → IsSoundWorld (Some code) → ReadsOrTraces (Some code) words text (Some after) → IsSoundWorld after
-cell-sound code after words text sound told = let same : Some code ≡ after = let e = told.1 in cc in subst IsSoundWorld same sound
+cell-sound code after words text sound printed = let same : Some code ≡ after = let e = printed.1 in cc in subst IsSoundWorld same sound
 
-trace-keeps_sound : (world : EvalWorld) (said text : List ℕ) (after : EvalWorld) → IsSoundWorld world → TraceSteps world said text (Some after) → IsSoundWorld after
-trace-keeps_sound None said text after sound steps = eval-total.keeps None said text after sound steps
-trace-keeps_sound (Some code) said text after sound steps =
-    silent-sound IsSoundWorld (ReadsOrTraces (Some code) (words_of said) text (Some after)) (Some code) after text (is_silent (words_of said)) sound
-    (cell-sound code after (words_of said) text sound) steps
+trace-keeps_sound : (world : EvalWorld) (line_content text : List ℕ) (after : EvalWorld) → IsSoundWorld world → TraceSteps world line_content text (Some after) → IsSoundWorld after
+trace-keeps_sound None line_content text after sound steps = eval-total.keeps None line_content text after sound steps
+trace-keeps_sound (Some code) line_content text after sound steps =
+    silent-sound IsSoundWorld (ReadsOrTraces (Some code) (words_of line_content) text (Some after)) (Some code) after text (is_silent (words_of line_content)) sound
+    (cell-sound code after (words_of line_content) text sound) steps
 
 -- The rules of `trace` are total.
 pub trace-total : IsTotal trace_rules
-trace-total = record { keeps = λ world said text after sound steps. trace-keeps_sound world said text after sound steps; step = trace-can_step; close = eval-total.close }
+trace-total = record { keeps = λ world line_content text after sound steps. trace-keeps_sound world line_content text after sound steps; step = trace-can_step; close = eval-total.close }

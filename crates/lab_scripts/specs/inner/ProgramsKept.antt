@@ -27,8 +27,8 @@ says_loaded answer = bytes_eq (take 7 answer) (codes "loaded ")
 
 -- The digits of the program that a line loads, if this is the answer to it on a card of this side or before there is one.
 abbrev pub loaded_digits : Option Side → List ℕ → List ℕ → Option (List ℕ)
-loaded_digits None said answer = None
-loaded_digits (Some side) said answer = if says_loaded answer then load_digits (command_of side (words_of said)) else None
+loaded_digits None line_content answer = None
+loaded_digits (Some side) line_content answer = if says_loaded answer then load_digits (command_of side (words_of line_content)) else None
 
 -- What is kept after a line that loads the program of these digits, or loads none.
 abbrev pub ProgramsAfter : Option (List ℕ) → List NamesNone → List NamesNone → Type 0

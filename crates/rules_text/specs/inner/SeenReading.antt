@@ -2,15 +2,15 @@
 use Rattle.std.specs.Prelude.{map, reverse, Option, Some, None, Result, Ok, Err}
 use Rattle.cell_rules.specs.declared.field.Field.{Field}
 use Rattle.cell_rules.specs.declared.test.Test.{Test}
-use Rattle.rules_text.specs.LineGrammar.{Awaited, GroupRead, LineContext, Reading, SaidRead, SubjectRead, awaits_start, awaits_unit, awaits_operator, awaits_offset, awaits_relation, awaits_mask, awaits_sign, awaits_constant, awaits_dots, awaits_high, awaits_comma, awaits_low, awaits_arrow, awaits_value, awaits_rest, awaits_side, awaits_end, says_nothing, says_side, says_line, says_otherwise}
+use Rattle.rules_text.specs.LineGrammar.{Awaited, GroupRead, LineContext, Reading, StatementRead, SubjectRead, awaits_start, awaits_unit, awaits_operator, awaits_offset, awaits_relation, awaits_mask, awaits_sign, awaits_constant, awaits_dots, awaits_high, awaits_comma, awaits_low, awaits_arrow, awaits_value, awaits_rest, awaits_side, awaits_end, says_nothing, says_side, says_line, says_otherwise}
 use Rattle.rules_text.specs.RulesRead.{FieldRead, TestRead, field_read, line_read, test_read}
 use Rattle.rules_text.specs.TextOfRules.{TextReading}
 use Rattle.rules_text.specs.declared.fault.RuleKind.{RuleKind}
 use Rattle.rules_text.specs.declared.group.Group.{Group}
 use Rattle.rules_text.specs.declared.line_reader.Context.{Context}
 use Rattle.rules_text.specs.declared.line_reader.LineReader.{LineReader}
-use Rattle.rules_text.specs.declared.line_reader.Said.{Said}
-use Rattle.rules_text.specs.declared.line_reader.Said.TheVariants as said
+use Rattle.rules_text.specs.declared.line_reader.Statement.{Statement}
+use Rattle.rules_text.specs.declared.line_reader.Statement.TheVariants as statement
 use Rattle.rules_text.specs.declared.line_reader.Wants.{Wants}
 use Rattle.rules_text.specs.declared.line_reader.Wants.TheVariants as wants
 use Rattle.rules_text.specs.declared.reader.TextReader.{TextReader}
@@ -51,11 +51,11 @@ abbrev pub group_seen : Group → GroupRead
 group_seen group = record { either = some_test_seen group.either; both = some_test_seen group.both; negated = group.negated }
 
 -- What a line says.
-abbrev pub said_seen : Said → SaidRead
-said_seen said.Blank = says_nothing
-said_seen (said.Side side) = says_side side
-said_seen (said.Line line) = says_line (line_read line)
-said_seen (said.Otherwise value) = says_otherwise value
+abbrev pub rule_statement_seen : Statement → StatementRead
+rule_statement_seen statement.Blank = says_nothing
+rule_statement_seen (statement.Side side) = says_side side
+rule_statement_seen (statement.Line line) = says_line (line_read line)
+rule_statement_seen (statement.Otherwise value) = says_otherwise value
 
 -- What was read before a line.
 abbrev pub context_seen : Context → LineContext
@@ -71,7 +71,7 @@ reading_seen reader = record {
   spans = reader.spans.items;
   comparisons = reader.comparisons;
   test = test_read reader.test;
-  said = said_seen reader.said;
+  statement = rule_statement_seen reader.statement;
 }
 
 -- What was read of a text.
@@ -94,6 +94,6 @@ field_found (Ok field) = Ok (field_read field)
 field_found (Err kind) = Err kind
 
 -- What a line says, or the fault.
-abbrev pub said_found : Result Said RuleKind → Result SaidRead RuleKind
-said_found (Ok said) = Ok (said_seen said)
-said_found (Err kind) = Err kind
+abbrev pub statement_found : Result Statement RuleKind → Result StatementRead RuleKind
+statement_found (Ok statement) = Ok (rule_statement_seen statement)
+statement_found (Err kind) = Err kind

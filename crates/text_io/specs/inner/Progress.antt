@@ -11,33 +11,33 @@ use Rattle.text_io.specs.declared.machine.Turn.TheVariants.{GoesOn, Ends}
 -- Loop invariant: the output so far, followed by any valid answer to the rest from the present world, is a valid
 -- answer to the whole input.
 abbrev pub IsProgress : {World : Type 0} → Rules World → World → List ℕ → List ℕ → ℕ → World → Type 0
-IsProgress rules start answered said met present =
+IsProgress rules start answered printed met present =
     (behind more : List ℕ) (done : Done) → Prints rules met present (lines_of behind) more done
-    → Prints rules 0 start (lines_of (answered ++ behind)) (said ++ more) done
+    → Prints rules 0 start (lines_of (answered ++ behind)) (printed ++ more) done
 
 -- And if the rest leads from the present world to another, the whole input leads to it too.
 abbrev pub KeepsEnding : {World : Type 0} → Rules World → World → List ℕ → List ℕ → ℕ → World → Type 0
-KeepsEnding {World = World} rules start answered said met present =
+KeepsEnding {World = World} rules start answered printed met present =
     (behind more : List ℕ) (last : World) → EndsAt rules met present (lines_of behind) more last
-    → EndsAt rules 0 start (lines_of (answered ++ behind)) (said ++ more) last
+    → EndsAt rules 0 start (lines_of (answered ++ behind)) (printed ++ more) last
 
 -- And the present world is sound and shown.
-pub record Reaches {World : Type 0} (rules : Rules World) (start : World) (answered said : List ℕ) (met : ℕ) (shown : World → Type 0) : Type 0 where
+pub record Reaches {World : Type 0} (rules : Rules World) (start : World) (answered printed : List ℕ) (met : ℕ) (shown : World → Type 0) : Type 0 where
   pub present : World
   pub sound : rules.is_sound present
   pub is_shown : shown present
-  pub leads : IsProgress rules start answered said met present
-  pub reaches : KeepsEnding rules start answered said met present
+  pub leads : IsProgress rules start answered printed met present
+  pub reaches : KeepsEnding rules start answered printed met present
 
 -- The state of a run. `left` is what remains to be answered of the whole input, and `waiting` what remains to be
 -- written of the output so far. The output held `before` at the start and holds `now`.
 pub record Progress {World : Type 0} (rules : Rules World) (shown shown' : World → Type 0) (Known Held : Type 0)
     (whole left : List ℕ) (before now waiting : List ℕ) (met : ℕ) : Type 0 where
   pub answered : List ℕ
-  pub said : List ℕ
+  pub printed : List ℕ
   pub came : Known → whole ≡ answered ++ left
-  pub gave : Held → (given : List ℕ) × (now ≡ before ++ given) × (said ≡ given ++ waiting)
-  pub reaches : OfEach rules shown (λ start. Reaches rules start answered said met shown')
+  pub gave : Held → (given : List ℕ) × (now ≡ before ++ given) × (printed ≡ given ++ waiting)
+  pub reaches : OfEach rules shown (λ start. Reaches rules start answered printed met shown')
 
 -- The text answers the line. It ends the run, whatever lines follow; or it leads to a sound world that is shown, and
 -- any answer to the lines after it completes the text. Where those lead, the line and they lead too.

@@ -14,7 +14,7 @@ use text_io::{Done, FaultyInput, FaultyOutput, RunFault};
 struct Left {
     status: u8,
     written: Vec<u8>,
-    told: Vec<u8>,
+    reported: Vec<u8>,
 }
 
 /// Runs the program with these words, over an input and an output that fail after a number of successful calls.
@@ -38,7 +38,7 @@ fn run_words<R: Threads + Wait + Sync>(
     Ok(Left {
         status,
         written: output.held,
-        told: errors.held,
+        reported: errors.held,
     })
 }
 
@@ -63,19 +63,19 @@ fn expect_failure<R: Threads + Wait + Sync + Abort>(
     alloc: Global,
     line: &str,
     (takes, gives): (usize, usize),
-    (written, told): (usize, &[u8]),
+    (written, reported): (usize, &[u8]),
 ) -> Result<(), AllocError> {
     let left = run_words(rt, alloc, line, PROGRAM, takes, gives)?;
     assert_eq!(rt;
-        (left.status, left.written.len(), left.told.as_slice()),
-        (3, written, told),
+        (left.status, left.written.len(), left.reported.as_slice()),
+        (3, written, reported),
         "{line}"
     );
     Ok(())
 }
 
 #[test]
-fn a_device_that_fails_is_told_and_ends_with_status_3(rt: HostRuntime) -> Result<(), Fail> {
+fn a_device_that_fails_is_reported_and_ends_with_status_3(rt: HostRuntime) -> Result<(), Fail> {
     let reading = (0, b"upc: reading failed\n".as_slice());
     let writing = (3, b"upc: writing failed\n".as_slice());
     for line in ["", "eval", "check", "run", "ports"] {
@@ -87,11 +87,11 @@ fn a_device_that_fails_is_told_and_ends_with_status_3(rt: HostRuntime) -> Result
 }
 
 #[test]
-fn wrong_words_are_told_and_nothing_is_read(rt: HostRuntime) -> Result<(), Fail> {
+fn wrong_words_are_reported_and_nothing_is_read(rt: HostRuntime) -> Result<(), Fail> {
     for line in ["bogus", "eval extra", "check eval", "--version", "\u{fffd}"] {
         let left = run_words(&rt, rt.alloc(), line, PROGRAM, 0, 0)?;
         assert!(rt;
-            left.status == 2 && left.written.is_empty() && left.told.starts_with(b"error: "),
+            left.status == 2 && left.written.is_empty() && left.reported.starts_with(b"error: "),
             "{line}"
         );
     }
@@ -101,7 +101,7 @@ fn wrong_words_are_told_and_nothing_is_read(rt: HostRuntime) -> Result<(), Fail>
 #[test]
 fn help_is_written_and_nothing_is_read(rt: HostRuntime) -> Result<(), Fail> {
     let left = run_words(&rt, rt.alloc(), "--help", PROGRAM, 0, 10000)?;
-    assert!(rt; left.status == 0 && left.told.is_empty());
+    assert!(rt; left.status == 0 && left.reported.is_empty());
     let text = String::from_utf8(left.written).map_err(|_| Fail::new("help is a text"))?;
     for part in [
         "\n  check ",

@@ -6,7 +6,7 @@ use Rattle.std.specs.Option.{MatchOption}
 use Rattle.bpf_code.specs.declared.instr.Instr.{Instr}
 use Rattle.bpf_verify.specs.Accepted.{IsAccepted}
 use Rattle.bpf_interp.proofs.Public.{Value-some}
-use Rattle.upc_programs.specs.Eval.{EvalWorld, IsProgramAnswer, ReadsProgram, ProgramLine, TellsValue, RunsOn, CellLine, ReadsOrRuns, EvalSteps, EvalCloses, IsSoundWorld, eval_rules}
+use Rattle.upc_programs.specs.Eval.{EvalWorld, IsProgramAnswer, ReadsProgram, ProgramLine, PrintsValue, RunsOn, CellLine, ReadsOrRuns, EvalSteps, EvalCloses, IsSoundWorld, eval_rules}
 use Rattle.upc_codes.specs.Program.{ProgramReading, is_program, is_refused, ChecksAs}
 use Rattle.upc_codes.proofs.Public.{reads-as}
 use Rattle.upc_words.specs.FaultLines.{line, bad_line, bad_hex, no_program, wrong_length}
@@ -18,15 +18,15 @@ use Rattle.text_io.specs.Words.{words_of, is_silent}
 use Rattle.text_io.specs.declared.ending.Done.{Done}
 use Rattle.text_io.specs.declared.ending.Done.TheVariants.{Whole, Ended}
 
-tells-reading : (reading : ProgramReading) → (text : List ℕ) × (next : Option EvalWorld) × IsProgramAnswer reading text next
-tells-reading (is_program code) = (line (codes "accepted " ++ decimal (length code)), Some (Some code), (refl, refl))
-tells-reading (is_refused fault) = (fault, None, (refl, refl))
+prints-reading : (reading : ProgramReading) → (text : List ℕ) × (next : Option EvalWorld) × IsProgramAnswer reading text next
+prints-reading (is_program code) = (line (codes "accepted " ++ decimal (length code)), Some (Some code), (refl, refl))
+prints-reading (is_refused fault) = (fault, None, (refl, refl))
 
 reads-program : (octets : List ℕ) → (text : List ℕ) × (next : Option EvalWorld) × ReadsProgram octets text next
 reads-program octets =
     let read = reads-as octets in
-    let told = tells-reading read.0 in
-    (told.0, told.1, (read.0, read.1, told.2))
+    let printed = prints-reading read.0 in
+    (printed.0, printed.1, (read.0, read.1, printed.2))
 
 reads-word : (octets : Option (List ℕ)) → (text : List ℕ) × (next : Option EvalWorld) × MatchOption octets (EndsBy bad_hex text next) (λ found. ReadsProgram found text next)
 reads-word None = (bad_hex, None, (refl, refl))
@@ -37,13 +37,13 @@ program-line [] = (bad_line, None, (refl, refl))
 program-line (word ∷ []) = reads-word (octets_of_digits word)
 program-line (word ∷ other ∷ words) = (bad_line, None, (refl, refl))
 
-tells-value : (code : List Instr) → IsAccepted code → (octets : List ℕ) → (text : List ℕ) × TellsValue code octets text
-tells-value code accepted octets =
+prints-value : (code : List Instr) → IsAccepted code → (octets : List ℕ) → (text : List ℕ) × PrintsValue code octets text
+prints-value code accepted octets =
     let value = Value-some code octets accepted in
     (line (codes "value " ++ decimal value.0 ++ codes " steps " ++ decimal value.1), (value.0, value.1, value.2, refl))
 
-runs-on : (code : List Instr) → IsAccepted code → (octets : List ℕ) → (b : Bool) → (text : List ℕ) × MatchBool b (TellsValue code octets text) (text ≡ wrong_length (length octets))
-runs-on code accepted octets true = tells-value code accepted octets
+runs-on : (code : List Instr) → IsAccepted code → (octets : List ℕ) → (b : Bool) → (text : List ℕ) × MatchBool b (PrintsValue code octets text) (text ≡ wrong_length (length octets))
+runs-on code accepted octets true = prints-value code accepted octets
 runs-on code accepted octets false = (wrong_length (length octets), refl)
 
 runs-word : (code : List Instr) → IsAccepted code → (octets : Option (List ℕ)) → (text : List ℕ) × MatchOption octets (text ≡ bad_hex) (λ found. RunsOn code (cell_of_octets found) text)
@@ -57,10 +57,10 @@ cell-line code accepted (word ∷ other ∷ words) = (bad_line, refl)
 
 asks : (world : EvalWorld) → IsSoundWorld world → (words : List (List ℕ)) → (text : List ℕ) × (next : Option EvalWorld) × ReadsOrRuns world words text next
 asks None sound words = program-line words
-asks (Some code) sound words = let told = cell-line code sound words in (told.0, Some (Some code), (told.1, refl))
+asks (Some code) sound words = let printed = cell-line code sound words in (printed.0, Some (Some code), (printed.1, refl))
 
-eval-can_step : (world : EvalWorld) (said : List ℕ) → IsSoundWorld world → (text : List ℕ) × (next : Option EvalWorld) × EvalSteps world said text next
-eval-can_step world said sound = silent-or (ReadsOrRuns world (words_of said)) world (is_silent (words_of said)) (asks world sound (words_of said))
+eval-can_step : (world : EvalWorld) (line_content : List ℕ) → IsSoundWorld world → (text : List ℕ) × (next : Option EvalWorld) × EvalSteps world line_content text next
+eval-can_step world line_content sound = silent-or (ReadsOrRuns world (words_of line_content)) world (is_silent (words_of line_content)) (asks world sound (words_of line_content))
 
 eval-can_close : (world : EvalWorld) → IsSoundWorld world → (text : List ℕ) × (done : Done) × EvalCloses world text done
 eval-can_close None sound = (no_program, Ended, (refl, refl))
@@ -68,9 +68,9 @@ eval-can_close (Some code) sound = ([], Whole, (refl, refl))
 
 -- A program line leads to a sound world.
 checked-sound : (code : List Instr) (reading : ProgramReading) (text : List ℕ) (after : EvalWorld) → ChecksAs code reading → IsProgramAnswer reading text (Some after) → IsSoundWorld after
-checked-sound code (is_program accepted) text after checks told =
-    let same : Some code ≡ after = let e = told.1 in let f = checks.1 in cc in subst IsSoundWorld same checks.0
-checked-sound code (is_refused fault) text after checks told = let no : Some after ≡ None = told.1 in cc
+checked-sound code (is_program accepted) text after checks printed =
+    let same : Some code ≡ after = let e = printed.1 in let f = checks.1 in cc in subst IsSoundWorld same checks.0
+checked-sound code (is_refused fault) text after checks printed = let no : Some after ≡ None = printed.1 in cc
 
 read-sound : (octets text : List ℕ) (after : EvalWorld) → ReadsProgram octets text (Some after) → IsSoundWorld after
 read-sound octets text after reads =
@@ -93,17 +93,17 @@ line-sound (word ∷ other ∷ words) text after ends = let no : Some after ≡ 
 
 asks-sound : (world after : EvalWorld) (words : List (List ℕ)) (text : List ℕ) → IsSoundWorld world → ReadsOrRuns world words text (Some after) → IsSoundWorld after
 asks-sound None after words text sound reads = line-sound words text after reads
-asks-sound (Some code) after words text sound told = let same : Some code ≡ after = let e = told.1 in cc in subst IsSoundWorld same sound
+asks-sound (Some code) after words text sound printed = let same : Some code ≡ after = let e = printed.1 in cc in subst IsSoundWorld same sound
 
-eval-keeps_sound : (world : EvalWorld) (said text : List ℕ) (after : EvalWorld) → IsSoundWorld world → EvalSteps world said text (Some after) → IsSoundWorld after
-eval-keeps_sound world said text after sound steps =
-    silent-sound IsSoundWorld (ReadsOrRuns world (words_of said) text (Some after)) world after text (is_silent (words_of said)) sound
-    (asks-sound world after (words_of said) text sound) steps
+eval-keeps_sound : (world : EvalWorld) (line_content text : List ℕ) (after : EvalWorld) → IsSoundWorld world → EvalSteps world line_content text (Some after) → IsSoundWorld after
+eval-keeps_sound world line_content text after sound steps =
+    silent-sound IsSoundWorld (ReadsOrRuns world (words_of line_content) text (Some after)) world after text (is_silent (words_of line_content)) sound
+    (asks-sound world after (words_of line_content) text sound) steps
 
 -- The rules of `eval` are total.
 pub eval-total : IsTotal eval_rules
 eval-total = record {
-  keeps = λ world said text after sound steps. eval-keeps_sound world said text after sound steps;
+  keeps = λ world line_content text after sound steps. eval-keeps_sound world line_content text after sound steps;
   step = eval-can_step;
   close = eval-can_close;
 }

@@ -158,13 +158,13 @@ missed-comes : (met : ℕ) (before after : World) (names : List Id) (moment : �
     → Stands met before → PortIs before outside → connection_in before.connections (vc_of before.shape.side octets) ≡ None
     → given ≡ answer.NoConnection → after ≡ with_port (with_port before 0 (entered octets moment)) 0 outside
     → answer_text names (vc_of before.shape.side octets) given ≡ Some text → CellComes met before after moment octets text
-missed-comes met before after names moment octets given text stand free none is world told =
+missed-comes met before after names moment octets given text stand free none is world printed =
     let vc = vc_of before.shape.side octets in
     let nothing : found_at (seen before).connections vc ≡ None =
     found-seen before.given before.connections vc ∙ ap (option_map (seen_connection before.given)) none in
     let back = put-back before.ports (entered octets moment) free in
     let text_is : text ≡ arrive_fault (codes "1 NoConnection") =
-    sym (same_Some _ text (ap (answer_text names vc) (sym is) ∙ told)) in
+    sym (same_Some _ text (ap (answer_text names vc) (sym is) ∙ printed)) in
     let shown : seen after ≡ seen before = ap seen world ∙ (λ i. record (seen before) { ports = back i }) in
     let Answers : Option SeenConnection → Type 0 = λ o.
     MatchOption o ((text ≡ arrive_fault (codes "1 NoConnection")) × (seen after ≡ seen before))
@@ -176,15 +176,15 @@ missed-comes met before after names moment octets given text stand free none is 
     }
 
 -- The text for a judgement.
-judged-told : (before : World) (names : List Id) (vc : Vc) (connection : Connection) (octets : List ℕ) (moment value : ℕ) (text : List ℕ)
+judged-printed : (before : World) (names : List Id) (vc : Vc) (connection : Connection) (octets : List ℕ) (moment value : ℕ) (text : List ℕ)
     → names ≡ names_of before.given
     → answer_text names vc (judgement_of (picked_world before octets moment vc connection value) (picking_of octets moment vc connection value) connection) ≡ Some text
     → text ≡ judged_text vc (seen_connection before.given connection) octets moment value
-judged-told before names vc connection octets moment value text known told =
+judged-printed before names vc connection octets moment value text known printed =
     let number : number_of_program names connection.program ≡ number_in before.given connection.program =
     ap (λ ids. number_of_program ids connection.program) known ∙ number-is before.given connection.program in
     let verdict = verdict-nameless connection.contracts empty_buckets connection.history (named_cell octets moment connection.program value) in
-    sym (same_Some _ text told)
+    sym (same_Some _ text printed)
     ∙ (λ i. verdict_text (sym verdict i) (judging_text vc (number i) value) (cell_after (sym verdict i) octets))
 
 -- The view after a judgement.
@@ -220,7 +220,7 @@ found-comes : (met : ℕ) (before after : World) (names : List Id) (moment : ℕ
     → JudgeCase (picked_world before octets moment (vc_of before.shape.side octets) connection value)
     (picking_of octets moment (vc_of before.shape.side octets) connection value) connection (Answered given) after
     → answer_text names (vc_of before.shape.side octets) given ≡ Some text → CellComes met before after moment octets text
-found-comes met before after names moment octets given text stand sound few known free connection found code named value gives judging told =
+found-comes met before after names moment octets given text stand sound few known free connection found code named value gives judging printed =
     let vc = vc_of before.shape.side octets in
     let c = seen_connection before.given connection in
     let refusal = refusal-seen met before connection moment stand few in
@@ -237,10 +237,10 @@ found-comes met before after names moment octets given text stand sound few know
     elim judging [
       | judged_so allowed answers world ↦
           let is : given ≡ judgement_of (picked_world before octets moment vc connection value) (picking_of octets moment vc connection value) connection = cc in
-          let told_so = ap (answer_text names vc) (sym is) ∙ told in
+          let printed_so = ap (answer_text names vc) (sym is) ∙ printed in
           record {
             shown = answered (subst Judged (sym allowed ∙ refusal) (
-              judged-told before names vc connection octets moment value text known told_so,
+              judged-printed before names vc connection octets moment value text known printed_so,
               ap seen world ∙ judged-shown before vc connection octets moment value free,
             ));
             stands = subst (λ (w : World). Stands (met + 1) w) (sym world) (judged-stands met before vc connection octets moment value stand found);
@@ -248,11 +248,11 @@ found-comes met before after names moment octets given text stand sound few know
           }
       | refused_so other refused answers world ↦
           let is : given ≡ other = cc in
-          let told_so = ap (answer_text names vc) (sym is) ∙ told in
+          let printed_so = ap (answer_text names vc) (sym is) ∙ printed in
           let back = put-back_twice before.ports (entered octets moment) (picked (picking_of octets moment vc connection value)) free in
           record {
             shown = answered (subst Judged (sym refused ∙ refusal) (
-              sym (refusal-plain (seen before) c moment other names vc (sym refusal ∙ refused)) ∙ told_so,
+              sym (refusal-plain (seen before) c moment other names vc (sym refusal ∙ refused)) ∙ printed_so,
               ap seen world ∙ (λ i. record (seen before) { ports = back i }),
             ));
             stands = subst (λ (w : World). Stands (met + 1) w) (sym world) (with-ports met before _ stand);
@@ -265,15 +265,15 @@ answered-comes : (met : ℕ) (before after : World) (names : List Id) (moment : 
     → Stands met before → WorldInvariant before → met < most_input_lines → names ≡ names_of before.given → PortIs before outside
     → IsAnswered (with_port before 0 (entered octets moment)) given after
     → answer_text names (vc_of before.shape.side octets) given ≡ Some text → CellComes met before after moment octets text
-answered-comes met before after names moment octets given text stand sound few known free (inl picks) told =
+answered-comes met before after names moment octets given text stand sound few known free (inl picks) printed =
     let came = with_port before 0 (entered octets moment) in
     elim (pick-case came after octets moment (Answered given) (put-there before.ports outside (entered octets moment) free) picks) [
       | missed_so none answers world ↦
           let is : given ≡ answer.NoConnection = cc in
-          missed-comes met before after names moment octets given text stand free none is world told
+          missed-comes met before after names moment octets given text stand free none is world printed
       | found_so connection found code named value gives answers world ↦ absurd (cc)
     ]
-answered-comes met before after names moment octets given text stand sound few known free (inr judges) told =
+answered-comes met before after names moment octets given text stand sound few known free (inr judges) printed =
     let came = with_port before 0 (entered octets moment) in
     let entering = put-there before.ports outside (entered octets moment) free in
     elim (pick-case came judges.0 octets moment Picked entering judges.1) [
@@ -283,7 +283,7 @@ answered-comes met before after names moment octets given text stand sound few k
           let there = put-there came.ports (entered octets moment) (picked picking) entering in
           let judging = subst (λ (w : World). WorldStep w (Judge 0) (Answered given) after) world judges.2 in
           found-comes met before after names moment octets given text stand sound few known free connection found code named value gives
-          (judge-case (with_port came 0 (picked picking)) after picking connection (Answered given) there found refl judging) told
+          (judge-case (with_port came 0 (picked picking)) after picking connection (Answered given) there found refl judging) printed
     ]
 
 -- A cell arrives.
@@ -291,7 +291,7 @@ pub cell-comes : (met : ℕ) (before after : World) (names : List Id) (moment : 
     → Stands met before → WorldInvariant before → met < most_input_lines → names ≡ names_of before.given → PortIs before outside
     → Arrives before octets moment given after
     → answer_text names (vc_of before.shape.side octets) given ≡ Some text → CellComes met before after moment octets text
-cell-comes met before after names moment octets given text stand sound few known free arrives told =
+cell-comes met before after names moment octets given text stand sound few known free arrives printed =
     let is = entered-as before arrives.0 octets moment free arrives.1 in
     answered-comes met before after names moment octets given text stand sound few known free
-    (subst (λ (w : World). IsAnswered w given after) is arrives.2) told
+    (subst (λ (w : World). IsAnswered w given after) is arrives.2) printed

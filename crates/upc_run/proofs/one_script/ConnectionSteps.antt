@@ -25,7 +25,7 @@ use Rattle.upc_run.proofs.one_script.OpenPlaces.{apart-filter, is_taken, open-pl
 use Rattle.upc_run.proofs.one_script.Seen.{Seen, SeenConnection, code_of, found_at, seen, seen_connection, seen_connections, with_at}
 use Rattle.upc_run.proofs.one_script.SeenConnections.{all-filter, all-found, found-seen, gone-filter, gone-seen, line_of, line-freed, some-seen}
 use Rattle.upc_run.proofs.one_script.SeenPrograms.{code-seen}
-use Rattle.upc_run.proofs.one_script.Stands.{Comes, Stands, StandConnections, answered, desk-split, left, refused-comes, retold, stands-later, unnamed}
+use Rattle.upc_run.proofs.one_script.Stands.{Comes, Stands, StandConnections, answered, desk-split, left, refused-comes, reprinted, stands-later, unnamed}
 
 length-connections : (given : List Loading) (connections : List (Vc × Connection)) → length (seen_connections given connections) ≡ length connections
 length-connections given [] = refl
@@ -143,7 +143,7 @@ sets_up-comes : (met : ℕ) (before after : World) (ask : Ask) (vc : Vc) (number
     → Stands met before → 0 < number_in before.given ask.program
     → reply_text (setup vc number wanted) (length before.given) reply ≡ Some text → SetsUp before ask reply after
     → Comes met before after reply (set_text vc) text (set_up (seen before) ask.vc (number_in before.given ask.program) ask.contracts.items)
-sets_up-comes met before after ask vc number wanted reply text stand known told goes =
+sets_up-comes met before after ask vc number wanted reply text stand known printed goes =
     let new = new_connection ask goes.line (before.used + 1) in
     let connections = with-seen before.given before.connections ask.vc new in
     let later = stands-later met before stand in
@@ -152,7 +152,7 @@ sets_up-comes met before after ask vc number wanted reply text stand known told 
     subst (λ others. is_taken line_of others goes.line ≡ false) (sym (gone-filter before.connections ask.vc))
     (taken-filter line_of (λ here. not (is_same_vc ask.vc here.0)) before.connections goes.line untaken) in
     record {
-      told = retold (setup vc number wanted) (length before.given) reply _ text goes.answer told;
+      printed = reprinted (setup vc number wanted) (length before.given) reply _ text goes.answer printed;
       shown = ap seen goes.world ∙ (λ i. record (seen before) { connections = connections i; used = before.used + 1 });
       stands = subst (λ (world : World). Stands (met + 1) world) (sym goes.world) (record {
         programs = later.programs;
@@ -170,15 +170,15 @@ pub setup-comes : (met : ℕ) (before after : World) (ask : Ask) (vc : Vc) (numb
     (answered (seen_setup_fault (seen before) ask.vc (number_in before.given ask.program) ask.contracts.items) (set_text vc)) text
     (left (seen_setup_fault (seen before) ask.vc (number_in before.given ask.program) ask.contracts.items) (seen before)
     (set_up (seen before) ask.vc (number_in before.given ask.program) ask.contracts.items))
-setup-comes met before after ask vc number wanted reply text stand known told step =
+setup-comes met before after ask vc number wanted reply text stand known printed step =
     let P : Option DeskFault → Type 0 = λ found.
     Comes met before after reply (answered found (set_text vc)) text
     (left found (seen before) (set_up (seen before) ask.vc (number_in before.given ask.program) ask.contracts.items)) in
     subst P (setup_fault-seen met before ask stand)
     (desk-split P (λ fault. NotSetUp fault ask) (setup_fault before ask) before after (Setup ask) reply
-    (λ goes. sets_up-comes met before after ask vc number wanted reply text stand known told goes)
+    (λ goes. sets_up-comes met before after ask vc number wanted reply text stand known printed goes)
     (λ lacks.
     let same : NotSetUp NoMemory ask ≡ reply = let e = lacks.answer in cc in
-    let none = retold (setup vc number wanted) (length before.given) reply (NotSetUp NoMemory ask) text (sym same) told in absurd (cc))
+    let none = reprinted (setup vc number wanted) (length before.given) reply (NotSetUp NoMemory ask) text (sym same) printed in absurd (cc))
     (λ fault is. refused-comes met before after reply fault text stand is.world (ap id_loaded is.answer)
-    (retold (setup vc number wanted) (length before.given) reply (NotSetUp fault ask) text is.answer told)) step)
+    (reprinted (setup vc number wanted) (length before.given) reply (NotSetUp fault ask) text is.answer printed)) step)

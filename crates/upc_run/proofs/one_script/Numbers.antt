@@ -71,9 +71,9 @@ number-apart (loading ∷ earlier) one other same some =
     choice (is_same_id one loading.id) (is_same_id other loading.id) refl refl same some
 
 -- So two ids, of which the first has a name, are equal exactly if their numbers are.
-pub number-tells : (given : List Loading) (one other : Id) → 0 < number_in given one
+pub number-gives : (given : List Loading) (one other : Id) → 0 < number_in given one
     → is_same_id one other ≡ (number_in given one == number_in given other)
-number-tells given one other some = elim (id_cases one other) [
+number-gives given one other some = elim (id_cases one other) [
   | inl same ↦
       subst (λ (id : Id). is_same_id one id ≡ true) same (id_itself one)
       ∙ sym (eq-eqb (number_in given one) (number_in given other) (ap (number_in given) same))
@@ -82,9 +82,9 @@ number-tells given one other some = elim (id_cases one other) [
       ∙ sym (ne_eqb (number_in given one) (number_in given other) (λ same. apart (number-apart given one other same some)))
 ]
 
-pub number-tells_back : (given : List Loading) (one other : Id) → 0 < number_in given other
+pub number-gives_back : (given : List Loading) (one other : Id) → 0 < number_in given other
     → is_same_id one other ≡ (number_in given one == number_in given other)
-number-tells_back given one other some = elim (id_cases one other) [
+number-gives_back given one other some = elim (id_cases one other) [
   | inl same ↦
       subst (λ (id : Id). is_same_id one id ≡ true) same (id_itself one)
       ∙ sym (eq-eqb (number_in given one) (number_in given other) (ap (number_in given) same))

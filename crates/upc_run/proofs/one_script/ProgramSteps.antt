@@ -27,7 +27,7 @@ use Rattle.upc_run.proofs.one_script.OpenPlaces.{any-same, apart-filter, is_open
 use Rattle.upc_run.proofs.one_script.Seen.{Seen, code_of, names_number, seen, seen_live, without_program}
 use Rattle.upc_run.proofs.one_script.SeenConnections.{all-filter}
 use Rattle.upc_run.proofs.one_script.SeenPrograms.{code-seen, connections-stay, known-stays, live-stays, named-seen, names-stay, without-filter, without-seen}
-use Rattle.upc_run.proofs.one_script.Stands.{Comes, Stands, StandPrograms, answered, desk-split, left, refused-comes, retold, slot_of, stands-later, unnamed}
+use Rattle.upc_run.proofs.one_script.Stands.{Comes, Stands, StandPrograms, answered, desk-split, left, refused-comes, reprinted, slot_of, stands-later, unnamed}
 
 and-true : (b : Bool) → (b && true) ≡ b
 and-true true = refl
@@ -120,7 +120,7 @@ loaded_text s = Some (line (codes "loaded " ++ program_name (suc s.programs)))
 loads-comes : (met : ℕ) (before after : World) (code : List Instr) (digits : List ℕ) (reply : Reply) (text : List ℕ) → Stands met before
     → WorldInvariant before → reply_text (load digits) (length before.given) reply ≡ Some text → Loads before code reply after
     → Comes met before after reply (loaded_text (seen before)) text (with_program (seen before) code)
-loads-comes met before after code digits reply text stand sound told goes =
+loads-comes met before after code digits reply text stand sound printed goes =
     let loading : Loading = record { id = goes.id; code = code } in
     let next : goes.id.generation ≡ times_given before.given goes.id.slot + 1 =
     subst (λ slot. goes.id.generation ≡ times_given before.given slot + 1) (sym goes.here) goes.next in
@@ -130,7 +130,7 @@ loads-comes met before after code digits reply text stand sound told goes =
     subst (λ slot. is_taken slot_of before.live slot ≡ false) (sym goes.here) (not-true (is_taken slot_of before.live goes.slot) unused.0) in
     let within : goes.id.slot < before.shape.programs = subst (λ slot. slot < before.shape.programs) (sym goes.here) goes.within in
     record {
-      told = retold (load digits) (length before.given) reply (Loaded goes.id) text goes.answer told;
+      printed = reprinted (load digits) (length before.given) reply (Loaded goes.id) text goes.answer printed;
       shown = ap seen goes.world ∙ shown-loaded met before loading stand new;
       stands = subst (λ (world : World). Stands (met + 1) world) (sym goes.world) (stands-loaded met before loading stand new free within);
       named = ap (λ (world : World). names_of world.given) goes.world
@@ -143,15 +143,15 @@ pub load-comes : (met : ℕ) (before after : World) (code : List Instr) (digits 
     → WorldStep before (Load code) reply after
     → Comes met before after reply (answered (seen_load_fault (seen before)) (loaded_text (seen before))) text
     (left (seen_load_fault (seen before)) (seen before) (with_program (seen before) code))
-load-comes met before after code digits reply text stand sound few told step =
+load-comes met before after code digits reply text stand sound few printed step =
     let P : Option DeskFault → Type 0 = λ found.
     Comes met before after reply (answered found (loaded_text (seen before))) text (left found (seen before) (with_program (seen before) code)) in
     subst P (load_fault-seen met before stand few)
     (desk-split P (λ fault. NotLoaded fault code) (load_fault before) before after (Load code) reply
-    (λ goes. loads-comes met before after code digits reply text stand sound told goes)
+    (λ goes. loads-comes met before after code digits reply text stand sound printed goes)
     (λ lacks. let no = lacks.answer in absurd (cc))
     (λ fault is. refused-comes met before after reply fault text stand is.world (ap id_loaded is.answer)
-    (retold (load digits) (length before.given) reply (NotLoaded fault code) text is.answer told)) step)
+    (reprinted (load digits) (length before.given) reply (NotLoaded fault code) text is.answer printed)) step)
 
 -- The reason not to retire a program.
 abbrev pub seen_retire_fault : Seen → ℕ → Option DeskFault
@@ -193,11 +193,11 @@ programs-without met bound given live id stand =
 retires-comes : (met : ℕ) (before after : World) (id : Id) (number : ℕ) (reply : Reply) (text : List ℕ) → Stands met before
     → reply_text (retire number) (length before.given) reply ≡ Some text → Retires before id reply after
     → Comes met before after reply (retired_text number) text (retired (seen before) (number_in before.given id))
-retires-comes met before after id number reply text stand told goes =
+retires-comes met before after id number reply text stand printed goes =
     let live = without-seen before.given before.live stand.programs.known id in
     let later = stands-later met before stand in
     record {
-      told = retold (retire number) (length before.given) reply (Retired goes.code) text goes.answer told;
+      printed = reprinted (retire number) (length before.given) reply (Retired goes.code) text goes.answer printed;
       shown = ap seen goes.world ∙ (λ i. record (seen before) { live = live i });
       stands = subst (λ (world : World). Stands (met + 1) world) (sym goes.world) (record {
         programs = programs-without (met + 1) before.shape.programs before.given before.live id later.programs;
@@ -212,12 +212,12 @@ pub retire-comes : (met : ℕ) (before after : World) (id : Id) (number : ℕ) (
     → reply_text (retire number) (length before.given) reply ≡ Some text → WorldStep before (Retire id) reply after
     → Comes met before after reply (answered (seen_retire_fault (seen before) (number_in before.given id)) (retired_text number)) text
     (left (seen_retire_fault (seen before) (number_in before.given id)) (seen before) (retired (seen before) (number_in before.given id)))
-retire-comes met before after id number reply text stand told step =
+retire-comes met before after id number reply text stand printed step =
     let P : Option DeskFault → Type 0 = λ found.
     Comes met before after reply (answered found (retired_text number)) text (left found (seen before) (retired (seen before) (number_in before.given id))) in
     subst P (retire_fault-seen met before id stand)
     (desk-split P (λ fault. Refused fault) (retire_fault before id) before after (Retire id) reply
-    (λ goes. retires-comes met before after id number reply text stand told goes)
+    (λ goes. retires-comes met before after id number reply text stand printed goes)
     (λ lacks. let no = lacks.answer in absurd (cc))
     (λ fault is. refused-comes met before after reply fault text stand is.world (ap id_loaded is.answer)
-    (retold (retire number) (length before.given) reply (Refused fault) text is.answer told)) step)
+    (reprinted (retire number) (length before.given) reply (Refused fault) text is.answer printed)) step)

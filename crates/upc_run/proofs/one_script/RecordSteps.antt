@@ -26,7 +26,7 @@ use Rattle.upc_run.proofs.one_script.Seen.{Seen, SeenConnection, code_of, found_
 use Rattle.upc_run.proofs.one_script.SeenCells.{drop-nameless, judged-nameless, length-nameless, length-verdicts, take-nameless, verdict_in}
 use Rattle.upc_run.proofs.one_script.SeenConnections.{all-found, gone-seen}
 use Rattle.upc_run.proofs.one_script.SeenPrograms.{code-seen}
-use Rattle.upc_run.proofs.one_script.Stands.{Comes, Stands, answered, desk-split, left, refused-comes, retold, stands-later, unnamed}
+use Rattle.upc_run.proofs.one_script.Stands.{Comes, Stands, answered, desk-split, left, refused-comes, reprinted, stands-later, unnamed}
 
 -- Reload.
 
@@ -54,12 +54,12 @@ reloaded_text vc number = Some (line (codes "reloaded " ++ connection_name vc ++
 reloads-comes : (met : ℕ) (before after : World) (vc : Vc) (id : Id) (number : ℕ) (reply : Reply) (text : List ℕ) → Stands met before
     → 0 < number_in before.given id → reply_text (reload vc number) (length before.given) reply ≡ Some text → Reloads before vc id reply after
     → Comes met before after reply (reloaded_text vc number) text (changed_at (seen before) vc (reloaded (number_in before.given id)))
-reloads-comes met before after vc id number reply text stand known told goes =
+reloads-comes met before after vc id number reply text stand known printed goes =
     let new : Connection = record goes.connection { program = id } in
     let connections = changed-seen before.given before.connections vc goes.connection new (reloaded (number_in before.given id)) goes.found refl in
     let later = stands-later met before stand in
     record {
-      told = retold (reload vc number) (length before.given) reply (Reloaded goes.connection.program) text goes.answer told;
+      printed = reprinted (reload vc number) (length before.given) reply (Reloaded goes.connection.program) text goes.answer printed;
       shown = ap seen goes.world ∙ (λ i. record (seen before) { connections = connections i });
       stands = subst (λ (world : World). Stands (met + 1) world) (sym goes.world) (record {
         programs = later.programs;
@@ -74,16 +74,16 @@ pub reload-comes : (met : ℕ) (before after : World) (vc : Vc) (id : Id) (numbe
     → 0 < number_in before.given id → reply_text (reload vc number) (length before.given) reply ≡ Some text → WorldStep before (Reload vc id) reply after
     → Comes met before after reply (answered (seen_reload_fault (seen before) vc (number_in before.given id)) (reloaded_text vc number)) text
     (left (seen_reload_fault (seen before) vc (number_in before.given id)) (seen before) (changed_at (seen before) vc (reloaded (number_in before.given id))))
-reload-comes met before after vc id number reply text stand known told step =
+reload-comes met before after vc id number reply text stand known printed step =
     let P : Option DeskFault → Type 0 = λ found.
     Comes met before after reply (answered found (reloaded_text vc number)) text
     (left found (seen before) (changed_at (seen before) vc (reloaded (number_in before.given id)))) in
     subst P (reload_fault-seen met before vc id stand)
     (desk-split P (λ fault. Refused fault) (reload_fault before vc id) before after (Reload vc id) reply
-    (λ goes. reloads-comes met before after vc id number reply text stand known told goes)
+    (λ goes. reloads-comes met before after vc id number reply text stand known printed goes)
     (λ lacks. let no = lacks.answer in absurd (cc))
     (λ fault is. refused-comes met before after reply fault text stand is.world (ap id_loaded is.answer)
-    (retold (reload vc number) (length before.given) reply (Refused fault) text is.answer told)) step)
+    (reprinted (reload vc number) (length before.given) reply (Refused fault) text is.answer printed)) step)
 
 -- Pieces.
 
@@ -120,16 +120,16 @@ missing_fault-seen : (world : World) (vc : Vc) → missing_fault world vc ≡ se
 missing_fault-seen world vc = ap (λ b. if b then Some NoConnection else None) (none-seen world.given world.connections vc)
 
 -- The line of a piece, which begins with this word.
-abbrev pub told_piece : List ℕ → Vc → Option SeenConnection → Option (List ℕ)
-told_piece word vc found = option_map (λ connection. line (word ++ connection_name vc ++ kept_text connection)) found
+abbrev pub printed_piece : List ℕ → Vc → Option SeenConnection → Option (List ℕ)
+printed_piece word vc found = option_map (λ connection. line (word ++ connection_name vc ++ kept_text connection)) found
 
-told-piece : (given : List Loading) (connections : List (Vc × Connection)) (vc : Vc) (connection : Connection) (piece : PieceView) (word : List ℕ)
+printed-piece : (given : List Loading) (connections : List (Vc × Connection)) (vc : Vc) (connection : Connection) (piece : PieceView) (word : List ℕ)
     → connection_in connections vc ≡ Some connection
     → piece.entries ≡ judged connection.contracts empty_buckets (handed_cells connection) (kept_cells connection)
-    → told_piece word vc (found_at (seen_connections given connections) vc) ≡ Some (line (word ++ connection_name vc ++ piece_text piece))
-told-piece given connections vc connection piece word found entries =
-    ap (told_piece word vc) (found-there given connections vc connection found)
-    ∙ ap (λ told. Some (line (word ++ connection_name vc ++ told))) (sym (piece-seen given connection piece entries))
+    → printed_piece word vc (found_at (seen_connections given connections) vc) ≡ Some (line (word ++ connection_name vc ++ piece_text piece))
+printed-piece given connections vc connection piece word found entries =
+    ap (printed_piece word vc) (found-there given connections vc connection found)
+    ∙ ap (λ printed. Some (line (word ++ connection_name vc ++ printed))) (sym (piece-seen given connection piece entries))
 
 -- Release.
 
@@ -137,17 +137,17 @@ abbrev pub released : Seen → Vc → Seen
 released s vc = record s { connections = without_at s.connections vc }
 
 abbrev pub released_text : Seen → Vc → Option (List ℕ)
-released_text s vc = told_piece (codes "released ") vc (found_at s.connections vc)
+released_text s vc = printed_piece (codes "released ") vc (found_at s.connections vc)
 
 releases-comes : (met : ℕ) (before after : World) (vc : Vc) (reply : Reply) (text : List ℕ) → Stands met before
     → reply_text (release vc) (length before.given) reply ≡ Some text → Releases before vc reply after
     → Comes met before after reply (released_text (seen before) vc) text (released (seen before) vc)
-releases-comes met before after vc reply text stand told goes =
+releases-comes met before after vc reply text stand printed goes =
     let connections = gone-seen before.given before.connections vc in
     let later = stands-later met before stand in
     record {
-      told = told-piece before.given before.connections vc goes.connection goes.piece (codes "released ") goes.found goes.last.entries
-          ∙ retold (release vc) (length before.given) reply (Released goes.piece) text goes.answer told;
+      printed = printed-piece before.given before.connections vc goes.connection goes.piece (codes "released ") goes.found goes.last.entries
+          ∙ reprinted (release vc) (length before.given) reply (Released goes.piece) text goes.answer printed;
       shown = ap seen goes.world ∙ (λ i. record (seen before) { connections = connections i });
       stands = subst (λ (world : World). Stands (met + 1) world) (sym goes.world) (record {
         programs = later.programs;
@@ -162,15 +162,15 @@ pub release-comes : (met : ℕ) (before after : World) (vc : Vc) (reply : Reply)
     → reply_text (release vc) (length before.given) reply ≡ Some text → WorldStep before (Release vc) reply after
     → Comes met before after reply (answered (seen_missing_fault (seen before) vc) (released_text (seen before) vc)) text
     (left (seen_missing_fault (seen before) vc) (seen before) (released (seen before) vc))
-release-comes met before after vc reply text stand told step =
+release-comes met before after vc reply text stand printed step =
     let P : Option DeskFault → Type 0 = λ found.
     Comes met before after reply (answered found (released_text (seen before) vc)) text (left found (seen before) (released (seen before) vc)) in
     subst P (missing_fault-seen before vc)
     (desk-split P (λ fault. Refused fault) (missing_fault before vc) before after (Release vc) reply
-    (λ goes. releases-comes met before after vc reply text stand told goes)
+    (λ goes. releases-comes met before after vc reply text stand printed goes)
     (λ lacks. let no = lacks.answer in absurd (cc))
     (λ fault is. refused-comes met before after reply fault text stand is.world (ap id_loaded is.answer)
-    (retold (release vc) (length before.given) reply (Refused fault) text is.answer told)) step)
+    (reprinted (release vc) (length before.given) reply (Refused fault) text is.answer printed)) step)
 
 -- Cut.
 
@@ -178,12 +178,12 @@ abbrev pub handed_out : SeenConnection → SeenConnection
 handed_out connection = record connection { handed = length connection.history }
 
 abbrev pub cut_text : Seen → Vc → Option (List ℕ)
-cut_text s vc = told_piece (codes "cut ") vc (found_at s.connections vc)
+cut_text s vc = printed_piece (codes "cut ") vc (found_at s.connections vc)
 
 cuts-comes : (met : ℕ) (before after : World) (vc : Vc) (reply : Reply) (text : List ℕ) → Stands met before
     → reply_text (cut vc) (length before.given) reply ≡ Some text → Cuts before vc reply after
     → Comes met before after reply (cut_text (seen before) vc) text (changed_at (seen before) vc handed_out)
-cuts-comes met before after vc reply text stand told goes =
+cuts-comes met before after vc reply text stand printed goes =
     let new : Connection = record goes.connection { handed = length goes.connection.history } in
     let many = length-nameless goes.connection.history in
     let same : seen_connection before.given new ≡ handed_out (seen_connection before.given goes.connection) =
@@ -192,8 +192,8 @@ cuts-comes met before after vc reply text stand told goes =
     let known = all-found (λ connection. 0 < number_in before.given connection.program) before.connections vc goes.connection stand.connections.known goes.found in
     let later = stands-later met before stand in
     record {
-      told = told-piece before.given before.connections vc goes.connection goes.piece (codes "cut ") goes.found goes.next.entries
-          ∙ retold (cut vc) (length before.given) reply (CutOff goes.piece) text goes.answer told;
+      printed = printed-piece before.given before.connections vc goes.connection goes.piece (codes "cut ") goes.found goes.next.entries
+          ∙ reprinted (cut vc) (length before.given) reply (CutOff goes.piece) text goes.answer printed;
       shown = ap seen goes.world ∙ (λ i. record (seen before) { connections = connections i });
       stands = subst (λ (world : World). Stands (met + 1) world) (sym goes.world) (record {
         programs = later.programs;
@@ -208,14 +208,14 @@ pub cut-comes : (met : ℕ) (before after : World) (vc : Vc) (reply : Reply) (te
     → reply_text (cut vc) (length before.given) reply ≡ Some text → WorldStep before (Cut vc) reply after
     → Comes met before after reply (answered (seen_missing_fault (seen before) vc) (cut_text (seen before) vc)) text
     (left (seen_missing_fault (seen before) vc) (seen before) (changed_at (seen before) vc handed_out))
-cut-comes met before after vc reply text stand told step =
+cut-comes met before after vc reply text stand printed step =
     let P : Option DeskFault → Type 0 = λ found.
     Comes met before after reply (answered found (cut_text (seen before) vc)) text (left found (seen before) (changed_at (seen before) vc handed_out)) in
     subst P (missing_fault-seen before vc)
     (desk-split P (λ fault. Refused fault) (missing_fault before vc) before after (Cut vc) reply
-    (λ goes. cuts-comes met before after vc reply text stand told goes)
+    (λ goes. cuts-comes met before after vc reply text stand printed goes)
     (λ lacks.
     let same : Refused NoMemory ≡ reply = let e = lacks.answer in cc in
-    let none = retold (cut vc) (length before.given) reply (Refused NoMemory) text (sym same) told in absurd (cc))
+    let none = reprinted (cut vc) (length before.given) reply (Refused NoMemory) text (sym same) printed in absurd (cc))
     (λ fault is. refused-comes met before after reply fault text stand is.world (ap id_loaded is.answer)
-    (retold (cut vc) (length before.given) reply (Refused fault) text is.answer told)) step)
+    (reprinted (cut vc) (length before.given) reply (Refused fault) text is.answer printed)) step)

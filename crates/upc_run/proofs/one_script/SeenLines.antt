@@ -123,10 +123,10 @@ module _ (met : ℕ) (few : met < most_input_lines) (before : Card) (behind : Is
       → TakesCommand before command step text after → LineComes met after (TakesSeen found next text)
   takes-come command step found next comes takes =
       let many = ap length behind.names ∙ length-names before.world.given in
-      let told = subst (λ n. reply_text command n takes.reply ≡ Some text) many takes.told in
-      let done = comes takes.reply takes.stepped told in
+      let printed = subst (λ n. reply_text command n takes.reply ≡ Some text) many takes.printed in
+      let done = comes takes.reply takes.stepped printed in
       record {
-        shown = (done.told, done.shown);
+        shown = (done.printed, done.shown);
         stands = done.stands;
         names = takes.named ∙ ap (λ ids. ids ++ id_loaded takes.reply) behind.names ∙ sym done.named;
       }
@@ -169,7 +169,7 @@ module _ (met : ℕ) (few : met < most_input_lines) (before : Card) (behind : Is
   reading-comes digits (is_program code) takes =
       takes-come (load digits) (Load code) (answered (seen_load_fault (seen before.world)) (loaded_text (seen before.world)))
       (left (seen_load_fault (seen before.world)) (seen before.world) (with_program (seen before.world) code))
-      (λ reply step told. load-comes met before.world after.world code digits reply text behind.stands sound few told step) takes
+      (λ reply step printed. load-comes met before.world after.world code digits reply text behind.stands sound few printed step) takes
   reading-comes digits (is_refused fault) refuses = refuses-comes fault refuses
 
   loads-come : (digits octets : List ℕ) → LoadsOctets before digits octets text after → LineComes met after (LoadsSeen (seen before.world) octets text)
@@ -190,10 +190,10 @@ module _ (met : ℕ) (few : met < most_input_lines) (before : Card) (behind : Is
       (λ id is some taken.
       takes-come (retire number) (Retire id) (answered (seen_retire_fault (seen before.world) number) (retired_text number))
       (left (seen_retire_fault (seen before.world) number) (seen before.world) (retired (seen before.world) number))
-      (λ reply step told.
+      (λ reply step printed.
       subst (λ n. Comes met before.world after.world reply (answered (seen_retire_fault (seen before.world) n) (retired_text number)) text
       (left (seen_retire_fault (seen before.world) n) (seen before.world) (retired (seen before.world) n)))
-      is (retire-comes met before.world after.world id number reply text behind.stands told step)) taken) takes
+      is (retire-comes met before.world after.world id number reply text behind.stands printed step)) taken) takes
 
   -- A connection is given another program.
   reload-line : (vc : Vc) (number : ℕ) → Obeys before (reload vc number) text after → LineComes met after (ObeysSeen (seen before.world) (reload vc number) text)
@@ -202,10 +202,10 @@ module _ (met : ℕ) (few : met < most_input_lines) (before : Card) (behind : Is
       (λ id is some taken.
       takes-come (reload vc number) (Reload vc id) (answered (seen_reload_fault (seen before.world) vc number) (reloaded_text vc number))
       (left (seen_reload_fault (seen before.world) vc number) (seen before.world) (changed_at (seen before.world) vc (reloaded number)))
-      (λ reply step told.
+      (λ reply step printed.
       subst (λ n. Comes met before.world after.world reply (answered (seen_reload_fault (seen before.world) vc n) (reloaded_text vc number)) text
       (left (seen_reload_fault (seen before.world) vc n) (seen before.world) (changed_at (seen before.world) vc (reloaded n))))
-      is (reload-comes met before.world after.world vc id number reply text behind.stands (subst (λ n. 0 < n) (sym is) some) told step)) taken) takes
+      is (reload-comes met before.world after.world vc id number reply text behind.stands (subst (λ n. 0 < n) (sym is) some) printed step)) taken) takes
 
   -- A connection is set up.
   asks-come : (vc : Vc) (number : ℕ) (wanted : List Wanted) (id : Id) → number_in before.world.given id ≡ number → 0 < number
@@ -216,14 +216,14 @@ module _ (met : ℕ) (few : met < most_input_lines) (before : Card) (behind : Is
       let done = takes-come (setup vc number wanted) (Setup asks.ask)
       (answered (seen_setup_fault (seen before.world) vc number contracts) (set_text vc))
       (left (seen_setup_fault (seen before.world) vc number contracts) (seen before.world) (set_up (seen before.world) vc number contracts))
-      (λ reply step told.
+      (λ reply step printed.
       subst (λ (at : Vc). Comes met before.world after.world reply (answered (seen_setup_fault (seen before.world) at number contracts) (set_text vc)) text
       (left (seen_setup_fault (seen before.world) at number contracts) (seen before.world) (set_up (seen before.world) at number contracts)))
       asks.connection
       (subst (λ n. Comes met before.world after.world reply (answered (seen_setup_fault (seen before.world) asks.ask.vc n contracts) (set_text vc)) text
       (left (seen_setup_fault (seen before.world) asks.ask.vc n contracts) (seen before.world) (set_up (seen before.world) asks.ask.vc n contracts)))
       own
-      (setup-comes met before.world after.world asks.ask vc number wanted reply text behind.stands (subst (λ n. 0 < n) (sym own) some) told step)))
+      (setup-comes met before.world after.world asks.ask vc number wanted reply text behind.stands (subst (λ n. 0 < n) (sym own) some) printed step)))
       asks.taken in
       record { shown = (contracts, asks.contracts, done.shown); stands = done.stands; names = done.names }
 
@@ -242,7 +242,7 @@ module _ (met : ℕ) (few : met < most_input_lines) (before : Card) (behind : Is
       → LineComes met after (PolicesSeen (seen before.world) moment octets text)
   polices-come moment octets polices =
       let done = cell-comes met before.world after.world before.names moment octets polices.answer text behind.stands sound few behind.names behind.led.free
-      polices.arrived polices.told in
+      polices.arrived polices.printed in
       record { shown = done.shown; stands = done.stands; names = polices.same ∙ behind.names ∙ ap names_of (sym done.same) }
 
   sized-line : (moment : ℕ) (octets : List ℕ) (b : Bool)
@@ -266,11 +266,11 @@ module _ (met : ℕ) (few : met < most_input_lines) (before : Card) (behind : Is
   obeys-come (release vc) obeys =
       takes-come (release vc) (Release vc) (answered (seen_missing_fault (seen before.world) vc) (released_text (seen before.world) vc))
       (left (seen_missing_fault (seen before.world) vc) (seen before.world) (released (seen before.world) vc))
-      (λ reply step told. release-comes met before.world after.world vc reply text behind.stands told step) obeys
+      (λ reply step printed. release-comes met before.world after.world vc reply text behind.stands printed step) obeys
   obeys-come (cut vc) obeys =
       takes-come (cut vc) (Cut vc) (answered (seen_missing_fault (seen before.world) vc) (cut_text (seen before.world) vc))
       (left (seen_missing_fault (seen before.world) vc) (seen before.world) (changed_at (seen before.world) vc handed_out))
-      (λ reply step told. cut-comes met before.world after.world vc reply text behind.stands told step) obeys
+      (λ reply step printed. cut-comes met before.world after.world vc reply text behind.stands printed step) obeys
   obeys-come (cell moment digits) obeys = cell-line moment (octets_of_digits digits) obeys
 
   words-come : (found : Option Command) → MatchOption found (RefusesLine bad_line before text after) (λ command. Obeys before command text after)

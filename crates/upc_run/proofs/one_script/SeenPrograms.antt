@@ -5,7 +5,7 @@ use Rattle.upc_cell.specs.declared.vc.Vc.{Vc}
 use Rattle.gen_arena.specs.SameId.{is_same_id}
 use Rattle.gen_arena.specs.declared.id.Id.{Id}
 use Rattle.card_core.specs.World.{Connection, Loading, code_in, without_code}
-use Rattle.upc_run.proofs.one_script.Numbers.{number_in, number-stays, number-tells, number-tells_back}
+use Rattle.upc_run.proofs.one_script.Numbers.{number_in, number-stays, number-gives, number-gives_back}
 use Rattle.upc_run.proofs.one_script.Seen.{code_of, names_number, seen_connection, seen_connections, seen_live, seen_program, without_program}
 
 -- Each of the codes has a name.
@@ -20,7 +20,7 @@ pub code-seen : (given live : List Loading) → AreKnown given live → (id : Id
     → code_of (seen_live given live) (number_in given id) ≡ code_in live id
 code-seen given [] known id = refl
 code-seen given (loading ∷ later) known id =
-    let same = number-tells_back given id loading.id known.0 in
+    let same = number-gives_back given id loading.id known.0 in
     let rest = code-seen given later known.1 id in
     λ i. if sym same i then Some loading.code else rest i
 
@@ -28,7 +28,7 @@ pub without-seen : (given live : List Loading) → AreKnown given live → (id :
     → seen_live given (without_code live id) ≡ without_program (seen_live given live) (number_in given id)
 without-seen given [] known id = refl
 without-seen given (loading ∷ later) known id =
-    let same = number-tells_back given id loading.id known.0 in
+    let same = number-gives_back given id loading.id known.0 in
     let rest = without-seen given later known.1 id in
     let choice : (b : Bool) → seen_live given (if b then without_code later id else loading ∷ without_code later id)
     ≡ (if b then without_program (seen_live given later) (number_in given id)
@@ -44,7 +44,7 @@ pub named-seen : (given : List Loading) (connections : List (Vc × Connection)) 
     → list_any (λ here. is_same_id here.1.program id) connections ≡ names_number (seen_connections given connections) (number_in given id)
 named-seen given [] known id = refl
 named-seen given (here ∷ later) known id =
-    let same = number-tells given here.1.program id known.0 in
+    let same = number-gives given here.1.program id known.0 in
     let rest = named-seen given later known.1 id in
     λ i. same i || rest i
 

@@ -70,7 +70,7 @@ stands-later met world stand = record {
 -- A line led from one world to another with this reply: its text is the given one, the view after it is the given one,
 -- and the invariant holds after one more line.
 pub record Comes (met : ℕ) (before after : World) (reply : Reply) (found : Option (List ℕ)) (text : List ℕ) (to : Seen) : Type 0 where
-  pub told : found ≡ Some text
+  pub printed : found ≡ Some text
   pub shown : seen after ≡ to
   pub stands : Stands (met + 1) after
   pub named : names_of after.given ≡ names_of before.given ++ id_loaded reply
@@ -86,9 +86,9 @@ left None before after = after
 left (Some fault) before after = before
 
 -- The text of a reply that is known.
-pub retold : (command : Command) (programs : ℕ) (reply known : Reply) (text : List ℕ) → reply ≡ known
+pub reprinted : (command : Command) (programs : ℕ) (reply known : Reply) (text : List ℕ) → reply ≡ known
     → reply_text command programs reply ≡ Some text → reply_text command programs known ≡ Some text
-retold command programs reply known text same told = ap (reply_text command programs) (sym same) ∙ told
+reprinted command programs reply known text same printed = ap (reply_text command programs) (sym same) ∙ printed
 
 -- No name is given.
 pub unnamed : (before after : World) (reply : Reply) → after.given ≡ before.given → id_loaded reply ≡ []
@@ -99,8 +99,8 @@ unnamed before after reply same none =
 -- The desk refuses with an error.
 pub refused-comes : (met : ℕ) (before after : World) (reply : Reply) (fault : DeskFault) (text : List ℕ) → Stands met before
     → after ≡ before → id_loaded reply ≡ [] → desk_fault fault ≡ Some text → Comes met before after reply (desk_fault fault) text (seen before)
-refused-comes met before after reply fault text stand same none told = record {
-  told = told;
+refused-comes met before after reply fault text stand same none printed = record {
+  printed = printed;
   shown = ap seen same;
   stands = subst (λ (world : World). Stands (met + 1) world) (sym same) (stands-later met before stand);
   named = unnamed before after reply (ap (λ (world : World). world.given) same) none;

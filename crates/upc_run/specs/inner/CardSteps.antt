@@ -26,11 +26,11 @@ use Rattle.upc_card_lines.specs.Replies.{answer_text, reply_text}
 use Rattle.upc_script.specs.declared.script_words.Wanted.{Wanted}
 
 -- There is a text.
-abbrev pub Told : Option (List ℕ) → Type 0
-Told found = (text : List ℕ) × (found ≡ Some text)
+abbrev pub IsPrinted : Option (List ℕ) → Type 0
+IsPrinted found = (text : List ℕ) × (found ≡ Some text)
 
 -- A text that is computed to exist exists.
-text-there : (found : Option (List ℕ)) → is_some found ≡ true → Told found
+text-there : (found : Option (List ℕ)) → is_some found ≡ true → IsPrinted found
 text-there None e = let no : false ≡ true = e in cc
 text-there (Some text) e = (text, refl)
 
@@ -38,21 +38,21 @@ text-there (Some text) e = (text, refl)
 abbrev pub Spares : Reply → Type 0
 Spares reply = is_of_memory reply ≡ false
 
-named-told : (name : List ℕ) → Told (option_map (λ named. line (codes "fault desk " ++ named)) (Some name))
-named-told name = (line (codes "fault desk " ++ name), refl)
+named-printed : (name : List ℕ) → IsPrinted (option_map (λ named. line (codes "fault desk " ++ named)) (Some name))
+named-printed name = (line (codes "fault desk " ++ name), refl)
 
-desk-told : (fault : DeskFault) → Spares (Refused fault) → Told (desk_fault fault)
-desk-told desk.NoProgram e = named-told (codes "1 NoProgram")
-desk-told desk.NoConnection e = named-told (codes "2 NoConnection")
-desk-told desk.Taken e = named-told (codes "3 Taken")
-desk-told desk.NoLine e = named-told (codes "4 NoLine")
-desk-told desk.InUse e = named-told (codes "5 InUse")
-desk-told desk.ProgramsFull e = named-told (codes "6 ProgramsFull")
-desk-told desk.Exhausted e = named-told (codes "7 Exhausted")
-desk-told desk.BadContracts e = named-told (codes "8 BadContracts")
-desk-told desk.Busy e = named-told (codes "9 Busy")
-desk-told desk.NoMemory e = let no : true ≡ false = e in cc
-desk-told desk.Stale e = named-told (codes "11 Stale")
+desk-printed : (fault : DeskFault) → Spares (Refused fault) → IsPrinted (desk_fault fault)
+desk-printed desk.NoProgram e = named-printed (codes "1 NoProgram")
+desk-printed desk.NoConnection e = named-printed (codes "2 NoConnection")
+desk-printed desk.Taken e = named-printed (codes "3 Taken")
+desk-printed desk.NoLine e = named-printed (codes "4 NoLine")
+desk-printed desk.InUse e = named-printed (codes "5 InUse")
+desk-printed desk.ProgramsFull e = named-printed (codes "6 ProgramsFull")
+desk-printed desk.Exhausted e = named-printed (codes "7 Exhausted")
+desk-printed desk.BadContracts e = named-printed (codes "8 BadContracts")
+desk-printed desk.Busy e = named-printed (codes "9 Busy")
+desk-printed desk.NoMemory e = let no : true ≡ false = e in cc
+desk-printed desk.Stale e = named-printed (codes "11 Stale")
 
 not_loaded : (fault : DeskFault) (code : List Instr) → is_of_memory (NotLoaded fault code) ≡ is_of_memory (Refused fault)
 not_loaded desk.NoMemory code = refl
@@ -62,19 +62,19 @@ not_set_up : (fault : DeskFault) (ask : Ask) → is_of_memory (NotSetUp fault as
 not_set_up desk.NoMemory ask = refl
 not_set_up _ ask = refl
 
-arrive-told : (name : List ℕ) → Told (Some (arrive_fault name))
-arrive-told name = (arrive_fault name, refl)
+arrive-printed : (name : List ℕ) → IsPrinted (Some (arrive_fault name))
+arrive-printed name = (arrive_fault name, refl)
 
-pub answer-told : (names : List Id) (vc : Vc) (given : Answer) → Spares (Answered given) → Told (answer_text names vc given)
-answer-told names vc (answer.Judged number count moment value program verdict leaving) e =
+pub answer-printed : (names : List Id) (vc : Vc) (given : Answer) → Spares (Answered given) → IsPrinted (answer_text names vc given)
+answer-printed names vc (answer.Judged number count moment value program verdict leaving) e =
     text-there (answer_text names vc (answer.Judged number count moment value program verdict leaving)) refl
-answer-told names vc answer.NoConnection e = arrive-told (codes "1 NoConnection")
-answer-told names vc answer.Released e = arrive-told (codes "2 Released")
-answer-told names vc answer.Stale e = arrive-told (codes "3 Stale")
-answer-told names vc (answer.MomentBack last) e = arrive-told (codes "4 MomentBack " ++ decimal last)
-answer-told names vc answer.MomentTooLate e = arrive-told (codes "5 MomentTooLate")
-answer-told names vc answer.JournalFull e = arrive-told (codes "6 JournalFull")
-answer-told names vc answer.NoMemory e = let no : true ≡ false = e in cc
+answer-printed names vc answer.NoConnection e = arrive-printed (codes "1 NoConnection")
+answer-printed names vc answer.Released e = arrive-printed (codes "2 Released")
+answer-printed names vc answer.Stale e = arrive-printed (codes "3 Stale")
+answer-printed names vc (answer.MomentBack last) e = arrive-printed (codes "4 MomentBack " ++ decimal last)
+answer-printed names vc answer.MomentTooLate e = arrive-printed (codes "5 MomentTooLate")
+answer-printed names vc answer.JournalFull e = arrive-printed (codes "6 JournalFull")
+answer-printed names vc answer.NoMemory e = let no : true ≡ false = e in cc
 
 -- A step of the desk succeeds, fails to allocate, or is refused with an error.
 pub desk-cases : (P : Type 0) (wrap : DeskFault → Reply) (found : Option DeskFault) (before after : World) (step : Step) (reply : Reply)
@@ -88,55 +88,55 @@ desk-cases P wrap (Some fault) before after step reply succeeds lacks refused is
 
 -- If the reply to a command reports no allocation failure, it has a line.
 abbrev HasText : Command → ℕ → Reply → Type 0
-HasText command programs reply = Spares reply → Told (reply_text command programs reply)
+HasText command programs reply = Spares reply → IsPrinted (reply_text command programs reply)
 
-tells : (command : Command) (programs : ℕ) (reply known : Reply) → reply ≡ known → HasText command programs known → HasText command programs reply
-tells command programs reply known same told = subst (λ r. HasText command programs r) (sym same) told
+prints : (command : Command) (programs : ℕ) (reply known : Reply) → reply ≡ known → HasText command programs known → HasText command programs reply
+prints command programs reply known same printed = subst (λ r. HasText command programs r) (sym same) printed
 
-pub load-told : (before after : World) (code : List Instr) (digits : List ℕ) (programs : ℕ) (reply : Reply)
-    → WorldStep before (Load code) reply after → Spares reply → Told (reply_text (load digits) programs reply)
-load-told before after code digits programs reply =
+pub load-printed : (before after : World) (code : List Instr) (digits : List ℕ) (programs : ℕ) (reply : Reply)
+    → WorldStep before (Load code) reply after → Spares reply → IsPrinted (reply_text (load digits) programs reply)
+load-printed before after code digits programs reply =
     desk-cases (HasText (load digits) programs reply) (λ fault. NotLoaded fault code) (load_fault before) before after (Load code) reply
-    (λ s. tells (load digits) programs reply _ s.answer (λ e. text-there _ refl))
+    (λ s. prints (load digits) programs reply _ s.answer (λ e. text-there _ refl))
     (λ l. let no = l.answer in cc)
-    (λ fault r. tells (load digits) programs reply _ r.answer (λ e. desk-told fault (sym (not_loaded fault code) ∙ e)))
+    (λ fault r. prints (load digits) programs reply _ r.answer (λ e. desk-printed fault (sym (not_loaded fault code) ∙ e)))
 
-pub retire-told : (before after : World) (id : Id) (number programs : ℕ) (reply : Reply)
-    → WorldStep before (Retire id) reply after → Spares reply → Told (reply_text (retire number) programs reply)
-retire-told before after id number programs reply =
+pub retire-printed : (before after : World) (id : Id) (number programs : ℕ) (reply : Reply)
+    → WorldStep before (Retire id) reply after → Spares reply → IsPrinted (reply_text (retire number) programs reply)
+retire-printed before after id number programs reply =
     desk-cases (HasText (retire number) programs reply) (λ fault. Refused fault) (retire_fault before id) before after (Retire id) reply
-    (λ s. tells (retire number) programs reply _ s.answer (λ e. text-there _ refl))
+    (λ s. prints (retire number) programs reply _ s.answer (λ e. text-there _ refl))
     (λ l. let no = l.answer in cc)
-    (λ fault r. tells (retire number) programs reply _ r.answer (desk-told fault))
+    (λ fault r. prints (retire number) programs reply _ r.answer (desk-printed fault))
 
-pub setup-told : (before after : World) (ask : Ask) (vc : Vc) (number : ℕ) (wanted : List Wanted) (programs : ℕ) (reply : Reply)
-    → WorldStep before (Setup ask) reply after → Spares reply → Told (reply_text (setup vc number wanted) programs reply)
-setup-told before after ask vc number wanted programs reply =
+pub setup-printed : (before after : World) (ask : Ask) (vc : Vc) (number : ℕ) (wanted : List Wanted) (programs : ℕ) (reply : Reply)
+    → WorldStep before (Setup ask) reply after → Spares reply → IsPrinted (reply_text (setup vc number wanted) programs reply)
+setup-printed before after ask vc number wanted programs reply =
     desk-cases (HasText (setup vc number wanted) programs reply) (λ fault. NotSetUp fault ask) (setup_fault before ask) before after (Setup ask) reply
-    (λ s. tells (setup vc number wanted) programs reply _ s.answer (λ e. text-there _ refl))
+    (λ s. prints (setup vc number wanted) programs reply _ s.answer (λ e. text-there _ refl))
     (λ l e. let same : NotSetUp desk.NoMemory ask ≡ reply = cc in let no : true ≡ false = ap is_of_memory same ∙ e in cc)
-    (λ fault r. tells (setup vc number wanted) programs reply _ r.answer (λ e. desk-told fault (sym (not_set_up fault ask) ∙ e)))
+    (λ fault r. prints (setup vc number wanted) programs reply _ r.answer (λ e. desk-printed fault (sym (not_set_up fault ask) ∙ e)))
 
-pub reload-told : (before after : World) (vc : Vc) (id : Id) (number programs : ℕ) (reply : Reply)
-    → WorldStep before (Reload vc id) reply after → Spares reply → Told (reply_text (reload vc number) programs reply)
-reload-told before after vc id number programs reply =
+pub reload-printed : (before after : World) (vc : Vc) (id : Id) (number programs : ℕ) (reply : Reply)
+    → WorldStep before (Reload vc id) reply after → Spares reply → IsPrinted (reply_text (reload vc number) programs reply)
+reload-printed before after vc id number programs reply =
     desk-cases (HasText (reload vc number) programs reply) (λ fault. Refused fault) (reload_fault before vc id) before after (Reload vc id) reply
-    (λ s. tells (reload vc number) programs reply _ s.answer (λ e. text-there _ refl))
+    (λ s. prints (reload vc number) programs reply _ s.answer (λ e. text-there _ refl))
     (λ l. let no = l.answer in cc)
-    (λ fault r. tells (reload vc number) programs reply _ r.answer (desk-told fault))
+    (λ fault r. prints (reload vc number) programs reply _ r.answer (desk-printed fault))
 
-pub release-told : (before after : World) (vc : Vc) (programs : ℕ) (reply : Reply)
-    → WorldStep before (Release vc) reply after → Spares reply → Told (reply_text (release vc) programs reply)
-release-told before after vc programs reply =
+pub release-printed : (before after : World) (vc : Vc) (programs : ℕ) (reply : Reply)
+    → WorldStep before (Release vc) reply after → Spares reply → IsPrinted (reply_text (release vc) programs reply)
+release-printed before after vc programs reply =
     desk-cases (HasText (release vc) programs reply) (λ fault. Refused fault) (missing_fault before vc) before after (Release vc) reply
-    (λ s. tells (release vc) programs reply _ s.answer (λ e. text-there _ refl))
+    (λ s. prints (release vc) programs reply _ s.answer (λ e. text-there _ refl))
     (λ l. let no = l.answer in cc)
-    (λ fault r. tells (release vc) programs reply _ r.answer (desk-told fault))
+    (λ fault r. prints (release vc) programs reply _ r.answer (desk-printed fault))
 
-pub cut-told : (before after : World) (vc : Vc) (programs : ℕ) (reply : Reply)
-    → WorldStep before (Cut vc) reply after → Spares reply → Told (reply_text (cut vc) programs reply)
-cut-told before after vc programs reply =
+pub cut-printed : (before after : World) (vc : Vc) (programs : ℕ) (reply : Reply)
+    → WorldStep before (Cut vc) reply after → Spares reply → IsPrinted (reply_text (cut vc) programs reply)
+cut-printed before after vc programs reply =
     desk-cases (HasText (cut vc) programs reply) (λ fault. Refused fault) (missing_fault before vc) before after (Cut vc) reply
-    (λ s. tells (cut vc) programs reply _ s.answer (λ e. text-there _ refl))
+    (λ s. prints (cut vc) programs reply _ s.answer (λ e. text-there _ refl))
     (λ l e. let same : Refused desk.NoMemory ≡ reply = cc in let no : true ≡ false = ap is_of_memory same ∙ e in cc)
-    (λ fault r. tells (cut vc) programs reply _ r.answer (desk-told fault))
+    (λ fault r. prints (cut vc) programs reply _ r.answer (desk-printed fault))

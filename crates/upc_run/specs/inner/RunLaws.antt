@@ -50,7 +50,7 @@ use Rattle.upc_run.specs.RunText.{Arrives, AsksConnection, Card, IsAnswered, IsL
 use Rattle.upc_script.specs.declared.script_words.Rate.{Rate}
 use Rattle.upc_script.specs.declared.script_words.Wanted.{Wanted}
 use Rattle.upc_script.specs.declared.script_words.Wanted.TheVariants as wanted
-use Rattle.upc_run.specs.inner.CardSteps.{Spares, Told, answer-told, cut-told, load-told, release-told, reload-told, retire-told, setup-told}
+use Rattle.upc_run.specs.inner.CardSteps.{Spares, IsPrinted, answer-printed, cut-printed, load-printed, release-printed, reload-printed, retire-printed, setup-printed}
 use Rattle.upc_codes.proofs.Public.{reads-as}
 use Rattle.upc_run.specs.inner.PortZero.{PortIs, cut-ports, enter-goes, judge-goes, load-ports, pick-goes, release-ports, reload-ports, retire-ports, setup-ports}
 
@@ -102,14 +102,14 @@ led-refused before after fault text led refused = subst IsLed (sym refused.1) le
 
 -- A step of the desk is taken, and its reply has a line.
 takes : (before : Card) (command : Command) (step : Step) → IsLed before → LoadsAccepted step
-    → ((after : World) (reply : Reply) → WorldStep before.world step reply after → Spares reply → Told (reply_text command (length before.names) reply))
+    → ((after : World) (reply : Reply) → WorldStep before.world step reply after → Spares reply → IsPrinted (reply_text command (length before.names) reply))
     → (text : List ℕ) × (after : Card) × TakesCommand before command step text after
-takes before command step led accepted told =
+takes before command step led accepted printed =
     let replied = step-replied led.shape led.log before.world led.leads step accepted in
-    let line = told replied.1 replied.0 replied.2 replied.3 in (
+    let line = printed replied.1 replied.0 replied.2 replied.3 in (
       line.0,
       record { world = replied.1; names = before.names ++ id_loaded replied.0 },
-      record { reply = replied.0; stepped = replied.2; named = refl; told = line.1 },
+      record { reply = replied.0; stepped = replied.2; named = refl; printed = line.1 },
     )
 
 -- Rates without an error are parameters of a bucket.
@@ -177,7 +177,7 @@ reading-some : (before : Card) (digits octets : List ℕ) → IsLed before → (
     → (text : List ℕ) × (after : Card) × TakesReading before digits reading text after
 reading-some before digits octets led (is_program code) reads =
     takes before (load digits) (Load code) led (accepted-of octets code reads)
-    (λ after reply. load-told before.world after code digits (length before.names) reply)
+    (λ after reply. load-printed before.world after code digits (length before.names) reply)
 reading-some before digits octets led (is_refused fault) reads = (fault, before, (refl, refl))
 
 octets-some : (before : Card) (digits octets : List ℕ) → IsLed before → (text : List ℕ) × (after : Card) × LoadsOctets before digits octets text after
@@ -212,22 +212,22 @@ cell-some before moment octets led =
     let two = step-replied led.shape _ one.1 came.leads (Pick 0) tt in
     elim (pick-goes one.1 two.1 octets moment two.0 entering.1 two.2) [
       | inl missed ↦
-          let told = answer-told before.names (vc_of before.world.shape.side octets) missed.0 (subst Spares missed.1 two.3) in
+          let printed = answer-printed before.names (vc_of before.world.shape.side octets) missed.0 (subst Spares missed.1 two.3) in
           let second = subst (λ (r : Reply). WorldStep one.1 (Pick 0) r two.1) missed.1 two.2 in (
-            told.0,
+            printed.0,
             record { world = two.1; names = before.names },
-            record { answer = missed.0; arrived = (one.1, first, inl second); same = refl; told = told.1 },
+            record { answer = missed.0; arrived = (one.1, first, inl second); same = refl; printed = printed.1 },
           )
       | inr found ↦
           let second = subst (λ (r : Reply). WorldStep one.1 (Pick 0) r two.1) found.1 two.2 in
           let went = behind-quiet led.shape _ one.1 two.1 before.names (Pick 0) Picked came second refl in
           let three = step-replied led.shape _ two.1 went.leads (Judge 0) tt in
           let given = judge-goes two.1 three.1 found.0 three.0 found.2 three.2 in
-          let told = answer-told before.names (vc_of before.world.shape.side octets) given.0 (subst Spares given.1 three.3) in
+          let printed = answer-printed before.names (vc_of before.world.shape.side octets) given.0 (subst Spares given.1 three.3) in
           let third = subst (λ (r : Reply). WorldStep two.1 (Judge 0) r three.1) given.1 three.2 in (
-            told.0,
+            printed.0,
             record { world = three.1; names = before.names },
-            record { answer = given.0; arrived = (one.1, first, inr (two.1, second, third)); same = refl; told = told.1 },
+            record { answer = given.0; arrived = (one.1, first, inr (two.1, second, third)); same = refl; printed = printed.1 },
           )
     ]
 
@@ -291,7 +291,7 @@ wanted-some before vc number wanted led None sound =
     let contracts = contracts-some wanted sound in
     let ask : Ask = record { vc = vc; program = id; contracts = record { items = contracts.0 } } in
     let done = takes before (setup vc number wanted) (Setup ask) led tt
-    (λ after reply. setup-told before.world after ask vc number wanted (length before.names) reply) in
+    (λ after reply. setup-printed before.world after ask vc number wanted (length before.names) reply) in
     (done.0, done.1, record { ask = ask; connection = refl; program = refl; contracts = contracts.1; taken = done.2 }))
 wanted-some before vc number wanted led (Some fault) sound = (gcra_fault fault, before, (refl, refl))
 
@@ -305,7 +305,7 @@ wanted-led before after vc number wanted text led (Some fault) refused = led-ref
 
 -- A cut has an answer, and leads to a card that a log leads to.
 pub cut-some : (before : Card) (vc : Vc) → IsLed before → (text : List ℕ) × (after : Card) × TakesCommand before (cut vc) (Cut vc) text after
-cut-some before vc led = takes before (cut vc) (Cut vc) led tt (λ after reply. cut-told before.world after vc (length before.names) reply)
+cut-some before vc led = takes before (cut vc) (Cut vc) led tt (λ after reply. cut-printed before.world after vc (length before.names) reply)
 
 pub cut-led : (before after : Card) (vc : Vc) (text : List ℕ) → IsLed before → TakesCommand before (cut vc) (Cut vc) text after → IsLed after
 cut-led before after vc text led = led-taken before after (cut vc) (Cut vc) text led (cut-ports before.world after.world vc)
@@ -315,13 +315,13 @@ command-some : (before : Card) → IsLed before → (command : Command) → (tex
 command-some before led (load digits) = load-some before digits led (octets_of_digits digits)
 command-some before led (retire number) =
     named-some (program_named before.names number) before (λ id. TakesCommand before (retire number) (Retire id))
-    (λ id. takes before (retire number) (Retire id) led tt (λ after reply. retire-told before.world after id number (length before.names) reply))
+    (λ id. takes before (retire number) (Retire id) led tt (λ after reply. retire-printed before.world after id number (length before.names) reply))
 command-some before led (setup vc number wanted) = wanted-some before vc number wanted led (first_wanted_fault wanted) refl
 command-some before led (reload vc number) =
     named-some (program_named before.names number) before (λ id. TakesCommand before (reload vc number) (Reload vc id))
-    (λ id. takes before (reload vc number) (Reload vc id) led tt (λ after reply. reload-told before.world after vc id number (length before.names) reply))
+    (λ id. takes before (reload vc number) (Reload vc id) led tt (λ after reply. reload-printed before.world after vc id number (length before.names) reply))
 command-some before led (release vc) =
-    takes before (release vc) (Release vc) led tt (λ after reply. release-told before.world after vc (length before.names) reply)
+    takes before (release vc) (Release vc) led tt (λ after reply. release-printed before.world after vc (length before.names) reply)
 command-some before led (cut vc) = cut-some before vc led
 command-some before led (cell moment digits) = digits-some before moment led (octets_of_digits digits)
 
@@ -380,18 +380,18 @@ opening-led : (text : List ℕ) (card : Card) (found : Option Shape)
 opening-led text card None ends = let no = ends.1 in cc
 opening-led text card (Some shape) opens = opens-led shape text card (shape_fault shape) refl opens
 
-tells-some : (world : RunWorld) → IsSoundRun world → (words : List (List ℕ)) → (text : List ℕ) × (next : Option RunWorld) × OpensOrObeys world words text next
-tells-some None sound words = opening-some (card_line_shape words)
-tells-some (Some card) led words =
-    let told = line-some card led (command_of card.world.shape.side words) in
-    (told.0, Some (Some told.1), (told.1, told.2, refl))
+prints-some : (world : RunWorld) → IsSoundRun world → (words : List (List ℕ)) → (text : List ℕ) × (next : Option RunWorld) × OpensOrObeys world words text next
+prints-some None sound words = opening-some (card_line_shape words)
+prints-some (Some card) led words =
+    let printed = line-some card led (command_of card.world.shape.side words) in
+    (printed.0, Some (Some printed.1), (printed.1, printed.2, refl))
 
-tells-sound : (world after : RunWorld) (words : List (List ℕ)) (text : List ℕ) → IsSoundRun world → OpensOrObeys world words text (Some after) → IsSoundRun after
-tells-sound None None words text sound told = tt
-tells-sound None (Some card) words text sound told = opening-led text card (card_line_shape words) told
-tells-sound (Some before) after words text led told =
-    let same : after ≡ Some told.0 = let e = told.2 in cc in
-    subst IsSoundRun (sym same) (line-led before told.0 text led (command_of before.world.shape.side words) told.1)
+prints-sound : (world after : RunWorld) (words : List (List ℕ)) (text : List ℕ) → IsSoundRun world → OpensOrObeys world words text (Some after) → IsSoundRun after
+prints-sound None None words text sound printed = tt
+prints-sound None (Some card) words text sound printed = opening-led text card (card_line_shape words) printed
+prints-sound (Some before) after words text led printed =
+    let same : after ≡ Some printed.0 = let e = printed.2 in cc in
+    subst IsSoundRun (sym same) (line-led before printed.0 text led (command_of before.world.shape.side words) printed.1)
 
 close-some : (world : RunWorld) → IsSoundRun world → (text : List ℕ) × (done : Done) × RunCloses world text done
 close-some None sound = (no_card, Ended, (refl, refl))
@@ -400,9 +400,9 @@ close-some (Some card) sound = ([], Whole, (refl, refl))
 -- The rules of `run` are total.
 pub run-total : IsTotal run_rules
 run-total = record {
-  keeps = λ world said text after sound steps.
-      silent-sound IsSoundRun (OpensOrObeys world (words_of said) text (Some after)) world after text (is_silent (words_of said)) sound
-      (tells-sound world after (words_of said) text sound) steps;
-  step = λ world said sound. silent-or (OpensOrObeys world (words_of said)) world (is_silent (words_of said)) (tells-some world sound (words_of said));
+  keeps = λ world line_content text after sound steps.
+      silent-sound IsSoundRun (OpensOrObeys world (words_of line_content) text (Some after)) world after text (is_silent (words_of line_content)) sound
+      (prints-sound world after (words_of line_content) text sound) steps;
+  step = λ world line_content sound. silent-or (OpensOrObeys world (words_of line_content)) world (is_silent (words_of line_content)) (prints-some world sound (words_of line_content));
   close = close-some;
 }

@@ -12,14 +12,14 @@ use Rattle.bpf_asm.proofs.assembler.assemble.Goals as goal
 pub returns-in-Some-clause-fault : goal.returns-in-Some-clause-fault
 returns-in-Some-clause-fault c =
     let draft = c.in_ok-draft.ensures.draft in
-    inl (dangling_source c.args.source.now draft.lines c.in-Some.at c.fault_at.result draft.said draft.drafts.agree.once (subst (λ (p : Option ℕ). IsPending draft.lines p) c.in-Some.is draft.drafts.pending) c.fault_at.ensures)
+    inl (dangling_source c.args.source.now draft.lines c.in-Some.at c.fault_at.result draft.spelled draft.drafts.agree.once (subst (λ (p : Option ℕ). IsPending draft.lines p) c.in-Some.is draft.drafts.pending) c.fault_at.ensures)
 
 pub returns-clause-code : goal.returns-clause-code
 returns-clause-code c =
     let draft = c.in_ok-draft.ensures.draft in
     let none = subst (λ (p : Option ℕ). IsPending draft.lines p) c.in_default.is draft.drafts.pending in
     if_ok c.resolve_all.result (λ code. MeanFrom draft.lines 0 (statements_of draft.lines) code.items) (λ code. IsMeaning c.args.source.now code.items)
-    (λ code meant. means_source c.args.source.now draft.lines code.items draft.said draft.drafts.agree.once none meant)
+    (λ code meant. means_source c.args.source.now draft.lines code.items draft.spelled draft.drafts.agree.once none meant)
     (c.resolve_all.ensures.code draft.lines draft.drafts)
 
 pub returns-clause-fault : goal.returns-clause-fault
@@ -27,7 +27,7 @@ returns-clause-fault c =
     let draft = c.in_ok-draft.ensures.draft in
     let none = subst (λ (p : Option ℕ). IsPending draft.lines p) c.in_default.is draft.drafts.pending in
     if_err c.resolve_all.result (λ (fault : AsmFault). IsFirstOperandFault draft.lines fault) (λ (fault : AsmFault). IsFault c.args.source.now fault ⊎ IsOutOfMemory fault)
-    (λ fault f. operand_source c.args.source.now draft.lines fault draft.said draft.drafts.agree.once none (inl f))
+    (λ fault f. operand_source c.args.source.now draft.lines fault draft.spelled draft.drafts.agree.once none (inl f))
     (c.resolve_all.ensures.fault draft.lines draft.drafts)
 
 pub returns-in_err-draft-clause-means : goal.returns-in_err-draft-clause-means

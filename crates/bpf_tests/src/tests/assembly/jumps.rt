@@ -108,7 +108,7 @@ fn a_branch_goes_over_at_most_255_instructions_and_a_jump_over_any_number(
 }
 
 #[test]
-fn the_first_operand_that_has_a_fault_is_told(rt: HostRuntime) -> Result<(), Fail> {
+fn the_first_operand_that_has_a_fault_is_reported(rt: HostRuntime) -> Result<(), Fail> {
     for row in OVER_256.lines() {
         let (line, fault) = parts_of(row)?;
         expect_fault(&rt, rt.alloc(), line, fault)?;

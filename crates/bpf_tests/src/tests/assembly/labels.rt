@@ -105,7 +105,9 @@ fn any_name_is_a_label(rt: HostRuntime) -> Result<(), Fail> {
 }
 
 #[test]
-fn a_line_has_at_most_one_label_and_the_first_fault_is_told(rt: HostRuntime) -> Result<(), Fail> {
+fn a_line_has_at_most_one_label_and_the_first_fault_is_reported(
+    rt: HostRuntime,
+) -> Result<(), Fail> {
     expect_table(&rt, rt.alloc(), LABELLED)?;
     expect_table(&rt, rt.alloc(), FAULTY_LINES)?;
     expect_table(&rt, rt.alloc(), DANGLING)?;

@@ -258,8 +258,8 @@ pub fn expect(
     let mut core = Core::new(alloc, shape)?;
     let mut programs = Vec::new(alloc);
     for (row, (planned, wanted)) in rows.iter().enumerate() {
-        let said = say(alloc, &mut core, &mut programs, *planned)?;
-        assert!(rt; said == *wanted, "row {row}");
+        let seen = say(alloc, &mut core, &mut programs, *planned)?;
+        assert!(rt; seen == *wanted, "row {row}");
     }
     Ok(())
 }

@@ -1,4 +1,4 @@
--- `give_back` joins the blank cells into room for an array, and deallocates it with the deed. Assumes `Logic`.
+-- `give_back` joins the blank boxes into room for an array, and deallocates it with the deed. Assumes `Logic`.
 use mathlib.Core.Path.{◌≡◌, refl, sym, ap, subst, ◌∙◌}
 use Prim.Native.Nat.{ℕ, ◌*◌, ◌<◌, ◌^◌}
 use native.Mathlib.Omega.{arith}
@@ -37,7 +37,7 @@ use Rattle.std.proofs.raw_atomic.Walks.{proved_at, leaves}
 use Rattle.std_alloc.proofs.RawLayout.{as_raw}
 use Rattle.std_alloc.proofs.RcSteps.{word, word-Good}
 use Rattle.gen_arena.specs.inner.BlockMemory.{row_owned, way_back}
-use Rattle.gen_arena.proofs.raw.Rows.{width, Cell, to_room}
+use Rattle.gen_arena.proofs.raw.Rows.{width, Box, to_room}
 use Rattle.gen_arena.proofs.raw.Walks.{Owner, Begin, mark, mark_had, pointer_had}
 use Rattle.gen_arena.specs.contracts.block.Deed as deeds
 use Rattle.gen_arena.specs.contracts.block.give_back.{ended, clauses}
@@ -59,8 +59,8 @@ give_back_spec 𝓤 𝓛 𝓜 𝓡 wired X W LX LW g dict glue met glued =
     (#self (args E Z)) fn (code.unfolded 𝓤 H 𝓜 𝓡 wired (X, (W, tt)) dict glue) (λ z are.
     let Post : Val → SProp 𝓤 = (walk_of 𝓛 T hs c).post z in
     let κs = z.0.0 in let qs = z.0.1 in let a = z.0.3 in let us = z.0.4 in let κ = κs.0 in let q = qs.0 in
-    let rb = a.0.ref_ptr.0 in let ro = a.0.ref_ptr.1 in let heap = a.0.now in let start = a.1.0 in let count = a.1.1.0 in let cells = a.1.1.1.0 in let deed = a.1.1.1.1.0 in
-    let Asks : Type 0 = (cells.start ≡ start.to) × (cells.held ≡ replicate count None) × (deed.start ≡ start.to) × (deed.count ≡ count) × (deed.from ≡ heap) in
+    let rb = a.0.ref_ptr.0 in let ro = a.0.ref_ptr.1 in let heap = a.0.now in let start = a.1.0 in let count = a.1.1.0 in let boxes = a.1.1.1.0 in let deed = a.1.1.1.1.0 in
+    let Asks : Type 0 = (boxes.start ≡ start.to) × (boxes.held ≡ replicate count None) × (deed.start ≡ start.to) × (deed.count ≡ count) × (deed.from ≡ heap) in
     let others = ‵ (flft κs.1.0 qs.1.0) ⊛ ‵ (flft κs.1.1.0 qs.1.1.0) ⊛ ‵ ftrue in
     qed 𝓛 (((‵ (flft κ q) ⊛ others) ⊛ ‵ (owns (types_at T.signature.params κs) a us)) ∷ raw ((c κs a).requires z.1) ∷ []) ∵
     move ! (1 ∷ []) $ use1 𝓛 (raw (fact 𝓤 (κs.1.0 ⊑ X.lives)) ⊛ raw (fact 𝓤 (κs.1.1.0 ⊑ W.lives)) ⊛ raw (fact 𝓤 Asks)) (id⊢ 𝓤 _) $ split3 ! $ drop ! $
@@ -73,8 +73,8 @@ give_back_spec 𝓤 𝓛 𝓜 𝓡 wired X W LX LW g dict glue met glued =
     alloc_all ! (λ l. pass_all ! refl ((tt, tt), (word-Good [] start.to, ((tt, record { fits = fits }), ((tt, (tt, tt)), ((tt, (tt, tt)), tt))))) $
     let En : Env 𝓤 H = env fn.locals l in
     let s = width E in let al : ℕ = capped (align (elτ E)) in
-    -- [the cells; the deed; the `&` to the allocator; its token; the other tokens; the locals]
-    rewrite ! 0 (λ (r : Ptr × List (Cell E)). ‵ (row_owned (R E) r.0 r.1)) (λ i. (asked.0 i, asked.1 i)) refl $
+    -- [the boxes; the deed; the `&` to the allocator; its token; the other tokens; the locals]
+    rewrite ! 0 (λ (r : Ptr × List (Box E)). ‵ (row_owned (R E) r.0 r.1)) (λ i. (asked.0 i, asked.1 i)) refl $
     in_a_block ! start.to (λ p. row_owned (R E) p (replicate count None)) (id⊢ 𝓤 (never 𝓤)) (λ b o at. fsplit ! $ flt_l ! (λ bound.
     let small : count * s < 2 ^ 63 = subst (λ n. n * s < 2 ^ 63) (length-replicate count None) bound in let octets : count * s < 2 ^ 64 = omega arith in
     let y : (Gives Z 𝓛 𝓜.mem 𝓡.returns).Ghost = at_gives Z 𝓛 𝓜.mem 𝓡.returns κ q (rb, ro) heap b o (count * s) al (block_ty E count) in

@@ -1,4 +1,4 @@
--- `make` splits a new block into blank cells, and keeps the permission to deallocate it. Assumes `Logic`.
+-- `make` splits a new block into blank boxes, and keeps the permission to deallocate it. Assumes `Logic`.
 use mathlib.Core.Path.{◌≡◌, refl, sym, ap, subst}
 use Prim.Native.Nat.{ℕ, ◌*◌, ◌<◌, ◌^◌}
 use native.Mathlib.Omega.{arith}
@@ -47,7 +47,7 @@ use Rattle.std.proofs.raw_atomic.Walks.{proved_at, leaves}
 use Rattle.std_alloc.proofs.RawLayout.{as_written}
 use Rattle.std_alloc.proofs.RcSteps.{Good, word, word-Good, first_Good}
 use Rattle.std_alloc.proofs.ResultValues.{ok_of, err_of}
-use Rattle.gen_arena.specs.inner.BlockMemory.{cells_owned}
+use Rattle.gen_arena.specs.inner.BlockMemory.{boxes_owned}
 use Rattle.gen_arena.proofs.raw.Rows.{width, of_room}
 use Rattle.gen_arena.proofs.raw.Walks.{Owner, Begin, Mark, mark, mark_made, pointer_made, trio, trio_made}
 use Rattle.gen_arena.specs.contracts.block.Deed as deeds
@@ -111,7 +111,7 @@ make_spec 𝓤 𝓛 𝓜 𝓡 wired X W LX LW g dict glue met glued =
     exec ! 𝓣.C 𝓣.Λ En (after 3 fn.body) (at_ret En Post) $ sets ! (of_opd ! (get ! refl)) refl ok $
     -- The deed of the token, the owner of the room, and the start.
     move ! (1 ∷ []) $ use0 𝓛 (‵ ((Mark E).own_val (tt, tt) (mark ∷ []))) (mark_made E 𝓛) $ fjoin ! $ move ! (1 ∷ []) $
-    as_written ! (ty_array (elτ E) count) b o $ use1 𝓛 (‵ (cells_owned (R E) b o owner.held)) (of_room E 𝓛 b count o) $
+    as_written ! (ty_array (elτ E) count) b o $ use1 𝓛 (‵ (boxes_owned (R E) b o owner.held)) (of_room E 𝓛 b count o) $
     flt_i ! (length owner.held * s) (2 ^ 63) (subst (λ n. n * s < 2 ^ 63) (sym (length-replicate count None)) small) $ fjoin ! $
     use0 𝓛 (‵ ((Mark E).own_val (tt, tt) (mark ∷ []))) (mark_made E 𝓛) $ fjoin ! $ pointer_made ! p $
     use3 𝓛 (‵ (Three.own_val (start, owner, leave) (all ∷ []))) (trio_made 𝓛 (Begin E) (Owner E) Leave start owner leave (word p) mark mark) $

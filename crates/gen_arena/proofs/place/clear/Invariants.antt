@@ -4,4 +4,4 @@ use Rattle.gen_arena.proofs.place.clear.Given as goal
 
 abbrev pub invariant-loop-k : goal.invariant-loop-k
 invariant-loop-k g l =
-    (l.cells.start ≡ l.fn.cells.start) × ClearedTo l.cells.held (length l.fn.cells.held) l.count l.k
+    (l.boxes.start ≡ l.fn.boxes.start) × ClearedTo l.boxes.held (length l.fn.boxes.held) l.count l.k

@@ -54,17 +54,17 @@ returns-in-Ok-Refused g c = λ world sound is_shown.
     let line = file_fault_line fault in
     let IsText = IsCaptureText f.rules world in
     let is : opening_of near ≡ Refused fault = sym c.in-Ok-Refused.ensures.opening ∙ c.in-Ok-Refused.field-0-is in
-    let told : g.I.Input.is_known → IsText all line Ended =
+    let printed : g.I.Input.is_known → IsText all line Ended =
     λ ki. subst (λ (xs : List ℕ). IsText xs line Ended) (sym (c.in-Ok-Refused.ensures.octets ki)) (refused_text f.rules world near rest fault is)
     in
     let here : IsText near line Ended =
     subst (λ (xs : List ℕ). IsText xs line Ended) (append-nil near) (refused_text f.rules world near [] fault is)
     in
     record {
-      text = λ ki ko. if_given c.refuse.result Ended _ _ c.refuse.ensures.done (c.refuse.ensures.given ko) (λ gives. (line, gives, told ki));
+      text = λ ki ko. if_given c.refuse.result Ended _ _ c.refuse.ensures.done (c.refuse.ensures.given ko) (λ gives. (line, gives, printed ki));
       front = λ ki ko.
           on_fault c.refuse.result _ _ (c.refuse.ensures.front ko)
-          (λ part. a_front (IsText all) (g.O.Output.held c.args.output.now) (g.O.Output.held c.refuse.new.output) line Ended (told ki) part);
+          (λ part. a_front (IsText all) (g.O.Output.held c.args.output.now) (g.O.Output.held c.refuse.new.output) line Ended (printed ki) part);
       left = λ ki. if_done c.refuse.result Ended _ c.refuse.ensures.done (all_needed IsText all near rest line Ended (c.in-Ok-Refused.ensures.octets ki) here);
       whole = λ ki same. let bad : Whole ≡ Ended = at-result c.refuse.result (λ done. done ≡ Ended) Whole same c.refuse.ensures.done in cc;
       reading = not_read c.refuse.result _ _ c.refuse.ensures.fault c.in-Ok-Refused.ensures.calm;
@@ -88,13 +88,13 @@ returns-in-Ok-Undecided g c = λ world sound is_shown.
     λ ki. c.in-Ok-Undecided.ensures.octets ki ∙ ap (λ xs. near ++ xs) (at_end ki) ∙ append-nil near ∙ sym same
     in
     let short : IsText octets here done = short_text f.rules world octets is in
-    let told : g.I.Input.is_known → IsText all here done = λ ki. subst (λ (xs : List ℕ). IsText xs here done) (sym (whole ki)) short in
+    let printed : g.I.Input.is_known → IsText all here done = λ ki. subst (λ (xs : List ℕ). IsText xs here done) (sym (whole ki)) short in
     record {
       text = λ ki ko. if_given c.close_short.result done _ _ c.close_short.ensures.done (c.close_short.ensures.given ko)
-          (λ gives. (here, gives world sound is_shown, told ki));
+          (λ gives. (here, gives world sound is_shown, printed ki));
       front = λ ki ko.
           on_fault c.close_short.result _ _ (c.close_short.ensures.front ko)
-          (λ part. a_front (IsText all) (g.O.Output.held c.args.output.now) (g.O.Output.held c.close_short.new.output) here done (told ki) (part world sound is_shown));
+          (λ part. a_front (IsText all) (g.O.Output.held c.args.output.now) (g.O.Output.held c.close_short.new.output) here done (printed ki) (part world sound is_shown));
       left = λ ki.
           if_done c.close_short.result done _ c.close_short.ensures.done
           (all_needed IsText all octets rest here done (whole ki ∙ sym (append-nil octets) ∙ ap (λ xs. octets ++ xs) (sym (at_end ki))) short);

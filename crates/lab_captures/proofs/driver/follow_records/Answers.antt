@@ -4,7 +4,7 @@ use Rattle.std.proofs.lemmas.Result.{IfOk-weaker}
 use Rattle.text_io.proofs.DriverLemmas.{at-err, at-ok}
 use Rattle.text_io.specs.declared.ending.Done.TheVariants.{Ended}
 use Rattle.lab_captures.specs.inner.Steps.{IsTextFrom}
-use Rattle.lab_captures.proofs.Progresses.{all_given, if_done, if_given, on_fault, part_at, retold}
+use Rattle.lab_captures.proofs.Progresses.{all_given, if_done, if_given, on_fault, part_at, reprinted}
 use Rattle.lab_captures.proofs.ShownProgress.{last_frame_enough, last_frame_part, last_frame_text, shown_begun, shown_enough, shown_front, shown_front_of_last, shown_given, shown_refilled, shown_stepped, shown_text}
 use Rattle.lab_captures.proofs.driver.follow_records.Goals as goal
 
@@ -96,7 +96,7 @@ returns-in-Ok-eq0-clause-text g c = λ ki ko.
     (λ done ends. shown_text (g.O.Output.held c.finish.new.output) done after ki ko
     (λ world sound is_shown.
     let end = ends world sound is_shown in
-    (end.0, end.1, retold (IsTextFrom f.rules c.step_by.new.reader world) waits (near' ++ rest') end.0 end.0 done (all ki) refl end.2)))
+    (end.0, end.1, reprinted (IsTextFrom f.rules c.step_by.new.reader world) waits (near' ++ rest') end.0 end.0 done (all ki) refl end.2)))
     (c.finish.ensures.given ko)
 
 pub returns-in-Ok-eq0-clause-front : goal.returns-in-Ok-eq0-clause-front
@@ -120,7 +120,7 @@ returns-in-Ok-eq0-clause-front g c = λ ki ko.
     (λ ends. shown_front_of_last (g.O.Output.held c.finish.new.output) after ki ko
     (λ world sound is_shown.
     let end = ends world sound is_shown in
-    (end.0, end.1, end.2, retold (IsTextFrom f.rules c.step_by.new.reader world) waits (near' ++ rest') end.0 end.0 end.1 (all ki) refl end.3)))
+    (end.0, end.1, end.2, reprinted (IsTextFrom f.rules c.step_by.new.reader world) waits (near' ++ rest') end.0 end.0 end.1 (all ki) refl end.3)))
 
 pub returns-in-Ok-eq0-clause-left : goal.returns-in-Ok-eq0-clause-left
 returns-in-Ok-eq0-clause-left g c = λ ki.
@@ -138,7 +138,7 @@ returns-in-Ok-eq0-clause-left g c = λ ki.
     (λ done ends. shown_enough done after ki
     (λ world sound is_shown.
     let end = ends world sound is_shown in
-    (end.0, retold (IsTextFrom f.rules c.step_by.new.reader world) c.octets-in-Ok-eq0.result.now near' end.0 end.0 done c.octets-in-Ok-eq0.ensures refl end.1)))
+    (end.0, reprinted (IsTextFrom f.rules c.step_by.new.reader world) c.octets-in-Ok-eq0.result.now near' end.0 end.0 done c.octets-in-Ok-eq0.ensures refl end.1)))
     c.finish.ensures.text
 
 pub loop-answers-preserved : goal.loop-answers-preserved

@@ -27,12 +27,12 @@ returns-in-GoesOn g c =
       takes.within,
       takes.at,
       omega arith,
-      taken_frame f.rules g.met.F.Follower.is_total c.args.reader.now c.next.new.self (f.shows c.args.follower.now) (f.shows c.follow.new.self) c.in-Taken.said
+      taken_frame f.rules g.met.F.Follower.is_total c.args.reader.now c.next.new.self (f.shows c.args.follower.now) (f.shows c.follow.new.self) c.in-Taken.record_read
           c.args.octets.now c.args.answers.now.items c.follow.new.answers.items c.in-Taken.own takes (rw c.in-GoesOn.is at c.in_ok-follow-in-Taken.ensures),
     )
 
 pub returns-in-Ends : goal.returns-in-Ends
 returns-in-Ends g c =
     let f = g.F.Follower in
-    ended_frame f.rules c.args.reader.now c.next.new.self (f.shows c.args.follower.now) (f.shows c.follow.new.self) c.in-Taken.said
+    ended_frame f.rules c.args.reader.now c.next.new.self (f.shows c.args.follower.now) (f.shows c.follow.new.self) c.in-Taken.record_read
     c.args.octets.now c.args.answers.now.items c.follow.new.answers.items c.in-Taken.own c.in-Taken.ensures (rw c.in-Ends.is at c.in_ok-follow-in-Taken.ensures)

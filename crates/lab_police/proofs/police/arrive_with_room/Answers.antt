@@ -8,14 +8,14 @@ use Rattle.lab_police.proofs.police.arrive_with_room.Goals as goal
 pub returns-then-not-is_full : goal.returns-then-not-is_full
 returns-then-not-is_full c =
     let cell = c.args.cell.now in
-    room_once c.args.core.now c.arrive-told.new.core cell c.args.moment (option_map (λ told. answer_to cell told) c.arrive-told.result) c.arrive-told.ensures
+    room_once c.args.core.now c.arrive-decision.new.core cell c.args.moment (option_map (λ decision. answer_to cell decision) c.arrive-decision.result) c.arrive-decision.ensures
     (sym (c.is_full.ensures cell) ∙ c.if-not-is_full.true)
 
 pub returns : goal.returns
 returns c =
     let cell = c.args.cell.now in
-    room_twice c.args.core.now c.arrive-told.new.core c.cut_connection.new.core c.arrive.new.core cell c.args.moment c.vc_at-vc.result
-    (option_map (λ told. answer_to cell told) c.arrive-told.result) (option_map (λ told. answer_to cell told) c.arrive.result)
-    c.arrive-told.ensures (sym (c.is_full.ensures cell) ∙ c.if-not-is_full.false)
+    room_twice c.args.core.now c.arrive-decision.new.core c.cut_connection.new.core c.arrive.new.core cell c.args.moment c.vc_at-vc.result
+    (option_map (λ decision. answer_to cell decision) c.arrive-decision.result) (option_map (λ decision. answer_to cell decision) c.arrive.result)
+    c.arrive-decision.ensures (sym (c.is_full.ensures cell) ∙ c.if-not-is_full.false)
     (c.vc_at-vc.ensures.connection ∙ ap (λ (shape : Shape). vc_of shape.side cell) c.shape.ensures)
     c.in_ok-cut_connection.ensures c.arrive.ensures

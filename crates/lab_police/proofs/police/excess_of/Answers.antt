@@ -13,7 +13,7 @@ returns c = λ before after cell agrees leaves.
     let vc = c.args.vc in
     let clp = c.args.clp in
     judged_excess c.args.core.now before after vc clp judged.moment judged.value judged.verdict c.in_ok-line.line.now c.excess_left.result agrees
-    (subst (λ (told : Result Judgement Unjudged). LeavesConnection before.connections after.connections vc clp (answer_to cell told)) c.in-Ok.is leaves)
+    (subst (λ (decision : Result Judgement Unjudged). LeavesConnection before.connections after.connections vc clp (answer_to cell decision)) c.in-Ok.is leaves)
     c.in_ok-line.ensures.line (λ e. let f = sym c.eq.ensures ∙ c.if-eq.false in let no : true ≡ false = rw e at f in cc)
     c.excess_left.ensures
-    ∙ sym (ap (λ (told : Result Judgement Unjudged). excess_of_answer before vc clp (answer_to cell told)) c.in-Ok.is)
+    ∙ sym (ap (λ (decision : Result Judgement Unjudged). excess_of_answer before vc clp (answer_to cell decision)) c.in-Ok.is)

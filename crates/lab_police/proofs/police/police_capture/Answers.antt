@@ -33,15 +33,15 @@ returns-in-Ok-Faulty g c =
     let all = g.I.Input.rest c.args.input.now in
     let line = c.in-Ok-Faulty.text.items in
     let IsText = IsPoliceText c.args.lines c.args.tick.nanoseconds c.args.interface c.args.setup.now in
-    let told : (octets : List ℕ) → IsText octets line Ended = λ octets.
+    let printed : (octets : List ℕ) → IsText octets line Ended = λ octets.
     inl (subst (λ (s : SetUp). LeadsScriptTo c.args.setup.now s) c.in-Ok-Faulty.field-0-is c.in-Ok-Faulty.ensures, refl) in
     record {
       text = λ ki ko.
-          if_given c.write_faults.result Ended _ _ c.write_faults.ensures.done (c.write_faults.ensures.given ko) (λ gives. (line, gives, told all));
+          if_given c.write_faults.result Ended _ _ c.write_faults.ensures.done (c.write_faults.ensures.given ko) (λ gives. (line, gives, printed all));
       front = λ ki ko.
           on_fault c.write_faults.result _ _ (c.write_faults.ensures.front ko)
-          (λ part. a_front (IsText all) (g.O.Output.held c.args.output.now) (g.O.Output.held c.write_faults.new.output) line Ended (told all) part);
-      left = λ ki. if_done c.write_faults.result Ended _ c.write_faults.ensures.done (all_needed IsText all [] all line Ended refl (told []));
+          (λ part. a_front (IsText all) (g.O.Output.held c.args.output.now) (g.O.Output.held c.write_faults.new.output) line Ended (printed all) part);
+      left = λ ki. if_done c.write_faults.result Ended _ c.write_faults.ensures.done (all_needed IsText all [] all line Ended refl (printed []));
       whole = λ ki same. let bad : Whole ≡ Ended = at-result c.write_faults.result (λ done. done ≡ Ended) Whole same c.write_faults.ensures.done in cc;
       reading = not_read c.write_faults.result _ _ c.write_faults.ensures.fault refl;
       writing = c.write_faults.ensures.writing;
@@ -54,5 +54,5 @@ returns-in-Ok-Ready g c =
     let first : FilterState × PoliceWorld = (filter_start c.args.tick.nanoseconds c.args.interface, police_start c.args.lines set.card) in
     served_as g.I.Input g.O.Output c.args.input.now c.follow_cells.new.input c.args.output.now c.follow_cells.new.output c.follow_cells.result
     (IsCaptureText (capture_rules police_rules) first) (IsPoliceText c.args.lines c.args.tick.nanoseconds c.args.interface c.args.setup.now)
-    (λ octets text done told. inr (set.card, set.reached, told))
+    (λ octets text done printed. inr (set.card, set.reached, printed))
     (c.follow_cells.ensures first.1 set.led (record { lines = refl; agrees = set.agrees; begun = refl; not_judged = c.none.ensures }))

@@ -9,5 +9,5 @@ abbrev pub invariant-loop-instr : goal.invariant-loop-instr
 invariant-loop-instr l =
     record {
       left : source_lines l.lines ≡ drop l.instr-index (listed_lines l.code);
-      told : l.answers.items ++ octet_lines (listed_lines l.code) l.instr-index (drop l.instr-index l.code) ≡ l.fn.answers.items ++ program_listing l.code;
+      printed : l.answers.items ++ octet_lines (listed_lines l.code) l.instr-index (drop l.instr-index l.code) ≡ l.fn.answers.items ++ program_listing l.code;
     }

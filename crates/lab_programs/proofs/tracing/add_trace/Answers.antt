@@ -43,7 +43,7 @@ returns-in-Break c =
     let stands = stands_read code c.code-code.result.now c.loop-steps.registers.pc _ c.code-code.ensures.code traced.within in
     let reads = reads_written code c.args.cell.now c.args.answers.now.items c.loop-steps.answers.items c.loop-steps.registers c.loop-steps.scratch c.loop-steps.steps c.loop-steps.lines.now traced _ stands in
     let does = rw (c.in-Break.is, c.bytes.ensures) at c.step-flow.ensures.does traced.memory traced.agrees reads in
-    let told = traced_out code c.args.cell.now c.args.answers.now.items c.loop-steps.answers.items c.loop-steps.registers c.loop-steps.scratch c.loop-steps.steps c.loop-steps.lines.now traced _ stands
+    let printed = traced_out code c.args.cell.now c.args.answers.now.items c.loop-steps.answers.items c.loop-steps.registers c.loop-steps.scratch c.loop-steps.steps c.loop-steps.lines.now traced _ stands
     c.in-Break.value c.first_line.result.now c.add_step.new.answers.items
     does c.first_line.ensures (rw c.in-Break.is at c.in_ok-add_step.ensures traced.memory) c.add_value.new.answers.items in
-    on_ok_weaker c.add_value.result told c.add_value.ensures
+    on_ok_weaker c.add_value.result printed c.add_value.ensures

@@ -41,17 +41,17 @@ returns-clause-served g c =
     let before = g.O.Output.held c.args.output.now in
     let after = g.O.Output.held c.give_last.new.output in
     let answered = c.in-Ok-answer_gathered.ensures in
-    let told : g.I.Input.is_known → g.O.Output.is_known → IfOk c.give_last.result (λ done. Adds (λ answer. IsRulesText octets answer done) before after) =
+    let printed : g.I.Input.is_known → g.O.Output.is_known → IfOk c.give_last.result (λ done. Adds (λ answer. IsRulesText octets answer done) before after) =
     search rules in
     let front : g.I.Input.is_known → g.O.Output.is_known → OnErr c.give_last.result (Adds (IsFront (IsRulesText octets)) before after) = search rules in
     record {
-      text = λ read written. IfOk-weaker c.give_last.result _ _ (λ done. adds-may octets before after done) (told read written);
+      text = λ read written. IfOk-weaker c.give_last.result _ _ (λ done. adds-may octets before after done) (printed read written);
       front = λ read written. on_err_weaker c.give_last.result (front-may octets before after) (front read written);
       left = λ known.
-          let taken : TakesEnough (λ needed. (told : List ℕ) × MayBeRulesText needed told c.in-Ok-answer_gathered.done) most_ahead octets left =
+          let taken : TakesEnough (λ needed. (printed : List ℕ) × MayBeRulesText needed printed c.in-Ok-answer_gathered.done) most_ahead octets left =
           enough octets left (option_map (λ text. text.items) c.in-Ok.found) answered.0 c.in-Ok-answer_gathered.done
           (c.in-Ok.ensures.whole known) (c.in-Ok.ensures.left known) answered.2 in
-          let P : Done → Type 0 = λ done. TakesEnough (λ needed. (told : List ℕ) × MayBeRulesText needed told done) most_ahead octets left in
+          let P : Done → Type 0 = λ done. TakesEnough (λ needed. (printed : List ℕ) × MayBeRulesText needed printed done) most_ahead octets left in
           IfOk-weaker c.give_last.result _ _ (λ done same. subst P (sym same) taken) c.give_last.ensures.done;
       whole = search rules;
       reading = search rules;

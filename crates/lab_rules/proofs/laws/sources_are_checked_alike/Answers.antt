@@ -4,11 +4,11 @@ use Rattle.lab_rules.specs.AsmLaws.{SourcesAreCheckedAlike}
 use Rattle.lab_rules.proofs.laws.sources_are_checked_alike.Goals as goal
 
 checked_alike : SourcesAreCheckedAlike
-checked_alike text answer made tells =
+checked_alike text answer made prints =
     let code = made.placed.code.items in
     record {
-      checked = inl (code, tells.meaning, (is_program code, (tells.accepted, refl), (refl, refl)));
-      compiled = inl (code, tells.accepted, tells.follows, refl, refl);
+      checked = inl (code, prints.meaning, (is_program code, (prints.accepted, refl), (refl, refl)));
+      compiled = inl (code, prints.accepted, prints.follows, refl, refl);
     }
 
 pub returns : goal.returns

@@ -40,15 +40,15 @@ returns-in-Ok-Faulty-clause-served g c =
     let IsText = MayBeSetupPoliced c.args.lines c.args.tick.nanoseconds c.args.interface c.args.setup.now texts in
     let faulty : HasFaultyRules IsFaultOfRules c.args.setup.now texts line =
     subst (λ (e : Expanded). ExpandsTo c.args.setup.now texts e) c.in-Ok-Faulty.field-0-is c.in-Ok-Faulty.ensures in
-    let told : (octets : List ℕ) → IsText octets line Ended = λ octets.
+    let printed : (octets : List ℕ) → IsText octets line Ended = λ octets.
     may_be_policed c.args.lines c.args.tick.nanoseconds c.args.interface c.args.setup.now texts octets line Ended (inl (faulty, refl)) in
     record {
       text = λ ki ko.
-          if_given c.write_rules_fault.result Ended _ _ c.write_rules_fault.ensures.done (c.write_rules_fault.ensures.given ko) (λ gives. (line, gives, told all));
+          if_given c.write_rules_fault.result Ended _ _ c.write_rules_fault.ensures.done (c.write_rules_fault.ensures.given ko) (λ gives. (line, gives, printed all));
       front = λ ki ko.
           on_fault c.write_rules_fault.result _ _ (c.write_rules_fault.ensures.front ko)
-          (λ part. a_front (IsText all) (g.O.Output.held c.args.output.now) (g.O.Output.held c.write_rules_fault.new.output) line Ended (told all) part);
-      left = λ ki. if_done c.write_rules_fault.result Ended _ c.write_rules_fault.ensures.done (all_needed IsText all [] all line Ended refl (told []));
+          (λ part. a_front (IsText all) (g.O.Output.held c.args.output.now) (g.O.Output.held c.write_rules_fault.new.output) line Ended (printed all) part);
+      left = λ ki. if_done c.write_rules_fault.result Ended _ c.write_rules_fault.ensures.done (all_needed IsText all [] all line Ended refl (printed []));
       whole = λ ki same.
           let bad : Whole ≡ Ended = at-result c.write_rules_fault.result (λ done. done ≡ Ended) Whole same c.write_rules_fault.ensures.done in cc;
       reading = not_read c.write_rules_fault.result _ _ c.write_rules_fault.ensures.fault refl;
@@ -71,7 +71,7 @@ returns-in-Ok-Itself-clause-served g c =
     served_as g.I.Input g.O.Output c.args.input.now c.police_capture.new.input c.args.output.now c.police_capture.new.output c.police_capture.result
     (IsPoliceText c.args.lines c.args.tick.nanoseconds c.args.interface c.args.setup.now)
     (MayBeSetupPoliced c.args.lines c.args.tick.nanoseconds c.args.interface c.args.setup.now texts)
-    (λ octets text done told. inr (c.args.setup.now, made, told)) c.police_capture.ensures
+    (λ octets text done printed. inr (c.args.setup.now, made, printed)) c.police_capture.ensures
 
 pub returns-in-Ok-Itself-clause-policed : goal.returns-in-Ok-Itself-clause-policed
 returns-in-Ok-Itself-clause-policed g c ki ko =
@@ -90,5 +90,5 @@ returns-in-Ok-Replaced-clause-served g c =
     c.police_capture-in-Ok-Replaced.result
     (IsPoliceText c.args.lines c.args.tick.nanoseconds c.args.interface c.deref.result.now)
     (MayBeSetupPoliced c.args.lines c.args.tick.nanoseconds c.args.interface c.args.setup.now texts)
-    (λ octets text done told. inr (c.deref.result.now, subst (HasPrograms c.args.setup.now texts) (sym c.deref.ensures.value) made, told))
+    (λ octets text done printed. inr (c.deref.result.now, subst (HasPrograms c.args.setup.now texts) (sym c.deref.ensures.value) made, printed))
     c.police_capture-in-Ok-Replaced.ensures

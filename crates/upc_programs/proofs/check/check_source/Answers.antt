@@ -37,14 +37,14 @@ pub returns : goal.returns
 returns g c =
     let octets = g.I.Input.rest c.args.input.now in
     let left = g.I.Input.rest c.gather.new.input in
-    let told = c.in-Ok-answer_gathered.ensures in
+    let printed = c.in-Ok-answer_gathered.ensures in
     record {
       text = search rules;
       front = search rules;
       left = λ known.
           let taken : TakesEnough (λ needed. (text : List ℕ) × IsCheckText needed text c.in-Ok-answer_gathered.done) most_ahead octets left =
-          enough octets left (option_map (λ source. source.items) c.in-Ok.found) told.0 c.in-Ok-answer_gathered.done
-          (c.in-Ok.ensures.whole known) (c.in-Ok.ensures.left known) told.2 in
+          enough octets left (option_map (λ source. source.items) c.in-Ok.found) printed.0 c.in-Ok-answer_gathered.done
+          (c.in-Ok.ensures.whole known) (c.in-Ok.ensures.left known) printed.2 in
           let P : Done → Type 0 = λ done. TakesEnough (λ needed. (text : List ℕ) × IsCheckText needed text done) most_ahead octets left in
           IfOk-weaker c.give_last.result _ _ (λ done same. subst P (sym same) taken) c.give_last.ensures.done;
       whole = search rules;

@@ -20,7 +20,7 @@ returns-in-Ok-false-clause-fault c = λ lines drafts. c.in-Ok-false.ensures.twic
 pub returns-in-None-clause-drafts : goal.returns-in-None-clause-drafts
 returns-in-None-clause-drafts c = λ lines n drafts.
     let self = c.args.self.now in
-    let line = line_seen c.args.said in
+    let line = line_seen c.args.lent in
     let none : line.statement ≡ None = ap (option_map statement_seen) c.in-None.is in
     let no_more : statement_count line.statement ≡ 0 = ap statement_count none in
     let same : length c.define.new.self.code.items ≡ length self.code.items = ap (λ v. length v.items) c.define.ensures.code in
@@ -36,7 +36,7 @@ returns-in-Some-clause-drafts c =
     on_ok_both c.map_err.result c.put.result _ _ _ c.map_err.ensures.variant
     (λ code unresolved lines n drafts.
     let self = c.args.self.now in
-    let line = line_seen c.args.said in
+    let line = line_seen c.args.lent in
     let some = ap (option_map statement_seen) c.in-Some.is in
     let one_more : statement_count line.statement ≡ 1 = ap statement_count some in
     let same : length c.define.new.self.code.items ≡ length self.code.items = ap (λ v. length v.items) c.define.ensures.code in

@@ -14,15 +14,15 @@ returns-in-Some-clause-twice c =
     let self = c.args.self.now in
     let label = c.in-Some.label.now in
     if_ok c.define.result (λ (fresh : Bool). fresh ≡ is_none (label_place self.labels label))
-    (λ (fresh : Bool). fresh ≡ false → (lines : List SourceLine) (count : ℕ) → AgreesWith lines (label_place self.labels) count → IsTwice lines (line_seen c.args.said))
-    (λ fresh f no lines count agree. twice_is lines (line_seen c.args.said) label (label_place self.labels) count (ap option_copied c.in-Some.is) (sym f ∙ no) agree)
+    (λ (fresh : Bool). fresh ≡ false → (lines : List SourceLine) (count : ℕ) → AgreesWith lines (label_place self.labels) count → IsTwice lines (line_seen c.args.lent))
+    (λ fresh f no lines count agree. twice_is lines (line_seen c.args.lent) label (label_place self.labels) count (ap option_copied c.in-Some.is) (sym f ∙ no) agree)
     c.define.ensures.fresh
 
 pub returns-in-Some-clause-agree : goal.returns-in-Some-clause-agree
 returns-in-Some-clause-agree c =
     let self = c.args.self.now in
     let label = c.in-Some.label.now in
-    let line = line_seen c.args.said in
+    let line = line_seen c.args.lent in
     let next : c.len.result ≡ length self.code.items = c.len.ensures ∙ self.code.ok.0 in
     if_ok_both c.define.result (λ (fresh : Bool). fresh ≡ is_none (label_place self.labels label))
     (λ (fresh : Bool). (other : List ℕ) → label_place c.define.new.self other ≡ (if bytes_eq label other then Some c.len.result else label_place self.labels other))
@@ -36,4 +36,4 @@ returns-in-Some-clause-agree c =
 pub returns-in-None-clause-agree : goal.returns-in-None-clause-agree
 returns-in-None-clause-agree c = λ yes lines agree.
     let self = c.args.self.now in
-    agrees_plain lines (line_seen c.args.said) (label_place self.labels) (length self.code.items) (ap option_copied c.in-None.is) agree
+    agrees_plain lines (line_seen c.args.lent) (label_place self.labels) (length self.code.items) (ap option_copied c.in-None.is) agree

@@ -24,15 +24,15 @@ returns-in-Ok-clause-answered c =
     let l = c.self.inside in
     let free : is_idle (slice_get l.ports.items c.args.port) ≡ true =
     let test = c.is_idle_at.ensures in let same = c.deref.ensures.value in let is = c.if-not-is_idle_at.false in cc in
-    let after = c.tell_line.new.lines.items in
-    let told = c.tell_line.result in
+    let after = c.judge_line_without_cell.new.lines.items in
+    let decision = c.judge_line_without_cell.result in
     let found = c.in-Ok.found in
     let New : CoreView = core_of l.shape l.store l.directory after l.ports.items in
-    subst (λ (core : CoreView). AnswersArrival core c.args.port c.args.cell.now c.args.moment (answer_to c.args.cell.now told) New) c.self.view_is
-    (subst (λ (octets : List ℕ). AnswersArrival (core_of l.shape l.store l.directory l.lines.items l.ports.items) c.args.port c.args.cell.now c.args.moment (answer_to octets told) New)
+    subst (λ (core : CoreView). AnswersArrival core c.args.port c.args.cell.now c.args.moment (answer_to c.args.cell.now decision) New) c.self.view_is
+    (subst (λ (octets : List ℕ). AnswersArrival (core_of l.shape l.store l.directory l.lines.items l.ports.items) c.args.port c.args.cell.now c.args.moment (answer_to octets decision) New)
     c.in-Ok.ensures.found.naming.same
     (arrives-judged l.shape l.store l.directory l.lines.items l.ports.items c.args.port (record { cell = c.args.cell.now; moment = c.args.moment }) free
-    found c.in-Ok.ensures.found (answer_to found.named.cell told) after c.tell_line.ensures.line))
+    found c.in-Ok.ensures.found (answer_to found.named.cell decision) after c.judge_line_without_cell.ensures.line))
 
 pub returns-in-Err-clause-answered : goal.returns-in-Err-clause-answered
 returns-in-Err-clause-answered c =

@@ -5,7 +5,7 @@ use Rattle.line_record.specs.Directory.{seating_at}
 use Rattle.card_core.specs.Agreement.{CoreView, CoreAgrees}
 use Rattle.card_core.specs.ConnectionState.{IsStateIn}
 use Rattle.card_core.specs.World.{World}
-use Rattle.card_core.proofs.ConnectionStates.{told-state}
+use Rattle.card_core.proofs.ConnectionStates.{state-read}
 use Rattle.card_core.proofs.PortLemmas.{core_of}
 use Rattle.card_core.proofs.serial.Core.line_state.Goals as goal
 
@@ -23,5 +23,5 @@ returns-clause-state c =
     subst (λ n. slice_get lines n ≡ Some line) number
     (slice_get_read lines (length lines) c.from.result line refl within c.index.ensures) in
     subst (λ (core : CoreView). (world : World) → CoreAgrees core world → IsStateIn world c.args.vc c.state_of.result) c.self.view_is
-    (λ world agrees. told-state (core_of l.shape l.store l.directory lines l.ports.items) world c.args.vc seating line c.state_of.result
-    agrees sits here c.state_of.ensures.told)
+    (λ world agrees. state-read (core_of l.shape l.store l.directory lines l.ports.items) world c.args.vc seating line c.state_of.result
+    agrees sits here c.state_of.ensures.read_state)

@@ -5,13 +5,13 @@ use Rattle.gen_arena.proofs.place.PlaceRow.fill.Goals as goal
 pub fill-requires-clause-empty : goal.fill-requires-clause-empty
 fill-requires-clause-empty g c =
     let row = c.self.inside in
-    let at = held_at row.used row.fresh row.cells.held c.args.self.now c.from.result c.args.slot c.lend_mut-place.result.now c.self.view_is c.from.ensures c.lend_mut-place.ensures.value in
+    let at = held_at row.used row.fresh row.boxes.held c.args.self.now c.from.result c.args.slot c.lend_mut-place.result.now c.self.view_is c.from.ensures c.lend_mut-place.ensures.value in
     ap (λ place. place.value) (sym at) ∙ c.requires.empty
 
 pub fill-requires-clause-unworn : goal.fill-requires-clause-unworn
 fill-requires-clause-unworn g c =
     let row = c.self.inside in
-    let at = held_at row.used row.fresh row.cells.held c.args.self.now c.from.result c.args.slot c.lend_mut-place.result.now c.self.view_is c.from.ensures c.lend_mut-place.ensures.value in
+    let at = held_at row.used row.fresh row.boxes.held c.args.self.now c.from.result c.args.slot c.lend_mut-place.result.now c.self.view_is c.from.ensures c.lend_mut-place.ensures.value in
     let same = ap (λ place. place.generation) at in
     omega (arith, same, c.requires.unworn)
 
@@ -27,30 +27,30 @@ invariant_of-self g c =
     let reached : c.fill.new.self.next < row.count → c.fill.new.self.next ≤ row.fresh = λ within.
     let below = linked (omega (arith, within, next)) in
     omega (arith, below, next) in
-    (is.0, is.1, is.2, is.3, IsRow-set row.cells.held row.count row.fresh c.from.result _ there reached is.4)
+    (is.0, is.1, is.2, is.3, IsRow-set row.boxes.held row.count row.fresh c.from.result _ there reached is.4)
 
 pub returns-clause-generation : goal.returns-clause-generation
 returns-clause-generation g c =
     let row = c.self.inside in
-    let at = held_at row.used row.fresh row.cells.held c.args.self.now c.from.result c.args.slot c.lend_mut-place.result.now c.self.view_is c.from.ensures c.lend_mut-place.ensures.value in
+    let at = held_at row.used row.fresh row.boxes.held c.args.self.now c.from.result c.args.slot c.lend_mut-place.result.now c.self.view_is c.from.ensures c.lend_mut-place.ensures.value in
     let same = ap (λ place. place.generation) at in
     omega (arith, same, c.fill.ensures.generation)
 
 pub returns-clause-next : goal.returns-clause-next
 returns-clause-next g c =
     let row = c.self.inside in
-    let at = held_at row.used row.fresh row.cells.held c.args.self.now c.from.result c.args.slot c.lend_mut-place.result.now c.self.view_is c.from.ensures c.lend_mut-place.ensures.value in
+    let at = held_at row.used row.fresh row.boxes.held c.args.self.now c.from.result c.args.slot c.lend_mut-place.result.now c.self.view_is c.from.ensures c.lend_mut-place.ensures.value in
     sym (ap (λ place. place.next) at)
 
 pub returns-clause-after : goal.returns-clause-after
 returns-clause-after g c =
     let row = c.self.inside in
-    written row.used row.fresh row.cells.held c.args.self.now c.from.result c.args.slot _ _ c.self.view_is c.from.ensures c.fill.ensures.after
+    written row.used row.fresh row.boxes.held c.args.self.now c.from.result c.args.slot _ _ c.self.view_is c.from.ensures c.fill.ensures.after
 
 pub returns-clause-reached : goal.returns-clause-reached
 returns-clause-reached g c within =
     let row = c.self.inside in
     let linked = c.self.invariant.4.linked c.from.result c.lend_mut-place.result.now c.lend_mut-place.ensures.value in
-    let long = length-places_in row.used 0 (set row.cells.held c.from.result (Some c.fill.new.self)) in
-    let same = length-set row.cells.held c.from.result (Some c.fill.new.self) in
+    let long = length-places_in row.used 0 (set row.boxes.held c.from.result (Some c.fill.new.self)) in
+    let same = length-set row.boxes.held c.from.result (Some c.fill.new.self) in
     linked (omega (arith, within, long, same, c.self.invariant.4.long))

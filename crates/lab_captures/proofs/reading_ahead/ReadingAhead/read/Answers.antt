@@ -31,17 +31,17 @@ pub returns-in-Several : goal.returns-in-Several
 returns-in-Several g c =
     let between = c.loop-fault.self in
     let after : ReadingAhead = record { window = between.window; reader = c.next.new.self; filter = c.read.new.self } in
-    reads_several g.F.CellFollower.rules c.args.self.now between after c.in-Taken.said c.in-Several.one c.in-Several.other c.in-Taken.own
+    reads_several g.F.CellFollower.rules c.args.self.now between after c.in-Taken.record_read c.in-Several.one c.in-Several.other c.in-Taken.own
     c.args.cells.now.items c.loop-fault.cells.items c.loop-fault.invariant
-    (subst (λ (octets : List ℕ). ComesNext between.reader octets (Taken c.in-Taken.said c.in-Taken.own) c.next.new.self) c.octets.ensures c.in-Taken.ensures)
+    (subst (λ (octets : List ℕ). ComesNext between.reader octets (Taken c.in-Taken.record_read c.in-Taken.own) c.next.new.self) c.octets.ensures c.in-Taken.ensures)
     c.in-Several.ensures
 
 pub loop-fault-preserved-in-Passed-read : goal.loop-fault-preserved-in-Passed-read
 loop-fault-preserved-in-Passed-read g c =
     let between = c.loop-fault.self in
     let after : ReadingAhead = record { window = c.skip-in-Passed-read.new.self; reader = c.next.new.self; filter = c.read.new.self } in
-    let takes = subst (λ (octets : List ℕ). ComesNext between.reader octets (Taken c.in-Taken.said c.in-Taken.own) c.next.new.self) c.octets.ensures c.in-Taken.ensures in
-    reads_uncounted g.F.CellFollower.rules c.args.self.now between after c.in-Taken.said c.in-Taken.own
+    let takes = subst (λ (octets : List ℕ). ComesNext between.reader octets (Taken c.in-Taken.record_read c.in-Taken.own) c.next.new.self) c.octets.ensures c.in-Taken.ensures in
+    reads_uncounted g.F.CellFollower.rules c.args.self.now between after c.in-Taken.record_read c.in-Taken.own
     c.args.cells.now.items c.loop-fault.cells.items c.loop-fault.invariant takes c.in-Passed-read.ensures
     (ap (λ (window : List ℕ). record after { window = window }) c.skip-in-Passed-read.ensures.octets)
 
@@ -49,10 +49,10 @@ pub loop-fault-preserved : goal.loop-fault-preserved
 loop-fault-preserved g c =
     let between = c.loop-fault.self in
     let after : ReadingAhead = record { window = c.skip-in-Counts.new.self; reader = c.next.new.self; filter = c.read.new.self } in
-    let said = c.in-Taken.said in
-    let counted : CountedCell = record { number = said.number; moment = c.in-Counts.moment; cell = c.cell.result } in
-    let takes = subst (λ (octets : List ℕ). ComesNext between.reader octets (Taken said c.in-Taken.own) c.next.new.self) c.octets.ensures c.in-Taken.ensures in
-    reads_counted g.F.CellFollower.rules c.args.self.now between after said c.in-Counts.moment c.in-Counts.cell c.in-Taken.own
+    let record_read = c.in-Taken.record_read in
+    let counted : CountedCell = record { number = record_read.number; moment = c.in-Counts.moment; cell = c.cell.result } in
+    let takes = subst (λ (octets : List ℕ). ComesNext between.reader octets (Taken record_read c.in-Taken.own) c.next.new.self) c.octets.ensures c.in-Taken.ensures in
+    reads_counted g.F.CellFollower.rules c.args.self.now between after record_read c.in-Counts.moment c.in-Counts.cell c.in-Taken.own
     c.args.cells.now.items c.loop-fault.cells.items c.push.new.self.items counted c.loop-fault.invariant takes c.in-Counts.ensures
     (ap (λ (octets : List ℕ). record counted { cell = octets }) c.cell.ensures) c.in_ok-push-in-Counts.ensures.items
     (ap (λ (window : List ℕ). record after { window = window }) c.skip-in-Counts.ensures.octets)
@@ -61,14 +61,14 @@ pub returns-then-most-len : goal.returns-then-most-len
 returns-then-most-len g c =
     let between = c.loop-fault.self in
     let after : ReadingAhead = record { window = c.skip-in-Counts.new.self; reader = c.next.new.self; filter = c.read.new.self } in
-    let said = c.in-Taken.said in
-    let counted : CountedCell = record { number = said.number; moment = c.in-Counts.moment; cell = c.cell.result } in
-    let takes = subst (λ (octets : List ℕ). ComesNext between.reader octets (Taken said c.in-Taken.own) c.next.new.self) c.octets.ensures c.in-Taken.ensures in
+    let record_read = c.in-Taken.record_read in
+    let counted : CountedCell = record { number = record_read.number; moment = c.in-Counts.moment; cell = c.cell.result } in
+    let takes = subst (λ (octets : List ℕ). ComesNext between.reader octets (Taken record_read c.in-Taken.own) c.next.new.self) c.octets.ensures c.in-Taken.ensures in
     record {
-      so_far = reads_counted g.F.CellFollower.rules c.args.self.now between after said c.in-Counts.moment c.in-Counts.cell c.in-Taken.own
+      so_far = reads_counted g.F.CellFollower.rules c.args.self.now between after record_read c.in-Counts.moment c.in-Counts.cell c.in-Taken.own
           c.args.cells.now.items c.loop-fault.cells.items c.push.new.self.items counted c.loop-fault.invariant takes c.in-Counts.ensures
           (ap (λ (octets : List ℕ). record counted { cell = octets }) c.cell.ensures) c.in_ok-push-in-Counts.ensures.items
           (ap (λ (window : List ℕ). record after { window = window }) c.skip-in-Counts.ensures.octets);
-      moved = reads_moved g.F.CellFollower.rules c.args.self.now between c.next.new.self said c.in-Taken.own c.args.cells.now.items
+      moved = reads_moved g.F.CellFollower.rules c.args.self.now between c.next.new.self record_read c.in-Taken.own c.args.cells.now.items
           c.loop-fault.cells.items c.loop-fault.invariant takes;
     }

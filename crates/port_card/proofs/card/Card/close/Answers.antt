@@ -29,6 +29,6 @@ returns-clause-uneven g c =
     let columns : c.deref-2.result.now ≡ columns_of seats =
     c.deref-2.ensures.value ∙ c.gathered_columns-columns.ensures.columns ∙ map-set_same tallies seats 0 first c.index_mut.result.now same in
     let result = c.first_uneven-uneven.result in
-    let told = subst (λ (ls : List LineView). IsFirstUneven ls (columns_on c.deref-2.result.now) result) c.deref.ensures.value c.first_uneven-uneven.ensures in
+    let uneven = subst (λ (ls : List LineView). IsFirstUneven ls (columns_on c.deref-2.result.now) result) c.deref.ensures.value c.first_uneven-uneven.ensures in
     first_uneven-along lines (columns_on c.deref-2.result.now) (seats_on seats)
-    (λ line. ap (λ (cs : List (List Tally)). columns_on cs line) columns ∙ columns_on-of seats line) result told
+    (λ line. ap (λ (cs : List (List Tally)). columns_on cs line) columns ∙ columns_on-of seats line) result uneven

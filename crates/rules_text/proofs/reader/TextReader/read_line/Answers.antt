@@ -4,8 +4,8 @@ use Rattle.rules_text.specs.TextFaults.{IsFaultOf}
 use Rattle.rules_text.specs.TextOfRules.{TextReading, text_with_line}
 use Rattle.rules_text.specs.declared.fault.RuleFault.{RuleFault}
 use Rattle.rules_text.specs.inner.Seen.{found_seen}
-use Rattle.rules_text.specs.inner.SeenReading.{said_seen, text_seen}
-use Rattle.rules_text.proofs.ReadingSteps.{line_empty, line_closed, line_said, line_fault, fault_onward, returned_fault}
+use Rattle.rules_text.specs.inner.SeenReading.{rule_statement_seen, text_seen}
+use Rattle.rules_text.proofs.ReadingSteps.{line_empty, line_closed, line_statement, line_fault, fault_onward, returned_fault}
 use Rattle.rules_text.proofs.reader.TextReader.read_line.Goals as goal
 
 pub returns-in_default-clause-ok : goal.returns-in_default-clause-ok
@@ -17,16 +17,16 @@ returns-then-self-clause-err c =
     inr (line_closed (text_seen c.args.self.now) c.args.number c.args.line.now (found_seen first) (tokens_from (first.end + 1) 0 (drop first.end c.args.line.now)) c.in-Some.ensures.tokens c.if-self.true
     ∙ ap (λ (fault : RuleFault). Err fault) (sym c.fault_at.ensures))
 
-pub returns-in_err-said-clause-err : goal.returns-in_err-said-clause-err
-returns-in_err-said-clause-err c =
+pub returns-in_err-statement-clause-err : goal.returns-in_err-statement-clause-err
+returns-in_err-statement-clause-err c =
     let first = c.in-Some.first in
     let text = text_seen c.args.self.now in
-    returned_fault c.from_residual.result c.in_err-said.field-0.0 (IsFaultOf (text_with_line text c.args.number c.args.line.now)) c.from_residual.ensures.1
-    (fault_onward _ _ _ (λ e. line_fault text c.args.number c.args.line.now (found_seen first) (tokens_from (first.end + 1) 0 (drop first.end c.args.line.now)) _ c.in-Some.ensures.tokens c.if-self.false e) c.in_err-said.ensures.err)
+    returned_fault c.from_residual.result c.in_err-statement.field-0.0 (IsFaultOf (text_with_line text c.args.number c.args.line.now)) c.from_residual.ensures.1
+    (fault_onward _ _ _ (λ e. line_fault text c.args.number c.args.line.now (found_seen first) (tokens_from (first.end + 1) 0 (drop first.end c.args.line.now)) _ c.in-Some.ensures.tokens c.if-self.false e) c.in_err-statement.ensures.err)
 
 pub returns-in-Ok-clause-ok : goal.returns-in-Ok-clause-ok
 returns-in-Ok-clause-ok c =
     let first = c.in-Some.first in
     let text = text_seen c.args.self.now in
-    line_said text c.args.number c.args.line.now (found_seen first) (tokens_from (first.end + 1) 0 (drop first.end c.args.line.now)) (said_seen c.in_ok-said.said) c.in-Some.ensures.tokens c.if-self.false c.in_ok-said.ensures.ok
+    line_statement text c.args.number c.args.line.now (found_seen first) (tokens_from (first.end + 1) 0 (drop first.end c.args.line.now)) (rule_statement_seen c.in_ok-statement.statement) c.in-Some.ensures.tokens c.if-self.false c.in_ok-statement.ensures.ok
     ∙ ap (λ (next : TextReading). Ok next) c.in-Ok.ensures.ok

@@ -10,5 +10,5 @@ pub returns : goal.returns
 returns c =
     let old : Held = record { core = c.self.inside.core; names = c.self.inside.names } in
     let new : Held = record { core = c.arrive.new.self; names = c.self.inside.names } in
-    subst (λ held. AnswersCell held c.args.cell.now c.args.moment (option_map (λ told. answer_to c.args.cell.now told) c.arrive.result) new) c.self.view_is
+    subst (λ held. AnswersCell held c.args.cell.now c.args.moment (option_map (λ printed. answer_to c.args.cell.now printed) c.arrive.result) new) c.self.view_is
     (arrives old new c.args.cell.now c.args.moment c.arrive.result refl c.arrive.ensures.answered c.arrive.ensures.not_now)

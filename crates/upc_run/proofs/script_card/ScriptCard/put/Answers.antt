@@ -33,7 +33,7 @@ returns-in-Err c =
     let command = load c.args.digits.now in
     let follows = rw c.of_accepted.ensures at c.in-Err.ensures.follows in
     on-ok c.add_desk_fault.result c.add_desk_fault.ensures (λ added.
-    let told = adds-some _ _ _ added in
+    let printed = adds-some _ _ _ added in
     moves-at (λ before. TakesCommand before command (Load c.args.code.items)) old _ new _ _ c.self.view_is
-    (moves-taken old new command (Load c.args.code.items) (NotLoaded c.in-Err.fault c.in-Err.field-0-1) told.0 _ _ follows
-    (no-name old.names) told.1 (λ before after stepped. told.2)))
+    (moves-taken old new command (Load c.args.code.items) (NotLoaded c.in-Err.fault c.in-Err.field-0-1) printed.0 _ _ follows
+    (no-name old.names) printed.1 (λ before after stepped. printed.2)))

@@ -29,9 +29,9 @@ returns c =
       | in-Err w ↦
           on-tie (λ before. Obeys before (reload vc number)) _ new _ _ _ _ _ w.result-is (ap (λ v. v.items) w.answers-is)
           (on-ok w.add_desk_fault.result w.add_desk_fault.ensures (λ added.
-          let told = adds-some _ _ _ added in
+          let printed = adds-some _ _ _ added in
           moves-at (λ before. Obeys before (reload vc number)) old _ new _ _ c.self.view_is
           (moves-named (λ before here. TakesCommand before (reload vc number) (Reload vc here)) (reload vc number) number id old new _ _ named
-          (moves-taken old new (reload vc number) (Reload vc id) (Refused w.in-Err.fault) told.0 _ _ w.in-Err.ensures.follows (no-name old.names) told.1
-          (λ before after stepped. told.2)))))
+          (moves-taken old new (reload vc number) (Reload vc id) (Refused w.in-Err.fault) printed.0 _ _ w.in-Err.ensures.follows (no-name old.names) printed.1
+          (λ before after stepped. printed.2)))))
     ]

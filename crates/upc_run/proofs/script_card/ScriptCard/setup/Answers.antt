@@ -33,9 +33,9 @@ returns c =
       | in-Err-setup w ↦
           on-tie (λ before. Obeys before (setup vc number wanted)) _ new _ _ _ _ _ w.result-is (ap (λ v. v.items) w.answers-is)
           (on-ok w.add_desk_fault.result w.add_desk_fault.ensures (λ added.
-          let told = adds-some _ _ _ added in
+          let printed = adds-some _ _ _ added in
           moves-at (λ before. Obeys before (setup vc number wanted)) old _ new _ _ c.self.view_is
           (moves-setup vc number wanted contracts id old new _ _ c.in-Ok.ensures.sound c.in-Ok.ensures.made named
-          (moves-taken old new (setup vc number wanted) (Setup ask) (NotSetUp w.in-Err-setup.fault w.in-Err-setup.field-0-1) told.0 _ _ w.in-Err-setup.ensures.follows
-          (no-name old.names) told.1 (λ before after stepped. told.2)))))
+          (moves-taken old new (setup vc number wanted) (Setup ask) (NotSetUp w.in-Err-setup.fault w.in-Err-setup.field-0-1) printed.0 _ _ w.in-Err-setup.ensures.follows
+          (no-name old.names) printed.1 (λ before after stepped. printed.2)))))
     ]

@@ -18,12 +18,12 @@ use Rattle.card_core.specs.declared.step.Step.{Step}
 use Rattle.card_core.specs.declared.step.Step.TheVariants.{Enter, Pick, Judge}
 use Rattle.card_core.specs.World.{World, Connection, Picking, PortState, outside, entered, picked, connection_in, with_port, with_verdict}
 use Rattle.card_core.specs.Steps.{Enters, Picks, Judges, cell_after, cell_of_picking, with_cell, verdict_on, judgement_of, picking_of, judged_world, number_with}
-use Rattle.card_core.specs.Judged.{JudgedView, told}
+use Rattle.card_core.specs.Judged.{JudgedView, judgement_in}
 use Rattle.card_core.specs.Headline.{loads, retires, changes, named_after, judged_in, as_it_came, verdicts_on, cells_on, cells_judged_on}
 use Rattle.card_core.proofs.LogLemmas.{event_of, none-judged}
 use Rattle.card_core.proofs.Sound.{WorldInvariant}
 use Rattle.card_core.proofs.CellLemmas.{vc-after, came}
-use Rattle.card_core.proofs.Told.{store_same, Kept, kept, IsSilent, connections-same, connections-with, IsPickedNow, PortsTold, ports-moved, StepTold}
+use Rattle.card_core.proofs.Effects.{store_same, Kept, kept, IsSilent, connections-same, connections-with, IsPickedNow, PortEffects, ports-moved, StepEffects}
 use Rattle.card_core.proofs.SoundChanges.{picked_same}
 
 -- Some answers show no change.
@@ -44,7 +44,7 @@ quiet-not_now = record {
   no_cell = refl;
 }
 
-pub quiet-answered : (answer : Answer) → told answer ≡ None → IsQuiet (Answered answer)
+pub quiet-answered : (answer : Answer) → judgement_in answer ≡ None → IsQuiet (Answered answer)
 quiet-answered answer unjudged = record {
   no_code = λ id step. refl;
   none_retired = λ id step. refl;
@@ -90,13 +90,13 @@ silent-quiet vc step reply quiet = record {
 pub no-verdicts : (judged : List Verdict) (line : ℕ) (step : Step) (reply : Reply) → judged_in reply ≡ None
     → judged ≡ judged ++ verdicts_on line (event_of step reply ∷ [])
 no-verdicts given line step reply none =
-    sym (ap (λ (told : List JudgedView). given ++ map (λ judged. judged.verdict) (filter (λ judged. judged.line == line) told)) (none-judged step reply none)
+    sym (ap (λ (added : List JudgedView). given ++ map (λ judged. judged.verdict) (filter (λ judged. judged.line == line) added)) (none-judged step reply none)
     ∙ append-nil given)
 
-pub tells-quiet : (shape : Shape) (before : World) (step : Step) (reply : Reply) (ports : List PortState) → IsQuiet reply
-    → PortsTold before (record before { ports = ports }) step reply
-    → StepTold shape before step reply (record before { ports = ports })
-tells-quiet shape before step reply ports quiet moves = record {
+pub effects-quiet : (shape : Shape) (before : World) (step : Step) (reply : Reply) (ports : List PortState) → IsQuiet reply
+    → PortEffects before (record before { ports = ports }) step reply
+    → StepEffects shape before step reply (record before { ports = ports })
+effects-quiet shape before step reply ports quiet moves = record {
   shape_same = refl;
   store = store_same refl refl (λ id. quiet.no_code id step) (λ id. quiet.none_retired id step);
   connections = connections-same shape before (record before { ports = ports }) step reply (λ vc. silent-quiet vc step reply quiet) refl;
@@ -105,11 +105,11 @@ tells-quiet shape before step reply ports quiet moves = record {
 }
 
 -- The reply and the world after a step, replaced by equal ones.
-pub tells-at : (shape : Shape) (before : World) (step : Step) (one other : Reply) (after later : World)
-    → one ≡ other → after ≡ later → StepTold shape before step other later → StepTold shape before step one after
-tells-at shape before step one other after later same leads tells =
-    subst (λ (r : Reply). StepTold shape before step r after) (sym same)
-    (subst (λ (w : World). StepTold shape before step other w) (sym leads) tells)
+pub effects-at : (shape : Shape) (before : World) (step : Step) (one other : Reply) (after later : World)
+    → one ≡ other → after ≡ later → StepEffects shape before step other later → StepEffects shape before step one after
+effects-at shape before step one other after later same leads effects =
+    subst (λ (r : Reply). StepEffects shape before step r after) (sym same)
+    (subst (λ (w : World). StepEffects shape before step other w) (sym leads) effects)
 
 -- Enter and Pick show whose cell is at the port, and since when.
 
@@ -123,12 +123,12 @@ enter_same : (port : ℕ) (one other : List ℕ) (moment another : ℕ) → ente
 unfolding enter_of
 enter_same port one other moment another e = ap (enter_of port) e
 
-pub tells-enters : (shape : Shape) (before : World) (port : ℕ) (cell : List ℕ) (moment : ℕ) (reply : Reply) (after : World)
-    → Enters before port cell moment reply after → StepTold shape before (Enter port cell moment) reply after
-tells-enters shape before port cell moment reply after w =
+pub effects-enters : (shape : Shape) (before : World) (port : ℕ) (cell : List ℕ) (moment : ℕ) (reply : Reply) (after : World)
+    → Enters before port cell moment reply after → StepEffects shape before (Enter port cell moment) reply after
+effects-enters shape before port cell moment reply after w =
     let step : Step = Enter port cell moment in
     let later : World = with_port before port (entered cell moment) in
-    tells-at shape before step reply Entered after later w.answer w.world (record {
+    effects-at shape before step reply Entered after later w.answer w.world (record {
       shape_same = refl;
       store = store_same refl refl (λ id. refl) (λ id. refl);
       connections = connections-same shape before later step Entered (λ vc. record { standing = refl; programs = λ program. refl; cells = refl }) refl;
@@ -138,9 +138,9 @@ tells-enters shape before port cell moment reply after w =
       verdicts = λ line. no-verdicts (before.judged line) line step Entered refl;
     })
 
-pub tells-picks : (shape : Shape) (before : World) (port : ℕ) (reply : Reply) (after : World)
-    → Picks before port reply after → StepTold shape before (Pick port) reply after
-tells-picks shape before port reply after w =
+pub effects-picks : (shape : Shape) (before : World) (port : ℕ) (reply : Reply) (after : World)
+    → Picks before port reply after → StepEffects shape before (Pick port) reply after
+effects-picks shape before port reply after w =
     let step : Step = Pick port in
     let vc : Vc = vc_of before.shape.side w.cell in
     let new : Picking = picking_of w.cell w.moment vc w.connection w.value in
@@ -157,7 +157,7 @@ tells-picks shape before port reply after w =
       given = w.named;
       gives = w.gives;
     } in
-    tells-at shape before step reply Picked after later w.answer w.world (record {
+    effects-at shape before step reply Picked after later w.answer w.world (record {
       shape_same = refl;
       store = store_same refl refl (λ id. refl) (λ id. refl);
       connections = connections-same shape before later step Picked (λ vc. record { standing = refl; programs = λ program. refl; cells = refl }) refl;
@@ -180,16 +180,16 @@ judgement_on before picking connection = record {
 }
 
 -- It shows the cell as the history has it.
-pub told-cell : (before : World) (picking : Picking) (connection : Connection)
+pub cell-judged : (before : World) (picking : Picking) (connection : Connection)
     → as_it_came (judgement_on before picking connection) ≡ cell_of_picking picking
-told-cell before picking connection =
-    let as_told : Bool → NamedCell = λ clp. record {
+cell-judged before picking connection =
+    let as_named : Bool → NamedCell = λ clp. record {
       moment = picking.moment;
       clp = clp;
       value = picking.value;
       program = picking.program;
     } in
-    ap as_told (came picking.cell (numbered connection.contracts picking.value)
+    ap as_named (came picking.cell (numbered connection.contracts picking.value)
     (buckets_after_cells connection.contracts empty_buckets connection.history picking.value) (cell_of_picking picking) refl)
 
 module _ (shape : Shape) (before : World) (sound : WorldInvariant before) (same_shape : before.shape ≡ shape) (port : ℕ) (picking : Picking) (had : slice_get before.ports port ≡ Some (picked picking)) (connection : Connection) (found : connection_in before.connections picking.vc ≡ Some connection) where
@@ -203,34 +203,34 @@ module _ (shape : Shape) (before : World) (sound : WorldInvariant before) (same_
   shown : {X : Type 0} → (JudgedView → X) → Bool → List X
   shown show test = map show (cond test (judgement ∷ []) [])
 
-  told_vc : vc_of shape.side (judgement_on before picking connection).cell ≡ picking.vc
-  told_vc =
+  vc_of_leaving : vc_of shape.side (judgement_on before picking connection).cell ≡ picking.vc
+  vc_of_leaving =
       vc-after shape.side (verdict_on connection (cell_of_picking picking)) picking.cell
       ∙ ap (λ (s : Shape). vc_of s.side picking.cell) (sym same_shape)
       ∙ sym (sound.ports port picking had).own
 
-  told_here : cells_judged_on shape picking.vc (event_of (Judge port) judged_reply ∷ []) ≡ cell_of_picking picking ∷ []
+  judged_here : cells_judged_on shape picking.vc (event_of (Judge port) judged_reply ∷ []) ≡ cell_of_picking picking ∷ []
   unfolding judged_reply judgement shown
-  told_here =
+  judged_here =
       let at : is_same_vc picking.vc (vc_of shape.side (judgement_on before picking connection).cell) ≡ true =
-      subst (λ (v : Vc). is_same_vc picking.vc v ≡ true) (sym told_vc) (vc_itself picking.vc) in
-      ap (shown as_it_came) at ∙ ap (λ (c : NamedCell). c ∷ []) (told-cell before picking connection)
+      subst (λ (v : Vc). is_same_vc picking.vc v ≡ true) (sym vc_of_leaving) (vc_itself picking.vc) in
+      ap (shown as_it_came) at ∙ ap (λ (c : NamedCell). c ∷ []) (cell-judged before picking connection)
 
-  told_others : (other : Vc) → other ≢ picking.vc → cells_judged_on shape other (event_of (Judge port) judged_reply ∷ []) ≡ []
+  judged_others : (other : Vc) → other ≢ picking.vc → cells_judged_on shape other (event_of (Judge port) judged_reply ∷ []) ≡ []
   unfolding judged_reply judgement shown
-  told_others other apart =
+  judged_others other apart =
       ap (shown as_it_came)
-      (vc_differs other (vc_of shape.side (judgement_on before picking connection).cell) (λ same. apart (same ∙ told_vc)))
+      (vc_differs other (vc_of shape.side (judgement_on before picking connection).cell) (λ same. apart (same ∙ vc_of_leaving)))
 
-  told_on_line : cells_on connection.line (event_of (Judge port) judged_reply ∷ []) ≡ cell_of_picking picking ∷ []
+  judged_on_line : cells_on connection.line (event_of (Judge port) judged_reply ∷ []) ≡ cell_of_picking picking ∷ []
   unfolding judged_reply judgement shown
-  told_on_line =
+  judged_on_line =
       ap (shown as_it_came) (eq-eqb connection.line connection.line refl)
-      ∙ ap (λ (c : NamedCell). c ∷ []) (told-cell before picking connection)
+      ∙ ap (λ (c : NamedCell). c ∷ []) (cell-judged before picking connection)
 
-  told_on_others : (line : ℕ) → connection.line ≢ line → cells_on line (event_of (Judge port) judged_reply ∷ []) ≡ []
+  judged_on_others : (line : ℕ) → connection.line ≢ line → cells_on line (event_of (Judge port) judged_reply ∷ []) ≡ []
   unfolding judged_reply judgement shown
-  told_on_others line apart = ap (shown as_it_came) (ne_eqb connection.line line apart)
+  judged_on_others line apart = ap (shown as_it_came) (ne_eqb connection.line line apart)
 
   judged-here : Kept shape connection (with_cell connection (cell_of_picking picking)) picking.vc (Judge port) judged_reply
   unfolding judged_reply
@@ -240,8 +240,8 @@ module _ (shape : Shape) (before : World) (sound : WorldInvariant before) (same_
     contracts = refl;
     standing = refl;
     program = refl;
-    cells = sym (ap (λ told. connection.history ++ told) told_here);
-    held = sym (ap (λ told. connection.history ++ told) told_on_line);
+    cells = sym (ap (λ added. connection.history ++ added) judged_here);
+    held = sym (ap (λ added. connection.history ++ added) judged_on_line);
   }
 
   judged-others : (other : Vc) → other ≢ picking.vc → (old : Connection) → connection_in before.connections other ≡ Some old
@@ -253,16 +253,16 @@ module _ (shape : Shape) (before : World) (sound : WorldInvariant before) (same_
     contracts = refl;
     standing = refl;
     program = refl;
-    cells = sym (ap (λ told. old.history ++ told) (told_others other apart) ∙ append-nil old.history);
-    held = sym (ap (λ told. old.history ++ told)
-        (told_on_others old.line (λ same. apart (sym (sound.connections.lines_apart picking.vc other connection old found at same))))
+    cells = sym (ap (λ added. old.history ++ added) (judged_others other apart) ∙ append-nil old.history);
+    held = sym (ap (λ added. old.history ++ added)
+        (judged_on_others old.line (λ same. apart (sym (sound.connections.lines_apart picking.vc other connection old found at same))))
         ∙ append-nil old.history);
   }
 
-  told_verdict : (line : ℕ) → with_verdict before.judged connection.line (verdict_on connection (cell_of_picking picking)) line
+  verdict_added : (line : ℕ) → with_verdict before.judged connection.line (verdict_on connection (cell_of_picking picking)) line
       ≡ before.judged line ++ verdicts_on line (event_of (Judge port) judged_reply ∷ [])
   unfolding judged_reply judgement shown
-  told_verdict line =
+  verdict_added line =
       let verdict : Verdict = verdict_on connection (cell_of_picking picking) in
       elim (cases_eq line connection.line) [
         | inl same ↦
@@ -274,22 +274,22 @@ module _ (shape : Shape) (before : World) (sound : WorldInvariant before) (same_
             ∙ ap (λ b. before.judged line ++ shown (λ judged. judged.verdict) b) (sym (ne_eqb connection.line line (λ same. apart (sym same))))
       ]
 
-  judged-tells : StepTold shape before (Judge port) judged_reply (judged_world before port picking connection)
+  judged-effects : StepEffects shape before (Judge port) judged_reply (judged_world before port picking connection)
   unfolding judged_reply
-  judged-tells = record {
+  judged-effects = record {
     shape_same = refl;
     store = store_same refl refl (λ id. refl) (λ id. refl);
     connections = connections-with shape before (judged_world before port picking connection) (Judge port) judged_reply picking.vc
         (with_cell connection (cell_of_picking picking)) refl (kept connection found judged-here) judged-others;
     ports = ports-moved before (judged_world before port picking connection) (Judge port) judged_reply port outside refl (λ other. refl)
         (λ cell moment e. absurd (cc)) (λ picking e. absurd (cc));
-    verdicts = told_verdict;
+    verdicts = verdict_added;
   }
 
-pub tells-judges : (shape : Shape) (before : World) (port : ℕ) (reply : Reply) (after : World) → WorldInvariant before → before.shape ≡ shape
-    → Judges before port reply after → StepTold shape before (Judge port) reply after
+pub effects-judges : (shape : Shape) (before : World) (port : ℕ) (reply : Reply) (after : World) → WorldInvariant before → before.shape ≡ shape
+    → Judges before port reply after → StepEffects shape before (Judge port) reply after
 unfolding judged_reply
-tells-judges shape before port reply after sound same_shape w =
-    tells-at shape before (Judge port) reply (Answered (judgement_of before w.picking w.connection)) after
+effects-judges shape before port reply after sound same_shape w =
+    effects-at shape before (Judge port) reply (Answered (judgement_of before w.picking w.connection)) after
     (judged_world before port w.picking w.connection) w.answer w.world
-    (judged-tells shape before sound same_shape port w.picking w.had w.connection w.found)
+    (judged-effects shape before sound same_shape port w.picking w.had w.connection w.found)

@@ -1,4 +1,4 @@
--- A `&` to the cells reaches each value. Assumes `Logic`.
+-- A `&` to the boxes reaches each value. Assumes `Logic`.
 use mathlib.Core.List.{[], ◌++◌}
 use base.Fml.{Incl-trans}
 use contract.BorrowLft.{meet_⊑_left}
@@ -9,8 +9,8 @@ use denote.Param.Shared.{copy_shared}
 use denote.Struct.Laws.{field_copy}
 use denote.Struct.Lending.{of_Lends}
 use Rattle.core.specs.contracts.marker.PhantomData as mark
-use Rattle.gen_arena.specs.contracts.block.Cells as owner
-use Rattle.gen_arena.proofs.block.Cells.TheLaw.Statement.{statement}
+use Rattle.gen_arena.specs.contracts.block.Boxes as owner
+use Rattle.gen_arena.proofs.block.Boxes.TheLaw.Statement.{statement}
 use Rattle.gen_arena.proofs.raw.Sharing.{row_copies, row_lends}
 
 pub shares : (R : RattleType) (L : Laws R) → statement R L

@@ -14,15 +14,15 @@ use Rattle.card_core.specs.World.{World, Connection, Picking, PortState, outside
 use Rattle.card_core.specs.Refusals.{refusal, enter_refusal, pick_refusal, judge_refusal, picking_refusal, cell_refusal, load_fault, retire_fault, setup_fault, reload_fault, missing_fault}
 use Rattle.card_core.specs.Steps.{without_memory}
 use Rattle.card_core.proofs.LeftLemmas.{with_answered, left_with}
-use Rattle.card_core.specs.Judged.{told}
+use Rattle.card_core.specs.Judged.{judgement_in}
 use Rattle.card_core.specs.Headline.{is_at, moves}
 use Rattle.card_core.proofs.LogLemmas.{event_of}
-use Rattle.card_core.proofs.Told.{ports-same, ports-moved, StepTold}
+use Rattle.card_core.proofs.Effects.{ports-same, ports-moved, StepEffects}
 use Rattle.card_core.proofs.LookUps.{same_some, refused_by, mapped}
-use Rattle.card_core.proofs.TellingCells.{IsQuiet, quiet-not_now, quiet-answered, quiet-refused, quiet-not_loaded, quiet-not_set_up, tells-quiet}
+use Rattle.card_core.proofs.EffectsOfCells.{IsQuiet, quiet-not_now, quiet-answered, quiet-refused, quiet-not_loaded, quiet-not_set_up, effects-quiet}
 
 abbrev pub IsUnjudged : Answer → Type 0
-IsUnjudged answer = told answer ≡ None
+IsUnjudged answer = judgement_in answer ≡ None
 
 -- The replies of a refused Pick or Judge.
 pub data CellRefused (refused : Reply) : Type 0 where
@@ -72,64 +72,64 @@ judge-refused before (Some (picked picking)) refused e =
     with_answer found.0 found.2 (picking-refused before picking (connection_in before.connections picking.vc) found.0 found.1)
 
 -- A step that leaves the world unchanged, with a reply that shows no change.
-tells-nothing : (shape : Shape) (before : World) (step : Step) (reply : Reply) → IsQuiet reply → ((port : ℕ) → moves port (event_of step reply) ≡ false)
-    → StepTold shape before step reply before
-tells-nothing shape before step reply quiet still =
-    tells-quiet shape before step reply before.ports quiet (ports-same before before step reply refl still)
+effects-nothing : (shape : Shape) (before : World) (step : Step) (reply : Reply) → IsQuiet reply → ((port : ℕ) → moves port (event_of step reply) ≡ false)
+    → StepEffects shape before step reply before
+effects-nothing shape before step reply quiet still =
+    effects-quiet shape before step reply before.ports quiet (ports-same before before step reply refl still)
 
 -- A refused Pick or Judge.
-tells-cell_refused : (shape : Shape) (before : World) (step : Step) (port : ℕ) (refused : Reply) → ((other : ℕ) → is_at other step ≡ (other == port))
-    → CellRefused refused → StepTold shape before step refused (with_answered before port refused)
-tells-cell_refused shape before step port refused at (at_no_time is) =
-    subst (λ (r : Reply). StepTold shape before step r (with_answered before port r)) (sym is)
-    (tells-nothing shape before step NotNow quiet-not_now (λ port. refl))
-tells-cell_refused shape before step port refused at (with_answer answer is unjudged) =
-    subst (λ (r : Reply). StepTold shape before step r (with_answered before port r)) (sym is)
-    (tells-quiet shape before step (Answered answer) (set before.ports port outside) (quiet-answered answer unjudged)
+effects-cell_refused : (shape : Shape) (before : World) (step : Step) (port : ℕ) (refused : Reply) → ((other : ℕ) → is_at other step ≡ (other == port))
+    → CellRefused refused → StepEffects shape before step refused (with_answered before port refused)
+effects-cell_refused shape before step port refused at (at_no_time is) =
+    subst (λ (r : Reply). StepEffects shape before step r (with_answered before port r)) (sym is)
+    (effects-nothing shape before step NotNow quiet-not_now (λ port. refl))
+effects-cell_refused shape before step port refused at (with_answer answer is unjudged) =
+    subst (λ (r : Reply). StepEffects shape before step r (with_answered before port r)) (sym is)
+    (effects-quiet shape before step (Answered answer) (set before.ports port outside) (quiet-answered answer unjudged)
     (ports-moved before (with_port before port outside) step (Answered answer) port outside refl at
     (λ cell moment e. absurd (cc)) (λ picking e. absurd (cc))))
 
-pub tells-refused : (shape : Shape) (before : World) (step : Step) (refused : Reply) → refusal before step ≡ Some refused
-    → StepTold shape before step refused (left_with before step refused)
-tells-refused shape before (Enter port cell moment) refused e =
-    subst (λ (r : Reply). StepTold shape before (Enter port cell moment) r before)
+pub effects-refused : (shape : Shape) (before : World) (step : Step) (refused : Reply) → refusal before step ≡ Some refused
+    → StepEffects shape before step refused (left_with before step refused)
+effects-refused shape before (Enter port cell moment) refused e =
+    subst (λ (r : Reply). StepEffects shape before (Enter port cell moment) r before)
     (sym (enter-refused (slice_get before.ports port) refused e))
-    (tells-nothing shape before (Enter port cell moment) NotNow quiet-not_now (λ port. refl))
-tells-refused shape before (Pick port) refused e =
-    tells-cell_refused shape before (Pick port) port refused (λ other. refl) (pick-refused before (slice_get before.ports port) refused e)
-tells-refused shape before (Judge port) refused e =
-    tells-cell_refused shape before (Judge port) port refused (λ other. refl) (judge-refused before (slice_get before.ports port) refused e)
-tells-refused shape before (Load code) refused e =
+    (effects-nothing shape before (Enter port cell moment) NotNow quiet-not_now (λ port. refl))
+effects-refused shape before (Pick port) refused e =
+    effects-cell_refused shape before (Pick port) port refused (λ other. refl) (pick-refused before (slice_get before.ports port) refused e)
+effects-refused shape before (Judge port) refused e =
+    effects-cell_refused shape before (Judge port) port refused (λ other. refl) (judge-refused before (slice_get before.ports port) refused e)
+effects-refused shape before (Load code) refused e =
     let found = mapped (λ fault. NotLoaded fault code) (load_fault before) refused e in
-    subst (λ (r : Reply). StepTold shape before (Load code) r before) (sym found.2)
-    (tells-nothing shape before (Load code) (NotLoaded found.0 code) (quiet-not_loaded found.0 code) (λ port. refl))
-tells-refused shape before (Retire id) refused e =
+    subst (λ (r : Reply). StepEffects shape before (Load code) r before) (sym found.2)
+    (effects-nothing shape before (Load code) (NotLoaded found.0 code) (quiet-not_loaded found.0 code) (λ port. refl))
+effects-refused shape before (Retire id) refused e =
     let found = mapped Refused (retire_fault before id) refused e in
-    subst (λ (r : Reply). StepTold shape before (Retire id) r before) (sym found.2)
-    (tells-nothing shape before (Retire id) (Refused found.0) (quiet-refused found.0) (λ port. refl))
-tells-refused shape before (Setup ask) refused e =
+    subst (λ (r : Reply). StepEffects shape before (Retire id) r before) (sym found.2)
+    (effects-nothing shape before (Retire id) (Refused found.0) (quiet-refused found.0) (λ port. refl))
+effects-refused shape before (Setup ask) refused e =
     let found = mapped (λ fault. NotSetUp fault ask) (setup_fault before ask) refused e in
-    subst (λ (r : Reply). StepTold shape before (Setup ask) r before) (sym found.2)
-    (tells-nothing shape before (Setup ask) (NotSetUp found.0 ask) (quiet-not_set_up found.0 ask) (λ port. refl))
-tells-refused shape before (Reload vc program) refused e =
+    subst (λ (r : Reply). StepEffects shape before (Setup ask) r before) (sym found.2)
+    (effects-nothing shape before (Setup ask) (NotSetUp found.0 ask) (quiet-not_set_up found.0 ask) (λ port. refl))
+effects-refused shape before (Reload vc program) refused e =
     let found = mapped Refused (reload_fault before vc program) refused e in
-    subst (λ (r : Reply). StepTold shape before (Reload vc program) r before) (sym found.2)
-    (tells-nothing shape before (Reload vc program) (Refused found.0) (quiet-refused found.0) (λ port. refl))
-tells-refused shape before (Release vc) refused e =
+    subst (λ (r : Reply). StepEffects shape before (Reload vc program) r before) (sym found.2)
+    (effects-nothing shape before (Reload vc program) (Refused found.0) (quiet-refused found.0) (λ port. refl))
+effects-refused shape before (Release vc) refused e =
     let found = mapped Refused (missing_fault before vc) refused e in
-    subst (λ (r : Reply). StepTold shape before (Release vc) r before) (sym found.2)
-    (tells-nothing shape before (Release vc) (Refused found.0) (quiet-refused found.0) (λ port. refl))
-tells-refused shape before (Cut vc) refused e =
+    subst (λ (r : Reply). StepEffects shape before (Release vc) r before) (sym found.2)
+    (effects-nothing shape before (Release vc) (Refused found.0) (quiet-refused found.0) (λ port. refl))
+effects-refused shape before (Cut vc) refused e =
     let found = mapped Refused (missing_fault before vc) refused e in
-    subst (λ (r : Reply). StepTold shape before (Cut vc) r before) (sym found.2)
-    (tells-nothing shape before (Cut vc) (Refused found.0) (quiet-refused found.0) (λ port. refl))
+    subst (λ (r : Reply). StepEffects shape before (Cut vc) r before) (sym found.2)
+    (effects-nothing shape before (Cut vc) (Refused found.0) (quiet-refused found.0) (λ port. refl))
 
-pub tells-starved : (shape : Shape) (before : World) (step : Step) (reply : Reply) → without_memory step ≡ Some reply
-    → StepTold shape before step reply before
-tells-starved shape before (Setup ask) reply e =
-    subst (λ (r : Reply). StepTold shape before (Setup ask) r before) (same_some (NotSetUp NoMemory ask) reply e)
-    (tells-nothing shape before (Setup ask) (NotSetUp NoMemory ask) (quiet-not_set_up NoMemory ask) (λ port. refl))
-tells-starved shape before (Cut vc) reply e =
-    subst (λ (r : Reply). StepTold shape before (Cut vc) r before) (same_some (Refused NoMemory) reply e)
-    (tells-nothing shape before (Cut vc) (Refused NoMemory) (quiet-refused NoMemory) (λ port. refl))
-tells-starved shape before _ reply e = absurd (cc)
+pub effects-starved : (shape : Shape) (before : World) (step : Step) (reply : Reply) → without_memory step ≡ Some reply
+    → StepEffects shape before step reply before
+effects-starved shape before (Setup ask) reply e =
+    subst (λ (r : Reply). StepEffects shape before (Setup ask) r before) (same_some (NotSetUp NoMemory ask) reply e)
+    (effects-nothing shape before (Setup ask) (NotSetUp NoMemory ask) (quiet-not_set_up NoMemory ask) (λ port. refl))
+effects-starved shape before (Cut vc) reply e =
+    subst (λ (r : Reply). StepEffects shape before (Cut vc) r before) (same_some (Refused NoMemory) reply e)
+    (effects-nothing shape before (Cut vc) (Refused NoMemory) (quiet-refused NoMemory) (λ port. refl))
+effects-starved shape before _ reply e = absurd (cc)

@@ -1,4 +1,4 @@
--- `take` moves a value out of its cell, which is then blank. Assumes `Logic`.
+-- `take` moves a value out of its box, which is then blank. Assumes `Logic`.
 use mathlib.Core.Path.{◌≡◌, refl, sym, subst, ◌∙◌}
 use Prim.Native.Nat.{◌+◌, ◌*◌, ◌<◌, ◌^◌}
 use native.Mathlib.Omega.{arith}
@@ -32,14 +32,14 @@ use Rattle.core.proofs.ptr.Rows.{times_below, one_below}
 use Rattle.std.proofs.raw_atomic.Walks.{proved_at, leaves}
 use Rattle.std_alloc.proofs.RawLayout.{as_raw}
 use Rattle.std_alloc.proofs.RcSteps.{word, word-Good}
-use Rattle.gen_arena.specs.inner.Cells.{CellHolds}
-use Rattle.gen_arena.specs.inner.BlockMemory.{cell_owned, cells_owned, row_owned}
-use Rattle.gen_arena.proofs.raw.Rows.{width, Cell, held_within, gap, cell_out, cell_in}
+use Rattle.gen_arena.specs.inner.Boxes.{BoxHolds}
+use Rattle.gen_arena.specs.inner.BlockMemory.{box_owned, boxes_owned, row_owned}
+use Rattle.gen_arena.proofs.raw.Rows.{width, Box, held_within, gap, box_out, box_in}
 use Rattle.gen_arena.proofs.raw.Walks.{Owner, Begin, pointer_had, value_out}
-use Rattle.gen_arena.specs.contracts.block.Cells.take.{ended, clauses}
-use Rattle.gen_arena.specs.contracts.block.Cells.take.Key.{name as #self}
-use Rattle.gen_arena.proofs.block.Cells.take.Statement.{statement}
-use Rattle.gen_arena.proofs.block.Cells.take.Code as code
+use Rattle.gen_arena.specs.contracts.block.Boxes.take.{ended, clauses}
+use Rattle.gen_arena.specs.contracts.block.Boxes.take.Key.{name as #self}
+use Rattle.gen_arena.proofs.block.Boxes.take.Statement.{statement}
+use Rattle.gen_arena.proofs.block.Boxes.take.Code as code
 
 pub take_spec : {M : Type 1} → statement M
 take_spec 𝓤 𝓛 𝓜 𝓡 wired X LX =
@@ -53,7 +53,7 @@ take_spec 𝓤 𝓛 𝓜 𝓡 wired X LX =
     let Post : Val → SProp 𝓤 = (walk_of 𝓛 T hs c).post z in
     let κs = z.0.0 in let qs = z.0.1 in let a = z.0.3 in let us = z.0.4 in
     let rb = a.0.ref_ptr.0 in let ro = a.0.ref_ptr.1 in let d = a.0.now in let start = a.1.0 in let k = a.1.1.0 in
-    let Asks : Type 0 = (start.to ≡ d.start) × CellHolds d.held k in
+    let Asks : Type 0 = (start.to ≡ d.start) × BoxHolds d.held k in
     let tokens = ‵ (flft κs.0 qs.0) ⊛ ‵ (flft κs.1.0 qs.1.0) ⊛ ‵ ftrue in
     qed 𝓛 ((tokens ⊛ ‵ (owns (types_at T.signature.params κs) a us)) ∷ raw ((c κs a).requires z.1) ∷ []) ∵
     move ! (1 ∷ []) $ use1 𝓛 (raw (fact 𝓤 (κs.1.0 ⊑ X.lives)) ⊛ raw (fact 𝓤 Asks)) (id⊢ 𝓤 _) $ split ! $ drop ! $ heard ! Asks (λ asked.
@@ -64,10 +64,10 @@ take_spec 𝓤 𝓛 𝓜 𝓡 wired X LX =
     alloc_all ! (λ l. pass_all ! refl ((tt, tt), (word-Good [] start.to, ((tt, record { fits = fits }), tt))) $
     let En : Env 𝓤 H = env fn.locals l in
     let x = asked.1.0 in let there = held_within d.held k x asked.1.1 in
-    -- [the cells; the mark; the owner's place, open; the other tokens; the locals]
+    -- [the boxes; the mark; the owner's place, open; the other tokens; the locals]
     opens ! tt (Owner E) {h = d} rb ro (λ vs. move ! (1 ∷ []) $ fsplit ! $ move ! (1 ∷ []) $
     in_a_block ! d.start (λ p. row_owned (R E) p d.held) (id⊢ 𝓤 (never 𝓤)) (λ b o is. fsplit ! $ flt_l ! (λ small.
-    let s = width E in let at = k * s + o in let left : List (Cell E) = set d.held k None in
+    let s = width E in let at = k * s + o in let left : List (Box E) = set d.held k None in
     let new : (Owner E).Denot = record { of = d.of; start = d.start; held = left } in
     let Value : Type 0 = get_or d.held k None ≡ Some x in
     let Blank : Type 0 = (new.start ≡ d.start) × (new.held ≡ set d.held k None) in
@@ -77,14 +77,14 @@ take_spec 𝓤 𝓛 𝓜 𝓡 wired X LX =
     first ! $ blocks ! $
     sets ! (bin ! (get ! refl) (size_lit ! (record { fits = tiny })) (record { fits = far })) refl (tt, record { fits = far }) $
     sets ! (bin ! (get_in ! (fld ! refl (stop !)) (sub ! 0 refl (whole !))) (get ! refl) tt) refl (tt, tt) $
-    use1 𝓛 (‵ (cell_owned (R E) b at (get_or d.held k None)) ⊛ ‵ (gap E 𝓛 b o d.held k)) (cell_out E 𝓛 b d.held k o there) $ split ! $
-    rewrite ! 0 (λ (cell : Cell E). ‵ (cell_owned (R E) b at cell)) asked.1.1 refl $
+    use1 𝓛 (‵ (box_owned (R E) b at (get_or d.held k None)) ⊛ ‵ (gap E 𝓛 b o d.held k)) (box_out E 𝓛 b d.held k o there) $ split ! $
+    rewrite ! 0 (λ (box : Box E). ‵ (box_owned (R E) b at box)) asked.1.1 refl $
     value_out ! E x b at (λ v good.
     sets_last ! (of_opd ! (load ! (through ! refl (stop !)) (look ! 0 refl))) refl good $
     exec ! 𝓣.C 𝓣.Λ En (after 1 fn.body) (at_ret En Post) $ sets ! (of_opd ! (get ! refl)) refl good $
-    -- The cell is blank again, and goes back among the others.
+    -- The box is blank again, and goes back among the others.
     use1 𝓛 (‵ (froom (elτ E) b at)) (𝓛.laws.at_room (elτ E) b at v) $ as_raw ! (elτ E) b at $
-    move ! (0 ∷ 2 ∷ 3 ∷ 4 ∷ 5 ∷ 6 ∷ 7 ∷ []) $ use2 𝓛 (‵ (cells_owned (R E) b o left)) (cell_in E 𝓛 b d.held k o there None) $
+    move ! (0 ∷ 2 ∷ 3 ∷ 4 ∷ 5 ∷ 6 ∷ 7 ∷ []) $ use2 𝓛 (‵ (boxes_owned (R E) b o left)) (box_in E 𝓛 b d.held k o there None) $
     flt_i ! (length left * s) (2 ^ 63) (subst (λ n. n * s < 2 ^ 63) (sym (length-set d.held k None)) small) $ fjoin ! $
     rewrite ! 0 (λ (p : Ptr). ‵ (row_owned (R E) p left)) (sym is) refl $ move ! (1 ∷ 0 ∷ []) $ fjoin ! $ move ! (1 ∷ 0 ∷ []) $
     closes ! tt (Owner E) new vs rb ro $ returns ! (look_at ! 0 refl) $ free_all ! refl $

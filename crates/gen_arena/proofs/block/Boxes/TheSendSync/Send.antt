@@ -1,7 +1,7 @@
 use denote.RattleType.{RattleType}
 use denote.Param.Send.{IsSend}
-use Rattle.gen_arena.proofs.raw.Crossing.{cells_send}
-use Rattle.gen_arena.specs.contracts.block.Cells.{the_row}
+use Rattle.gen_arena.proofs.raw.Crossing.{boxes_send}
+use Rattle.gen_arena.specs.contracts.block.Boxes.{the_row}
 
 pub send : (R : RattleType) → IsSend R → IsSend (the_row R)
-send = cells_send
+send = boxes_send

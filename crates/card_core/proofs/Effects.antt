@@ -22,19 +22,19 @@ use Rattle.card_core.proofs.LookUps.{same_some}
 use Rattle.card_core.proofs.ConnectionLemmas.{with-here, with-others}
 
 -- The effect on the codes: none, or one was loaded, or one was retired.
-pub data StoreTold (before after : World) (step : Step) (reply : Reply) : Type 0 where
+pub data StoreEffects (before after : World) (step : Step) (reply : Reply) : Type 0 where
   store_same : after.given ≡ before.given → after.live ≡ before.live
       → ((id : Id) → loads id (event_of step reply) ≡ false) → ((id : Id) → retires id (event_of step reply) ≡ false)
-      → StoreTold before after step reply
+      → StoreEffects before after step reply
   store_loaded : (id : Id) (code : List Instr) → step ≡ Load code → reply ≡ Loaded id
       → after.given ≡ record { id = id; code = code } ∷ before.given
       → after.live ≡ record { id = id; code = code } ∷ before.live
       → code_in before.given id ≡ None
-      → StoreTold before after step reply
+      → StoreEffects before after step reply
   store_retired : (id : Id) (code : List Instr) → step ≡ Retire id → reply ≡ Retired code
       → after.given ≡ before.given → after.live ≡ without_code before.live id
       → code_in before.live id ≡ Some code
-      → StoreTold before after step reply
+      → StoreEffects before after step reply
 
 -- A connection that existed before, and the effect on it.
 pub record Kept (shape : Shape) (old connection : Connection) (vc : Vc) (step : Step) (reply : Reply) : Type 0 where
@@ -62,8 +62,8 @@ pub data Fate (shape : Shape) (before : World) (vc : Vc) (connection : Connectio
       → Fate shape before vc connection step reply
   fresh : IsFresh before.used connection vc step reply → Fate shape before vc connection step reply
 
-abbrev pub ConnectionsTold : Shape → World → World → Step → Reply → Type 0
-ConnectionsTold shape before after step reply = (vc : Vc) (connection : Connection)
+abbrev pub ConnectionEffects : Shape → World → World → Step → Reply → Type 0
+ConnectionEffects shape before after step reply = (vc : Vc) (connection : Connection)
     → connection_in after.connections vc ≡ Some connection → Fate shape before vc connection step reply
 
 -- The step has no effect on the connection.
@@ -83,10 +83,10 @@ kept-silent shape old connection vc step reply silent incarnation line contracts
   standing = silent.standing;
   program = program ∙ sym (silent.programs old.program);
   cells = history
-      ∙ sym (ap (λ (told : List JudgedView). old.history ++ map as_it_came (filter (λ judged. is_same_vc vc (vc_of shape.side judged.cell)) told)) silent.cells
+      ∙ sym (ap (λ (added : List JudgedView). old.history ++ map as_it_came (filter (λ judged. is_same_vc vc (vc_of shape.side judged.cell)) added)) silent.cells
       ∙ append-nil old.history);
   held = history
-      ∙ sym (ap (λ (told : List JudgedView). old.history ++ map as_it_came (filter (λ judged. judged.line == old.line) told)) silent.cells
+      ∙ sym (ap (λ (added : List JudgedView). old.history ++ map as_it_came (filter (λ judged. judged.line == old.line) added)) silent.cells
       ∙ append-nil old.history);
 }
 
@@ -97,7 +97,7 @@ same-silent shape old connection vc step reply silent same =
     (kept-silent shape old old vc step reply silent refl refl refl refl refl)
 
 pub connections-same : (shape : Shape) (before after : World) (step : Step) (reply : Reply) → ((vc : Vc) → IsSilent vc step reply)
-    → after.connections ≡ before.connections → ConnectionsTold shape before after step reply
+    → after.connections ≡ before.connections → ConnectionEffects shape before after step reply
 connections-same shape before after step reply silent same vc connection found =
     kept connection (subst (λ (l : List (Vc × Connection)). connection_in l vc ≡ Some connection) same found)
     (same-silent shape connection connection vc step reply (silent vc) refl)
@@ -108,7 +108,7 @@ pub connections-with : (shape : Shape) (before after : World) (step : Step) (rep
     → Fate shape before vc new step reply
     → ((other : Vc) → other ≢ vc → (old : Connection) → connection_in before.connections other ≡ Some old
     → Kept shape old old other step reply)
-    → ConnectionsTold shape before after step reply
+    → ConnectionEffects shape before after step reply
 connections-with shape before after step reply vc new same here others other connection found =
     let at : connection_in (with_connection before.connections vc new) other ≡ Some connection =
     subst (λ (l : List (Vc × Connection)). connection_in l other ≡ Some connection) same found in
@@ -143,14 +143,14 @@ pub record IsPickedNow (before : World) (port : ℕ) (picking : Picking) (step :
   pub given : code_in before.given picking.program ≡ Some code
   pub gives : Gives code picking.cell picking.value
 
-pub record PortsTold (before after : World) (step : Step) (reply : Reply) : Type 0 where
+pub record PortEffects (before after : World) (step : Step) (reply : Reply) : Type 0 where
   pub entered_ports : (port : ℕ) (cell : List ℕ) (moment : ℕ) → slice_get after.ports port ≡ Some (entered cell moment)
       → PortStays before port (entered cell moment) step reply ⊎ ((step ≡ Enter port cell moment) × (reply ≡ Entered))
   pub picked_ports : (port : ℕ) (picking : Picking) → slice_get after.ports port ≡ Some (picked picking)
       → PortStays before port (picked picking) step reply ⊎ IsPickedNow before port picking step reply
 
 pub ports-same : (before after : World) (step : Step) (reply : Reply) → after.ports ≡ before.ports
-    → ((port : ℕ) → moves port (event_of step reply) ≡ false) → PortsTold before after step reply
+    → ((port : ℕ) → moves port (event_of step reply) ≡ false) → PortEffects before after step reply
 ports-same before after step reply same still = record {
   entered_ports = λ port cell moment e.
       inl (subst (λ (l : List PortState). slice_get l port ≡ Some (entered cell moment)) same e, still port);
@@ -162,7 +162,7 @@ pub ports-moved : (before after : World) (step : Step) (reply : Reply) (port : �
     → after.ports ≡ set before.ports port state → ((other : ℕ) → moves other (event_of step reply) ≡ (other == port))
     → ((cell : List ℕ) (moment : ℕ) → state ≡ entered cell moment → (step ≡ Enter port cell moment) × (reply ≡ Entered))
     → ((picking : Picking) → state ≡ picked picking → IsPickedNow before port picking step reply)
-    → PortsTold before after step reply
+    → PortEffects before after step reply
 ports-moved before after step reply port state same moved enters picks = record {
   entered_ports = λ other cell moment e.
       elim (slice_get-set before.ports port other state (entered cell moment)
@@ -183,9 +183,9 @@ ports-moved before after step reply port state same moved enters picks = record 
 }
 
 -- The effect of a step on all parts of the world.
-pub record StepTold (shape : Shape) (before : World) (step : Step) (reply : Reply) (after : World) : Type 0 where
+pub record StepEffects (shape : Shape) (before : World) (step : Step) (reply : Reply) (after : World) : Type 0 where
   pub shape_same : after.shape ≡ before.shape
-  pub store : StoreTold before after step reply
-  pub connections : ConnectionsTold shape before after step reply
-  pub ports : PortsTold before after step reply
+  pub store : StoreEffects before after step reply
+  pub connections : ConnectionEffects shape before after step reply
+  pub ports : PortEffects before after step reply
   pub verdicts : (line : ℕ) → after.judged line ≡ before.judged line ++ verdicts_on line (event_of step reply ∷ [])

@@ -1,4 +1,4 @@
--- `lend` returns the value of a cell. Assumes `Logic`.
+-- `lend` returns the value of a box. Assumes `Logic`.
 use mathlib.Core.Path.{◌≡◌, refl, ◌∙◌}
 use Prim.Native.Nat.{◌+◌, ◌*◌, ◌<◌, ◌^◌}
 use native.Mathlib.Omega.{arith}
@@ -32,14 +32,14 @@ use Rattle.core.proofs.mem.Param.{El, R, args}
 use Rattle.core.proofs.ptr.Rows.{times_below, one_below}
 use Rattle.std.proofs.raw_atomic.Walks.{proved_at, leaves}
 use Rattle.std_alloc.proofs.RcSteps.{word, word-Good}
-use Rattle.gen_arena.specs.inner.Cells.{CellHolds}
-use Rattle.gen_arena.specs.inner.BlockMemory.{cell_lent, row_lent}
-use Rattle.gen_arena.proofs.raw.Rows.{width, Cell, held_within, cell_seen}
+use Rattle.gen_arena.specs.inner.Boxes.{BoxHolds}
+use Rattle.gen_arena.specs.inner.BlockMemory.{box_lent, row_lent}
+use Rattle.gen_arena.proofs.raw.Rows.{width, Box, held_within, box_seen}
 use Rattle.gen_arena.proofs.raw.Walks.{Owner, Begin, pointer_had}
-use Rattle.gen_arena.specs.contracts.block.Cells.lend.{ended, clauses}
-use Rattle.gen_arena.specs.contracts.block.Cells.lend.Key.{name as #self}
-use Rattle.gen_arena.proofs.block.Cells.lend.Statement.{statement}
-use Rattle.gen_arena.proofs.block.Cells.lend.Code as code
+use Rattle.gen_arena.specs.contracts.block.Boxes.lend.{ended, clauses}
+use Rattle.gen_arena.specs.contracts.block.Boxes.lend.Key.{name as #self}
+use Rattle.gen_arena.proofs.block.Boxes.lend.Statement.{statement}
+use Rattle.gen_arena.proofs.block.Boxes.lend.Code as code
 
 pub lend_spec : {M : Type 1} → statement M
 lend_spec 𝓤 𝓛 𝓜 𝓡 wired X LX =
@@ -54,7 +54,7 @@ lend_spec 𝓤 𝓛 𝓜 𝓡 wired X LX =
     let Post : Val → SProp 𝓤 = (walk_of 𝓛 T hs c).post z in
     let κs = z.0.0 in let qs = z.0.1 in let a = z.0.3 in let us = z.0.4 in
     let rb = a.0.ref_ptr.0 in let ro = a.0.ref_ptr.1 in let d = a.0.now in let start = a.1.0 in let k = a.1.1.0 in
-    let Asks : Type 0 = (start.to ≡ d.start) × CellHolds d.held k in
+    let Asks : Type 0 = (start.to ≡ d.start) × BoxHolds d.held k in
     let tokens = ‵ (flft κs.0 qs.0) ⊛ ‵ (flft κs.1.0 qs.1.0) ⊛ ‵ ftrue in
     qed 𝓛 ((tokens ⊛ ‵ (owns (types_at T.signature.params κs) a us)) ∷ raw ((c κs a).requires z.1) ∷ []) ∵
     move ! (1 ∷ []) $ use1 𝓛 (raw (fact 𝓤 (κs.1.0 ⊑ X.lives)) ⊛ raw (fact 𝓤 Asks)) (id⊢ 𝓤 _) $ split ! $ drop ! $ heard ! Asks (λ asked.
@@ -65,7 +65,7 @@ lend_spec 𝓤 𝓛 𝓜 𝓡 wired X LX =
     alloc_all ! (λ l. pass_all ! refl ((tt, tt), (word-Good [] start.to, ((tt, record { fits = fits }), tt))) $
     let En : Env 𝓤 H = env fn.locals l in
     let x = asked.1.0 in let there = held_within d.held k x asked.1.1 in
-    -- [what the cells lend; the token; the other tokens; the locals]
+    -- [what the boxes lend; the token; the other tokens; the locals]
     unhide ! $ fsplit ! $ drop ! $ in_a_block ! d.start (λ p. row_lent (R E) p d.held κs.0) (id⊢ 𝓤 (never 𝓤)) (λ b o is. fsplit ! $ flt_l ! (λ small.
     let s = width E in let at = k * s + o in let Value : Type 0 = get_or d.held k None ≡ Some x in
     let tiny : s < 2 ^ 64 = omega (arith, one_below (length d.held) s (2 ^ 63) (omega arith) small) in
@@ -74,8 +74,8 @@ lend_spec 𝓤 𝓛 𝓜 𝓡 wired X LX =
     first ! $ blocks ! $
     sets ! (bin ! (get ! refl) (size_lit ! (record { fits = tiny })) (record { fits = far })) refl (tt, record { fits = far }) $
     sets ! (bin ! (get_in ! (fld ! refl (stop !)) (sub ! 0 refl (whole !))) (get ! refl) tt) refl (tt, tt) $
-    use1 𝓛 (‵ (cell_lent (R E) b at (get_or d.held k None) κs.0)) (cell_seen E 𝓛 b κs.0 d.held k o there) $
-    rewrite ! 0 (λ (cell : Cell E). ‵ (cell_lent (R E) b at cell κs.0)) asked.1.1 refl $ hide ! $
+    use1 𝓛 (‵ (box_lent (R E) b at (get_or d.held k None) κs.0)) (box_seen E 𝓛 b κs.0 d.held k o there) $
+    rewrite ! 0 (λ (box : Box E). ‵ (box_lent (R E) b at box κs.0)) asked.1.1 refl $ hide ! $
     sets_last ! (addr ! (through ! refl (stop !))) refl (tt, tt) $
     exec ! 𝓣.C 𝓣.Λ En (after 1 fn.body) (at_ret En Post) $ sets ! (of_opd ! (get ! refl)) refl (tt, tt) $
     feq_i ! (List Val) (vptr b at ∷ []) (vptr b at ∷ []) refl $ fjoin ! $ returns ! (look_at ! 0 refl) $ free_all ! refl $

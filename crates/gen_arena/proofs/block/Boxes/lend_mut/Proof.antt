@@ -1,4 +1,4 @@
--- `lend_mut` lends the value of a cell, and the cells get what is written to it. Assumes `Logic`.
+-- `lend_mut` lends the value of a box, and the boxes get what is written to it. Assumes `Logic`.
 use seplogic.Ra.Ura.{Ura}
 use mathlib.Core.Path.{◌≡◌, refl, sym, subst, ◌∙◌}
 use Prim.Native.Nat.{ℕ, ◌+◌, ◌*◌, ◌<◌, ◌^◌}
@@ -36,15 +36,15 @@ use Rattle.core.proofs.mem.Param.{El, R, args, el_x}
 use Rattle.core.proofs.ptr.Rows.{times_below, one_below}
 use Rattle.std.proofs.raw_atomic.Walks.{proved_at, leaves}
 use Rattle.std_alloc.proofs.RcSteps.{word, word-Good}
-use Rattle.gen_arena.specs.inner.Cells.{CellHolds}
-use Rattle.gen_arena.specs.inner.CellLends.{with_held}
-use Rattle.gen_arena.specs.inner.BlockMemory.{cell_owned, cells_owned, row_owned}
-use Rattle.gen_arena.proofs.raw.Rows.{width, Cell, held_within, gap, cell_out, cell_in}
+use Rattle.gen_arena.specs.inner.Boxes.{BoxHolds}
+use Rattle.gen_arena.specs.inner.BoxLends.{with_held}
+use Rattle.gen_arena.specs.inner.BlockMemory.{box_owned, boxes_owned, row_owned}
+use Rattle.gen_arena.proofs.raw.Rows.{width, Box, held_within, gap, box_out, box_in}
 use Rattle.gen_arena.proofs.raw.Walks.{Owner, Begin, Mark, pointer_had}
-use Rattle.gen_arena.specs.contracts.block.Cells.lend_mut.{ended, clauses}
-use Rattle.gen_arena.specs.contracts.block.Cells.lend_mut.Key.{name as #self}
-use Rattle.gen_arena.proofs.block.Cells.lend_mut.Statement.{statement}
-use Rattle.gen_arena.proofs.block.Cells.lend_mut.Code as code
+use Rattle.gen_arena.specs.contracts.block.Boxes.lend_mut.{ended, clauses}
+use Rattle.gen_arena.specs.contracts.block.Boxes.lend_mut.Key.{name as #self}
+use Rattle.gen_arena.proofs.block.Boxes.lend_mut.Statement.{statement}
+use Rattle.gen_arena.proofs.block.Boxes.lend_mut.Code as code
 
 module _ (E : El) {M : Type 1} {𝓤 : Ura M} (𝓛 : Logic 𝓤) (rb ro : ℕ) (d : (Owner E).Denot) (k : ℕ) where
   -- The owner after this value is written.
@@ -61,8 +61,8 @@ module _ (E : El) {M : Type 1} {𝓤 : Ura M} (𝓛 : Logic 𝓤) (rb ro : ℕ) 
     unfolding part_of
     whole_again is there small w =
         let left = (written w).held in
-        qed 𝓛 (‵ (cell_owned (R E) b (k * width E + o) (Some w)) ∷ ‵ Rest ∷ []) ∵ move ! (1 ∷ []) $ fsplit3 ! $ move ! (3 ∷ 0 ∷ []) $
-        use2 𝓛 (‵ (cells_owned (R E) b o left)) (cell_in E 𝓛 b d.held k o there (Some w)) $
+        qed 𝓛 (‵ (box_owned (R E) b (k * width E + o) (Some w)) ∷ ‵ Rest ∷ []) ∵ move ! (1 ∷ []) $ fsplit3 ! $ move ! (3 ∷ 0 ∷ []) $
+        use2 𝓛 (‵ (boxes_owned (R E) b o left)) (box_in E 𝓛 b d.held k o there (Some w)) $
         flt_i ! (length left * width E) (2 ^ 63) (subst (λ n. n * width E < 2 ^ 63) (sym (length-set d.held k (Some w))) small) $ fjoin ! $
         rewrite ! 0 (λ (p : Ptr). ‵ (row_owned (R E) p left)) (sym is) refl $ move ! (1 ∷ 0 ∷ []) $ fjoin ! $ move ! (1 ∷ 0 ∷ []) $ fjoin ! $
         fpack ! (List Val) (λ us. fsep (cell_at full_share (Owner E).mir us rb ro) ((Owner E).own_val (written w) us)) vs $ done !
@@ -79,7 +79,7 @@ lend_mut_spec 𝓤 𝓛 𝓜 𝓡 wired X LX =
     let Post : Val → SProp 𝓤 = (walk_of 𝓛 T hs c).post z in
     let κs = z.0.0 in let qs = z.0.1 in let a = z.0.3 in let us = z.0.4 in
     let rb = a.0.ref_ptr.0 in let ro = a.0.ref_ptr.1 in let d = a.0.now in let start = a.1.0 in let k = a.1.1.0 in
-    let Asks : Type 0 = (start.to ≡ d.start) × CellHolds d.held k in
+    let Asks : Type 0 = (start.to ≡ d.start) × BoxHolds d.held k in
     let tokens = ‵ (flft κs.0 qs.0) ⊛ ‵ (flft κs.1.0 qs.1.0) ⊛ ‵ ftrue in
     qed 𝓛 ((tokens ⊛ ‵ (owns (types_at T.signature.params κs) a us)) ∷ raw ((c κs a).requires z.1) ∷ []) ∵
     move ! (1 ∷ []) $ use1 𝓛 (raw (fact 𝓤 (κs.1.0 ⊑ X.lives)) ⊛ raw (fact 𝓤 Asks)) (id⊢ 𝓤 _) $ split ! $ drop ! $ heard ! Asks (λ asked.
@@ -90,7 +90,7 @@ lend_mut_spec 𝓤 𝓛 𝓜 𝓡 wired X LX =
     alloc_all ! (λ l. pass_all ! refl ((tt, tt), (word-Good [] start.to, ((tt, record { fits = fits }), tt))) $
     let En : Env 𝓤 H = env fn.locals l in
     let x = asked.1.0 in let there = held_within d.held k x asked.1.1 in
-    -- [the cells; the mark; the owner's place, open; the other tokens; the locals]
+    -- [the boxes; the mark; the owner's place, open; the other tokens; the locals]
     opens ! tt (Owner E) {h = d} rb ro (λ vs. move ! (1 ∷ []) $ fsplit ! $ move ! (1 ∷ []) $
     in_a_block ! d.start (λ p. row_owned (R E) p d.held) (id⊢ 𝓤 (never 𝓤)) (λ b o is. fsplit ! $ flt_l ! (λ small.
     let s = width E in let at = k * s + o in let γ = a.0.ghost_name in let new = written E 𝓛 rb ro d k in
@@ -101,8 +101,8 @@ lend_mut_spec 𝓤 𝓛 𝓜 𝓡 wired X LX =
     first ! $ blocks ! $
     sets ! (bin ! (get ! refl) (size_lit ! (record { fits = tiny })) (record { fits = far })) refl (tt, record { fits = far }) $
     sets ! (bin ! (get_in ! (fld ! refl (stop !)) (sub ! 0 refl (whole !))) (get ! refl) tt) refl (tt, tt) $
-    use1 𝓛 (‵ (cell_owned (R E) b at (get_or d.held k None)) ⊛ ‵ (gap E 𝓛 b o d.held k)) (cell_out E 𝓛 b d.held k o there) $ split ! $
-    rewrite ! 0 (λ (cell : Cell E). ‵ (cell_owned (R E) b at cell)) asked.1.1 refl $
+    use1 𝓛 (‵ (box_owned (R E) b at (get_or d.held k None)) ⊛ ‵ (gap E 𝓛 b o d.held k)) (box_out E 𝓛 b d.held k o there) $ split ! $
+    rewrite ! 0 (λ (box : Box E). ‵ (box_owned (R E) b at box)) asked.1.1 refl $
     let way = whole_again E 𝓛 rb ro d k vs b o is there small in let rest = sem 𝓛 (Rest E 𝓛 rb ro d k vs b o) in let coded = (Owner E).coded.code d in
     sets_last ! (addr ! (through ! refl (stop !))) refl (tt, tt) $
     exec ! 𝓣.C 𝓣.Λ En (after 1 fn.body) (at_ret En Post) $ sets ! (of_opd ! (get ! refl)) refl (tt, tt) $
@@ -113,7 +113,7 @@ lend_mut_spec 𝓤 𝓛 𝓜 𝓡 wired X LX =
     returns ! (look_at ! 0 refl) $ free_all ! refl $
     let lent : MutBor (el_x E) = record { ref_ptr = (b, at); ghost_name = δ; now = x } in
     use1 𝓛 (‵ ((MutRef (named 0) κs.0 (R E)).own_val lent (vptr b at ∷ [])) ⊛ ‵ (flft κs.0 qs.0) ⊛ ‵ (follows (Owner E) (R E) γ δ new)) (id⊢ 𝓤 _) $ split3 ! $
-    -- [the `&mut`; the token; what the cells follow; the other tokens]
+    -- [the `&mut`; the token; what the boxes follow; the other tokens]
     nothing ! $ nothing ! $ fjoin ! $ nothing ! $ fjoin ! $ nothing ! $ fjoin ! $ move ! (2 ∷ 4 ∷ []) $ join ! $
     use0 𝓛 (raw (fact 𝓤 Value)) (fact_i 𝓤 Value (emp 𝓤) asked.1.1) $ move ! (4 ∷ 0 ∷ []) $ join ! $ move ! (1 ∷ 2 ∷ 3 ∷ 0 ∷ []) $
     by ! (leaves 𝓛 T hs c z (vptr b at) lent (tt, (tt, (tt, tt))) (tt, (tt, (tt, tt)))))))))))))))

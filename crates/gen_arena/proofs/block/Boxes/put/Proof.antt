@@ -1,4 +1,4 @@
--- `put` writes a value into a blank cell. Assumes `Logic`.
+-- `put` writes a value into a blank box. Assumes `Logic`.
 use mathlib.Core.Path.{◌≡◌, refl, sym, subst, ◌∙◌}
 use Prim.Native.Nat.{◌+◌, ◌*◌, ◌<◌, ◌^◌}
 use native.Mathlib.Omega.{arith}
@@ -33,13 +33,13 @@ use Rattle.std.proofs.raw_atomic.Walks.{proved_at, leaves}
 use Rattle.std_alloc.proofs.RawLayout.{as_written}
 use Rattle.std_alloc.proofs.RcSteps.{word, word-Good}
 use borrow.Table.OneValue.{part_in}
-use Rattle.gen_arena.specs.inner.BlockMemory.{cell_owned, cells_owned, row_owned}
-use Rattle.gen_arena.proofs.raw.Rows.{width, Cell, gap, cell_out, cell_in}
+use Rattle.gen_arena.specs.inner.BlockMemory.{box_owned, boxes_owned, row_owned}
+use Rattle.gen_arena.proofs.raw.Rows.{width, Box, gap, box_out, box_in}
 use Rattle.gen_arena.proofs.raw.Walks.{Owner, Begin, pointer_had, value_had}
-use Rattle.gen_arena.specs.contracts.block.Cells.put.{ended, clauses}
-use Rattle.gen_arena.specs.contracts.block.Cells.put.Key.{name as #self}
-use Rattle.gen_arena.proofs.block.Cells.put.Statement.{statement}
-use Rattle.gen_arena.proofs.block.Cells.put.Code as code
+use Rattle.gen_arena.specs.contracts.block.Boxes.put.{ended, clauses}
+use Rattle.gen_arena.specs.contracts.block.Boxes.put.Key.{name as #self}
+use Rattle.gen_arena.proofs.block.Boxes.put.Statement.{statement}
+use Rattle.gen_arena.proofs.block.Boxes.put.Code as code
 
 pub put_spec : {M : Type 1} → statement M
 put_spec 𝓤 𝓛 𝓜 𝓡 wired X LX =
@@ -64,10 +64,10 @@ put_spec 𝓤 𝓛 𝓜 𝓡 wired X LX =
     alloc_all ! (λ l. pass_all ! refl ((tt, tt), (word-Good [] start.to, ((tt, record { fits = fits }), (good, tt)))) $
     let En : Env 𝓤 H = env fn.locals l in
     let there = asked.1 in
-    -- [the cells; the mark; the owner's place, open; what the value owns; the other tokens; the locals]
+    -- [the boxes; the mark; the owner's place, open; what the value owns; the other tokens; the locals]
     opens ! tt (Owner E) {h = d} rb ro (λ vs. move ! (1 ∷ []) $ fsplit ! $ move ! (1 ∷ []) $
     in_a_block ! d.start (λ p. row_owned (R E) p d.held) (id⊢ 𝓤 (never 𝓤)) (λ b o is. fsplit ! $ flt_l ! (λ small.
-    let s = width E in let at = k * s + o in let left : List (Cell E) = set d.held k (Some value) in
+    let s = width E in let at = k * s + o in let left : List (Box E) = set d.held k (Some value) in
     let new : (Owner E).Denot = record { of = d.of; start = d.start; held = left } in
     let After : Type 0 = (new.start ≡ d.start) × (new.held ≡ set d.held k (Some value)) in
     let tiny : s < 2 ^ 64 = omega (arith, one_below (length d.held) s (2 ^ 63) (omega arith) small) in
@@ -76,13 +76,13 @@ put_spec 𝓤 𝓛 𝓜 𝓡 wired X LX =
     first ! $ blocks ! $
     sets ! (bin ! (get ! refl) (size_lit ! (record { fits = tiny })) (record { fits = far })) refl (tt, record { fits = far }) $
     sets ! (bin ! (get_in ! (fld ! refl (stop !)) (sub ! 0 refl (whole !))) (get ! refl) tt) refl (tt, tt) $
-    use1 𝓛 (‵ (cell_owned (R E) b at (get_or d.held k None)) ⊛ ‵ (gap E 𝓛 b o d.held k)) (cell_out E 𝓛 b d.held k o there) $ split ! $
-    rewrite ! 0 (λ (cell : Cell E). ‵ (cell_owned (R E) b at cell)) asked.2 refl $ as_written ! (elτ E) b at $
+    use1 𝓛 (‵ (box_owned (R E) b at (get_or d.held k None)) ⊛ ‵ (gap E 𝓛 b o d.held k)) (box_out E 𝓛 b d.held k o there) $ split ! $
+    rewrite ! 0 (λ (box : Box E). ‵ (box_owned (R E) b at box)) asked.2 refl $ as_written ! (elτ E) b at $
     sets ! (of_opd ! (get ! refl)) refl good $ assigns_last ! (of_opd ! (get ! refl)) (through ! refl (stop !)) (init ! 0 refl good) $
     exec ! 𝓣.C 𝓣.Λ En (after 1 fn.body) (at_ret En Post) $ sets ! (of_opd ! (unit_lit !)) refl (tt, tt) $
-    -- The cell has the value, and goes back among the others.
-    move ! (0 ∷ 7 ∷ []) $ use2 𝓛 (‵ (cell_owned (R E) b at (Some value))) (part_in 𝓛 (R E) refl full_share value b at v) $
-    use2 𝓛 (‵ (cells_owned (R E) b o left)) (cell_in E 𝓛 b d.held k o there (Some value)) $
+    -- The box has the value, and goes back among the others.
+    move ! (0 ∷ 7 ∷ []) $ use2 𝓛 (‵ (box_owned (R E) b at (Some value))) (part_in 𝓛 (R E) refl full_share value b at v) $
+    use2 𝓛 (‵ (boxes_owned (R E) b o left)) (box_in E 𝓛 b d.held k o there (Some value)) $
     flt_i ! (length left * s) (2 ^ 63) (subst (λ n. n * s < 2 ^ 63) (sym (length-set d.held k (Some value))) small) $ fjoin ! $
     rewrite ! 0 (λ (p : Ptr). ‵ (row_owned (R E) p left)) (sym is) refl $ move ! (1 ∷ 0 ∷ []) $ fjoin ! $ move ! (1 ∷ 0 ∷ []) $
     closes ! tt (Owner E) new vs rb ro $ returns ! (look_at ! 0 refl) $ free_all ! refl $
