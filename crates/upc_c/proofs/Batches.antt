@@ -30,9 +30,9 @@ card_with like core reached = (
 )
 
 -- A card with the same core has judged the same cell.
-policed-from : (first before after : UpcCard) (cell leaving : List ℕ) (moment : ℕ) (told : UpcAnswer) → card_in before ≡ card_in first
-    → IsPoliced before after cell moment told leaving → IsPoliced first after cell moment told leaving
-policed-from first before after cell leaving moment told same policed =
+policed-from : (first before after : UpcCard) (cell leaving : List ℕ) (moment : ℕ) (answer : UpcAnswer) → card_in before ≡ card_in first
+    → IsPoliced before after cell moment answer leaving → IsPoliced first after cell moment answer leaving
+policed-from first before after cell leaving moment answer same policed =
     let arrives = policed.arrives in record {
       sized = policed.sized;
       verdict = policed.verdict;
@@ -42,26 +42,26 @@ policed-from first before after cell leaving moment told same policed =
 
 -- One more cell after the others.
 policed-last : (card middle after : UpcCard) (octets left : List ℕ) (stride number : ℕ) (moments : List ℕ) (answers : List UpcAnswer)
-    (next moment : ℕ) (told : UpcAnswer) (leaving : List ℕ) → PolicesEach card octets stride number moments answers middle left
-    → next ≡ number + length moments → IsPoliced middle after (cell_in left stride next) moment told leaving
-    → PolicesEach card octets stride number (moments ++ moment ∷ []) (answers ++ told ∷ []) after (buffer_after left stride next leaving)
-policed-last card middle after octets left stride number [] [] next moment told leaving each counted policed =
+    (next moment : ℕ) (answer : UpcAnswer) (leaving : List ℕ) → PolicesEach card octets stride number moments answers middle left
+    → next ≡ number + length moments → IsPoliced middle after (cell_in left stride next) moment answer leaving
+    → PolicesEach card octets stride number (moments ++ moment ∷ []) (answers ++ answer ∷ []) after (buffer_after left stride next leaving)
+policed-last card middle after octets left stride number [] [] next moment answer leaving each counted policed =
     let here : next ≡ number = omega arith in
-    let same : IsPoliced middle after (cell_in octets stride number) moment told leaving =
-    subst (λ (n : ℕ). IsPoliced middle after (cell_in octets stride n) moment told leaving) here
-    (subst (λ (xs : List ℕ). IsPoliced middle after (cell_in xs stride next) moment told leaving) each.1 policed) in (
+    let same : IsPoliced middle after (cell_in octets stride number) moment answer leaving =
+    subst (λ (n : ℕ). IsPoliced middle after (cell_in octets stride n) moment answer leaving) here
+    (subst (λ (xs : List ℕ). IsPoliced middle after (cell_in xs stride next) moment answer leaving) each.1 policed) in (
       after,
       leaving,
-      policed-from card middle after (cell_in octets stride number) leaving moment told each.0 same,
+      policed-from card middle after (cell_in octets stride number) leaving moment answer each.0 same,
       (refl, ap (λ (xs : List ℕ). buffer_after xs stride next leaving) each.1 ∙ ap (λ (n : ℕ). buffer_after octets stride n leaving) here),
     )
-policed-last card middle after octets left stride number [] (other ∷ answers) next moment told leaving each counted policed = absurd each
-policed-last card middle after octets left stride number (first ∷ moments) [] next moment told leaving each counted policed = absurd each
-policed-last card middle after octets left stride number (first ∷ moments) (other ∷ answers) next moment told leaving each counted policed = (
+policed-last card middle after octets left stride number [] (other ∷ answers) next moment answer leaving each counted policed = absurd each
+policed-last card middle after octets left stride number (first ∷ moments) [] next moment answer leaving each counted policed = absurd each
+policed-last card middle after octets left stride number (first ∷ moments) (other ∷ answers) next moment answer leaving each counted policed = (
   each.0,
   each.1,
   each.2,
-  policed-last each.0 middle after (buffer_after octets stride number each.1) left stride (suc number) moments answers next moment told leaving
+  policed-last each.0 middle after (buffer_after octets stride number each.1) left stride (suc number) moments answers next moment answer leaving
       each.3 (omega arith) policed,
 )
 
@@ -78,11 +78,11 @@ first-none core octets stride moments answers =
 
 -- The next cell of the buffer.
 pub first-more : (old core new : CoreView) (octets left later : List ℕ) (stride : ℕ) (moments : List ℕ) (answers so_far : List UpcAnswer)
-    (number other : ℕ) (told : UpcAnswer) → IsReachedCore core → number < length moments → length moments ≤ length answers
+    (number other : ℕ) (answer : UpcAnswer) → IsReachedCore core → number < length moments → length moments ≤ length answers
     → PolicesFirst old core octets left stride moments answers so_far number
-    → PolicesNumber core new left later stride number (get_or moments number other) told
-    → PolicesFirst old new octets later stride moments answers (set so_far number told) (number + 1)
-first-more old core new octets left later stride moments answers so_far number other told reached below fits first cell = record {
+    → PolicesNumber core new left later stride number (get_or moments number other) answer
+    → PolicesFirst old new octets later stride moments answers (set so_far number answer) (number + 1)
+first-more old core new octets left later stride moments answers so_far number other answer reached below fits first cell = record {
   on = λ before after had has.
       let middle = card_with before core reached in
       let policed = first.on before middle.0 had middle.1 in
@@ -91,18 +91,18 @@ first-more old core new octets left later stride moments answers so_far number o
       let within : number < length so_far = omega arith in
       let next : number < number + 1 = omega arith in
       let counted : number ≡ 0 + length (take number moments) = omega (arith, length-take number moments) in
-      let last = policed-last before middle.0 after octets left stride 0 (take number moments) (take number so_far) number moment told cell.leaving
+      let last = policed-last before middle.0 after octets left stride 0 (take number moments) (take number so_far) number moment answer cell.leaving
       policed.each counted (cell.polices.on middle.0 after middle.1 has) in
       record {
         within = omega arith;
-        each = subst (λ (ms : List ℕ). PolicesEach before octets stride 0 ms (take (number + 1) (set so_far number told)) after later)
+        each = subst (λ (ms : List ℕ). PolicesEach before octets stride 0 ms (take (number + 1) (set so_far number answer)) after later)
             (sym (take_more moments number other below))
-            (subst (λ (tells : List UpcAnswer). PolicesEach before octets stride 0 (take number moments ++ moment ∷ []) tells after later)
-            (sym (take_more_set so_far number told within))
-            (subst (PolicesEach before octets stride 0 (take number moments ++ moment ∷ []) (take number so_far ++ told ∷ []) after)
+            (subst (λ (all_answers : List UpcAnswer). PolicesEach before octets stride 0 (take number moments ++ moment ∷ []) all_answers after later)
+            (sym (take_more_set so_far number answer within))
+            (subst (PolicesEach before octets stride 0 (take number moments ++ moment ∷ []) (take number so_far ++ answer ∷ []) after)
             (sym cell.written) last));
-        sized = length-set so_far number told ∙ sized;
-        rest = drop-set-lt (number + 1) so_far number told next ∙ drop_more_same so_far answers number policed.rest;
+        sized = length-set so_far number answer ∙ sized;
+        rest = drop-set-lt (number + 1) so_far number answer next ∙ drop_more_same so_far answers number policed.rest;
       };
 }
 

@@ -11,7 +11,7 @@ use Rattle.std_alloc.proofs.BoxSteps.Form.{Bx}
 use Rattle.std_heap.proofs.Global.TheLaws as heap
 use Rattle.std_heap.specs.contracts.Global as Heap
 use Rattle.std_heap.specs.contracts.GlobalAllocator.TheImpl.{ghosts, dict}
-use Rattle.upc_c.specs.contracts.hidden.Hidden as Hidden
+use Rattle.upc_c.specs.contracts.hidden.HiddenProgram as HiddenProgram
 use Rattle.upc_c.specs.contracts.hidden.parts.Parts as Parts
 
 abbrev pub boxed : Bx
@@ -21,7 +21,7 @@ abbrev pub parted : RattleType
 parted = Parts.the_row Program.the_row Heap.the_row ghosts
 
 abbrev pub hidden : RattleType
-hidden = Hidden.the_row
+hidden = HiddenProgram.the_row
 
 abbrev pub allocator : RattleType
 allocator = Heap.the_row

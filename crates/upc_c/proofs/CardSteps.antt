@@ -1,5 +1,5 @@
 -- Steps of a card that other steps have led to.
-use Rattle.std.proofs.Common.{◌≡◌, ◌⊎◌, inl, inr, Bool, true, false, not, List, [], ◌∷◌, ◌++◌, Option, Some, None, sym, ap, ◌∙◌, subst}
+use Rattle.std.proofs.Common.{◌≡◌, ◌⊎◌, inl, inr, Bool, true, false, not, List, [], ◌∷◌, ◌++◌, Option, Some, None, ap, ◌∙◌}
 use Rattle.std.specs.List.{list_all}
 use Rattle.std.specs.Option.{MatchOption, option_map}
 use Rattle.std.specs.Prelude.{slice_get}
@@ -14,7 +14,7 @@ use Rattle.card_core.specs.declared.reply.Reply.TheVariants.{NotLoaded, NotSetUp
 use Rattle.card_core.specs.declared.step.Step.{Step}
 use Rattle.card_core.specs.declared.step.Step.TheVariants.{Enter, Pick, Judge, Load, Retire, Setup, Reload, Release, Cut}
 use Rattle.card_core.specs.Kept.{RefusalKeeps}
-use Rattle.upc_c.specs.CardDesk.{IsDeskFault, reason_of, told_desk}
+use Rattle.upc_c.specs.CardDesk.{IsDeskFault, reason_of, desk_fault_for_c}
 use Rattle.upc_c.specs.CardHandle.{card_in}
 use Rattle.upc_c.specs.declared.card.UpcCard.{UpcCard}
 use Rattle.upc_c.specs.declared.fault.UpcFault.{UpcFault}
@@ -82,19 +82,14 @@ reached-on old new step reply desk reached follows = ∥∥₁_map reached (λ r
       quiet = ap (λ (ports : List PortState). not (list_all is_outside ports)) (ports-left r.world gone.after step reply desk gone.stepped) ∙ r.quiet;
     })
 
--- The same for the core that was taken out of a card.
-pub reached-by : (core old new : CoreView) (step : Step) (reply : Reply) → is_of_desk step ≡ true → old ≡ core → IsReachedCore core
-    → Follows old step reply new → IsReachedCore new
-reached-by core old new step reply desk same reached follows = reached-on old new step reply desk (subst IsReachedCore (sym same) reached) follows
-
 -- If the core refuses the step, the card does.
-pub refuses-by : (before after : UpcCard) (core old new : CoreView) (step : Step) (reply : Reply) (reason : DeskFault) (fault : UpcFault)
-    → card_in before ≡ Some core → old ≡ core → card_in after ≡ Some new → Follows old step reply new → RefusalKeeps reply step old new
-    → reason_of reply ≡ Some reason → fault ≡ told_desk reason → IsDeskFault before after step fault
-refuses-by before after core old new step reply reason fault had same has follows kept refused told = inr (record {
+pub refuses-by : (before after : UpcCard) (old new : CoreView) (step : Step) (reply : Reply) (reason : DeskFault) (fault : UpcFault)
+    → card_in before ≡ Some old → card_in after ≡ Some new → Follows old step reply new → RefusalKeeps reply step old new
+    → reason_of reply ≡ Some reason → fault ≡ desk_fault_for_c reason → IsDeskFault before after step fault
+refuses-by before after old new step reply reason fault had has follows kept refused reported = inr (record {
   reply = reply;
-  taken = record { old = old; new = new; had = had ∙ ap Some (sym same); has = has; follows = follows; kept = kept };
+  taken = record { old = old; new = new; had = had; has = has; follows = follows; kept = kept };
   reason = reason;
   refused = refused;
-  told = told;
+  reported = reported;
 })

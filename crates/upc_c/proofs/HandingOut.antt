@@ -82,5 +82,5 @@ journal-fault-from first before after path channel vc when room found same numbe
   longer.cells,
   record { vc = vc; numbers = numbers; core = longer.core; had = sym same ∙ longer.had; so = longer.longer.1 },
   longer.longer.0,
-  longer.told,
+  longer.reported,
 )

@@ -9,9 +9,9 @@ use Rattle.line_record.specs.History.{empty_buckets}
 use Rattle.line_record.specs.Line.{LineView}
 use Rattle.upc_cell.specs.declared.vc.Vc.{Vc}
 use Rattle.upc_c.specs.CardInspection.{HasConnection}
-use Rattle.upc_c.specs.declared.inspecting.ToldLine.{ToldLine}
+use Rattle.upc_c.specs.declared.inspecting.LineCounts.{LineCounts}
 use Rattle.upc_c.specs.inner.HandOut.{IsLongerIn, IsShortIn}
-use Rattle.upc_c.specs.inner.ToldLine.{IsMissingIn, IsToldOf, AgreesOnLine}
+use Rattle.upc_c.specs.inner.LineCounts.{AgreesOnLine, AreLineCountsIn, IsMissingIn}
 
 abbrev line-or : Option LineView → LineView → LineView
 line-or None other = other
@@ -26,12 +26,12 @@ line-of : (core : CoreView) (world : World) (vc : Vc) (found : Option Connection
     → connection_in world.connections vc ≡ found → line_at core vc ≡ line_of_seating core.lines (option_map seating_of found)
 line-of core world vc found agrees is = ap (line_of_seating core.lines) (agrees.seatings.seatings vc ∙ ap (option_map seating_of) is)
 
-tells-by : (core : CoreView) (world : World) (vc : Vc) (line : LineView) (told : ToldLine) (found : Option Connection)
+counts-by : (core : CoreView) (world : World) (vc : Vc) (line : LineView) (values : LineCounts) (found : Option Connection)
     → CoreAgrees core world → connection_in world.connections vc ≡ found → line_at core vc ≡ Some line
-    → told.cells ≡ length line.entries → told.counts ≡ line.state.counts → HasConnection world vc (AgreesOnLine told world)
-tells-by core world vc line told None agrees is at cells counts =
+    → values.cells ≡ length line.entries → values.counts ≡ line.state.counts → HasConnection world vc (AgreesOnLine values world)
+counts-by core world vc line values None agrees is at cells counts =
     let no : None ≡ Some line = sym (line-of core world vc None agrees is) ∙ at in cc
-tells-by core world vc line told (Some connection) agrees is at cells counts =
+counts-by core world vc line values (Some connection) agrees is at cells counts =
     let here : slice_get core.lines connection.line ≡ Some line = sym (line-of core world vc (Some connection) agrees is) ∙ at in
     let serving = agrees.lines.serving vc connection is in
     let same : serving.0 ≡ line = ap (λ l. line-or l line) (sym serving.1 ∙ here) in
@@ -44,10 +44,10 @@ tells-by core world vc line told (Some connection) agrees is at cells counts =
       },
     )
 
-pub told-of : (core : CoreView) (vc : Vc) (line : LineView) (told : ToldLine) → line_at core vc ≡ Some line
-    → told.cells ≡ length line.entries → told.counts ≡ line.state.counts → IsToldOf core vc told
-told-of core vc line told at cells counts = λ world agrees.
-    tells-by core world vc line told (connection_in world.connections vc) agrees refl at cells counts
+pub counts-of : (core : CoreView) (vc : Vc) (line : LineView) (values : LineCounts) → line_at core vc ≡ Some line
+    → values.cells ≡ length line.entries → values.counts ≡ line.state.counts → AreLineCountsIn core vc values
+counts-of core vc line values at cells counts = λ world agrees.
+    counts-by core world vc line values (connection_in world.connections vc) agrees refl at cells counts
 
 missing-by : (core : CoreView) (world : World) (vc : Vc) (found : Option Connection) → CoreAgrees core world
     → connection_in world.connections vc ≡ found → line_at core vc ≡ None → connection_in world.connections vc ≡ None
@@ -65,14 +65,14 @@ short-missing core vc most none = record {
   few = λ world agrees connection found. let no : None ≡ Some connection = sym (none world agrees) ∙ found in cc;
 }
 
-pub short-told : (core : CoreView) (vc : Vc) (most : ℕ) (told : ToldLine) → IsToldOf core vc told → told.cells ≤ most → IsShortIn core vc most
-short-told core vc most told tells few = record {
+pub short-by-counts : (core : CoreView) (vc : Vc) (most : ℕ) (values : LineCounts) → AreLineCountsIn core vc values → values.cells ≤ most → IsShortIn core vc most
+short-by-counts core vc most values are few = record {
   few = λ world agrees connection found.
-      let it = tells world agrees in
+      let it = are world agrees in
       let same : it.0 ≡ connection = ap (λ c. connection-or c connection) (sym it.1 ∙ found) in
       subst (λ (n : ℕ). n ≤ most) (sym it.2.cells ∙ ap (λ (c : Connection). length (kept_cells c)) same) few;
 }
 
-pub longer-told : (core : CoreView) (vc : Vc) (most : ℕ) (told : ToldLine) → IsToldOf core vc told → most < told.cells
-    → IsLongerIn core vc most told.cells
-longer-told core vc most told tells more = (more, λ world agrees. let it = tells world agrees in (it.0, it.1, it.2.cells))
+pub longer-by-counts : (core : CoreView) (vc : Vc) (most : ℕ) (values : LineCounts) → AreLineCountsIn core vc values → most < values.cells
+    → IsLongerIn core vc most values.cells
+longer-by-counts core vc most values are more = (more, λ world agrees. let it = are world agrees in (it.0, it.1, it.2.cells))

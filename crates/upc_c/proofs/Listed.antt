@@ -96,7 +96,7 @@ missing-listed before vc P here =
 
 -- The steps of a cell have no reply with a reason of the desk.
 no-reason : (refused : Reply) (reason : DeskFault) → reason_of refused ≡ None → reason_of refused ≡ Some reason → ⊥
-no-reason refused reason none told = let no : None ≡ Some reason = sym none ∙ told in cc
+no-reason refused reason none reported = let no : None ≡ Some reason = sym none ∙ reported in cc
 
 enter-none : (o : Option PortState) (refused : Reply) → enter_refusal o ≡ Some refused → reason_of refused ≡ None
 enter-none None refused e = ap reason_of (sym (same_some NotNow refused e))
@@ -121,36 +121,36 @@ judge-none before (Some (picked picking)) refused e =
     ap reason_of found.2
 
 -- A refusal of the desk has its reason.
-told-reason : (step : Step) (refused : Reply) (found reason : DeskFault) → reason_of refused ≡ Some found → reason_of refused ≡ Some reason
+same-reason : (step : Step) (refused : Reply) (found reason : DeskFault) → reason_of refused ≡ Some found → reason_of refused ≡ Some reason
     → May step found → May step reason
-told-reason step refused found reason has told may = subst (May step) (same_some found reason (sym has ∙ told)) may
+same-reason step refused found reason has reported may = subst (May step) (same_some found reason (sym has ∙ reported)) may
 
 refused-listed : (before : World) (step : Step) (refused : Reply) (reason : DeskFault) → is_busy before ≡ false
     → refusal before step ≡ Some refused → reason_of refused ≡ Some reason → May step reason
-refused-listed before (Enter port cell moment) refused reason quiet e told =
-    absurd (no-reason refused reason (enter-none (slice_get before.ports port) refused e) told)
-refused-listed before (Pick port) refused reason quiet e told =
-    absurd (no-reason refused reason (pick-none before (slice_get before.ports port) refused e) told)
-refused-listed before (Judge port) refused reason quiet e told =
-    absurd (no-reason refused reason (judge-none before (slice_get before.ports port) refused e) told)
-refused-listed before (Load code) refused reason quiet e told =
+refused-listed before (Enter port cell moment) refused reason quiet e reported =
+    absurd (no-reason refused reason (enter-none (slice_get before.ports port) refused e) reported)
+refused-listed before (Pick port) refused reason quiet e reported =
+    absurd (no-reason refused reason (pick-none before (slice_get before.ports port) refused e) reported)
+refused-listed before (Judge port) refused reason quiet e reported =
+    absurd (no-reason refused reason (judge-none before (slice_get before.ports port) refused e) reported)
+refused-listed before (Load code) refused reason quiet e reported =
     let found = mapped (λ fault. NotLoaded fault code) (load_fault before) refused e in
-    told-reason (Load code) refused found.0 reason (ap reason_of found.2) told (load-listed code before quiet found.0 found.1)
-refused-listed before (Retire id) refused reason quiet e told =
+    same-reason (Load code) refused found.0 reason (ap reason_of found.2) reported (load-listed code before quiet found.0 found.1)
+refused-listed before (Retire id) refused reason quiet e reported =
     let found = mapped Refused (retire_fault before id) refused e in
-    told-reason (Retire id) refused found.0 reason (ap reason_of found.2) told (retire-listed id before quiet found.0 found.1)
-refused-listed before (Setup ask) refused reason quiet e told =
+    same-reason (Retire id) refused found.0 reason (ap reason_of found.2) reported (retire-listed id before quiet found.0 found.1)
+refused-listed before (Setup ask) refused reason quiet e reported =
     let found = mapped (λ fault. NotSetUp fault ask) (setup_fault before ask) refused e in
-    told-reason (Setup ask) refused found.0 reason (ap reason_of found.2) told (setup-listed before ask found.0 found.1)
-refused-listed before (Reload vc id) refused reason quiet e told =
+    same-reason (Setup ask) refused found.0 reason (ap reason_of found.2) reported (setup-listed before ask found.0 found.1)
+refused-listed before (Reload vc id) refused reason quiet e reported =
     let found = mapped Refused (reload_fault before vc id) refused e in
-    told-reason (Reload vc id) refused found.0 reason (ap reason_of found.2) told (reload-listed before vc id found.0 found.1)
-refused-listed before (Release vc) refused reason quiet e told =
+    same-reason (Reload vc id) refused found.0 reason (ap reason_of found.2) reported (reload-listed before vc id found.0 found.1)
+refused-listed before (Release vc) refused reason quiet e reported =
     let found = mapped Refused (missing_fault before vc) refused e in
-    told-reason (Release vc) refused found.0 reason (ap reason_of found.2) told (missing-listed before vc (May (Release vc)) refl found.0 found.1)
-refused-listed before (Cut vc) refused reason quiet e told =
+    same-reason (Release vc) refused found.0 reason (ap reason_of found.2) reported (missing-listed before vc (May (Release vc)) refl found.0 found.1)
+refused-listed before (Cut vc) refused reason quiet e reported =
     let found = mapped Refused (missing_fault before vc) refused e in
-    told-reason (Cut vc) refused found.0 reason (ap reason_of found.2) told (missing-listed before vc (May (Cut vc)) refl found.0 found.1)
+    same-reason (Cut vc) refused found.0 reason (ap reason_of found.2) reported (missing-listed before vc (May (Cut vc)) refl found.0 found.1)
 
 success-none : (before : World) (step : Step) (reply : Reply) (after : World) → Succeeds before step reply after → reason_of reply ≡ None
 success-none before (Enter port cell moment) reply after w = ap reason_of w.answer
@@ -164,22 +164,22 @@ success-none before (Release vc) reply after w = ap reason_of w.answer
 success-none before (Cut vc) reply after w = ap reason_of w.answer
 
 starved-listed : (step : Step) (reply : Reply) (reason : DeskFault) → without_memory step ≡ Some reply → reason_of reply ≡ Some reason → May step reason
-starved-listed (Setup ask) reply reason e told =
-    told-reason (Setup ask) reply NoMemory reason (ap reason_of (sym (same_some (NotSetUp NoMemory ask) reply e))) told refl
-starved-listed (Cut vc) reply reason e told =
-    told-reason (Cut vc) reply NoMemory reason (ap reason_of (sym (same_some (Refused NoMemory) reply e))) told refl
-starved-listed _ reply reason e told = absurd (cc)
+starved-listed (Setup ask) reply reason e reported =
+    same-reason (Setup ask) reply NoMemory reason (ap reason_of (sym (same_some (NotSetUp NoMemory ask) reply e))) reported refl
+starved-listed (Cut vc) reply reason e reported =
+    same-reason (Cut vc) reply NoMemory reason (ap reason_of (sym (same_some (Refused NoMemory) reply e))) reported refl
+starved-listed _ reply reason e reported = absurd (cc)
 
 step-listed : (before after : World) (step : Step) (reply : Reply) (reason : DeskFault) → is_busy before ≡ false
     → WorldStep before step reply after → reason_of reply ≡ Some reason → May step reason
-step-listed before after step reply reason quiet stepped told =
+step-listed before after step reply reason quiet stepped reported =
     by-refusal (May step reason) (Succeeds before step reply after ⊎ FindsNoMemory before step reply after)
     (λ refused. IsRefused before step refused reply after) (refusal before step)
     (elim [
-      | inl success ↦ absurd (no-reason reply reason (success-none before step reply after success) told)
-      | inr memory ↦ starved-listed step reply reason memory.answer told
+      | inl success ↦ absurd (no-reason reply reason (success-none before step reply after success) reported)
+      | inr memory ↦ starved-listed step reply reason memory.answer reported
     ])
-    (λ refused e is. refused-listed before step refused reason quiet e (ap reason_of (sym is.answer) ∙ told))
+    (λ refused e is. refused-listed before step refused reason quiet e (ap reason_of (sym is.answer) ∙ reported))
     stepped
 
 -- A fact about a test follows if it does for each log that may have led to the core.
@@ -237,11 +237,11 @@ judge-answers : (refused : Option Answer) (before after : World) (answer : Answe
     → ((found : Answer) → refused ≡ Some found → MayAnswer found)
     → MatchOption (option_map Answered refused) (TakenStep before (Judge 0) (Answered answer) after)
     (λ reply. IsRefused before (Judge 0) reply (Answered answer) after) → MayAnswer answer
-judge-answers None before after answer fault told may (inl j) =
+judge-answers None before after answer fault reported may (inl j) =
     let is = ap (λ (r : Reply). answer-in r answer) j.answer in
-    let no : None ≡ Some fault = ap reason_of_answer (sym is) ∙ told in cc
-judge-answers None before after answer fault told may (inr l) = let no = l.answer in cc
-judge-answers (Some found) before after answer fault told may is = same-answer answer found is.answer (may found refl)
+    let no : None ≡ Some fault = ap reason_of_answer (sym is) ∙ reported in cc
+judge-answers None before after answer fault reported may (inr l) = let no = l.answer in cc
+judge-answers (Some found) before after answer fault reported may is = same-answer answer found is.answer (may found refl)
 
 at-pick-answers : (before after : World) (cell : List ℕ) (moment : ℕ) (answer : Answer) → IsIdlePort before
     → Run before (at_pick cell moment answer) after → MayAnswer answer
@@ -253,7 +253,7 @@ at-pick-answers before after cell moment answer idle run =
 
 at-judging-answers : (before after : World) (cell : List ℕ) (moment : ℕ) (answer : Answer) (fault : UpcFault) → IsIdlePort before
     → reason_of_answer answer ≡ Some fault → Run before (at_judging cell moment answer) after → MayAnswer answer
-at-judging-answers before after cell moment answer fault idle told run =
+at-judging-answers before after cell moment answer fault idle reported run =
     let one = run.0 in let entering = entered-there before one cell moment (enters before one cell moment Entered idle run.1) in
     let in_port = there before one (entered cell moment) outside idle entering in
     let two = run.2.0 in let three = run.2.2.0 in
@@ -262,23 +262,23 @@ at-judging-answers before after cell moment answer fault idle told run =
     let had = there one two (picked from.picking) (entered cell moment) in_port from.placed in
     let P : Option PortState → Type 0 = λ port. MatchOption (judge_refusal two port) (TakenStep two (Judge 0) (Answered answer) three)
     (λ refused. IsRefused two (Judge 0) refused (Answered answer) three) in
-    judge-answers (picking_refusal two from.picking (connection_in two.connections from.picking.vc)) two three answer fault told
+    judge-answers (picking_refusal two from.picking (connection_in two.connections from.picking.vc)) two three answer fault reported
     (picking-answers two from.picking from.connection (connection_in two.connections from.picking.vc) from.same from.found)
     (subst P had run.2.2.1)
 
 arrival-answers : (old new : CoreView) (cell : List ℕ) (moment : ℕ) (answer : Answer) (fault : UpcFault) → IsReachedCore old
     → reason_of_answer answer ≡ Some fault → AnswersArrival old 0 cell moment answer new → MayAnswer answer
-arrival-answers old new cell moment answer fault reached told (inl follows) = by-log (may_answer answer) old reached (λ r.
+arrival-answers old new cell moment answer fault reached reported (inl follows) = by-log (may_answer answer) old reached (λ r.
     let gone = follows r.shape r.log r.world r.leads r.agrees in
     at-pick-answers r.world gone.after cell moment answer r.idle gone.stepped)
-arrival-answers old new cell moment answer fault reached told (inr follows) = by-log (may_answer answer) old reached (λ r.
+arrival-answers old new cell moment answer fault reached reported (inr follows) = by-log (may_answer answer) old reached (λ r.
     let gone = follows r.shape r.log r.world r.leads r.agrees in
-    at-judging-answers r.world gone.after cell moment answer fault r.idle told gone.stepped)
+    at-judging-answers r.world gone.after cell moment answer fault r.idle reported gone.stepped)
 
 pub reports-no-others : ReportsNoOthers
 reports-no-others = record {
   desk = desk-listed;
   cells = λ before after cell moment fault refused.
       let arrives = refused.arrives in
-      arrival-answers arrives.old arrives.new cell moment refused.answer fault (before.reached arrives.old arrives.had) refused.told arrives.answers;
+      arrival-answers arrives.old arrives.new cell moment refused.answer fault (before.reached arrives.old arrives.had) refused.reported arrives.answers;
 }

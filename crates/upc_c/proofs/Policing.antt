@@ -29,12 +29,12 @@ arrives-so before after octets cell leaving moment j id same named left arrives 
     (subst (λ (xs : List ℕ). ArrivesAtCard before after cell moment (Judged j.line j.number j.moment j.value j.program j.verdict xs)) (sym left) arrives))
 
 -- The answer with the numbers of a judgement.
-abbrev pub told_answer : Judgement → ℕ → UpcId → UpcAnswer
-told_answer j verdict id = record { verdict = verdict; value = j.value; number = j.number; moment = j.moment; program = id; line = j.line }
+abbrev pub answer_for_c : Judgement → ℕ → UpcId → UpcAnswer
+answer_for_c j verdict id = record { verdict = verdict; value = j.value; number = j.number; moment = j.moment; program = id; line = j.line }
 
 pub polices-so : (old new : CoreView) (octets cell leaving : List ℕ) (moment verdict : ℕ) (j : Judgement) (id : UpcId)
     → length octets ≡ 52 → cell ≡ octets → verdict ≡ number_of_verdict j.verdict → j.program ≡ id_of id → leaving ≡ cell_after j.verdict cell
-    → AnswersArrival old 0 cell moment (answer_to cell (Ok j)) new → PolicesOn old new octets moment (told_answer j verdict id) leaving
+    → AnswersArrival old 0 cell moment (answer_to cell (Ok j)) new → PolicesOn old new octets moment (answer_for_c j verdict id) leaving
 polices-so old new octets cell leaving moment verdict j id sized same numbered named left answers = record {
   sized = sized;
   on = λ before after had has. record {
@@ -50,14 +50,14 @@ polices-so old new octets cell leaving moment verdict j id sized same numbered n
 pub refuses-so : (old new : CoreView) (octets cell : List ℕ) (moment : ℕ) (answer : Answer) (fault : UpcFault)
     → length octets ≡ 52 → cell ≡ octets → new ≡ old → reason_of_answer answer ≡ Some fault → AnswersArrival old 0 cell moment answer new
     → RefusesOn old octets moment fault
-refuses-so old new octets cell moment answer fault sized same left told answers = record {
+refuses-so old new octets cell moment answer fault sized same left reported answers = record {
   on = λ before after had has. inr (inr (
     sized,
     record {
       answer = answer;
       arrives = subst (λ (xs : List ℕ). ArrivesAtCard before after xs moment answer) same
           (record { old = old; new = new; had = had; has = has ∙ ap Some (sym left); answers = answers });
-      told = told;
+      reported = reported;
     },
   ));
 }

@@ -19,13 +19,13 @@ takes-from first before after step reply same taken = record {
 }
 
 -- The error for C is the one that was found.
-pub desk-fault-from : (first before after : UpcCard) (step : Step) (found told : UpcFault) → card_in before ≡ card_in first → told ≡ found
-    → IsDeskFault before after step found → IsDeskFault first after step told
-desk-fault-from first before after step found told same is (inl none) = inl (sym same ∙ none.0, is ∙ none.1)
-desk-fault-from first before after step found told same is (inr refused) = inr (record {
+pub desk-fault-from : (first before after : UpcCard) (step : Step) (found reported : UpcFault) → card_in before ≡ card_in first → reported ≡ found
+    → IsDeskFault before after step found → IsDeskFault first after step reported
+desk-fault-from first before after step found reported same is (inl none) = inl (sym same ∙ none.0, is ∙ none.1)
+desk-fault-from first before after step found reported same is (inr refused) = inr (record {
   reply = refused.reply;
   taken = takes-from first before after step refused.reply same refused.taken;
   reason = refused.reason;
   refused = refused.refused;
-  told = is ∙ refused.told;
+  reported = is ∙ refused.reported;
 })

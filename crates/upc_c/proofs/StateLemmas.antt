@@ -10,14 +10,14 @@ use Rattle.card_core.specs.declared.connection_state.ConnectionState.{Connection
 use Rattle.leaky.specs.declared.contract.Contract.{Contract}
 use Rattle.line_record.specs.History.{numbered}
 use Rattle.upc_cell.specs.declared.vc.Vc.{Vc}
-use Rattle.upc_c.specs.CardDesk.{told_id}
+use Rattle.upc_c.specs.CardDesk.{id_for_c}
 use Rattle.upc_c.specs.CardInspection.{HasConnection, OfConnection, counts_for_c}
-use Rattle.upc_c.specs.CardState.{HasState, IsToldState}
+use Rattle.upc_c.specs.CardState.{HasState, IsStateForC}
 use Rattle.upc_c.specs.declared.card.UpcCard.{UpcCard}
 use Rattle.upc_c.specs.declared.state.UpcMeter.{UpcMeter}
 use Rattle.upc_c.specs.declared.state.UpcState.{UpcState}
-use Rattle.upc_c.specs.inner.ToldLine.{IsMissingIn}
-use Rattle.upc_c.specs.inner.WrittenState.{IsStateOf, IsStateOn, IsWrittenState, told_meter}
+use Rattle.upc_c.specs.inner.LineCounts.{IsMissingIn}
+use Rattle.upc_c.specs.inner.WrittenState.{IsStateOf, IsStateOn, IsWrittenState, meter_for_c}
 
 -- A list has an item at each place below its length.
 item-at : {X : Type 0} (xs : List X) (place : ℕ) → place < length xs → (x : X) × (slice_get xs place ≡ Some x)
@@ -28,24 +28,24 @@ item-at (x ∷ xs) (suc place) h = item-at xs place (omega arith)
 numbered-suc : {X : Type 0} (xs : List X) (place : ℕ) → numbered xs (suc place) ≡ slice_get xs place
 numbered-suc xs place = grind (arith, nat_tests)
 
--- In a world with this state of the connection, what was written is told.
-pub told-written : (world : World) (vc : Vc) (state : ConnectionState) (before room : List UpcMeter) (told : UpcState)
-    → IsStateIn world vc state → HasLevelsForEach state → IsWrittenState state before room told
-    → HasConnection world vc (λ connection. IsToldState world connection before room told)
-told-written world vc state before room told is sized written =
-    let tells = written.tells in
-    let many : told.contracts ≡ length state.contracts.items = ap (λ (t : UpcState). t.contracts) tells in (
+-- In a world with this state of the connection, the state that was written is the one for C.
+pub written-for-c : (world : World) (vc : Vc) (state : ConnectionState) (before room : List UpcMeter) (written : UpcState)
+    → IsStateIn world vc state → HasLevelsForEach state → IsWrittenState state before room written
+    → HasConnection world vc (λ connection. IsStateForC world connection before room written)
+written-for-c world vc state before room written is sized is_written =
+    let numbers = is_written.numbers in
+    let many : written.contracts ≡ length state.contracts.items = ap (λ (t : UpcState). t.contracts) numbers in (
       is.connection,
       is.found,
       record {
-        incarnation = ap (λ (t : UpcState). t.incarnation) tells ∙ is.incarnation;
-        line = ap (λ (t : UpcState). t.line) tells ∙ is.line;
-        program = ap (λ (t : UpcState). t.program) tells ∙ ap told_id is.program;
-        last = ap (λ (t : UpcState). t.last) tells ∙ is.state.last;
-        counts = ap (λ (t : UpcState). t.counts) tells ∙ ap counts_for_c is.counts;
-        cells = ap (λ (t : UpcState). t.cells) tells ∙ is.entries;
+        incarnation = ap (λ (t : UpcState). t.incarnation) numbers ∙ is.incarnation;
+        line = ap (λ (t : UpcState). t.line) numbers ∙ is.line;
+        program = ap (λ (t : UpcState). t.program) numbers ∙ ap id_for_c is.program;
+        last = ap (λ (t : UpcState). t.last) numbers ∙ is.state.last;
+        counts = ap (λ (t : UpcState). t.counts) numbers ∙ ap counts_for_c is.counts;
+        cells = ap (λ (t : UpcState). t.cells) numbers ∙ is.entries;
         contracts = many ∙ ap length is.contracts;
-        fits = let fits = written.fits in omega arith;
+        fits = let fits = is_written.fits in omega arith;
         meters = λ place contract found.
             let here : slice_get state.contracts.items place ≡ Some contract =
             subst (λ (cs : List Contract). slice_get cs place ≡ Some contract) (sym is.contracts) found in
@@ -53,25 +53,25 @@ told-written world vc state before room told is sized written =
             let one_each = sized.one_each in
             let its = item-at state.state.levels.items place (omega arith) in
             let agrees = is.state.stands.agrees (suc place) its.0 (numbered-suc state.state.levels.items place ∙ its.1) in record {
-              meter = told_meter contract its.0;
-              there = written.meters.front place contract its.0 inside here its.1;
+              meter = meter_for_c contract its.0;
+              there = is_written.meters.front place contract its.0 inside here its.1;
               numbers = refl;
               shows = record { first = agrees.first; second = agrees.second };
               kept = record { first = its.0.first_bounded; second = its.0.second_bounded };
             };
-        rest = λ place above. written.meters.rest place (omega arith);
+        rest = λ place above. is_written.meters.rest place (omega arith);
       },
     )
 
-pub has-state : (card : UpcCard) (path channel : ℕ) (state : ConnectionState) (before room : List UpcMeter) (told : UpcState)
-    → IsStateOn card path channel state → HasLevelsForEach state → IsWrittenState state before room told
-    → HasState card path channel before room told
-has-state card path channel state before room told on sized written = record {
+pub has-state : (card : UpcCard) (path channel : ℕ) (state : ConnectionState) (before room : List UpcMeter) (written : UpcState)
+    → IsStateOn card path channel state → HasLevelsForEach state → IsWrittenState state before room written
+    → HasState card path channel before room written
+has-state card path channel state before room written on sized is_written = record {
   vc = on.vc;
   numbers = on.numbers;
   core = on.core;
   had = on.had;
-  so = λ world agrees. told-written world on.vc state before room told (on.so world agrees) sized written;
+  so = λ world agrees. written-for-c world on.vc state before room written (on.so world agrees) sized is_written;
 }
 
 -- The number of its contracts.

@@ -23,12 +23,12 @@ pub record ArrivesAtCard (before after : UpcCard) (cell : List ℕ) (moment : �
   pub answers : AnswersArrival old 0 cell moment answer new
 
 -- The cell was judged with this answer, and these are the octets of the leaving cell.
-pub record IsPoliced (before after : UpcCard) (cell : List ℕ) (moment : ℕ) (told : UpcAnswer) (leaving : List ℕ) : Type 0 where
+pub record IsPoliced (before after : UpcCard) (cell : List ℕ) (moment : ℕ) (answer : UpcAnswer) (leaving : List ℕ) : Type 0 where
   pub sized : length cell ≡ 52
   pub verdict : Verdict
-  pub number : told.verdict ≡ number_of_verdict verdict
+  pub number : answer.verdict ≡ number_of_verdict verdict
   pub arrives : ArrivesAtCard before after cell moment
-      (Judged told.line told.number told.moment told.value (id_of told.program) verdict leaving)
+      (Judged answer.line answer.number answer.moment answer.value (id_of answer.program) verdict leaving)
 
 -- The error for C if the cell wasn't judged, or None if it was.
 abbrev pub reason_of_answer : Answer → Option UpcFault
@@ -45,7 +45,7 @@ reason_of_answer NoMemory = Some out_of_memory
 pub record RefusesCell (before after : UpcCard) (cell : List ℕ) (moment : ℕ) (fault : UpcFault) : Type 0 where
   pub answer : Answer
   pub arrives : ArrivesAtCard before after cell moment answer
-  pub told : reason_of_answer answer ≡ Some fault
+  pub reported : reason_of_answer answer ≡ Some fault
 
 -- The error for C: the octets aren't a cell; else there is no card; else the card doesn't judge the cell.
 abbrev pub IsArrivalFault : UpcCard → UpcCard → List ℕ → ℕ → UpcFault → Type 0

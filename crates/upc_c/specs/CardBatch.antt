@@ -21,19 +21,19 @@ buffer_after octets stride number leaving =
 -- card and was in this buffer; each later one came to the card and was in the buffer that the cell before it left.
 abbrev pub PolicesEach : UpcCard → List ℕ → ℕ → ℕ → List ℕ → List UpcAnswer → UpcCard → List ℕ → Type 0
 PolicesEach card octets stride number [] [] after left = (card_in after ≡ card_in card) × (left ≡ octets)
-PolicesEach card octets stride number [] (told ∷ answers) after left = ⊥
+PolicesEach card octets stride number [] (answer ∷ answers) after left = ⊥
 PolicesEach card octets stride number (moment ∷ moments) [] after left = ⊥
-PolicesEach card octets stride number (moment ∷ moments) (told ∷ answers) after left =
-    (next : UpcCard) × (leaving : List ℕ) × IsPoliced card next (cell_in octets stride number) moment told leaving
+PolicesEach card octets stride number (moment ∷ moments) (answer ∷ answers) after left =
+    (next : UpcCard) × (leaving : List ℕ) × IsPoliced card next (cell_in octets stride number) moment answer leaving
     × PolicesEach next (buffer_after octets stride number leaving) stride (suc number) moments answers after left
 
 -- The first cells, `count` of them, were judged in order. Their answers are the first of the buffer of answers, and the
 -- others are unchanged.
-pub record ArePoliced (card after : UpcCard) (octets left : List ℕ) (stride : ℕ) (moments : List ℕ) (answers told : List UpcAnswer) (count : ℕ) : Type 0 where
+pub record ArePoliced (card after : UpcCard) (octets left : List ℕ) (stride : ℕ) (moments : List ℕ) (answers written : List UpcAnswer) (count : ℕ) : Type 0 where
   pub within : count ≤ length moments
-  pub each : PolicesEach card octets stride 0 (take count moments) (take count told) after left
-  pub sized : length told ≡ length answers
-  pub rest : drop count told ≡ drop count answers
+  pub each : PolicesEach card octets stride 0 (take count moments) (take count written) after left
+  pub sized : length written ≡ length answers
+  pub rest : drop count written ≡ drop count answers
 
 -- The cell with this number comes next. The card doesn't judge it, and this is the error of `upc_card_arrive` for it.
 pub record IsNextRefused (card : UpcCard) (octets : List ℕ) (stride : ℕ) (moments : List ℕ) (number : ℕ) (fault : UpcFault) : Type 0 where

@@ -29,23 +29,23 @@ use Rattle.upc_c.specs.declared.id.UpcId.{UpcId}
 abbrev pub id_of : UpcId → Id
 id_of given = record { slot = given.slot; generation = given.generation }
 
--- The numbers of an id.
-abbrev pub told_id : Id → UpcId
-told_id id = record { slot = id.slot; generation = id.generation }
+-- The id, as C has it.
+abbrev pub id_for_c : Id → UpcId
+id_for_c id = record { slot = id.slot; generation = id.generation }
 
 -- An error of the desk as an error for C.
-abbrev pub told_desk : DeskFault → UpcFault
-told_desk desk.NoProgram = plain_fault 10 1 0
-told_desk desk.NoConnection = plain_fault 10 2 0
-told_desk desk.Taken = plain_fault 10 3 0
-told_desk desk.NoLine = plain_fault 10 4 0
-told_desk desk.InUse = plain_fault 10 5 0
-told_desk desk.ProgramsFull = plain_fault 10 6 0
-told_desk desk.Exhausted = plain_fault 10 7 0
-told_desk desk.BadContracts = plain_fault 10 8 0
-told_desk desk.Busy = plain_fault 10 9 0
-told_desk desk.NoMemory = out_of_memory
-told_desk desk.Stale = plain_fault 10 11 0
+abbrev pub desk_fault_for_c : DeskFault → UpcFault
+desk_fault_for_c desk.NoProgram = plain_fault 10 1 0
+desk_fault_for_c desk.NoConnection = plain_fault 10 2 0
+desk_fault_for_c desk.Taken = plain_fault 10 3 0
+desk_fault_for_c desk.NoLine = plain_fault 10 4 0
+desk_fault_for_c desk.InUse = plain_fault 10 5 0
+desk_fault_for_c desk.ProgramsFull = plain_fault 10 6 0
+desk_fault_for_c desk.Exhausted = plain_fault 10 7 0
+desk_fault_for_c desk.BadContracts = plain_fault 10 8 0
+desk_fault_for_c desk.Busy = plain_fault 10 9 0
+desk_fault_for_c desk.NoMemory = out_of_memory
+desk_fault_for_c desk.Stale = plain_fault 10 11 0
 
 -- The error of the desk in a reply, if it has one.
 abbrev pub reason_of : Reply → Option DeskFault
@@ -60,7 +60,7 @@ pub record RefusesStep (before after : UpcCard) (step : Step) (fault : UpcFault)
   pub taken : CardTakes before after step reply
   pub reason : DeskFault
   pub refused : reason_of reply ≡ Some reason
-  pub told : fault ≡ told_desk reason
+  pub reported : fault ≡ desk_fault_for_c reason
 
 -- The error of a step of the desk: there is no card, or the card refuses the step.
 abbrev pub IsDeskFault : UpcCard → UpcCard → Step → UpcFault → Type 0

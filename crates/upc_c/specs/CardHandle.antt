@@ -11,7 +11,7 @@ use Rattle.upc_c.specs.declared.fault.UpcFault.{UpcFault}
 
 -- The core of the card, if there is one.
 abbrev pub card_in : UpcCard → Option CoreView
-card_in held = held.inner.core
+card_in card = card.inner.core
 
 -- There is a card already, and it can't be replaced: UPC_CARD_THERE.
 abbrev pub card_there : UpcFault

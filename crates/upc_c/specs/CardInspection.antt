@@ -7,7 +7,7 @@ use Rattle.card_core.specs.declared.shape.Shape.{Shape}
 use Rattle.line_record.specs.Tally.{tally_of}
 use Rattle.line_record.specs.declared.tally.Tally.{Tally}
 use Rattle.upc_cell.specs.declared.vc.Vc.{Vc}
-use Rattle.upc_c.specs.CardDesk.{HasNoPath, IsVc, path_too_large, told_desk}
+use Rattle.upc_c.specs.CardDesk.{HasNoPath, IsVc, path_too_large, desk_fault_for_c}
 use Rattle.upc_c.specs.CardHandle.{IsShapeIn, card_in, card_missing}
 use Rattle.upc_c.specs.CardMaking.{IsShapeOf}
 use Rattle.upc_c.specs.declared.card.UpcCard.{UpcCard}
@@ -66,4 +66,4 @@ abbrev pub IsLookUpFault : UpcCard → ℕ → ℕ → UpcFault → Type 0
 IsLookUpFault card path channel fault =
     ((card_in card ≡ None) × (fault ≡ card_missing))
     ⊎ (HasNoPath card path × (fault ≡ path_too_large))
-    ⊎ (IsMissing card path channel × (fault ≡ told_desk NoConnection))
+    ⊎ (IsMissing card path channel × (fault ≡ desk_fault_for_c NoConnection))

@@ -24,17 +24,17 @@ abbrev pub IsEmptyCard : UpcShape → CoreView → Type 0
 IsEmptyCard given core = (shape : Shape) × IsShapeOf given shape × CoreAgrees core (opening_world shape)
 
 -- The reason why a card can't be made, as an error for C.
-abbrev pub told_card : CardFault → UpcFault
-told_card Programs = plain_fault 9 1 0
-told_card Lines = plain_fault 9 2 0
-told_card Ports = plain_fault 9 3 0
-told_card Journal = plain_fault 9 4 0
-told_card NoMemory = out_of_memory
+abbrev pub card_fault_for_c : CardFault → UpcFault
+card_fault_for_c Programs = plain_fault 9 1 0
+card_fault_for_c Lines = plain_fault 9 2 0
+card_fault_for_c Ports = plain_fault 9 3 0
+card_fault_for_c Journal = plain_fault 9 4 0
+card_fault_for_c NoMemory = out_of_memory
 
 -- The error if no card was made: the side is unknown; else the first number is out of its limits; or an allocation
 -- failed.
 abbrev pub IsNoCard : UpcShape → UpcFault → Type 0
 IsNoCard given fault =
     ((1 < given.side) × (fault ≡ unknown_side))
-    ⊎ ((shape : Shape) × IsShapeOf given shape × (found : CardFault) × (shape_fault shape ≡ Some found) × (fault ≡ told_card found))
+    ⊎ ((shape : Shape) × IsShapeOf given shape × (found : CardFault) × (shape_fault shape ≡ Some found) × (fault ≡ card_fault_for_c found))
     ⊎ (fault ≡ out_of_memory)

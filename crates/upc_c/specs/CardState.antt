@@ -9,7 +9,7 @@ use Rattle.leaky.specs.declared.contract.Contract.TheVariants.{Cbr1, Vbr1, Vbr2,
 use Rattle.line_record.specs.History.{buckets_after_cells, empty_buckets, last_moment}
 use Rattle.line_record.specs.Tally.{tally_of}
 use Rattle.upc_cell.specs.declared.vc.Vc.{Vc}
-use Rattle.upc_c.specs.CardDesk.{HasNoPath, IsVc, path_too_large, told_desk, told_id}
+use Rattle.upc_c.specs.CardDesk.{HasNoPath, IsVc, path_too_large, desk_fault_for_c, id_for_c}
 use Rattle.upc_c.specs.CardHandle.{card_in, card_missing}
 use Rattle.upc_c.specs.CardInspection.{IsLookUpFault, OfConnection, counts_for_c}
 use Rattle.upc_c.specs.Faults.{no_room}
@@ -21,30 +21,30 @@ use Rattle.upc_c.specs.declared.fault.UpcFault.{UpcFault}
 use Rattle.upc_c.specs.declared.state.UpcMeter.{UpcMeter}
 use Rattle.upc_c.specs.declared.state.UpcState.{UpcState}
 
--- The numbers of a contract: its kind, and the rates of its buckets. Without a bucket 2 its two numbers are 0.
-abbrev pub told_contract : Contract → UpcContract
-told_contract (Cbr1 peak) = record {
+-- The contract, as C has it: its kind, and the rates of its buckets. Without a bucket 2 its two numbers are 0.
+abbrev pub contract_for_c : Contract → UpcContract
+contract_for_c (Cbr1 peak) = record {
   kind = 1;
   peak_increment = peak.increment;
   peak_limit = peak.limit;
   sustained_increment = 0;
   sustained_limit = 0;
 }
-told_contract (Vbr1 peak sustained) = record {
+contract_for_c (Vbr1 peak sustained) = record {
   kind = 2;
   peak_increment = peak.increment;
   peak_limit = peak.limit;
   sustained_increment = sustained.increment;
   sustained_limit = sustained.limit;
 }
-told_contract (Vbr2 peak sustained) = record {
+contract_for_c (Vbr2 peak sustained) = record {
   kind = 3;
   peak_increment = peak.increment;
   peak_limit = peak.limit;
   sustained_increment = sustained.increment;
   sustained_limit = sustained.limit;
 }
-told_contract (Vbr3 peak sustained) = record {
+contract_for_c (Vbr3 peak sustained) = record {
   kind = 4;
   peak_increment = peak.increment;
   peak_limit = peak.limit;
@@ -57,16 +57,16 @@ told_contract (Vbr3 peak sustained) = record {
 pub record IsMeterAt (connection : Connection) (contract : Contract) (place : ℕ) (room : List UpcMeter) : Type 0 where
   pub meter : UpcMeter
   pub there : slice_get room place ≡ Some meter
-  pub numbers : meter.contract ≡ told_contract contract
+  pub numbers : meter.contract ≡ contract_for_c contract
   pub shows : Shows meter.levels (buckets_after_cells connection.contracts empty_buckets connection.history (suc place))
   pub kept : AreLevels meter.levels
 
 -- These are the numbers of the connection. The front of the buffer has a meter for each of its contracts, in order, and
 -- the rest of the buffer is unchanged.
-pub record IsToldState (world : World) (connection : Connection) (room written : List UpcMeter) (state : UpcState) : Type 0 where
+pub record IsStateForC (world : World) (connection : Connection) (room written : List UpcMeter) (state : UpcState) : Type 0 where
   pub incarnation : state.incarnation ≡ connection.incarnation
   pub line : state.line ≡ connection.line
-  pub program : state.program ≡ told_id connection.program
+  pub program : state.program ≡ id_for_c connection.program
   pub last : state.last ≡ last_moment 0 connection.history
   pub counts : state.counts ≡ counts_for_c (tally_of (world.judged connection.line))
   pub cells : state.cells ≡ length (kept_cells connection)
@@ -79,7 +79,7 @@ pub record IsToldState (world : World) (connection : Connection) (room written :
 -- The card has the connection of this path and channel, and C gets its state.
 abbrev pub HasState : UpcCard → ℕ → ℕ → List UpcMeter → List UpcMeter → UpcState → Type 0
 HasState card path channel room written state =
-    OfConnection card path channel (λ world connection. IsToldState world connection room written state)
+    OfConnection card path channel (λ world connection. IsStateForC world connection room written state)
 
 -- The error if the state was not written: that of the look-up; then, the buffer has fewer meters than the connection
 -- has contracts, whose number is the place of the error.
@@ -121,4 +121,4 @@ abbrev pub IsCursorFault : UpcCard → UpcCursor → UpcFault → Type 0
 IsCursorFault card cursor fault =
     ((card_in card ≡ None) × (fault ≡ card_missing))
     ⊎ ((0 < cursor.begun) × HasNoPath card cursor.path × (fault ≡ path_too_large))
-    ⊎ (IsAtEnd card cursor × (fault ≡ told_desk NoConnection))
+    ⊎ (IsAtEnd card cursor × (fault ≡ desk_fault_for_c NoConnection))

@@ -10,11 +10,11 @@ use Rattle.upc_c.specs.declared.excess.UpcExcess.{UpcExcess}
 use Rattle.upc_c.specs.declared.meter.UpcLevels.{UpcLevels}
 
 -- The number of the bucket and the ticks, or zeros if there is no excess.
-abbrev pub told_excess : Option Excess → UpcExcess
-told_excess None = record { bucket = 0; ticks = 0 }
-told_excess (Some excess) = record { bucket = bucket_number excess.bucket; ticks = excess.ticks }
+abbrev pub excess_for_c : Option Excess → UpcExcess
+excess_for_c None = record { bucket = 0; ticks = 0 }
+excess_for_c (Some excess) = record { bucket = bucket_number excess.bucket; ticks = excess.ticks }
 
 -- For any buckets that have these levels and weren't charged after this moment, this is the excess of the cell.
-abbrev pub TellsExcess : Contract → UpcLevels → Bool → ℕ → UpcExcess → Type 0
-TellsExcess contract levels clp moment told = (buckets : Buckets) → Shows levels buckets → IsChargedBy buckets moment
-    → told ≡ told_excess (excess_at contract buckets clp moment)
+abbrev pub IsExcessForC : Contract → UpcLevels → Bool → ℕ → UpcExcess → Type 0
+IsExcessForC contract levels clp moment excess = (buckets : Buckets) → Shows levels buckets → IsChargedBy buckets moment
+    → excess ≡ excess_for_c (excess_at contract buckets clp moment)

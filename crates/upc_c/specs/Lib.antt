@@ -4,7 +4,7 @@ pub mod Judging
 pub mod ExcessForC
 pub mod Bursts
 pub mod CellHeader
-pub mod Telling
+pub mod LibraryFaults
 pub mod Programs
 pub mod CompiledRules
 pub mod ProgramHandle

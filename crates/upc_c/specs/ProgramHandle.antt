@@ -5,11 +5,11 @@ use Rattle.upc_c.specs.Faults.{plain_fault, out_of_memory}
 use Rattle.upc_c.specs.Programs.{IsDecodeRefusal, IsCheckRefusal}
 use Rattle.upc_c.specs.CellHeader.{IsCellFault}
 use Rattle.upc_c.specs.declared.fault.UpcFault.{UpcFault}
-use Rattle.upc_c.specs.declared.held.UpcProgram.{UpcProgram}
+use Rattle.upc_c.specs.declared.program.UpcProgram.{UpcProgram}
 
 -- The program, if there is one.
 abbrev pub program_in : UpcProgram → Option (List Instr)
-program_in held = held.inner.code
+program_in program = program.inner.code
 
 -- The error if no program was made: that of the octets, or an allocation failed.
 abbrev pub IsNoProgram : List ℕ → UpcFault → Type 0

@@ -14,7 +14,7 @@ use Rattle.bpf_verify.specs.Accepted.{IsAccepted}
 use Rattle.bpf_verify.specs.Faults.{FailsFirst}
 use Rattle.bpf_verify.specs.declared.fault.Fault.{Fault}
 use Rattle.upc_c.specs.Faults.{no_room}
-use Rattle.upc_c.specs.Telling.{told_asm, told_decode, told_list, told_verify}
+use Rattle.upc_c.specs.LibraryFaults.{asm_fault_for_c, check_fault_for_c, decode_fault_for_c, list_fault_for_c}
 use Rattle.upc_c.specs.declared.fault.UpcFault.{UpcFault}
 
 -- The text is at the front of the buffer, the rest of the buffer is unchanged, and `count` is the number of octets of
@@ -34,17 +34,17 @@ IsProgram octets = (code : List Instr) × SpellsCode octets code × IsAccepted c
 
 -- The octets don't spell a code, or an allocation failed.
 abbrev pub IsDecodeRefusal : List ℕ → UpcFault → Type 0
-IsDecodeRefusal octets fault = (found : DecodeFault) × IsDecodeFault octets found × (fault ≡ told_decode found)
+IsDecodeRefusal octets fault = (found : DecodeFault) × IsDecodeFault octets found × (fault ≡ decode_fault_for_c found)
 
 -- The octets spell a code that the check refuses.
 abbrev pub IsCheckRefusal : List ℕ → UpcFault → Type 0
 IsCheckRefusal octets fault =
-    (code : List Instr) × SpellsCode octets code × (found : Fault) × FailsFirst code found × (fault ≡ told_verify found)
+    (code : List Instr) × SpellsCode octets code × (found : Fault) × FailsFirst code found × (fault ≡ check_fault_for_c found)
 
 -- The source means no code, or an allocation failed.
 abbrev pub IsAsmRefusal : List ℕ → UpcFault → Type 0
 IsAsmRefusal source fault =
-    (found : AsmFault) × (IsFault source found ⊎ IsOutOfMemory found) × (fault ≡ told_asm found)
+    (found : AsmFault) × (IsFault source found ⊎ IsOutOfMemory found) × (fault ≡ asm_fault_for_c found)
 
 -- These are the octets of the code that the source means.
 abbrev pub IsAssembled : List ℕ → List ℕ → Type 0
@@ -57,4 +57,4 @@ IsListed octets text = (code : List Instr) × SpellsCode octets code × (text �
 -- The octets spell a code without a listing, or an allocation failed.
 abbrev pub IsListRefusal : List ℕ → UpcFault → Type 0
 IsListRefusal octets fault =
-    (code : List Instr) × SpellsCode octets code × (found : ListFault) × IsListFault code found × (fault ≡ told_list found)
+    (code : List Instr) × SpellsCode octets code × (found : ListFault) × IsListFault code found × (fault ≡ list_fault_for_c found)

@@ -2,7 +2,8 @@
 pub mod Numbered
 pub mod Hidden
 pub mod ReachedCore
-pub mod ToldLine
+pub mod LineCounts
 pub mod HandOut
 pub mod WrittenState
 pub mod CellsOnCore
+pub mod WithCore

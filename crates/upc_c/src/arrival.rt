@@ -16,11 +16,11 @@ ghost use Rattle.upc_c.specs.inner.Numbered.{IsNumbered};
 use crate::card::UpcCard;
 use crate::cell::cell_of;
 use crate::desk_fault::card_missing;
-use crate::fault::{OF_AN_ARRIVAL, UpcFault, fault_at, fine, told};
-use crate::id::{UpcId, numbers_of};
-use crate::meter::number_of;
+use crate::fault::{OF_AN_ARRIVAL, UpcFault, fault_at, report, report_success};
+use crate::id::{UpcId, id_for_c};
+use crate::library_faults::out_of_memory;
+use crate::meter::number_of_verdict;
 use crate::stepping::{put_core, take_core};
-use crate::telling::out_of_memory;
 use card_core::{Core, Judgement, Unjudged};
 use leaky::Verdict;
 use line_record::LineFault;
@@ -46,9 +46,9 @@ pub struct UpcAnswer {
     pub line: u16,
 }
 
-/// Returns the error for C of a cell that isn't judged.
-fn told_unjudged(reason: Unjudged) -> UpcFault
-    ensures told { reason_of_answer (unjudged_answer reason) ≡ Some result }
+/// Returns the error for C if a cell isn't judged.
+fn unjudged_fault_for_c(reason: Unjudged) -> UpcFault
+    ensures fault { reason_of_answer (unjudged_answer reason) ≡ Some result }
     ensures numbered { IsNumbered result }
 {
     match reason {
@@ -79,7 +79,7 @@ fn arrive_at(core: &mut Core, cell: &Cell, moment: u64) -> Result<Judgement, Unj
 
 /// Writes the octets of the leaving cell.
 #[inline(always)]
-fn leave(octets: &mut [u8], cell: &Cell, verdict: Verdict)
+fn write_leaving_cell(octets: &mut [u8], cell: &Cell, verdict: Verdict)
     requires { octets.old ≡ cell.now }
     ensures { octets.new ≡ cell_after verdict cell.now }
 {
@@ -107,15 +107,15 @@ pub(crate) fn police(core: &mut Core, octets: &mut [u8], moment: u64) -> Result<
     };
     let judgement = match arrive_at(core, &cell, moment) {
         Ok(judgement) => judgement,
-        Err(reason) => return Err(told_unjudged(reason)),
+        Err(reason) => return Err(unjudged_fault_for_c(reason)),
     };
-    leave(octets, &cell, judgement.verdict);
+    write_leaving_cell(octets, &cell, judgement.verdict);
     Ok(UpcAnswer {
-        verdict: number_of(judgement.verdict),
+        verdict: number_of_verdict(judgement.verdict),
         value: judgement.value,
         number: judgement.number,
         moment: judgement.moment,
-        program: numbers_of(judgement.program),
+        program: id_for_c(judgement.program),
         line: judgement.line,
     })
 }
@@ -145,7 +145,7 @@ pub extern "C" fn upc_card_arrive(
 ) -> u32
     ensures number { result ≡ call_result fault.new }
     ensures judged { result ≡ 0 → IsPoliced card.old card.new octets.old moment answer.new octets.new }
-    ensures fine { result ≡ 0 → fault.new ≡ no_fault }
+    ensures success { result ≡ 0 → fault.new ≡ no_fault }
     ensures refused { result ≢ 0 → IsArrivalFault card.old card.new octets.old moment fault.new }
     ensures memory { fault.new ≢ out_of_memory }
     ensures left { result ≢ 0 → card_in card.new ≡ card_in card.old }
@@ -153,15 +153,15 @@ pub extern "C" fn upc_card_arrive(
     ensures answer_left { result ≢ 0 → answer.new ≡ answer.old }
 {
     let Some(mut core) = take_core(alloc, card) else {
-        return told(fault, fault_without_card(octets));
+        return report(fault, fault_without_card(octets));
     };
     let policed = police(&mut core, octets, moment);
     put_core(card, core);
     match policed {
         Ok(found) => {
             *answer = found;
-            fine(fault)
+            report_success(fault)
         }
-        Err(found) => told(fault, found),
+        Err(found) => report(fault, found),
     }
 }

@@ -11,7 +11,7 @@ ghost use Rattle.upc_c.specs.inner.Numbered.{IsNumbered};
 
 use crate::arrival::{UpcAnswer, fault_without_card, police};
 use crate::card::UpcCard;
-use crate::fault::{OF_THE_CALL, UpcFault, fault_at, fine, told};
+use crate::fault::{OF_THE_CALL, UpcFault, fault_at, report, report_success};
 use crate::stepping::{put_core, take_core};
 use card_core::Core;
 use std::alloc::Global;
@@ -147,21 +147,21 @@ pub extern "C" fn upc_card_arrive_many(
     ensures judged { ArePoliced card.old card.new octets.old octets.new stride moments.now
         answers.old answers.new done.new }
     ensures all { result ≡ 0 → done.new ≡ length moments.now }
-    ensures fine { result ≡ 0 → fault.new ≡ no_fault }
+    ensures success { result ≡ 0 → fault.new ≡ no_fault }
     ensures refused { result ≢ 0 → IsBatchFault card.new octets.new stride moments.now answers.old
         done.new fault.new }
     ensures memory { fault.new ≢ out_of_memory }
 {
     if answers.len() < moments.len() {
         *done = 0;
-        return told(fault, fault_at(OF_THE_CALL, 2, moments.len()));
+        return report(fault, fault_at(OF_THE_CALL, 2, moments.len()));
     }
     if moments.is_empty() {
         *done = 0;
-        return fine(fault);
+        return report_success(fault);
     }
     match police_on(alloc, card, octets, stride, moments, answers, done) {
-        Ok(()) => fine(fault),
-        Err(found) => told(fault, found),
+        Ok(()) => report_success(fault),
+        Err(found) => report(fault, found),
     }
 }

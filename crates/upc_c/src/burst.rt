@@ -5,7 +5,7 @@ ghost use Rattle.leaky.specs.Tolerance.{tolerance_of};
 ghost use Rattle.upc_c.specs.Bursts.{HasTolerance, IsBurstFault};
 ghost use Rattle.upc_c.specs.Faults.{no_fault, call_result};
 
-use crate::fault::{OF_A_BURST, UpcFault, fault_at, fine, told};
+use crate::fault::{OF_A_BURST, UpcFault, fault_at, report, report_success};
 use leaky::{BtFault, burst_tolerance};
 
 /// Writes the burst tolerance in ticks for a maximum burst size of `mbs` cells. `ts` is the increment of the
@@ -20,17 +20,17 @@ pub extern "C" fn upc_burst_tolerance(
 ) -> u32
     ensures number { result ≡ call_result fault.new }
     ensures tolerance { result ≡ 0 → HasTolerance mbs ts tp × (ticks.new ≡ tolerance_of mbs ts tp) }
-    ensures fine { result ≡ 0 → fault.new ≡ no_fault }
+    ensures success { result ≡ 0 → fault.new ≡ no_fault }
     ensures refused { result ≢ 0 → IsBurstFault mbs ts tp fault.new }
     ensures left { result ≢ 0 → ticks.new ≡ ticks.old }
 {
     match burst_tolerance(mbs, ts, tp) {
         Ok(tolerance) => {
             *ticks = tolerance;
-            fine(fault)
+            report_success(fault)
         }
-        Err(BtFault::ZeroMbs) => told(fault, fault_at(OF_A_BURST, 1, 0)),
-        Err(BtFault::PeakSlower) => told(fault, fault_at(OF_A_BURST, 2, 0)),
-        Err(BtFault::TooLarge) => told(fault, fault_at(OF_A_BURST, 3, 0)),
+        Err(BtFault::ZeroMbs) => report(fault, fault_at(OF_A_BURST, 1, 0)),
+        Err(BtFault::PeakSlower) => report(fault, fault_at(OF_A_BURST, 2, 0)),
+        Err(BtFault::TooLarge) => report(fault, fault_at(OF_A_BURST, 3, 0)),
     }
 }

@@ -3,22 +3,22 @@
 ghost use Rattle.std.specs.Prelude.{◌≡◌, ◌≢◌, Some, None, IfOk, IfErr};
 ghost use Rattle.card_core.specs.Agreement.{CoreView};
 ghost use Rattle.upc_c.specs.CardHandle.{card_in, card_there};
-ghost use Rattle.upc_c.specs.CardMaking.{IsEmptyCard, IsNoCard, told_card};
+ghost use Rattle.upc_c.specs.CardMaking.{IsEmptyCard, IsNoCard, card_fault_for_c};
 ghost use Rattle.upc_c.specs.Faults.{call_result, no_fault};
 ghost use Rattle.upc_c.specs.inner.ReachedCore.{IsReachedCore};
 ghost use Rattle.upc_c.specs.inner.Numbered.{IsNumbered};
 
 use crate::card::UpcCard;
-use crate::fault::{OF_A_SHAPE, OF_THE_CALL, UpcFault, fault_at, fine, told};
+use crate::fault::{OF_A_SHAPE, OF_THE_CALL, UpcFault, fault_at, report, report_success};
+use crate::library_faults::out_of_memory;
 use crate::shape::{UpcShape, shape_of};
 use crate::stepping::{put_core, take_core};
-use crate::telling::out_of_memory;
 use card_core::{CardFault, Core};
 use std::alloc::Global;
 
 /// Returns the error for C of a card that can't be made.
-fn told_card(found: CardFault) -> UpcFault
-    ensures told { result ≡ told_card found }
+fn card_fault_for_c(found: CardFault) -> UpcFault
+    ensures fault { result ≡ card_fault_for_c found }
     ensures numbered { IsNumbered result }
 {
     match found {
@@ -43,7 +43,7 @@ fn empty_core(alloc: Global, given: &UpcShape) -> Result<Box<Core>, UpcFault>
             Ok(boxed) => Ok(boxed),
             Err(_) => Err(out_of_memory()),
         },
-        Err(found) => Err(told_card(found)),
+        Err(found) => Err(card_fault_for_c(found)),
     }
 }
 
@@ -58,20 +58,20 @@ pub extern "C" fn upc_card_new(
     ensures number { result ≡ call_result fault.new }
     ensures made { result ≡ 0 → (card_in card.old ≡ None)
         × ((core : CoreView) × IsEmptyCard shape.now core × (card_in card.new ≡ Some core)) }
-    ensures fine { result ≡ 0 → fault.new ≡ no_fault }
+    ensures success { result ≡ 0 → fault.new ≡ no_fault }
     ensures there { card_in card.old ≢ None → fault.new ≡ card_there }
     ensures refused { result ≢ 0 → card_in card.old ≡ None → IsNoCard shape.now fault.new }
     ensures left { result ≢ 0 → card.new ≡ card.old }
 {
     if card.live != 0 {
-        return told(fault, fault_at(OF_THE_CALL, 8, 0));
+        return report(fault, fault_at(OF_THE_CALL, 8, 0));
     }
     match empty_core(alloc, shape) {
         Ok(core) => {
             put_core(card, core);
-            fine(fault)
+            report_success(fault)
         }
-        Err(found) => told(fault, found),
+        Err(found) => report(fault, found),
     }
 }
 

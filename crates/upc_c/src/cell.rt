@@ -7,7 +7,7 @@ ghost use Rattle.upc_c.specs.CellHeader.{IsCellFault, IsFieldsFault, fields_at, 
 ghost use Rattle.upc_c.specs.Faults.{call_result, no_fault};
 ghost use Rattle.upc_c.specs.inner.Numbered.{IsNumbered};
 
-use crate::fault::{OF_A_CELL, OF_THE_CALL, UpcFault, fault_at, fine, told};
+use crate::fault::{OF_A_CELL, OF_THE_CALL, UpcFault, fault_at, report, report_success};
 use upc_cell::{Cell, CellFault, Side};
 
 /// The fields of a cell's header (ITU-T I.361).
@@ -69,21 +69,21 @@ pub extern "C" fn upc_cell_fields(
     ensures number { result ≡ call_result fault.new }
     ensures read { result ≡ 0 → (at : TheSide) × (side ≡ side_number at) × (length octets.now ≡ 52)
         × (fields.new ≡ fields_at at octets.now) }
-    ensures fine { result ≡ 0 → fault.new ≡ no_fault }
+    ensures success { result ≡ 0 → fault.new ≡ no_fault }
     ensures refused { result ≢ 0 → IsFieldsFault octets.now side fault.new }
     ensures left { result ≢ 0 → fields.new ≡ fields.old }
 {
     match (cell_of(octets), side) {
         (Ok(cell), 0) => {
             *fields = fields_of(&cell, Side::Uni);
-            fine(fault)
+            report_success(fault)
         }
         (Ok(cell), 1) => {
             *fields = fields_of(&cell, Side::Nni);
-            fine(fault)
+            report_success(fault)
         }
-        (Ok(_), _) => told(fault, fault_at(OF_THE_CALL, 5, 0)),
-        (Err(found), _) => told(fault, found),
+        (Ok(_), _) => report(fault, fault_at(OF_THE_CALL, 5, 0)),
+        (Err(found), _) => report(fault, found),
     }
 }
 
@@ -92,15 +92,15 @@ pub extern "C" fn upc_cell_fields(
 pub extern "C" fn upc_cell_tag(octets: &mut [u8], fault: &mut UpcFault) -> u32
     ensures number { result ≡ call_result fault.new }
     ensures tagged { result ≡ 0 → (length octets.old ≡ 52) × (octets.new ≡ tagged_form octets.old) }
-    ensures fine { result ≡ 0 → fault.new ≡ no_fault }
+    ensures success { result ≡ 0 → fault.new ≡ no_fault }
     ensures refused { result ≢ 0 → IsCellFault octets.old fault.new }
     ensures left { result ≢ 0 → octets.new ≡ octets.old }
 {
     match cell_of(octets) {
         Ok(cell) => {
             octets.copy_from_slice(cell.tagged().bytes());
-            fine(fault)
+            report_success(fault)
         }
-        Err(found) => told(fault, found),
+        Err(found) => report(fault, found),
     }
 }

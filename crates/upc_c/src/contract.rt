@@ -1,12 +1,12 @@
 //! Contracts, as C has them.
 
 ghost use Rattle.std.specs.Prelude.{◌≡◌, ◌≢◌, IfOk, IfErr};
-ghost use Rattle.upc_c.specs.CardState.{told_contract};
+ghost use Rattle.upc_c.specs.CardState.{contract_for_c};
 ghost use Rattle.upc_c.specs.GivenContract.{IsGivenContract, IsContractFault, IsGivenRate, IsRateFault, AreARate, AreAContract};
 ghost use Rattle.upc_c.specs.Faults.{call_result, no_fault};
 ghost use Rattle.upc_c.specs.inner.Numbered.{IsNumbered};
 
-use crate::fault::{OF_A_RATE, OF_THE_CALL, UpcFault, fault_at, fine, told};
+use crate::fault::{OF_A_RATE, OF_THE_CALL, UpcFault, fault_at, report, report_success};
 use leaky::{Contract, Gcra, GcraFault};
 
 /// A traffic contract: its kind, and an increment and a limit in ticks for each of its two buckets.
@@ -63,8 +63,8 @@ pub(crate) fn contract_of(given: &UpcContract) -> Result<Contract, UpcFault>
     })
 }
 
-/// Returns the numbers of a contract of this kind with two rates.
-fn numbers_of_rates(kind: u32, peak: &Gcra, sustained: &Gcra) -> UpcContract
+/// Returns the contract of this kind with two rates, as C has it.
+fn two_rates_for_c(kind: u32, peak: &Gcra, sustained: &Gcra) -> UpcContract
     ensures { result ≡ record {
       kind = kind;
       peak_increment = peak.now.increment;
@@ -82,9 +82,9 @@ fn numbers_of_rates(kind: u32, peak: &Gcra, sustained: &Gcra) -> UpcContract
     }
 }
 
-/// Returns the numbers of a contract.
-pub(crate) fn numbers_of_contract(contract: &Contract) -> UpcContract
-    ensures { result ≡ told_contract contract.now }
+/// Returns the contract as C has it.
+pub(crate) fn contract_for_c(contract: &Contract) -> UpcContract
+    ensures { result ≡ contract_for_c contract.now }
 {
     match contract {
         Contract::Cbr1(peak) => UpcContract {
@@ -94,9 +94,9 @@ pub(crate) fn numbers_of_contract(contract: &Contract) -> UpcContract
             sustained_increment: 0,
             sustained_limit: 0,
         },
-        Contract::Vbr1(peak, sustained) => numbers_of_rates(2, peak, sustained),
-        Contract::Vbr2(peak, sustained) => numbers_of_rates(3, peak, sustained),
-        Contract::Vbr3(peak, sustained) => numbers_of_rates(4, peak, sustained),
+        Contract::Vbr1(peak, sustained) => two_rates_for_c(2, peak, sustained),
+        Contract::Vbr2(peak, sustained) => two_rates_for_c(3, peak, sustained),
+        Contract::Vbr3(peak, sustained) => two_rates_for_c(4, peak, sustained),
     }
 }
 
@@ -105,11 +105,11 @@ pub(crate) fn numbers_of_contract(contract: &Contract) -> UpcContract
 pub extern "C" fn upc_contract_check(contract: &UpcContract, fault: &mut UpcFault) -> u32
     ensures number { result ≡ call_result fault.new }
     ensures contract { result ≡ 0 → AreAContract contract.now }
-    ensures fine { result ≡ 0 → fault.new ≡ no_fault }
+    ensures success { result ≡ 0 → fault.new ≡ no_fault }
     ensures refused { result ≢ 0 → IsContractFault contract.now fault.new }
 {
     match contract_of(contract) {
-        Ok(_) => fine(fault),
-        Err(found) => told(fault, found),
+        Ok(_) => report_success(fault),
+        Err(found) => report(fault, found),
     }
 }

@@ -20,7 +20,7 @@ pub struct UpcCounts {
 }
 
 /// Returns the counts as C has them.
-pub(crate) fn counts_of(tally: Tally) -> UpcCounts
+pub(crate) fn counts_for_c(tally: Tally) -> UpcCounts
     ensures { result ≡ counts_for_c tally }
 {
     UpcCounts {

@@ -1,7 +1,7 @@
 //! Handles that C passes from one thread to another.
 
 use crate::card::UpcCard;
-use crate::held::UpcProgram;
+use crate::program::UpcProgram;
 use std::marker::Send;
 
 /// Takes only values that may go to another thread.

@@ -9,10 +9,10 @@ ghost use Rattle.upc_c.specs.inner.Numbered.{IsNumbered};
 ghost use Rattle.upc_c.specs.inner.WrittenState.{IsFoundOn};
 
 use crate::card::UpcCard;
-use crate::desk_fault::{card_missing, told_desk};
-use crate::fault::{UpcFault, fine, told};
+use crate::desk_fault::desk_fault_for_c;
+use crate::fault::{UpcFault, report, report_success};
 use crate::setting_up::vc_on;
-use crate::stepping::{put_core, take_core};
+use crate::stepping::with_core;
 use card_core::DeskFault;
 use std::alloc::Global;
 use upc_cell::Vc;
@@ -53,12 +53,7 @@ fn next_on(alloc: Global, card: &mut UpcCard, earlier: Option<Vc>) -> Result<Opt
     ensures kept { card_in card.new ≡ card_in card.old }
     ensures numbered { IfErr result IsNumbered }
 {
-    let Some(core) = take_core(alloc, card) else {
-        return Err(card_missing());
-    };
-    let next = core.next_vc(earlier);
-    put_core(card, core);
-    Ok(next)
+    with_core(alloc, card, |core| core.next_vc(earlier))
 }
 
 /// Moves the cursor to the next connection, by path and then by channel. Returns the result of the error, or 0.
@@ -71,14 +66,14 @@ pub extern "C" fn upc_card_next(
 ) -> u32
     ensures number { result ≡ call_result fault.new }
     ensures next { result ≡ 0 → IsNextOn card.old cursor.old cursor.new }
-    ensures fine { result ≡ 0 → fault.new ≡ no_fault }
+    ensures success { result ≡ 0 → fault.new ≡ no_fault }
     ensures refused { result ≢ 0 → IsCursorFault card.old cursor.old fault.new }
     ensures kept { card_in card.new ≡ card_in card.old }
     ensures left { result ≢ 0 → cursor.new ≡ cursor.old }
 {
     let earlier = match earlier_of(alloc, card, cursor) {
         Ok(earlier) => earlier,
-        Err(found) => return told(fault, found),
+        Err(found) => return report(fault, found),
     };
     match next_on(alloc, card, earlier) {
         Ok(Some(vc)) => {
@@ -87,9 +82,9 @@ pub extern "C" fn upc_card_next(
                 path: vc.vpi,
                 channel: vc.vci,
             };
-            fine(fault)
+            report_success(fault)
         }
-        Ok(None) => told(fault, told_desk(DeskFault::NoConnection)),
-        Err(found) => told(fault, found),
+        Ok(None) => report(fault, desk_fault_for_c(DeskFault::NoConnection)),
+        Err(found) => report(fault, found),
     }
 }

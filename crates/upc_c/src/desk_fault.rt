@@ -1,12 +1,12 @@
 //! The errors of the desk, as C gets them.
 
 ghost use Rattle.std.specs.Prelude.{◌≡◌};
-ghost use Rattle.upc_c.specs.CardDesk.{told_desk};
+ghost use Rattle.upc_c.specs.CardDesk.{desk_fault_for_c};
 ghost use Rattle.upc_c.specs.CardHandle.{card_missing};
 ghost use Rattle.upc_c.specs.inner.Numbered.{IsNumbered};
 
 use crate::fault::{OF_THE_CALL, OF_THE_DESK, UpcFault, fault_at};
-use crate::telling::out_of_memory;
+use crate::library_faults::out_of_memory;
 use card_core::DeskFault;
 
 /// Returns the error that there is no card.
@@ -17,8 +17,8 @@ pub(crate) fn card_missing() -> UpcFault
 }
 
 /// Returns the error for C of a step that the desk refused.
-pub(crate) fn told_desk(found: DeskFault) -> UpcFault
-    ensures told { result ≡ told_desk found }
+pub(crate) fn desk_fault_for_c(found: DeskFault) -> UpcFault
+    ensures fault { result ≡ desk_fault_for_c found }
     ensures numbered { IsNumbered result }
 {
     let number = match found {

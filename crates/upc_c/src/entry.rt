@@ -1,10 +1,10 @@
 //! The cells of a journal, as C gets them.
 
 ghost use Rattle.std.specs.Prelude.{◌≡◌, ◌≤◌, length};
-ghost use Rattle.upc_c.specs.CardJournal.{AreWritten, told_entry};
+ghost use Rattle.upc_c.specs.CardJournal.{AreWritten, entry_for_c};
 
-use crate::id::{UpcId, numbers_of};
-use crate::meter::number_of;
+use crate::id::{UpcId, id_for_c};
+use crate::meter::number_of_verdict;
 use line_record::Entry;
 
 /// A judged cell of a journal.
@@ -24,15 +24,15 @@ pub struct UpcEntry {
 }
 
 /// Returns the entry as C has it.
-fn told_entry(entry: &Entry) -> UpcEntry
-    ensures { result ≡ told_entry entry.now }
+fn entry_for_c(entry: &Entry) -> UpcEntry
+    ensures { result ≡ entry_for_c entry.now }
 {
     UpcEntry {
         moment: entry.moment,
-        program: numbers_of(entry.program),
+        program: id_for_c(entry.program),
         value: entry.value,
         clp: u32::from(entry.clp),
-        verdict: number_of(entry.verdict),
+        verdict: number_of_verdict(entry.verdict),
     }
 }
 
@@ -42,6 +42,6 @@ pub(crate) fn write_entries(room: &mut [UpcEntry], entries: &[Entry])
     ensures { AreWritten entries.now room.old room.new }
 {
     for (place, entry) in entries.iter().enumerate() {
-        room[place] = told_entry(entry);
+        room[place] = entry_for_c(entry);
     }
 }

@@ -2,14 +2,14 @@
 
 ghost use Rattle.std.specs.Prelude.{◌≡◌, ◌≢◌, ◌^◌, ◌≤◌, ◌==◌, not};
 ghost use Rattle.leaky.specs.declared.contract.Contract.{Contract as TheContract};
-ghost use Rattle.upc_c.specs.ExcessForC.{TellsExcess};
+ghost use Rattle.upc_c.specs.ExcessForC.{IsExcessForC};
 ghost use Rattle.upc_c.specs.Faults.{call_result, no_fault};
 ghost use Rattle.upc_c.specs.GivenContract.{IsGivenContract};
 ghost use Rattle.upc_c.specs.Judging.{AreLevels, IsMeterFault};
 
 use crate::contract::UpcContract;
-use crate::fault::{UpcFault, fine, told};
-use crate::meter::{UpcLevels, judging};
+use crate::fault::{UpcFault, report, report_success};
+use crate::meter::{UpcLevels, check_meter};
 use leaky::{Contract, Levels, excess_at};
 
 /// A bucket that a cell doesn't conform to, and by how much the cell comes too early for it.
@@ -25,7 +25,7 @@ pub struct UpcExcess {
 /// Returns the excess of a cell of this cell loss priority.
 fn excess_of(contract: &Contract, levels: &UpcLevels, clp: bool, moment: u64) -> UpcExcess
     requires { AreLevels levels.now }
-    ensures { TellsExcess contract.now levels.now clp moment result }
+    ensures { IsExcessForC contract.now levels.now clp moment result }
 {
     let kept = Levels {
         first: levels.first,
@@ -57,16 +57,16 @@ pub extern "C" fn upc_excess_of(
     ensures number { result ≡ call_result fault.new }
     ensures excess { result ≡ 0 → (it : TheContract) × IsGivenContract contract.now it
         × AreLevels levels.now × (moment ≤ 2 ^ 62)
-        × TellsExcess it levels.now (not (clp == 0)) moment excess.new }
-    ensures fine { result ≡ 0 → fault.new ≡ no_fault }
+        × IsExcessForC it levels.now (not (clp == 0)) moment excess.new }
+    ensures success { result ≡ 0 → fault.new ≡ no_fault }
     ensures refused { result ≢ 0 → IsMeterFault contract.now levels.now moment fault.new }
     ensures left { result ≢ 0 → excess.new ≡ excess.old }
 {
-    match judging(contract, levels, moment) {
+    match check_meter(contract, levels, moment) {
         Ok(found) => {
             *excess = excess_of(&found, levels, clp != 0, moment);
-            fine(fault)
+            report_success(fault)
         }
-        Err(found) => told(fault, found),
+        Err(found) => report(fault, found),
     }
 }

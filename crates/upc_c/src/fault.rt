@@ -76,10 +76,10 @@ pub(crate) fn fault_at(kind: u32, number: u32, place: usize) -> UpcFault
     }
 }
 
-/// Writes the error for C and returns its result: 256 times its kind, plus its number.
-pub(crate) fn told(fault: &mut UpcFault, found: UpcFault) -> u32
+/// Writes the error and returns its result: 256 times its kind, plus its number.
+pub(crate) fn report(fault: &mut UpcFault, found: UpcFault) -> u32
     requires { IsNumbered found }
-    ensures told { fault.new ≡ found }
+    ensures written { fault.new ≡ found }
     ensures number { result ≡ call_result fault.new }
     ensures refused { result ≢ 0 }
 {
@@ -87,9 +87,9 @@ pub(crate) fn told(fault: &mut UpcFault, found: UpcFault) -> u32
     found.kind * 256 + found.number
 }
 
-/// Writes for C that there is no error, and returns 0.
-pub(crate) fn fine(fault: &mut UpcFault) -> u32
-    ensures fine { fault.new ≡ no_fault }
+/// Writes that there is no error, and returns 0.
+pub(crate) fn report_success(fault: &mut UpcFault) -> u32
+    ensures success { fault.new ≡ no_fault }
     ensures number { result ≡ call_result fault.new }
     ensures zero { result ≡ 0 }
 {

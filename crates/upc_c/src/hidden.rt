@@ -1,4 +1,4 @@
-//! A program behind a pointer whose type C doesn't see.
+//! A program under a pointer whose type C doesn't see.
 
 mod card;
 mod parts;
@@ -16,13 +16,13 @@ use std::ptr::null_mut;
 /// A program in a box, or none. C has the pointer and never reads what it points to.
 #[repr(C)]
 #[derive(Drop)]
-pub struct Hidden {
+pub struct HiddenProgram {
     at: *mut u8,
     alloc: Global,
     pub(crate) ghost code: { Option (List Instr) },
 }
 
-impl Model for Hidden {
+impl Model for HiddenProgram {
     ghost use Rattle.std.specs.Prelude.{List, Option};
     ghost use Rattle.bpf_code.specs.declared.instr.Instr.{Instr};
     ghost use Rattle.bpf_verify.specs.contracts.program.Program.{the_row};
@@ -31,17 +31,17 @@ impl Model for Hidden {
     ghost also_owns = { λ h. owned the_row h.alloc h.at h.code };
 }
 
-// It goes to another thread as its box does.
-unsafe impl Send for Hidden {}
+// It may move to another thread, since its box may.
+unsafe impl Send for HiddenProgram {}
 
-impl Hidden {
+impl HiddenProgram {
     ghost use Rattle.std.specs.Prelude.{◌≡◌, ◌≢◌, Some, None};
 
     /// Makes one with a program.
-    pub(crate) fn of(program: Box<Program>) -> Hidden
+    pub(crate) fn of(program: Box<Program>) -> HiddenProgram
         ensures { result.code ≡ Some program.value }
     {
-        Hidden::of_parts(Parts::of(program))
+        HiddenProgram::of_parts(Parts::of(program))
     }
 
     /// Returns the program, if there is one.
@@ -53,20 +53,20 @@ impl Hidden {
     }
 
     /// Makes one without a program.
-    pub(crate) fn none(alloc: Global) -> Hidden
+    pub(crate) fn none(alloc: Global) -> HiddenProgram
         ensures { result.code ≡ None }
     {
-        Hidden {
+        HiddenProgram {
             at: null_mut(),
             alloc,
         }
     }
 
-    fn of_parts(parts: Parts<Program, Global>) -> Hidden
+    fn of_parts(parts: Parts<Program, Global>) -> HiddenProgram
         ensures { result.code ≡ Some parts.value }
     {
         let Parts { ptr, alloc } = parts;
-        Hidden {
+        HiddenProgram {
             at: ptr as *mut u8,
             alloc,
         }
@@ -76,7 +76,7 @@ impl Hidden {
         requires { self.code ≢ None }
         ensures { self.code ≡ Some result.value }
     {
-        let Hidden { at, alloc } = self;
+        let HiddenProgram { at, alloc } = self;
         Parts {
             ptr: at as *mut Program,
             alloc,

@@ -1,7 +1,7 @@
 //! The ids of programs, as C has them.
 
 ghost use Rattle.std.specs.Prelude.{◌≡◌};
-ghost use Rattle.upc_c.specs.CardDesk.{id_of, told_id};
+ghost use Rattle.upc_c.specs.CardDesk.{id_of, id_for_c};
 
 use gen_arena::Id;
 
@@ -25,10 +25,10 @@ pub(crate) fn id_of(given: &UpcId) -> Id
     }
 }
 
-/// Returns the numbers of an id.
-pub(crate) fn numbers_of(id: Id) -> UpcId
+/// Returns the id as C has it.
+pub(crate) fn id_for_c(id: Id) -> UpcId
     ensures id { id ≡ id_of result }
-    ensures numbers { result ≡ told_id id }
+    ensures numbers { result ≡ id_for_c id }
 {
     UpcId {
         slot: id.slot,

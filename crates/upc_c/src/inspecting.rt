@@ -4,37 +4,37 @@ ghost use Rattle.std.specs.Prelude.{◌≡◌, ◌≢◌, None, IfNone, IfSome, 
 ghost use Rattle.upc_c.specs.CardHandle.{card_in, card_missing};
 ghost use Rattle.upc_c.specs.CardInspection.{HasCounted, HasInJournal, HasShape, IsLookUpFault};
 ghost use Rattle.upc_c.specs.Faults.{call_result, no_fault};
-ghost use Rattle.upc_c.specs.inner.ToldLine.{IsMissingIn, IsToldLine, IsToldOf};
+ghost use Rattle.upc_c.specs.inner.LineCounts.{AreLineCountsIn, AreLineCountsOn, IsMissingIn};
 ghost use Rattle.upc_c.specs.inner.Numbered.{IsNumbered};
 
 use crate::card::UpcCard;
-use crate::counts::{UpcCounts, counts_of};
-use crate::desk_fault::{card_missing, told_desk};
-use crate::fault::{UpcFault, fine, told};
+use crate::counts::{UpcCounts, counts_for_c};
+use crate::desk_fault::desk_fault_for_c;
+use crate::fault::{UpcFault, report, report_success};
 use crate::setting_up::vc_on;
-use crate::shape::{UpcShape, numbers_of_shape};
-use crate::stepping::{put_core, shape_on, take_core};
+use crate::shape::{UpcShape, shape_for_c};
+use crate::stepping::{shape_on, with_core};
 use card_core::{Core, DeskFault};
 use line_record::Tally;
 use std::alloc::Global;
 use upc_cell::Vc;
 
-/// The values read from the line that serves a connection.
+/// What is counted on the line that serves a connection.
 #[derive(Clone, Copy)]
-pub(crate) struct ToldLine {
+pub(crate) struct LineCounts {
     /// The number of cells in its journal.
     pub(crate) cells: usize,
     /// The counts of the verdicts on all cells ever judged on it.
     pub(crate) counts: Tally,
 }
 
-/// Returns the values of the line that serves the connection, if there is one.
-pub(crate) fn told_line(core: &Core, vc: Vc) -> Option<ToldLine>
-    ensures told { IfSome result (IsToldOf core.now vc) }
+/// Returns the counts of the line that serves the connection, if there is one.
+pub(crate) fn counts_of_line(core: &Core, vc: Vc) -> Option<LineCounts>
+    ensures counts { IfSome result (AreLineCountsIn core.now vc) }
     ensures none { IfNone result (IsMissingIn core.now vc) }
 {
     match core.line_of(vc) {
-        Some(line) => Some(ToldLine {
+        Some(line) => Some(LineCounts {
             cells: line.entries().len(),
             counts: line.counts(),
         }),
@@ -42,9 +42,14 @@ pub(crate) fn told_line(core: &Core, vc: Vc) -> Option<ToldLine>
     }
 }
 
-/// Returns the values of the line of this path and channel.
-fn line_on(alloc: Global, card: &mut UpcCard, path: u16, channel: u16) -> Result<ToldLine, UpcFault>
-    ensures told { IfOk result (IsToldLine card.old path channel) }
+/// Returns the counts of the line of this path and channel.
+fn line_on(
+    alloc: Global,
+    card: &mut UpcCard,
+    path: u16,
+    channel: u16,
+) -> Result<LineCounts, UpcFault>
+    ensures counts { IfOk result (AreLineCountsOn card.old path channel) }
     ensures fault { IfErr result (IsLookUpFault card.old path channel) }
     ensures kept { card_in card.new ≡ card_in card.old }
     ensures numbered { IfErr result IsNumbered }
@@ -53,14 +58,10 @@ fn line_on(alloc: Global, card: &mut UpcCard, path: u16, channel: u16) -> Result
         Ok(vc) => vc,
         Err(found) => return Err(found),
     };
-    let Some(core) = take_core(alloc, card) else {
-        return Err(card_missing());
-    };
-    let line = told_line(&core, vc);
-    put_core(card, core);
+    let line = with_core(alloc, card, |core| counts_of_line(core, vc))?;
     match line {
         Some(line) => Ok(line),
-        None => Err(told_desk(DeskFault::NoConnection)),
+        None => Err(desk_fault_for_c(DeskFault::NoConnection)),
     }
 }
 
@@ -74,17 +75,17 @@ pub extern "C" fn upc_card_shape(
 ) -> u32
     ensures number { result ≡ call_result fault.new }
     ensures shape { result ≡ 0 → HasShape card.old shape.new }
-    ensures fine { result ≡ 0 → fault.new ≡ no_fault }
+    ensures success { result ≡ 0 → fault.new ≡ no_fault }
     ensures refused { result ≢ 0 → (card_in card.old ≡ None) × (fault.new ≡ card_missing) }
     ensures kept { card_in card.new ≡ card_in card.old }
     ensures left { result ≢ 0 → shape.new ≡ shape.old }
 {
     match shape_on(alloc, card) {
-        Some(found) => {
-            *shape = numbers_of_shape(found);
-            fine(fault)
+        Ok(found) => {
+            *shape = shape_for_c(found);
+            report_success(fault)
         }
-        None => told(fault, card_missing()),
+        Err(found) => report(fault, found),
     }
 }
 
@@ -101,7 +102,7 @@ pub extern "C" fn upc_card_journal(
 ) -> u32
     ensures number { result ≡ call_result fault.new }
     ensures cells { result ≡ 0 → HasInJournal card.old path channel cells.new }
-    ensures fine { result ≡ 0 → fault.new ≡ no_fault }
+    ensures success { result ≡ 0 → fault.new ≡ no_fault }
     ensures refused { result ≢ 0 → IsLookUpFault card.old path channel fault.new }
     ensures kept { card_in card.new ≡ card_in card.old }
     ensures left { result ≢ 0 → cells.new ≡ cells.old }
@@ -109,9 +110,9 @@ pub extern "C" fn upc_card_journal(
     match line_on(alloc, card, path, channel) {
         Ok(line) => {
             *cells = line.cells;
-            fine(fault)
+            report_success(fault)
         }
-        Err(found) => told(fault, found),
+        Err(found) => report(fault, found),
     }
 }
 
@@ -128,16 +129,16 @@ pub extern "C" fn upc_card_counts(
 ) -> u32
     ensures number { result ≡ call_result fault.new }
     ensures counts { result ≡ 0 → HasCounted card.old path channel counts.new }
-    ensures fine { result ≡ 0 → fault.new ≡ no_fault }
+    ensures success { result ≡ 0 → fault.new ≡ no_fault }
     ensures refused { result ≢ 0 → IsLookUpFault card.old path channel fault.new }
     ensures kept { card_in card.new ≡ card_in card.old }
     ensures left { result ≢ 0 → counts.new ≡ counts.old }
 {
     match line_on(alloc, card, path, channel) {
         Ok(line) => {
-            *counts = counts_of(line.counts);
-            fine(fault)
+            *counts = counts_for_c(line.counts);
+            report_success(fault)
         }
-        Err(found) => told(fault, found),
+        Err(found) => report(fault, found),
     }
 }

@@ -6,18 +6,18 @@ ghost use Rattle.card_core.specs.Kept.{RefusalKeeps};
 ghost use Rattle.card_core.specs.declared.step.Step.TheVariants.{Release, Cut};
 ghost use Rattle.upc_c.specs.CardDesk.{IsDeskFault};
 ghost use Rattle.upc_c.specs.CardHandle.{CardTakes, card_in};
-ghost use Rattle.upc_c.specs.CardJournal.{IsCut, IsHandedOut, IsJournalFault, IsReleased, told_journal};
+ghost use Rattle.upc_c.specs.CardJournal.{IsCut, IsHandedOut, IsJournalFault, IsReleased, journal_for_c};
 ghost use Rattle.upc_c.specs.Faults.{call_result, no_fault};
 ghost use Rattle.upc_c.specs.inner.HandOut.{IsLongerIn, IsLongerOn, IsShortIn, replied, handing_reply, step_of};
 ghost use Rattle.upc_c.specs.inner.ReachedCore.{IsReachedCore};
 ghost use Rattle.upc_c.specs.inner.Numbered.{IsNumbered};
 
 use crate::card::UpcCard;
-use crate::counts::{UpcCounts, counts_of};
-use crate::desk_fault::{card_missing, told_desk};
+use crate::counts::{UpcCounts, counts_for_c};
+use crate::desk_fault::{card_missing, desk_fault_for_c};
 use crate::entry::{UpcEntry, write_entries};
-use crate::fault::{OF_THE_CALL, UpcFault, fault_at, fine, told};
-use crate::inspecting::told_line;
+use crate::fault::{OF_THE_CALL, UpcFault, fault_at, report, report_success};
+use crate::inspecting::counts_of_line;
 use crate::setting_up::vc_on;
 use crate::stepping::{put_core, take_core};
 use card_core::{Core, DeskFault};
@@ -46,14 +46,14 @@ pub(crate) enum HandOut {
     GoingOn,
 }
 
-/// Returns the part of a returned journal besides its entries.
-fn told_journal(piece: &Piece) -> UpcJournal
-    ensures { result ≡ told_journal piece.now }
+/// Returns the part of a journal besides its entries, as C has it.
+fn journal_for_c(piece: &Piece) -> UpcJournal
+    ensures { result ≡ journal_for_c piece.now }
 {
     UpcJournal {
         cells: piece.entries().len(),
-        before: counts_of(piece.start().counts),
-        after: counts_of(piece.end().counts),
+        before: counts_for_c(piece.start().counts),
+        after: counts_for_c(piece.end().counts),
     }
 }
 
@@ -85,7 +85,7 @@ fn too_many(core: &Core, vc: Vc, most: usize) -> Option<usize>
     ensures longer { IfSome result (IsLongerIn core.now vc most) }
     ensures fits { IfNone result (IsShortIn core.now vc most) }
 {
-    let Some(line) = told_line(core, vc) else {
+    let Some(line) = counts_of_line(core, vc) else {
         return None;
     };
     if line.cells <= most {
@@ -120,7 +120,7 @@ fn hand_out_on(
     put_core(card, core);
     match handed {
         Ok(piece) => Ok(piece),
-        Err(found) => Err(told_desk(found)),
+        Err(found) => Err(desk_fault_for_c(found)),
     }
 }
 
@@ -149,7 +149,7 @@ fn hand_out_to(
     match hand_out_on(alloc, card, vc, when, room.len()) {
         Ok(piece) => {
             write_entries(room, piece.entries());
-            *journal = told_journal(&piece);
+            *journal = journal_for_c(&piece);
             Ok(())
         }
         Err(found) => Err(found),
@@ -170,15 +170,15 @@ pub extern "C" fn upc_card_release(
 ) -> u32
     ensures number { result ≡ call_result fault.new }
     ensures released { result ≡ 0 → IsReleased card.old card.new path channel room.old room.new journal.new }
-    ensures fine { result ≡ 0 → fault.new ≡ no_fault }
+    ensures success { result ≡ 0 → fault.new ≡ no_fault }
     ensures refused { result ≢ 0 → IsJournalFault card.old card.new path channel Release room.old fault.new }
     ensures left { result ≢ 0 → card_in card.new ≡ card_in card.old }
     ensures room_left { result ≢ 0 → room.new ≡ room.old }
     ensures journal_left { result ≢ 0 → journal.new ≡ journal.old }
 {
     match hand_out_to(alloc, card, path, channel, HandOut::AtEnd, room, journal) {
-        Ok(()) => fine(fault),
-        Err(found) => told(fault, found),
+        Ok(()) => report_success(fault),
+        Err(found) => report(fault, found),
     }
 }
 
@@ -197,14 +197,14 @@ pub extern "C" fn upc_card_cut(
 ) -> u32
     ensures number { result ≡ call_result fault.new }
     ensures cut { result ≡ 0 → IsCut card.old card.new path channel room.old room.new journal.new }
-    ensures fine { result ≡ 0 → fault.new ≡ no_fault }
+    ensures success { result ≡ 0 → fault.new ≡ no_fault }
     ensures refused { result ≢ 0 → IsJournalFault card.old card.new path channel Cut room.old fault.new }
     ensures left { result ≢ 0 → card_in card.new ≡ card_in card.old }
     ensures room_left { result ≢ 0 → room.new ≡ room.old }
     ensures journal_left { result ≢ 0 → journal.new ≡ journal.old }
 {
     match hand_out_to(alloc, card, path, channel, HandOut::GoingOn, room, journal) {
-        Ok(()) => fine(fault),
-        Err(found) => told(fault, found),
+        Ok(()) => report_success(fault),
+        Err(found) => report(fault, found),
     }
 }

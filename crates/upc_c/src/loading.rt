@@ -9,11 +9,11 @@ ghost use Rattle.upc_c.specs.Faults.{call_result, no_fault, ragged};
 ghost use Rattle.upc_c.specs.inner.Numbered.{IsNumbered};
 
 use crate::card::UpcCard;
-use crate::desk_fault::{card_missing, told_desk};
-use crate::fault::{UpcFault, fine, told};
-use crate::id::{UpcId, numbers_of};
-use crate::program::accepted;
-use crate::stepping::{put_core, take_core};
+use crate::desk_fault::desk_fault_for_c;
+use crate::fault::{UpcFault, report, report_success};
+use crate::id::{UpcId, id_for_c};
+use crate::program_octets::accepted;
+use crate::stepping::with_core;
 use bpf_verify::Program;
 use gen_arena::Id;
 use std::alloc::Global;
@@ -25,16 +25,12 @@ fn load_on(alloc: Global, card: &mut UpcCard, program: Program) -> Result<Id, Up
     ensures left { OnErr result (card_in card.new ≡ card_in card.old) }
     ensures numbered { IfErr result IsNumbered }
 {
-    let Some(mut core) = take_core(alloc, card) else {
-        return Err(card_missing());
-    };
-    let loaded = core.load(program);
-    put_core(card, core);
+    let loaded = with_core(alloc, card, |core| core.load(program))?;
     match loaded {
         Ok(id) => Ok(id),
         Err((found, program)) => {
             drop(program);
-            Err(told_desk(found))
+            Err(desk_fault_for_c(found))
         }
     }
 }
@@ -51,7 +47,7 @@ pub extern "C" fn upc_card_load(
 ) -> u32
     ensures number { result ≡ call_result fault.new }
     ensures loaded { result ≡ 0 → IsLoaded card.old card.new octets.now id.new }
-    ensures fine { result ≡ 0 → fault.new ≡ no_fault }
+    ensures success { result ≡ 0 → fault.new ≡ no_fault }
     ensures refused { result ≢ 0 → IsLoadFault card.old card.new octets.now fault.new }
     ensures ragged { 0 < length octets.now % 8 → fault.new ≡ ragged }
     ensures left { result ≢ 0 → card_in card.new ≡ card_in card.old }
@@ -59,13 +55,13 @@ pub extern "C" fn upc_card_load(
 {
     let program = match accepted(alloc, octets) {
         Ok(program) => program,
-        Err(found) => return told(fault, found),
+        Err(found) => return report(fault, found),
     };
     match load_on(alloc, card, program) {
         Ok(loaded) => {
-            *id = numbers_of(loaded);
-            fine(fault)
+            *id = id_for_c(loaded);
+            report_success(fault)
         }
-        Err(found) => told(fault, found),
+        Err(found) => report(fault, found),
     }
 }

@@ -8,7 +8,7 @@ ghost use Rattle.upc_c.specs.Judging.{AreLevels, IsJudged, IsMeterFault, number_
 ghost use Rattle.upc_c.specs.inner.Numbered.{IsNumbered};
 
 use crate::contract::{UpcContract, contract_of};
-use crate::fault::{OF_AN_ARRIVAL, OF_THE_CALL, UpcFault, fault_at, fine, told};
+use crate::fault::{OF_AN_ARRIVAL, OF_THE_CALL, UpcFault, fault_at, report, report_success};
 use leaky::{Contract, LAST_MOMENT, Levels, MOST_TICKS, Verdict, judge};
 
 /// The greatest theoretical arrival time: 2^62 + 2^49.
@@ -27,7 +27,7 @@ pub struct UpcLevels {
 
 /// Returns the number of a verdict in C.
 #[inline]
-pub(crate) fn number_of(verdict: Verdict) -> u32
+pub(crate) fn number_of_verdict(verdict: Verdict) -> u32
     ensures { result ≡ number_of_verdict verdict }
 {
     match verdict {
@@ -38,9 +38,9 @@ pub(crate) fn number_of(verdict: Verdict) -> u32
     }
 }
 
-/// Returns the contract by which a cell is judged, or the error.
+/// Checks the contract, the levels and the moment. Returns the contract by which a cell is judged, or the first error.
 #[inline]
-pub(crate) fn judging(
+pub(crate) fn check_meter(
     given: &UpcContract,
     levels: &UpcLevels,
     moment: u64,
@@ -64,7 +64,7 @@ pub(crate) fn judging(
 
 /// Returns the verdict on a cell of this cell loss priority, and the levels after it.
 #[inline]
-fn judged(contract: &Contract, levels: &mut UpcLevels, clp: bool, moment: u64) -> u32
+fn judge_cell(contract: &Contract, levels: &mut UpcLevels, clp: bool, moment: u64) -> u32
     requires levels { AreLevels levels.old }
     requires moment { moment ≤ 2 ^ 62 }
     ensures { IsJudged contract.now levels.old clp moment result levels.new }
@@ -78,7 +78,7 @@ fn judged(contract: &Contract, levels: &mut UpcLevels, clp: bool, moment: u64) -
         first: kept.first,
         second: kept.second,
     };
-    number_of(verdict)
+    number_of_verdict(verdict)
 }
 
 /// Judges a cell of cell loss priority 0, or 1 if `clp` is any other number, at a moment of at most 2^62 ticks, and
@@ -96,16 +96,16 @@ pub extern "C" fn upc_judge(
     ensures judged { result ≡ 0 → (it : TheContract) × IsGivenContract contract.now it
         × AreLevels levels.old × (moment ≤ 2 ^ 62)
         × IsJudged it levels.old (not (clp == 0)) moment verdict.new levels.new }
-    ensures fine { result ≡ 0 → fault.new ≡ no_fault }
+    ensures success { result ≡ 0 → fault.new ≡ no_fault }
     ensures refused { result ≢ 0 → IsMeterFault contract.now levels.old moment fault.new }
     ensures left { result ≢ 0 → levels.new ≡ levels.old }
     ensures verdict_left { result ≢ 0 → verdict.new ≡ verdict.old }
 {
-    match judging(contract, levels, moment) {
+    match check_meter(contract, levels, moment) {
         Ok(found) => {
-            *verdict = judged(&found, levels, clp != 0, moment);
-            fine(fault)
+            *verdict = judge_cell(&found, levels, clp != 0, moment);
+            report_success(fault)
         }
-        Err(found) => told(fault, found),
+        Err(found) => report(fault, found),
     }
 }

@@ -6,9 +6,9 @@ ghost use Rattle.upc_c.specs.Programs.{IsBufferFault, IsWritten};
 ghost use Rattle.upc_c.specs.CompiledRules.{IsCompiled, IsRulesRefusal};
 ghost use Rattle.upc_c.specs.inner.Numbered.{IsNumbered};
 
-use crate::fault::{UpcFault, told};
+use crate::fault::{UpcFault, report};
+use crate::library_faults::{out_of_memory, rule_fault_for_c};
 use crate::room::write_to;
-use crate::telling::{out_of_memory, told_rules};
 use bpf_code::encode;
 use rules_text::compile_text;
 use std::alloc::Global;
@@ -21,7 +21,7 @@ fn compiled(alloc: Global, rules: &[u8]) -> Result<Vec<u8>, UpcFault>
 {
     let code = match compile_text(alloc, rules) {
         Ok(code) => code,
-        Err(found) => return Err(told_rules(found)),
+        Err(found) => return Err(rule_fault_for_c(found)),
     };
     match encode(alloc, &code) {
         Ok(octets) => Ok(octets),
@@ -42,7 +42,7 @@ pub extern "C" fn upc_rules_compile(
     ensures number { result ≡ call_result fault.new }
     ensures compiled { result ≡ 0 → (octets : List ℕ) × IsCompiled rules.now octets
         × IsWritten octets room.old room.new count.new }
-    ensures fine { result ≡ 0 → fault.new ≡ no_fault }
+    ensures success { result ≡ 0 → fault.new ≡ no_fault }
     ensures refused { result ≢ 0 → IsRulesRefusal rules.now fault.new ⊎ (fault.new ≡ out_of_memory)
         ⊎ ((octets : List ℕ) × IsCompiled rules.now octets × IsBufferFault octets room.old fault.new) }
     ensures left { result ≢ 0 → room.new ≡ room.old }
@@ -50,6 +50,6 @@ pub extern "C" fn upc_rules_compile(
 {
     match compiled(alloc, rules) {
         Ok(octets) => write_to(room, count, &octets, fault),
-        Err(found) => told(fault, found),
+        Err(found) => report(fault, found),
     }
 }

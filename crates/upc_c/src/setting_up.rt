@@ -11,10 +11,10 @@ ghost use Rattle.upc_c.specs.inner.Numbered.{IsNumbered};
 use crate::card::UpcCard;
 use crate::contract::UpcContract;
 use crate::contracts::contracts_of;
-use crate::desk_fault::{card_missing, told_desk};
-use crate::fault::{OF_THE_CALL, UpcFault, fault_at, fine, told};
+use crate::desk_fault::desk_fault_for_c;
+use crate::fault::{OF_THE_CALL, UpcFault, fault_at, report, report_success};
 use crate::id::{UpcId, id_of};
-use crate::stepping::{put_core, shape_on, take_core};
+use crate::stepping::{shape_on, with_core};
 use card_core::Ask;
 use line_record::Owner;
 use std::alloc::Global;
@@ -33,9 +33,7 @@ pub(crate) fn vc_on(
     ensures kept { card_in card.new ≡ card_in card.old }
     ensures numbered { IfErr result IsNumbered }
 {
-    let Some(shape) = shape_on(alloc, card) else {
-        return Err(card_missing());
-    };
+    let shape = shape_on(alloc, card)?;
     match Vc::new_at(shape.side, path, channel) {
         Ok(vc) => Ok(vc),
         Err(_) => Err(fault_at(OF_THE_CALL, 10, 0)),
@@ -49,14 +47,10 @@ fn setup_on(alloc: Global, card: &mut UpcCard, ask: Ask) -> Result<Owner, UpcFau
     ensures left { IfErr result (λ fault. fault ≢ out_of_memory → card_in card.new ≡ card_in card.old) }
     ensures numbered { IfErr result IsNumbered }
 {
-    let Some(mut core) = take_core(alloc, card) else {
-        return Err(card_missing());
-    };
-    let set = core.setup(ask);
-    put_core(card, core);
+    let set = with_core(alloc, card, |core| core.setup(ask))?;
     match set {
         Ok(owner) => Ok(owner),
-        Err((found, _)) => Err(told_desk(found)),
+        Err((found, _)) => Err(desk_fault_for_c(found)),
     }
 }
 
@@ -74,18 +68,18 @@ pub extern "C" fn upc_card_setup(
 ) -> u32
     ensures number { result ≡ call_result fault.new }
     ensures set { result ≡ 0 → IsSetUp card.old card.new path channel program.now contracts.now }
-    ensures fine { result ≡ 0 → fault.new ≡ no_fault }
+    ensures success { result ≡ 0 → fault.new ≡ no_fault }
     ensures refused { result ≢ 0
         → IsSetupFault card.old card.new path channel program.now contracts.now fault.new }
     ensures left { result ≢ 0 → fault.new ≢ out_of_memory → card_in card.new ≡ card_in card.old }
 {
     let contracts = match contracts_of(contracts) {
         Ok(contracts) => contracts,
-        Err(found) => return told(fault, found),
+        Err(found) => return report(fault, found),
     };
     let vc = match vc_on(alloc, card, path, channel) {
         Ok(vc) => vc,
-        Err(found) => return told(fault, found),
+        Err(found) => return report(fault, found),
     };
     let ask = Ask {
         vc,
@@ -93,7 +87,7 @@ pub extern "C" fn upc_card_setup(
         contracts,
     };
     match setup_on(alloc, card, ask) {
-        Ok(_) => fine(fault),
-        Err(found) => told(fault, found),
+        Ok(_) => report_success(fault),
+        Err(found) => report(fault, found),
     }
 }

@@ -38,8 +38,8 @@ pub(crate) fn side_of(number: u32) -> Result<Side, UpcFault>
     }
 }
 
-/// Returns the numbers of a shape.
-pub(crate) fn numbers_of_shape(shape: Shape) -> UpcShape
+/// Returns the shape as C has it.
+pub(crate) fn shape_for_c(shape: Shape) -> UpcShape
     ensures { IsShapeOf result shape }
 {
     UpcShape {

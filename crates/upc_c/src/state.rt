@@ -7,18 +7,18 @@ ghost use Rattle.upc_c.specs.CardInspection.{IsLookUpFault};
 ghost use Rattle.upc_c.specs.CardState.{HasState, IsStateFault};
 ghost use Rattle.upc_c.specs.Faults.{call_result, no_fault, no_room};
 ghost use Rattle.upc_c.specs.inner.Numbered.{IsNumbered};
-ghost use Rattle.upc_c.specs.inner.ToldLine.{IsMissingIn};
-ghost use Rattle.upc_c.specs.inner.WrittenState.{AreMetersOf, IsStateOf, IsStateOn, IsWrittenState, told_levels, told_state};
+ghost use Rattle.upc_c.specs.inner.LineCounts.{IsMissingIn};
+ghost use Rattle.upc_c.specs.inner.WrittenState.{AreMetersOf, IsStateOf, IsStateOn, IsWrittenState, levels_for_c, state_for_c};
 
 use crate::card::UpcCard;
-use crate::contract::{UpcContract, numbers_of_contract};
-use crate::counts::{UpcCounts, counts_of};
-use crate::desk_fault::{card_missing, told_desk};
-use crate::fault::{OF_THE_CALL, UpcFault, fault_at, fine, told};
-use crate::id::{UpcId, numbers_of};
+use crate::contract::{UpcContract, contract_for_c};
+use crate::counts::{UpcCounts, counts_for_c};
+use crate::desk_fault::desk_fault_for_c;
+use crate::fault::{OF_THE_CALL, UpcFault, fault_at, report, report_success};
+use crate::id::{UpcId, id_for_c};
 use crate::meter::UpcLevels;
 use crate::setting_up::vc_on;
-use crate::stepping::{put_core, take_core};
+use crate::stepping::with_core;
 use card_core::{ConnectionState, Core, DeskFault};
 use leaky::{Contract, Levels};
 use std::alloc::Global;
@@ -55,8 +55,8 @@ pub struct UpcState {
 }
 
 /// Returns the levels as C has them.
-fn numbers_of_levels(levels: &Levels) -> UpcLevels
-    ensures { result ≡ told_levels levels.now }
+fn levels_for_c(levels: &Levels) -> UpcLevels
+    ensures { result ≡ levels_for_c levels.now }
 {
     UpcLevels {
         first: levels.first,
@@ -72,23 +72,23 @@ fn write_meters(room: &mut [UpcMeter], contracts: &[Contract], levels: &[Levels]
 {
     for (place, contract) in contracts.iter().enumerate() {
         room[place] = UpcMeter {
-            contract: numbers_of_contract(contract),
-            levels: numbers_of_levels(&levels[place]),
+            contract: contract_for_c(contract),
+            levels: levels_for_c(&levels[place]),
         };
     }
 }
 
-/// Returns the numbers of a state.
-fn numbers_of_state(state: &ConnectionState) -> UpcState
-    ensures { result ≡ told_state state.now }
+/// Returns the state as C has it, without its contracts.
+fn state_for_c(state: &ConnectionState) -> UpcState
+    ensures { result ≡ state_for_c state.now }
 {
     UpcState {
         incarnation: state.incarnation,
         last: state.state.last,
         cells: state.entries,
         contracts: state.contracts.len(),
-        counts: counts_of(state.state.counts),
-        program: numbers_of(state.program),
+        counts: counts_for_c(state.state.counts),
+        program: id_for_c(state.program),
         line: state.line,
     }
 }
@@ -112,13 +112,13 @@ fn write_state(
         return Err(fault_at(OF_THE_CALL, 2, contracts.len()));
     }
     write_meters(room, contracts, state.state.levels.as_slice());
-    *written = numbers_of_state(state);
+    *written = state_for_c(state);
     Ok(())
 }
 
 /// Returns the state of the connection, if there is one.
 fn state_in(core: &Core, vc: Vc) -> Option<ConnectionState>
-    ensures told { IfSome result (IsStateOf core.now vc) }
+    ensures state { IfSome result (IsStateOf core.now vc) }
     ensures sized { IfSome result HasLevelsForEach }
     ensures none { IfNone result (IsMissingIn core.now vc) }
 {
@@ -132,7 +132,7 @@ fn state_on(
     path: u16,
     channel: u16,
 ) -> Result<ConnectionState, UpcFault>
-    ensures told { IfOk result (IsStateOn card.old path channel) }
+    ensures state { IfOk result (IsStateOn card.old path channel) }
     ensures sized { IfOk result HasLevelsForEach }
     ensures fault { IfErr result (IsLookUpFault card.old path channel) }
     ensures kept { card_in card.new ≡ card_in card.old }
@@ -142,14 +142,10 @@ fn state_on(
         Ok(vc) => vc,
         Err(found) => return Err(found),
     };
-    let Some(core) = take_core(alloc, card) else {
-        return Err(card_missing());
-    };
-    let state = state_in(&core, vc);
-    put_core(card, core);
+    let state = with_core(alloc, card, |core| state_in(core, vc))?;
     match state {
         Some(state) => Ok(state),
-        None => Err(told_desk(DeskFault::NoConnection)),
+        None => Err(desk_fault_for_c(DeskFault::NoConnection)),
     }
 }
 
@@ -167,7 +163,7 @@ pub extern "C" fn upc_card_state(
 ) -> u32
     ensures number { result ≡ call_result fault.new }
     ensures state { result ≡ 0 → HasState card.old path channel room.old room.new state.new }
-    ensures fine { result ≡ 0 → fault.new ≡ no_fault }
+    ensures success { result ≡ 0 → fault.new ≡ no_fault }
     ensures refused { result ≢ 0 → IsStateFault card.old path channel room.old fault.new }
     ensures kept { card_in card.new ≡ card_in card.old }
     ensures room_left { result ≢ 0 → room.new ≡ room.old }
@@ -175,10 +171,10 @@ pub extern "C" fn upc_card_state(
 {
     let found = match state_on(alloc, card, path, channel) {
         Ok(found) => found,
-        Err(refused) => return told(fault, refused),
+        Err(refused) => return report(fault, refused),
     };
     match write_state(&found, room, state) {
-        Ok(()) => fine(fault),
-        Err(refused) => told(fault, refused),
+        Ok(()) => report_success(fault),
+        Err(refused) => report(fault, refused),
     }
 }

@@ -1,10 +1,15 @@
 //! The core of a card that C has, taken out for a call and put back.
 
-ghost use Rattle.std.specs.Prelude.{◌≡◌, None, Some, IfNone, IfSome};
-ghost use Rattle.upc_c.specs.CardHandle.{IsShapeIn, card_in};
+ghost use Rattle.std.specs.Fn.{FnOnceReturnsAtMut};
+ghost use Rattle.std.specs.Prelude.{◌≡◌, None, Some, IfNone, IfSome, IfOk, IfErr, OnErr};
+ghost use Rattle.upc_c.specs.CardHandle.{IsShapeIn, card_in, card_missing};
+ghost use Rattle.upc_c.specs.inner.Numbered.{IsNumbered};
 ghost use Rattle.upc_c.specs.inner.ReachedCore.{IsReachedCore};
+ghost use Rattle.upc_c.specs.inner.WithCore.{IsCalledOn, KeepsReached};
 
 use crate::card::UpcCard;
+use crate::desk_fault::card_missing;
+use crate::fault::UpcFault;
 use crate::hidden::HiddenCard;
 use card_core::{Core, Shape};
 use std::alloc::Global;
@@ -43,14 +48,37 @@ pub(crate) fn put_core(card: &mut UpcCard, core: Box<Core>)
     };
 }
 
-/// Returns the shape of the card, if there is one. Takes the core out and puts it back.
-pub(crate) fn shape_on(alloc: Global, card: &mut UpcCard) -> Option<Shape>
-    ensures shape { IfSome result (IsShapeIn card.old) }
-    ensures none { IfNone result (card_in card.old ≡ None) }
-    ensures kept { card_in card.new ≡ card_in card.old }
+/// Calls a function with the core of the card taken out, and puts the core back. Returns what the function returns, or
+/// the error that there is no card.
+pub(crate) fn with_core<R, F: FnOnce(&mut Core) -> R>(
+    alloc: Global,
+    card: &mut UpcCard,
+    call: F,
+) -> Result<R, UpcFault>
+    requires callable { F.IsAlwaysCallable call }
+    requires reached { KeepsReached (λ old answer new. FnOnceReturnsAtMut F.FnOnce call old answer new) }
+    ensures called { IfOk result (λ answer.
+        IsCalledOn card.old card.new (λ old new. FnOnceReturnsAtMut F.FnOnce call old answer new)) }
+    ensures none { IfErr result (λ _. card_in card.old ≡ None) }
+    ensures fault { IfErr result (λ fault. fault ≡ card_missing) }
+    ensures left { OnErr result (card_in card.new ≡ card_in card.old) }
+    ensures numbered { IfErr result IsNumbered }
 {
-    let core = take_core(alloc, card)?;
-    let shape = core.shape();
+    let Some(mut core) = take_core(alloc, card) else {
+        return Err(card_missing());
+    };
+    let answer = call(&mut core);
     put_core(card, core);
-    Some(shape)
+    Ok(answer)
+}
+
+/// Returns the shape of the card, or the error that there is no card.
+pub(crate) fn shape_on(alloc: Global, card: &mut UpcCard) -> Result<Shape, UpcFault>
+    ensures shape { IfOk result (IsShapeIn card.old) }
+    ensures none { IfErr result (λ _. card_in card.old ≡ None) }
+    ensures fault { IfErr result (λ fault. fault ≡ card_missing) }
+    ensures kept { card_in card.new ≡ card_in card.old }
+    ensures numbered { IfErr result IsNumbered }
+{
+    with_core(alloc, card, |core| core.shape())
 }

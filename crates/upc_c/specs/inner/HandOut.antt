@@ -49,4 +49,4 @@ pub record IsLongerOn (card : UpcCard) (vc : Vc) (most : ℕ) (fault : UpcFault)
   pub had : card_in card ≡ Some core
   pub cells : ℕ
   pub longer : IsLongerIn core vc most cells
-  pub told : fault ≡ no_room cells
+  pub reported : fault ≡ no_room cells

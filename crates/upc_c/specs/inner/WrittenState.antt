@@ -7,32 +7,32 @@ use Rattle.card_core.specs.declared.connection_state.ConnectionState.{Connection
 use Rattle.leaky.specs.declared.contract.Contract.{Contract}
 use Rattle.leaky.specs.declared.levels.Levels.{Levels}
 use Rattle.upc_cell.specs.declared.vc.Vc.{Vc}
-use Rattle.upc_c.specs.CardDesk.{IsVc, told_id}
+use Rattle.upc_c.specs.CardDesk.{IsVc, id_for_c}
 use Rattle.upc_c.specs.CardHandle.{card_in}
 use Rattle.upc_c.specs.CardInspection.{counts_for_c}
-use Rattle.upc_c.specs.CardState.{told_contract}
+use Rattle.upc_c.specs.CardState.{contract_for_c}
 use Rattle.upc_c.specs.declared.card.UpcCard.{UpcCard}
 use Rattle.upc_c.specs.declared.meter.UpcLevels.{UpcLevels}
 use Rattle.upc_c.specs.declared.state.UpcMeter.{UpcMeter}
 use Rattle.upc_c.specs.declared.state.UpcState.{UpcState}
 
 -- The levels, as C has them.
-abbrev pub told_levels : Levels → UpcLevels
-told_levels levels = record { first = levels.first; second = levels.second }
+abbrev pub levels_for_c : Levels → UpcLevels
+levels_for_c levels = record { first = levels.first; second = levels.second }
 
 -- A contract and its levels, as C has them.
-abbrev pub told_meter : Contract → Levels → UpcMeter
-told_meter contract levels = record { contract = told_contract contract; levels = told_levels levels }
+abbrev pub meter_for_c : Contract → Levels → UpcMeter
+meter_for_c contract levels = record { contract = contract_for_c contract; levels = levels_for_c levels }
 
--- The numbers of a state, as C has them.
-abbrev pub told_state : ConnectionState → UpcState
-told_state state = record {
+-- The state, as C has it, without its contracts.
+abbrev pub state_for_c : ConnectionState → UpcState
+state_for_c state = record {
   incarnation = state.incarnation;
   last = state.state.last;
   cells = state.entries;
   contracts = length state.contracts.items;
   counts = counts_for_c state.state.counts;
-  program = told_id state.program;
+  program = id_for_c state.program;
   line = state.line;
 }
 
@@ -40,14 +40,14 @@ told_state state = record {
 pub record AreMetersOf (contracts : List Contract) (levels : List Levels) (before room : List UpcMeter) (count : ℕ) : Type 0 where
   pub sized : length room ≡ length before
   pub front : (place : ℕ) (contract : Contract) (its : Levels) → place < count → slice_get contracts place ≡ Some contract
-      → slice_get levels place ≡ Some its → slice_get room place ≡ Some (told_meter contract its)
+      → slice_get levels place ≡ Some its → slice_get room place ≡ Some (meter_for_c contract its)
   pub rest : (place : ℕ) → count ≤ place → slice_get room place ≡ slice_get before place
 
 -- The state was written to the buffer and beside it.
-pub record IsWrittenState (state : ConnectionState) (before room : List UpcMeter) (told : UpcState) : Type 0 where
+pub record IsWrittenState (state : ConnectionState) (before room : List UpcMeter) (written : UpcState) : Type 0 where
   pub fits : length state.contracts.items ≤ length before
   pub meters : AreMetersOf state.contracts.items state.state.levels.items before room (length state.contracts.items)
-  pub tells : told ≡ told_state state
+  pub numbers : written ≡ state_for_c state
 
 -- In each world that the core agrees with, this is the state of the connection.
 abbrev pub IsStateOf : CoreView → Vc → ConnectionState → Type 0

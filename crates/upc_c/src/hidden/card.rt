@@ -1,4 +1,4 @@
-//! A card behind a pointer whose type C doesn't see.
+//! A card under a pointer whose type C doesn't see.
 
 ghost use Rattle.std.specs.Prelude.{◌≡◌, Option, Some, None};
 ghost use Rattle.card_core.specs.Agreement.{CoreView};
@@ -27,7 +27,7 @@ impl Model for HiddenCard {
     ghost also_owns = { λ h. owned the_row h.alloc h.at h.core };
 }
 
-// It goes to another thread as its box does.
+// It may move to another thread, since its box may.
 unsafe impl Send for HiddenCard {}
 
 impl HiddenCard {

@@ -30,5 +30,5 @@ returns-in-Ok-None-clause-refused c = λ _. let found = c.in-Ok-None.ensures.fou
     so = subst (λ (o : Option Vc). (world : World) → CoreAgrees found.core world
         → MatchOption o (IsLastVc world c.in-Ok.earlier) (IsNextVc world c.in-Ok.earlier)) c.in-Ok-None.field-0-is found.so;
   },
-  c.told-in-Ok-None.ensures.told ∙ c.told_desk.ensures.told,
+  c.report-in-Ok-None.ensures.written ∙ c.desk_fault_for_c.ensures.fault,
 ))

@@ -3,8 +3,8 @@ use Rattle.upc_c.proofs.EntryLemmas.{written-all, written-more}
 use Rattle.upc_c.proofs.entry.write_entries.Goals as goal
 
 pub loop-place-preserved : goal.loop-place-preserved
-loop-place-preserved c = written-more c.args.entries.now c.args.room.now c.loop-place.room c.loop-place.place _ c.told_entry.result
-    c.loop-place-test.true c.requires c.loop-place.invariant c.told_entry.ensures
+loop-place-preserved c = written-more c.args.entries.now c.args.room.now c.loop-place.room c.loop-place.place _ c.entry_for_c.result
+    c.loop-place-test.true c.requires c.loop-place.invariant c.entry_for_c.ensures
 
 pub returns : goal.returns
 returns c =

@@ -1,24 +1,24 @@
 -- The card is unchanged up to the look-up of its line.
-use Rattle.std.proofs.Common.{Some, inr, sym, ap, ◌∙◌}
+use Rattle.std.proofs.Common.{rules, inr, sym, ◌∙◌}
 use Rattle.upc_c.proofs.inspecting.line_on.Goals as goal
 
-pub returns-in-Some-line-clause-told : goal.returns-in-Some-line-clause-told
-returns-in-Some-line-clause-told c = record {
+pub returns-in-Some-clause-counts : goal.returns-in-Some-clause-counts
+returns-in-Some-clause-counts c = let called = c.in_ok-line.ensures.called in record {
   vc = c.in-Ok.vc;
   numbers = c.in-Ok.ensures.vc;
-  core = c.deref.result.now;
-  had = sym c.vc_on.ensures.kept ∙ c.in-Some.ensures.core ∙ ap Some (sym c.deref.ensures);
-  so = c.in-Some-line.ensures.told;
+  core = called.old;
+  had = sym c.vc_on.ensures.kept ∙ called.had;
+  so = search rules;
 }
 
 pub returns-in-None-clause-fault : goal.returns-in-None-clause-fault
-returns-in-None-clause-fault c = inr (inr (
+returns-in-None-clause-fault c = let called = c.in_ok-line.ensures.called in inr (inr (
   record {
     vc = c.in-Ok.vc;
     numbers = c.in-Ok.ensures.vc;
-    core = c.deref.result.now;
-    had = sym c.vc_on.ensures.kept ∙ c.in-Some.ensures.core ∙ ap Some (sym c.deref.ensures);
-    none = c.in-None.ensures.none;
+    core = called.old;
+    had = sym c.vc_on.ensures.kept ∙ called.had;
+    none = search rules;
   },
-  c.told_desk.ensures.told,
+  c.desk_fault_for_c.ensures.fault,
 ))

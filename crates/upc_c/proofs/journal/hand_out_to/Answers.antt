@@ -13,7 +13,7 @@ returns-in-Ok-hand_out_on-clause-handed c = record {
   piece = c.in-Ok-hand_out_on.piece;
   taken = takes-from c.args.card.now c.vc_on.new.card c.hand_out_on.new.card _ _ c.vc_on.ensures.kept c.in-Ok-hand_out_on.ensures.handed;
   entries = subst (λ (entries : List Entry). AreWritten entries c.args.room.now c.write_entries.new.room) c.entries.ensures.entries c.write_entries.ensures;
-  tells = c.told_journal.ensures;
+  rest = c.journal_for_c.ensures;
 }
 
 pub returns-in-Err-hand_out_on-clause-refused : goal.returns-in-Err-hand_out_on-clause-refused

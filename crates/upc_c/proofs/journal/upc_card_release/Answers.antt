@@ -6,4 +6,4 @@ use Rattle.upc_c.proofs.journal.upc_card_release.Goals as goal
 pub returns-in-Err-clause-refused : goal.returns-in-Err-clause-refused
 returns-in-Err-clause-refused c = λ _.
     subst (IsJournalFault c.args.card.now c.hand_out_to.new.card c.args.path c.args.channel Release c.args.room.now)
-    (sym c.told.ensures.told) c.in-Err.ensures.refused
+    (sym c.report.ensures.written) c.in-Err.ensures.refused

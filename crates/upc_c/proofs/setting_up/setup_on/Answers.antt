@@ -1,7 +1,10 @@
 -- The log with this step.
-use Rattle.std.proofs.Common.{refl}
-use Rattle.upc_c.proofs.CardSteps.{reached-by}
+use Rattle.std.proofs.Common.{rules, refl}
+use Rattle.card_core.specs.DeskReplies.{setup_reply}
+use Rattle.card_core.specs.declared.step.Step.TheVariants.{Setup}
+use Rattle.upc_c.proofs.CardSteps.{reached-on}
 use Rattle.upc_c.proofs.setting_up.setup_on.Goals as goal
 
-pub put_core-requires : goal.put_core-requires
-put_core-requires c = reached-by _ _ _ _ _ refl c.deref_mut.ensures.value c.in-Some.ensures.reached c.setup-set.ensures.follows
+pub with_core-requires-clause-reached : goal.with_core-requires-clause-reached
+with_core-requires-clause-reached c = λ old new answer reached calls.
+    reached-on old new (Setup c.args.ask) (setup_reply answer) refl reached (search rules)

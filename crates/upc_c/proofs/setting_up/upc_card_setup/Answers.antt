@@ -15,5 +15,5 @@ returns-in-Err-setup_on-clause-refused c = λ _. inr (inr (inr (
   _,
   record { vc = c.in-Ok-vc_on.ensures.vc; program = c.id_of.ensures; few = c.in-Ok.ensures.few; contracts = c.in-Ok.ensures.contracts },
   desk-fault-from c.args.card.now c.vc_on.new.card c.setup_on.new.card _ c.in-Err-setup_on.found _
-      c.vc_on.ensures.kept c.told-in-Err-setup_on.ensures.told c.in-Err-setup_on.ensures.refused,
+      c.vc_on.ensures.kept c.report-in-Err-setup_on.ensures.written c.in-Err-setup_on.ensures.refused,
 )))

@@ -12,17 +12,17 @@ use Rattle.std.proofs.Crossing as heap
 use Rattle.std.specs.Global.{Global}
 use Rattle.std_alloc.proofs.SendSync.{quiet, lies}
 use Rattle.std_heap.proofs.Global.TheSendSync as handle
-use Rattle.card_core.specs.contracts.serial.Core as Held
-use Rattle.card_core.proofs.serial.Core.TheSendSync.{the_send as held_send}
+use Rattle.card_core.specs.contracts.serial.Core as Core
+use Rattle.card_core.proofs.serial.Core.TheSendSync.{the_send as core_send}
 use Rattle.upc_c.specs.contracts.hidden.card.HiddenCard.{the_row, the_type}
 use Rattle.upc_c.specs.inner.Hidden.{owned}
 
 abbrev T : RattleType
-T = Held.the_row
+T = Core.the_row
 
-keyless : (alloc : Global) (at : Ptr) (held : Option T.Denot) → Keyless (owned T alloc at held)
+keyless : (alloc : Global) (at : Ptr) (value : Option T.Denot) → Keyless (owned T alloc at value)
 keyless alloc at None = tt
-keyless alloc at (Some value) = (lies T held_send at value, heap.frees.frees alloc (raw (lone T.mir)) at)
+keyless alloc at (Some value) = (lies T core_send at value, heap.frees.frees alloc (raw (lone T.mir)) at)
 
 pub send : IsSend the_row
 send =

@@ -14,13 +14,13 @@ into_parts_spec 𝓤 𝓛 𝓜 𝓡 wired =
     let hs : Stays ended.signature.params ended.kept = (stay_dropped (plain (λ _. hidden)) yes, tt) in
     proved_at 𝓛 ended hs c 𝓜 𝓡 (Goes-dropped 𝓛 0 (plain (λ _. hidden)) yes (λ κs x f. refl), tt) #self fn (code.unfolded 𝓤 𝓛.H 𝓜 𝓡 wired) (λ z are.
     let Post : Val → SProp 𝓤 = (walk_of 𝓛 ended hs c).post z in let Run : List Val → SProp 𝓤 = λ ws. WpFn 𝓤 𝓛.H 𝓣.C 𝓣.Λ fn ws Post in
-    let held = z.0.3.0 in
-    qed 𝓛 ((‵ ftrue ⊛ ‵ (owns (types_at ended.signature.params z.0.0) z.0.3 z.0.4)) ∷ raw (fact 𝓤 (held.core ≢ None)) ∷ []) ∵ move ! (1 ∷ []) $ heard ! (held.core ≢ None) (λ there.
-    let found = known held.core there in
-    let box : D boxed = record { ptr = held.at; alloc = held.alloc; value = found.0 } in
-    let made : parted.Denot = record { ptr = held.at; alloc = held.alloc; value = found.0 } in
+    let given = z.0.3.0 in
+    qed 𝓛 ((‵ ftrue ⊛ ‵ (owns (types_at ended.signature.params z.0.0) z.0.3 z.0.4)) ∷ raw (fact 𝓤 (given.core ≢ None)) ∷ []) ∵ move ! (1 ∷ []) $ heard ! (given.core ≢ None) (λ there.
+    let found = known given.core there in
+    let box : D boxed = record { ptr = given.at; alloc = given.alloc; value = found.0 } in
+    let made : parted.Denot = record { ptr = given.at; alloc = given.alloc; value = found.0 } in
     split ! $ move ! (1 ∷ []) $ fsplit ! $
-    rewrite ! 0 (λ (x : Option CoreView). ‵ (hidden.own_val (record held { core = x }) z.0.4.0)) found.1 refl $
+    rewrite ! 0 (λ (x : Option CoreView). ‵ (hidden.own_val (record given { core = x }) z.0.4.0)) found.1 refl $
     use1 𝓛 (‵ ((B boxed).own_val box z.0.4.0)) (id⊢ 𝓤 _) $
     box_out boxed ! box z.0.4.0 (λ b o handle at vals fits. box_in boxed ! box b o found.0 at refl $
     -- [what the box owns; the rest of the parameters; the tokens]
@@ -32,5 +32,5 @@ into_parts_spec 𝓤 𝓛 𝓜 𝓡 wired =
     sets ! (of_opd ! (get ! refl)) refl (tt, tt) $
     sets ! (agg ! (and_then ! (get ! refl) (and_then ! (get ! refl) (no_more !)))) refl typed $
     returns ! (look_at ! 0 refl) $ free_all ! refl $ use1 𝓛 (‵ (parted.own_val made (w ∷ []))) (id⊢ 𝓤 _) $
-    use0 𝓛 (raw (fact 𝓤 (held.core ≡ Some found.0))) (fact_i 𝓤 (held.core ≡ Some found.0) (emp 𝓤) found.1) $ nothing ! $ nothing ! $ fjoin ! $
+    use0 𝓛 (raw (fact 𝓤 (given.core ≡ Some found.0))) (fact_i 𝓤 (given.core ≡ Some found.0) (emp 𝓤) found.1) $ nothing ! $ nothing ! $ fjoin ! $
     keep ! (4 ∷ 0 ∷ 2 ∷ 1 ∷ []) $ by ! (leaves 𝓛 ended hs c z w made (tt, tt) (tt, tt))))))
