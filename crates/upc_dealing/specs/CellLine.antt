@@ -1,13 +1,11 @@
 -- The content of a cell line: a cell at a moment, or one of three errors.
 use Rattle.std.specs.Prelude.{◌≡◌, ◌≢◌, ℕ, List, Option, Some}
 use Rattle.upc_words.specs.CellWord.{IsCellWord}
-use Rattle.upc_words.specs.FaultLines.{bad_line, bad_hex, wrong_length}
 use Rattle.upc_words.specs.declared.hexadecimal.CellWord.{CellWord}
 use Rattle.upc_words.specs.declared.hexadecimal.CellWord.TheVariants.{OfCell, OfOthers, NoDigits}
 use Rattle.upc_script.specs.ScriptCommands.{Command, cell}
 use Rattle.upc_dealing.specs.declared.cell_line.CellLine.{CellLine}
 use Rattle.upc_dealing.specs.declared.cell_line.CellLine.TheVariants.{Comes, IsFaulty}
-use Rattle.upc_dealing.specs.declared.cell_line.CellLineFault.{CellLineFault}
 use Rattle.upc_dealing.specs.declared.cell_line.CellLineFault.TheVariants.{BadLine, BadHex, WrongLength}
 
 -- The command is a cell at this moment, whose word has this meaning.
@@ -20,9 +18,3 @@ IsCellLine command (Comes moment octets) = Brings command moment (OfCell octets)
 IsCellLine command (IsFaulty (WrongLength count)) = (moment : ℕ) × Brings command moment (OfOthers count)
 IsCellLine command (IsFaulty BadHex) = (moment : ℕ) × Brings command moment NoDigits
 IsCellLine command (IsFaulty BadLine) = (moment : ℕ) (digits : List ℕ) → command ≢ Some (cell moment digits)
-
--- The answer to a cell line without a cell.
-abbrev pub fault_text : CellLineFault → List ℕ
-fault_text BadLine = bad_line
-fault_text BadHex = bad_hex
-fault_text (WrongLength count) = wrong_length count

@@ -1,15 +1,14 @@
 //! The cell lines of a script.
 
-ghost use Rattle.std.specs.Prelude.{◌≡◌, ◌++◌, IfOk, OnOk};
+ghost use Rattle.std.specs.Prelude.{IfOk};
 ghost use Rattle.text_io.specs.Words.{words_of};
 ghost use Rattle.upc_script.specs.ScriptCommands.{command_of};
 ghost use Rattle.upc_dealing.specs.CellLine.{IsCellLine};
-ghost use Rattle.upc_dealing.specs.CellLine.{fault_text};
 
 use std::alloc::{AllocError, Global};
 use upc_cell::{Cell, Side};
 use upc_script::{Command, read_cell, read_command};
-use upc_words::{CellWord, add_bad_hex, add_bad_line, add_wrong_length, cell_of_word};
+use upc_words::{CellWord, cell_of_word};
 
 /// The reason why a cell line has no cell.
 #[derive(Clone, Copy)]
@@ -54,16 +53,5 @@ pub fn read_cell_line(alloc: Global, side: Side, line: &[u8]) -> Result<CellLine
     match read_cell(line) {
         Some(arrival) => Ok(CellLine::Comes(arrival.moment, arrival.cell)),
         None => read_by_words(alloc, side, line),
-    }
-}
-
-/// Adds the answer to a cell line without a cell.
-pub fn add_cell_line_fault(answers: &mut Vec<u8>, fault: CellLineFault) -> Result<(), AllocError>
-    ensures { OnOk result (answers.new.items ≡ answers.old.items ++ fault_text fault) }
-{
-    match fault {
-        CellLineFault::BadLine => add_bad_line(answers),
-        CellLineFault::BadHex => add_bad_hex(answers),
-        CellLineFault::WrongLength(count) => add_wrong_length(answers, count),
     }
 }

@@ -1,26 +1,32 @@
 //! The lines of a script from its first cell line on, assigned to the ports and the desk that answer them.
 
-ghost use Rattle.std.specs.Prelude.{◌≡◌, ◌<◌, ℕ, List, IfOk, OnOk, length, map};
-ghost use Rattle.upc_dealing.specs.Dealing.{port_of, dealt, none_dealt, AreLinesOf, DealsAll, DealsCell, DealsCellLine, DealsDeskLine, DealsLine};
+ghost use Rattle.std.specs.Prelude.{◌≡◌, ◌<◌, ◌^◌, ℕ, List, IfOk, OnOk, length, map};
+ghost use Rattle.upc_dealing.specs.Dealing.{port_of, dealt, fault_dealt, none_dealt, AreLinesOf, DealsAll, DealsCell, DealsCellLine, DealsDeskLine, DealsLine};
 
 use crate::cell_line::{CellLine, CellLineFault, read_by_words};
-use crate::script_lines::{first_line, is_cell_line};
+use crate::script_lines::first_line;
 use std::alloc::{AllocError, Global};
+use text_io::first_word;
 use upc_cell::{Cell, Side, Vc};
-use upc_script::read_cell;
+use upc_script::{named_command, read_cell};
 
 /// The number of channels of a path.
 const CHANNELS: usize = 65536;
 
-/// The answerer of a line, and the number of the line among the answerer's lines, from 0.
+/// The answerer of a line. The lines of an answerer are in the script's order, so the number of a line among them isn't stored: a
+/// script has one of these for each of its lines.
 #[derive(Clone, Copy)]
 pub enum Answerer {
     /// The port of this number, from 0.
-    Port(usize, usize),
+    Port(u32),
     /// The desk.
-    Desk(usize),
-    /// Nobody: it is a cell line with this error.
-    Fault(CellLineFault),
+    Desk,
+    /// Nobody: the line is no command.
+    BadLine,
+    /// Nobody: the line has a cell that isn't hexadecimal.
+    BadHex,
+    /// Nobody: the line has a cell of another length than 52 octets. The length is the next of those of the deal.
+    WrongLength,
 }
 
 /// The answerers of the lines.
@@ -33,19 +39,22 @@ pub struct Deal<'a> {
     /// The lines of each port's cells, by the port's number, in the script's order. The port reads them again: a line
     /// takes less memory than its cell.
     pub arrivals: Vec<Vec<&'a [u8]>>,
+    /// The numbers of octets of the cells that don't have 52, in the script's order.
+    pub lengths: Vec<usize>,
 }
 
 /// Returns the number of the port for the cells of this connection, of `ports` ports.
 fn port_of(vc: Vc, ports: usize) -> usize
     requires { 0 < ports }
-    ensures { result ≡ port_of vc ports }
+    ensures port { result ≡ port_of vc ports }
+    ensures fits { result < 2 ^ 32 }
 {
     (usize::from(vc.vpi) * CHANNELS + usize::from(vc.vci)) % ports
 }
 
 impl<'a> Deal<'a> {
     ghost use Rattle.std.specs.Prelude.{◌≡◌, ◌<◌, IfOk, OnOk, length};
-    ghost use Rattle.upc_dealing.specs.Dealing.{dealt, none_dealt, DealsCell, DealsCellLine, DealsDeskLine, DealsLine};
+    ghost use Rattle.upc_dealing.specs.Dealing.{dealt, fault_dealt, none_dealt, DealsCell, DealsCellLine, DealsDeskLine, DealsLine};
 
     /// Assigns no line yet, for this number of ports.
     fn new(alloc: Global, ports: usize) -> Result<Deal<'a>, AllocError>
@@ -59,6 +68,7 @@ impl<'a> Deal<'a> {
             order: Vec::new(alloc),
             desk: Vec::new(alloc),
             arrivals,
+            lengths: Vec::new(alloc),
         })
     }
 
@@ -70,9 +80,8 @@ impl<'a> Deal<'a> {
     {
         let number = port_of(cell.vc_at(side), self.arrivals.len());
         let own = &mut self.arrivals[number];
-        let place = own.len();
         own.push(line)?;
-        self.order.push(Answerer::Port(number, place))?;
+        self.order.push(Answerer::Port(number as u32))?;
         Ok(())
     }
 
@@ -80,9 +89,24 @@ impl<'a> Deal<'a> {
     fn deal_desk_line(&mut self, line: &'a [u8]) -> Result<(), AllocError>
         ensures { OnOk result (DealsDeskLine line.now (dealt self.old) (dealt self.new)) }
     {
-        let number = self.desk.len();
-        self.order.push(Answerer::Desk(number))?;
+        self.order.push(Answerer::Desk)?;
         self.desk.push(line)?;
+        Ok(())
+    }
+
+    /// Assigns a line with this error to nobody: only the error is stored.
+    fn deal_fault(&mut self, fault: CellLineFault) -> Result<(), AllocError>
+        ensures { OnOk result (dealt self.new ≡ fault_dealt fault (dealt self.old)) }
+    {
+        let answerer = match fault {
+            CellLineFault::BadLine => Answerer::BadLine,
+            CellLineFault::BadHex => Answerer::BadHex,
+            CellLineFault::WrongLength(count) => {
+                self.lengths.push(count)?;
+                Answerer::WrongLength
+            }
+        };
+        self.order.push(answerer)?;
         Ok(())
     }
 
@@ -99,11 +123,26 @@ impl<'a> Deal<'a> {
     {
         match read_by_words(alloc, side, line)? {
             CellLine::Comes(_, cell) => self.deal_cell(side, &cell, line),
-            CellLine::IsFaulty(fault) => {
-                self.order.push(Answerer::Fault(fault))?;
-                Ok(())
-            }
+            CellLine::IsFaulty(fault) => self.deal_fault(fault),
         }
+    }
+
+    /// Assigns a line by its words.
+    #[inline(never)]
+    fn deal_by_words(&mut self, alloc: Global, side: Side, line: &'a [u8]) -> Result<(), AllocError>
+        requires { 0 < length self.old.arrivals.items }
+        ensures { OnOk result (DealsLine side line.now (dealt self.old) (dealt self.new)) }
+    {
+        let Some((name, rest)) = first_word(line) else {
+            return self.deal_fault(CellLineFault::BadLine);
+        };
+        if name == b"cell".as_slice() {
+            return self.deal_cell_line(alloc, side, line);
+        }
+        if named_command(side, name, rest).is_some() {
+            return self.deal_desk_line(line);
+        }
+        self.deal_fault(CellLineFault::BadLine)
     }
 
     /// Assigns a line. A cell line in the common form is read at once, without a search for its words.
@@ -112,17 +151,14 @@ impl<'a> Deal<'a> {
         requires { 0 < length self.old.arrivals.items }
         ensures { OnOk result (DealsLine side line.now (dealt self.old) (dealt self.new)) }
     {
-        if let Some(arrival) = read_cell(line) {
-            self.deal_cell(side, &arrival.cell, line)
-        } else if is_cell_line(line) {
-            self.deal_cell_line(alloc, side, line)
-        } else {
-            self.deal_desk_line(line)
+        match read_cell(line) {
+            Some(arrival) => self.deal_cell(side, &arrival.cell, line),
+            None => self.deal_by_words(alloc, side, line),
         }
     }
 }
 
-/// Assigns the lines: each cell to the port of its connection, and all others to the desk.
+/// Assigns the lines: each cell to the port of its connection, lines with an error to nobody, and all others to the desk.
 pub fn deal_lines(
     alloc: Global,
     side: Side,

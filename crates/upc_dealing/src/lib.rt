@@ -5,6 +5,6 @@ mod cell_line;
 mod dealing;
 mod script_lines;
 
-pub use cell_line::{CellLine, CellLineFault, add_cell_line_fault, read_by_words, read_cell_line};
+pub use cell_line::{CellLine, CellLineFault, read_by_words, read_cell_line};
 pub use dealing::{Answerer, Deal, deal_lines};
 pub use script_lines::{first_line, is_cell_line};

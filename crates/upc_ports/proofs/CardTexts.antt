@@ -26,11 +26,11 @@ uneven-within lines otherwise (Some number) all sized first =
 pub card-answered : (shape opened : Shape) (octets lines start mid new : List ℕ) (counts used : Tally) → opened ≡ shape → lines ≡ octets
     → mid ≡ start ++ codes "ready\n" → Adds (λ text. OfLines lines (λ each. AnswersScript opened.side each text used)) mid new → counts ≡ used
     → Adds (λ text. OfLines octets (λ each. AnswersCard shape.side each text counts)) start new
-card-answered shape opened octets lines start mid new counts used same same_lines ready (text, adds, told) sums = (
+card-answered shape opened octets lines start mid new counts used same same_lines ready (text, adds, printed) sums = (
   codes "ready\n" ++ text,
   adds ∙ ap (λ (t : List ℕ). t ++ text) ready ∙ append_assoc start (codes "ready\n") text,
   λ each are.
-      let answers = told each (subst (λ (xs : List ℕ). AreLinesOf xs each) (sym same_lines) are) in
+      let answers = printed each (subst (λ (xs : List ℕ). AreLinesOf xs each) (sym same_lines) are) in
       let counted = subst (λ (t : Tally). AnswersScript opened.side each text t) (sym sums) answers in
       (text, refl, subst (λ (s : Shape). AnswersScript s.side each text counts) same counted),
 )

@@ -8,14 +8,14 @@ use Rattle.leaky.specs.declared.verdict.Verdict.TheVariants.{Pass, Tag, Discard,
 use Rattle.line_record.specs.declared.tally.Tally.{Tally}
 use Rattle.line_record.specs.Tally.{nothing, counted, plus, total}
 use Rattle.line_record.proofs.Public.{totals_join}
-use Rattle.card_core.specs.Sections.{JudgedView, told}
+use Rattle.card_core.specs.Sections.{JudgedView, judgement_in}
 use Rattle.card_core.specs.declared.answer.Answer.{Answer}
 use Rattle.card_core.specs.declared.answer.Answer.TheVariants.{Judged, NoConnection, Released, Stale, MomentTooLate, MomentBack, JournalFull, NoMemory}
 use Rattle.port_card.specs.Closing.{seats_total}
 use Rattle.port_card.specs.Seats.{AreNewSeats, SeatView, counts_after, new_seat, tally_of_seat}
 use Rattle.upc_ports.specs.LineAnswers.{counts_of}
-use Rattle.upc_ports.specs.declared.told.ToldCell.{ToldCell}
-use Rattle.upc_ports.specs.inner.Told.{answered_cell, cell_counts, cells_counts, told_counts}
+use Rattle.upc_ports.specs.declared.answered.AnsweredCell.{AnsweredCell}
+use Rattle.upc_ports.specs.inner.Answered.{answered_cell, cell_counts, cells_counts, stored_counts}
 
 right-zero : (n : ℕ) → n + 0 ≡ n
 right-zero n = omega arith
@@ -25,9 +25,6 @@ left-zero n = omega arith
 
 regroup : (a b c : ℕ) → a + b + c ≡ a + (b + c)
 regroup a b c = omega arith
-
-swap : (a b c : ℕ) → a + b + c ≡ a + c + b
-swap a b c = omega arith
 
 pub plus-nothing : (tally : Tally) → plus tally nothing ≡ tally
 plus-nothing tally = λ i. record {
@@ -53,12 +50,16 @@ plus-regroup a b c = λ i. record {
   refused = regroup a.refused b.refused c.refused i;
 }
 
-pub plus-swap : (a b c : Tally) → plus (plus a b) c ≡ plus (plus a c) b
-plus-swap a b c = λ i. record {
-  passed = swap a.passed b.passed c.passed i;
-  tagged = swap a.tagged b.tagged c.tagged i;
-  discarded = swap a.discarded b.discarded c.discarded i;
-  refused = swap a.refused b.refused c.refused i;
+-- The first of three may be added before the others.
+swap-left : (a b c : ℕ) → a + (b + c) ≡ b + (a + c)
+swap-left a b c = omega arith
+
+pub plus-swap-left : (a b c : Tally) → plus a (plus b c) ≡ plus b (plus a c)
+plus-swap-left a b c = λ i. record {
+  passed = swap-left a.passed b.passed c.passed i;
+  tagged = swap-left a.tagged b.tagged c.tagged i;
+  discarded = swap-left a.discarded b.discarded c.discarded i;
+  refused = swap-left a.refused b.refused c.refused i;
 }
 
 -- One more cell is a sum with the counts of that cell.
@@ -104,26 +105,26 @@ same-counts cell JournalFull = refl
 same-counts cell NoMemory = refl
 
 -- The counts of a seat after one more answer.
-pub seat-counted : (old new : Tally) (cell : List ℕ) (answer : Answer) (stored : ToldCell) → stored ≡ answered_cell cell answer
-    → new ≡ counts_after old (told answer) → new ≡ plus old (cell_counts stored)
+pub seat-counted : (old new : Tally) (cell : List ℕ) (answer : Answer) (stored : AnsweredCell) → stored ≡ answered_cell cell answer
+    → new ≡ counts_after old (judgement_in answer) → new ≡ plus old (cell_counts stored)
 seat-counted old new cell answer stored kept is =
-    is ∙ after-plus old (told answer) ∙ ap (plus old) (sym (same-counts cell answer)) ∙ ap (λ (c : ToldCell). plus old (cell_counts c)) (sym kept)
+    is ∙ after-plus old (judgement_in answer) ∙ ap (plus old) (sym (same-counts cell answer)) ∙ ap (λ (c : AnsweredCell). plus old (cell_counts c)) (sym kept)
 
 -- One more cell, or none.
-pub cells-more : (cells : List ToldCell) (one : Option ToldCell) → cells_counts (cells ++ option_to_list one) ≡ plus (cells_counts cells) (told_counts one)
+pub cells-more : (cells : List AnsweredCell) (one : Option AnsweredCell) → cells_counts (cells ++ option_to_list one) ≡ plus (cells_counts cells) (stored_counts one)
 cells-more cells None = ap cells_counts (append-nil cells) ∙ sym (plus-nothing (cells_counts cells))
 cells-more cells (Some one) =
     ap total (map-append cell_counts cells (one ∷ [])) ∙ totals_join (map cell_counts cells) (cell_counts one ∷ [])
     ∙ ap (plus (cells_counts cells)) (plus-nothing (cell_counts one))
 
 -- The counts of a port after one more line.
-pub port-counted : (old new : Tally) (cells cells' : List ToldCell) (one : Option ToldCell) → cells' ≡ cells ++ option_to_list one
-    → old ≡ cells_counts cells → new ≡ plus old (told_counts one) → new ≡ cells_counts cells'
+pub port-counted : (old new : Tally) (cells cells' : List AnsweredCell) (one : Option AnsweredCell) → cells' ≡ cells ++ option_to_list one
+    → old ≡ cells_counts cells → new ≡ plus old (stored_counts one) → new ≡ cells_counts cells'
 port-counted old new cells cells' one pushed was is =
-    is ∙ ap (λ (t : Tally). plus t (told_counts one)) was ∙ sym (cells-more cells one) ∙ ap cells_counts (sym pushed)
+    is ∙ ap (λ (t : Tally). plus t (stored_counts one)) was ∙ sym (cells-more cells one) ∙ ap cells_counts (sym pushed)
 
 -- Seats that counted exactly their cells have the counts of all these cells.
-pub seats-counted : {X : Type 0} (seat : X → SeatView) (cells : X → List ToldCell) → ((x : X) → tally_of_seat (seat x) ≡ cells_counts (cells x)) → (ports : List X)
+pub seats-counted : {X : Type 0} (seat : X → SeatView) (cells : X → List AnsweredCell) → ((x : X) → tally_of_seat (seat x) ≡ cells_counts (cells x)) → (ports : List X)
     → total (map cells_counts (map cells ports)) ≡ seats_total (map seat ports)
 seats-counted seat cells each [] = refl
 seats-counted seat cells each (port ∷ ports) =

@@ -28,15 +28,15 @@ use Rattle.upc_ports.proofs.CountsLemmas.{nothing-plus, plus-regroup}
 use Rattle.upc_ports.specs.LineAnswers.{MayAnswerCommand, MayAnswerLine, MayObey, MayReply, Refuses, Replies, RepliesToNamed, RepliesToOctets, loaded_id}
 use Rattle.upc_ports.specs.ScriptAnswers.{AnswersEach}
 use Rattle.upc_dealing.specs.Dealing.{is_cell_line}
-use Rattle.upc_ports.specs.inner.DeskTexts.{AddsReply, MayObeyLine, TellsEach}
+use Rattle.upc_ports.specs.inner.DeskTexts.{AddsReply, MayObeyLine, ObeysEach}
 
 -- A reply that loads no program.
 pub replied : (command : Command) (reply : Reply) (names : List Id) (text old new : List ℕ) → MayReply command reply → loaded_id reply ≡ []
     → reply_text command (length names) reply ≡ Some text → new ≡ old ++ text → AddsReply (Replies command) names names old new
-replied command reply names text old new possible none told added = (
+replied command reply names text old new possible none printed added = (
   text,
   added,
-  record { reply = reply; possible = possible; named = sym (append-nil names) ∙ ap (λ (ids : List Id). names ++ ids) (sym none); told = told },
+  record { reply = reply; possible = possible; named = sym (append-nil names) ∙ ap (λ (ids : List Id). names ++ ids) (sym none); printed = printed },
 )
 
 -- A command that names a program which was loaded, and one that names none.
@@ -93,7 +93,7 @@ loaded digits id names names' count old new pushed counted added =
         reply = Loaded id;
         possible = tt;
         named = pushed;
-        told = ap (λ n. Some (line (codes "loaded " ++ program_name n))) (sym next);
+        printed = ap (λ n. Some (line (codes "loaded " ++ program_name n))) (sym next);
       },
     )
 
@@ -180,19 +180,19 @@ no-cell side (name ∷ words) is =
 no-cell-answered : (side : Side) (all : List Id) (found : Option Command) (names : List Id) (text : List ℕ) (names' : List Id) → is_cell found ≡ false
     → MatchOption found (Refuses bad_line names text names') (λ command. MayObey command names text names')
     → MatchOption found (Refuses bad_line names text names' × (nothing ≡ nothing)) (λ command. MayAnswerCommand side all command names text names' nothing)
-no-cell-answered side all None names text names' apart told = (told, refl)
-no-cell-answered side all (Some (cell moment digits)) names text names' apart told = let is : true ≡ false = apart in cc
-no-cell-answered side all (Some (load digits)) names text names' apart told = (told, refl)
-no-cell-answered side all (Some (retire number)) names text names' apart told = (told, refl)
-no-cell-answered side all (Some (setup vc number wanted)) names text names' apart told = (told, refl)
-no-cell-answered side all (Some (reload vc number)) names text names' apart told = (told, refl)
-no-cell-answered side all (Some (release vc)) names text names' apart told = (told, refl)
-no-cell-answered side all (Some (cut vc)) names text names' apart told = (told, refl)
+no-cell-answered side all None names text names' apart printed = (printed, refl)
+no-cell-answered side all (Some (cell moment digits)) names text names' apart printed = let is : true ≡ false = apart in cc
+no-cell-answered side all (Some (load digits)) names text names' apart printed = (printed, refl)
+no-cell-answered side all (Some (retire number)) names text names' apart printed = (printed, refl)
+no-cell-answered side all (Some (setup vc number wanted)) names text names' apart printed = (printed, refl)
+no-cell-answered side all (Some (reload vc number)) names text names' apart printed = (printed, refl)
+no-cell-answered side all (Some (release vc)) names text names' apart printed = (printed, refl)
+no-cell-answered side all (Some (cut vc)) names text names' apart printed = (printed, refl)
 
 pub desk-answered : (side : Side) (all : List Id) (words : List (List ℕ)) (names : List Id) (text : List ℕ) (names' : List Id) → is_cell_line words ≡ false
     → MayObeyLine side words names text names' → MayAnswerLine side all words names text names' nothing
-desk-answered side all words names text names' apart told =
-    no-cell-answered side all (command_of side words) names text names' (no-cell side words apart) told
+desk-answered side all words names text names' apart printed =
+    no-cell-answered side all (command_of side words) names text names' (no-cell side words apart) printed
 
 -- A cell line is a cell, or no command.
 none-of : (digits : List ℕ) (found : Option ℕ) → ((ticks : ℕ) → option_map (λ t. cell t digits) found ≢ Some (cell ticks digits))
@@ -217,11 +217,11 @@ bad-cell side (name ∷ words) is never =
 pub each-append : (side : Side) (all : List Id) (xs ys : List (List ℕ)) (names mid names' : List Id) (one other : List ℕ) (counts more_counts : Tally)
     → AnswersEach side all xs names one mid counts → AnswersEach side all ys mid other names' more_counts
     → AnswersEach side all (xs ++ ys) names (one ++ other) names' (plus counts more_counts)
-each-append side all [] ys names mid names' one other counts more_counts told more =
-    let same : more_counts ≡ plus counts more_counts = sym (ap (λ (t : Tally). plus t more_counts) told.2 ∙ nothing-plus more_counts) in
+each-append side all [] ys names mid names' one other counts more_counts printed more =
+    let same : more_counts ≡ plus counts more_counts = sym (ap (λ (t : Tally). plus t more_counts) printed.2 ∙ nothing-plus more_counts) in
     subst (λ (t : Tally). AnswersEach side all ys names (one ++ other) names' t) same
-    (subst (λ (t : List ℕ). AnswersEach side all ys names (t ++ other) names' more_counts) (sym told.0)
-    (subst (λ (ids : List Id). AnswersEach side all ys ids other names' more_counts) told.1 more))
+    (subst (λ (t : List ℕ). AnswersEach side all ys names (t ++ other) names' more_counts) (sym printed.0)
+    (subst (λ (ids : List Id). AnswersEach side all ys ids other names' more_counts) printed.1 more))
 each-append side all (x ∷ xs) ys names mid names' one other counts more_counts (here, rest, next, first, others, parted, summed, answer, later) more = (
   here,
   rest ++ other,
@@ -235,23 +235,23 @@ each-append side all (x ∷ xs) ys names mid names' one other counts more_counts
 )
 
 -- One more text of the desk.
-tells-more : (side : Side) (lines : List (List ℕ)) (line : List ℕ) (names mid names' : List Id) (texts : List (List ℕ)) (text : List ℕ)
-    → TellsEach side lines names texts mid → MayObeyLine side (words_of line) mid text names' → TellsEach side (lines ++ line ∷ []) names (texts ++ text ∷ []) names'
-tells-more side [] line names mid names' [] text told one =
-    (names', subst (λ (ids : List Id). MayObeyLine side (words_of line) ids text names') told one, refl)
-tells-more side [] line names mid names' (other ∷ texts) text told one = absurd told
-tells-more side (first ∷ lines) line names mid names' [] text told one = absurd told
-tells-more side (first ∷ lines) line names mid names' (other ∷ texts) text (next, here, later) one =
-    (next, here, tells-more side lines line next mid names' texts text later one)
+prints-more : (side : Side) (lines : List (List ℕ)) (line : List ℕ) (names mid names' : List Id) (texts : List (List ℕ)) (text : List ℕ)
+    → ObeysEach side lines names texts mid → MayObeyLine side (words_of line) mid text names' → ObeysEach side (lines ++ line ∷ []) names (texts ++ text ∷ []) names'
+prints-more side [] line names mid names' [] text printed one =
+    (names', subst (λ (ids : List Id). MayObeyLine side (words_of line) ids text names') printed one, refl)
+prints-more side [] line names mid names' (other ∷ texts) text printed one = absurd printed
+prints-more side (first ∷ lines) line names mid names' [] text printed one = absurd printed
+prints-more side (first ∷ lines) line names mid names' (other ∷ texts) text (next, here, later) one =
+    (next, here, prints-more side lines line next mid names' texts text later one)
 
-pub tells-next : {X : Type 0} {Y : Type 0} (v : X → List ℕ) (w : Y → List ℕ) (side : Side) (xs : List X) (k : ℕ) (d : X) (ys ys' : List Y) (y : Y) (text : List ℕ)
-    (names mid names' : List Id) → k < length xs → ys' ≡ ys ++ y ∷ [] → w y ≡ text → TellsEach side (map v (take k xs)) names (map w ys) mid
-    → MayObeyLine side (words_of (v (get_or xs k d))) mid text names' → TellsEach side (map v (take (k + 1) xs)) names (map w ys') names'
-tells-next {X = X} {Y = Y} v w side xs k d ys ys' y text names mid names' within pushed is told one =
+pub prints-next : {X : Type 0} {Y : Type 0} (v : X → List ℕ) (w : Y → List ℕ) (side : Side) (xs : List X) (k : ℕ) (d : X) (ys ys' : List Y) (y : Y) (text : List ℕ)
+    (names mid names' : List Id) → k < length xs → ys' ≡ ys ++ y ∷ [] → w y ≡ text → ObeysEach side (map v (take k xs)) names (map w ys) mid
+    → MayObeyLine side (words_of (v (get_or xs k d))) mid text names' → ObeysEach side (map v (take (k + 1) xs)) names (map w ys') names'
+prints-next {X = X} {Y = Y} v w side xs k d ys ys' y text names mid names' within pushed is printed one =
     let x = get_or xs k d in
-    let more = tells-more side (map v (take k xs)) (v x) names mid names' (map w ys) text told one in
+    let more = prints-more side (map v (take k xs)) (v x) names mid names' (map w ys) text printed one in
     let lines : map v (take (k + 1) xs) ≡ map v (take k xs) ++ v x ∷ [] = ap (map v) (take_more xs k d within) ∙ map-append v (take k xs) (x ∷ []) in
     let texts : map w ys' ≡ map w ys ++ text ∷ [] =
     ap (map w) pushed ∙ map-append w ys (y ∷ []) ∙ ap (λ (t : List ℕ). map w ys ++ t ∷ []) is in
-    subst (λ (zs : List (List ℕ)). TellsEach side zs names (map w ys') names') (sym lines)
-    (subst (λ (ts : List (List ℕ)). TellsEach side (map v (take k xs) ++ v x ∷ []) names ts names') (sym texts) more)
+    subst (λ (zs : List (List ℕ)). ObeysEach side zs names (map w ys') names') (sym lines)
+    (subst (λ (ts : List (List ℕ)). ObeysEach side (map v (take k xs) ++ v x ∷ []) names ts names') (sym texts) more)

@@ -38,7 +38,7 @@ first-begun side whole octets names are = record {
 pub first-more : (side : Side) (whole : List (List ℕ)) (rest line later : List ℕ) (names mid names' : List Id) (text here : List ℕ)
     → rest ≡ line ++ 10 ∷ later → NoneBefore line rest → is_cell_line (words_of line) ≡ false → IsFirst side whole rest names mid text
     → MayObeyLine side (words_of line) mid here names' → IsFirst side whole later names names' (text ++ here)
-first-more side whole rest line later names mid names' text here cut none other first told =
+first-more side whole rest line later names mid names' text here cut none other first printed =
     let next = starts_with line later rest first.left cut none first.are in
     let passed : from_first_cell (line ∷ next.others) ≡ from_first_cell next.others =
     ap (λ b. if b then line ∷ next.others else from_first_cell next.others) other in
@@ -49,7 +49,7 @@ first-more side whole rest line later names mid names' text here cut none other 
       are = next.left;
       same = sym passed ∙ ap from_first_cell (sym next.all) ∙ first.same;
       answers = λ ids. each-append side ids first.first (line ∷ []) names mid names' text here nothing nothing (first.answers ids)
-          (here, [], names', nothing, nothing, sym (append-nil here), refl, desk-answered side ids (words_of line) mid here names' other told, (refl, refl, refl));
+          (here, [], names', nothing, nothing, sym (append-nil here), refl, desk-answered side ids (words_of line) mid here names' other printed, (refl, refl, refl));
     }
 
 -- The first cell line was found, or no line is left.

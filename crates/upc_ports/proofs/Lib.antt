@@ -3,8 +3,9 @@ pub mod ReadingText
 pub mod InOrderLemmas
 pub mod CountsLemmas
 pub mod DeskLemmas
-pub mod ToldLemmas
-pub mod DealtCounts
+pub mod AnsweredLemmas
+pub mod PortsLeft
+pub mod RestLemmas
 pub mod DealtLemmas
 pub mod AtOnceLemmas
 pub mod FirstLemmas

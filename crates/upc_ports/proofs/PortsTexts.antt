@@ -29,16 +29,16 @@ read-at octets text reading ends =
 
 -- A script that was read to its end has a text.
 some-run : (octets text : List ℕ) → IsReadingText octets text Whole → (run : List ℕ) × IsPortsText octets run Whole
-some-run octets text told =
-    let reached = prints-end reading_rules 0 unread (lines_of octets) text told in
+some-run octets text printed =
+    let reached = prints-end reading_rules 0 unread (lines_of octets) text printed in
     let card = some-card reached.0.shape reached.0.lines in
     (card.0, inr (record { reading = reached.0; read = read-at octets text reached.0 reached.1; card = card.1 }))
 
 -- A script has a text.
 some_from : (octets : List ℕ) → ((text : List ℕ) × (done : Done) × IsReadingText octets text done)
     → (text : List ℕ) × (done : Done) × IsPortsText octets text done
-some_from octets (text, Ended, told) = (text, Ended, inl (refl, told))
-some_from octets (text, Whole, told) = let run = some-run octets text told in (run.0, Whole, run.1)
+some_from octets (text, Ended, printed) = (text, Ended, inl (refl, printed))
+some_from octets (text, Whole, printed) = let run = some-run octets text printed in (run.0, Whole, run.1)
 
 pub some-ports_text : (octets : List ℕ) → (text : List ℕ) × (done : Done) × IsPortsText octets text done
 some-ports_text octets = some_from octets (some-text reading_rules reading-total (lines_of octets) 0 unread tt)
@@ -46,25 +46,25 @@ some-ports_text octets = some_from octets (some-text reading_rules reading-total
 -- The reading ended with an error of the script.
 pub ended-text : (octets held new : List ℕ) → Adds (λ text. IsReadingText octets text Ended) held new
     → Adds (λ text. IsPortsText octets text Ended) held new
-ended-text octets held new (text, is, told) = (text, is, inl (refl, told))
+ended-text octets held new (text, is, printed) = (text, is, inl (refl, printed))
 
 pub ended-left : (most : ℕ) (before after : List ℕ) → TakesEnough (λ octets. (text : List ℕ) × IsReadingText octets text Ended) most before after
     → TakesEnough (λ octets. (text : List ℕ) × IsPortsText octets text Ended) most before after
-ended-left most before after (needed, ahead, cut, short, (text, told)) = (needed, ahead, cut, short, (text, inl (refl, told)))
+ended-left most before after (needed, ahead, cut, short, (text, printed)) = (needed, ahead, cut, short, (text, inl (refl, printed)))
 
 -- A reading that goes on to its end has printed nothing.
 broken-whole : (octets held new text more : List ℕ) → new ≡ held ++ text → IsReadingText octets (text ++ more) Whole → Adds (IsFront (IsPortsText octets)) held new
-broken-whole octets held new text more is told =
-    let none : text ++ more ≡ [] = reading-silent octets (text ++ more) told in
+broken-whole octets held new text more is printed =
+    let none : text ++ more ≡ [] = reading-silent octets (text ++ more) printed in
     let empty : text ≡ [] = first-empty text more none in
-    let run = some-run octets (text ++ more) told in
+    let run = some-run octets (text ++ more) printed in
     ([], is ∙ ap (λ (t : List ℕ). held ++ t) empty, (run.0, Whole, run.1))
 
 -- The reading failed after a prefix of its text.
 pub broken-front : (octets held new : List ℕ) → Adds (IsFront (IsReadingText octets)) held new → Adds (IsFront (IsPortsText octets)) held new
-broken-front octets held new (text, is, (more, Ended, told)) = (text, is, (more, Ended, inl (refl, told)))
-broken-front octets held new (text, is, (more, Whole, told)) =
-    broken-whole octets held new text more is told
+broken-front octets held new (text, is, (more, Ended, printed)) = (text, is, (more, Ended, inl (refl, printed)))
+broken-front octets held new (text, is, (more, Whole, printed)) =
+    broken-whole octets held new text more is printed
 
 -- The script was read to its end, and this is what was read.
 pub record WasRead (Held : Type 0) (octets held mid : List ℕ) (shape : Shape) (stored : List ℕ) : Type 0 where

@@ -6,7 +6,7 @@ use Rattle.std.proofs.lemmas.Bool.Decides.{nat_tests}
 use Rattle.std.proofs.lemmas.List.{get_or-take, length-take}
 use Rattle.std.proofs.lemmas.List.Elements.{All-cons, All-head, All-nil, All-tail}
 use Rattle.text_io.specs.Answering.{EndsBy}
-use Rattle.text_io.specs.Lines.{Line, begun_with, lines_of, said, without_return}
+use Rattle.text_io.specs.Lines.{Line, begun_with, lines_of, line_content, without_return}
 use Rattle.text_io.specs.Printing.{EndsAt}
 use Rattle.text_io.specs.Words.{words_of, is_silent}
 use Rattle.card_core.specs.Shapes.{shape_fault}
@@ -67,9 +67,9 @@ without-feedless : (octets : List ℕ) (returns : Bool) → IsOneLine octets →
 without-feedless octets true one = taken-feedless (length octets - 1) octets one
 without-feedless octets false one = one
 
-said-feedless : (octets : List ℕ) (ended : Bool) → IsOneLine octets → IsOneLine (if ended then without_return octets else octets)
-said-feedless octets true one = without-feedless octets (slice_index octets (length octets - 1) == 13) one
-said-feedless octets false one = one
+line_content-feedless : (octets : List ℕ) (ended : Bool) → IsOneLine octets → IsOneLine (if ended then without_return octets else octets)
+line_content-feedless octets true one = without-feedless octets (slice_index octets (length octets - 1) == 13) one
+line_content-feedless octets false one = one
 
 -- Each line of a reading is one that was read.
 all-more : (lines : List (List ℕ)) (line : List ℕ) → All IsOneLine lines → IsOneLine line → All IsOneLine (lines ++ line ∷ [])
@@ -86,34 +86,34 @@ kept reading next found goes is all =
 shaped-lines : (reading next : ScriptReading) (shape : Shape) (fault : Option CardFault) (text : List ℕ) → All IsOneLine reading.lines
     → MatchOption fault ((text ≡ []) × (Some next ≡ Some (record reading { opened = true; shape = shape }))) (λ f. EndsBy (shape_fault_line f) text (Some next))
     → All IsOneLine next.lines
-shaped-lines reading next shape None text all told =
-    kept (record reading { opened = true; shape = shape }) next (Some next) refl told.1 all
-shaped-lines reading next shape (Some fault) text all told = let ends : Some next ≡ None = told.1 in cc
+shaped-lines reading next shape None text all printed =
+    kept (record reading { opened = true; shape = shape }) next (Some next) refl printed.1 all
+shaped-lines reading next shape (Some fault) text all printed = let ends : Some next ≡ None = printed.1 in cc
 
 opened-lines : (reading next : ScriptReading) (shape : Option Shape) (text : List ℕ) → All IsOneLine reading.lines
     → MatchOption shape (EndsBy no_card text (Some next)) (λ s. OpensOrEnds reading s text (Some next)) → All IsOneLine next.lines
-opened-lines reading next None text all told = let ends : Some next ≡ None = told.1 in cc
-opened-lines reading next (Some shape) text all told = shaped-lines reading next shape (shape_fault shape) text all told
+opened-lines reading next None text all printed = let ends : Some next ≡ None = printed.1 in cc
+opened-lines reading next (Some shape) text all printed = shaped-lines reading next shape (shape_fault shape) text all printed
 
 words-lines : (opened : Bool) (reading next : ScriptReading) (line text : List ℕ) → IsOneLine line → All IsOneLine reading.lines
     → ReadsWords opened reading line text (Some next) → All IsOneLine next.lines
-words-lines false reading next line text one all told = opened-lines reading next (card_line_shape (words_of line)) text all told
-words-lines true reading next line text one all told =
-    kept (record reading { lines = reading.lines ++ line ∷ [] }) next (Some next) refl told.1 (all-more reading.lines line all one)
+words-lines false reading next line text one all printed = opened-lines reading next (card_line_shape (words_of line)) text all printed
+words-lines true reading next line text one all printed =
+    kept (record reading { lines = reading.lines ++ line ∷ [] }) next (Some next) refl printed.1 (all-more reading.lines line all one)
 
 step-lines : (silent : Bool) (reading next : ScriptReading) (line text : List ℕ) → IsOneLine line → All IsOneLine reading.lines
     → MatchBool silent ((text ≡ []) × (Some next ≡ Some reading)) (ReadsWords reading.opened reading line text (Some next)) → All IsOneLine next.lines
-step-lines true reading next line text one all told = kept reading next (Some next) refl told.1 all
-step-lines false reading next line text one all told = words-lines reading.opened reading next line text one all told
+step-lines true reading next line text one all printed = kept reading next (Some next) refl printed.1 all
+step-lines false reading next line text one all printed = words-lines reading.opened reading next line text one all printed
 
 read-lines : (lines : List Line) (met : ℕ) (reading last : ScriptReading) (text : List ℕ) → AreFeedless lines → All IsOneLine reading.lines
     → EndsAt reading_rules met reading lines text last → All IsOneLine last.lines
 read-lines [] met reading last text feedless all ends = subst (λ (r : ScriptReading). All IsOneLine r.lines) (sym ends.0) all
 read-lines (line ∷ lines) met reading last text feedless all (over, (here, more, next, cut, step, later)) =
     let P : Line → Type 0 = λ line. IsOneLine line.octets in
-    let one = said-feedless line.octets line.ended (All-head P line lines feedless) in
+    let one = line_content-feedless line.octets line.ended (All-head P line lines feedless) in
     read-lines lines (met + 1) next last more (All-tail P line lines feedless)
-    (step-lines (is_silent (words_of (said line))) reading next (said line) here one all step) later
+    (step-lines (is_silent (words_of (line_content line))) reading next (line_content line) here one all step) later
 
 -- The octets that are stored at the end of a reading are the text of its lines.
 pub stored-lines : (octets text : List ℕ) (opened : Bool) (shape : Shape) (stored : List ℕ) (last : ScriptReading)

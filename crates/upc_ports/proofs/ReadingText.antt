@@ -2,7 +2,7 @@
 use Rattle.std.proofs.Common.{◌≡◌, ℕ, ◌+◌, Bool, true, false, List, [], ◌∷◌, ◌++◌, Option, Some, None, refl, ap, sym, subst, ◌∙◌}
 use Rattle.std.specs.Prelude.{MatchOption, MatchBool}
 use Rattle.text_io.specs.Answering.{EndsBy}
-use Rattle.text_io.specs.Lines.{Line, said, lines_of}
+use Rattle.text_io.specs.Lines.{Line, line_content, lines_of}
 use Rattle.text_io.specs.Limits.{is_over}
 use Rattle.text_io.specs.Printing.{Prints}
 use Rattle.text_io.specs.Words.{words_of, is_silent}
@@ -20,58 +20,58 @@ use Rattle.upc_ports.proofs.ReadLines.{text-more}
 shaped-silent : (reading : ScriptReading) (shape : Shape) (fault : Option CardFault) (text : List ℕ) (next : Option ScriptReading) (world : ScriptReading) → next ≡ Some world
     → MatchOption fault ((text ≡ []) × (next ≡ Some (record reading { opened = true; shape = shape }))) (λ f. EndsBy (shape_fault_line f) text next)
     → text ≡ []
-shaped-silent reading shape None text next world on told = told.0
-shaped-silent reading shape (Some fault) text next world on told = let ends : next ≡ None = told.1 in cc
+shaped-silent reading shape None text next world on printed = printed.0
+shaped-silent reading shape (Some fault) text next world on printed = let ends : next ≡ None = printed.1 in cc
 
 opened-silent : (reading : ScriptReading) (shape : Option Shape) (text : List ℕ) (next : Option ScriptReading) (world : ScriptReading) → next ≡ Some world
     → MatchOption shape (EndsBy no_card text next) (λ s. OpensOrEnds reading s text next) → text ≡ []
-opened-silent reading None text next world on told = let ends : next ≡ None = told.1 in cc
-opened-silent reading (Some shape) text next world on told = shaped-silent reading shape (shape_fault shape) text next world on told
+opened-silent reading None text next world on printed = let ends : next ≡ None = printed.1 in cc
+opened-silent reading (Some shape) text next world on printed = shaped-silent reading shape (shape_fault shape) text next world on printed
 
 words-silent : (opened : Bool) (reading : ScriptReading) (line : List ℕ) (text : List ℕ) (next : Option ScriptReading) (world : ScriptReading) → next ≡ Some world
     → ReadsWords opened reading line text next → text ≡ []
-words-silent false reading line text next world on told = opened-silent reading (card_line_shape (words_of line)) text next world on told
-words-silent true reading line text next world on told = told.0
+words-silent false reading line text next world on printed = opened-silent reading (card_line_shape (words_of line)) text next world on printed
+words-silent true reading line text next world on printed = printed.0
 
 steps-silent_by : (silent : Bool) (reading : ScriptReading) (line : List ℕ) (text : List ℕ) (next : Option ScriptReading) (world : ScriptReading) → next ≡ Some world
     → MatchBool silent ((text ≡ []) × (next ≡ Some reading)) (ReadsWords reading.opened reading line text next) → text ≡ []
-steps-silent_by true reading line text next world on told = told.0
-steps-silent_by false reading line text next world on told = words-silent reading.opened reading line text next world on told
+steps-silent_by true reading line text next world on printed = printed.0
+steps-silent_by false reading line text next world on printed = words-silent reading.opened reading line text next world on printed
 
 closes-silent : (opened : Bool) (text : List ℕ) → ReadCloses opened text Whole → text ≡ []
-closes-silent false text told = let ends : Whole ≡ Ended = told.1 in cc
-closes-silent true text told = told.0
+closes-silent false text printed = let ends : Whole ≡ Ended = printed.1 in cc
+closes-silent true text printed = printed.0
 
 -- A line of a script that is read as a whole prints nothing, if the rest prints nothing.
 goes-silent : (next : Option ScriptReading) (lines : List Line) (line : Line) (met : ℕ) (opened : ScriptReading) (text here more : List ℕ)
     → ((world : ScriptReading) (left : List ℕ) → Prints reading_rules (met + 1) world lines left Whole → left ≡ [])
-    → text ≡ here ++ more → ReadSteps opened (said line) here next
+    → text ≡ here ++ more → ReadSteps opened (line_content line) here next
     → MatchOption next ((more ≡ []) × (Whole ≡ Ended)) (λ world. Prints reading_rules (met + 1) world lines more Whole)
     → text ≡ []
 goes-silent None lines line met opened text here more later cut step rest = let ends : Whole ≡ Ended = rest.1 in cc
 goes-silent (Some world) lines line met opened text here more later cut step rest =
-    let first : here ≡ [] = steps-silent_by (is_silent (words_of (said line))) opened (said line) here (Some world) world refl step in
+    let first : here ≡ [] = steps-silent_by (is_silent (words_of (line_content line))) opened (line_content line) here (Some world) world refl step in
     cut ∙ ap (λ (t : List ℕ). t ++ more) first ∙ later world more rest
 
 line-silent : (over : Bool) (lines : List Line) (line : Line) (met : ℕ) (opened : ScriptReading) (text : List ℕ)
     → ((world : ScriptReading) (left : List ℕ) → Prints reading_rules (met + 1) world lines left Whole → left ≡ [])
     → MatchBool over ((text ≡ reading_rules.too_long) × (Whole ≡ Ended))
-    ((here : List ℕ) × (more : List ℕ) × (next : Option ScriptReading) × (text ≡ here ++ more) × ReadSteps opened (said line) here next
+    ((here : List ℕ) × (more : List ℕ) × (next : Option ScriptReading) × (text ≡ here ++ more) × ReadSteps opened (line_content line) here next
     × MatchOption next ((more ≡ []) × (Whole ≡ Ended)) (λ world. Prints reading_rules (met + 1) world lines more Whole))
     → text ≡ []
-line-silent true lines line met opened text later told = let ends : Whole ≡ Ended = told.1 in cc
+line-silent true lines line met opened text later printed = let ends : Whole ≡ Ended = printed.1 in cc
 line-silent false lines line met opened text later (here, more, next, cut, step, rest) =
     goes-silent next lines line met opened text here more later cut step rest
 
 -- The reading of a whole script prints nothing.
 whole-silent : (lines : List Line) (met : ℕ) (opened : ScriptReading) (text : List ℕ)
     → Prints reading_rules met opened lines text Whole → text ≡ []
-whole-silent [] met opened text told = closes-silent opened.opened text told
-whole-silent (line ∷ lines) met opened text told =
-    line-silent (is_over met line) lines line met opened text (λ world left. whole-silent lines (met + 1) world left) told
+whole-silent [] met opened text printed = closes-silent opened.opened text printed
+whole-silent (line ∷ lines) met opened text printed =
+    line-silent (is_over met line) lines line met opened text (λ world left. whole-silent lines (met + 1) world left) printed
 
 pub reading-silent : (octets text : List ℕ) → IsReadingText octets text Whole → text ≡ []
-reading-silent octets text told = whole-silent (lines_of octets) 0 unread text told
+reading-silent octets text printed = whole-silent (lines_of octets) 0 unread text printed
 
 -- The line that opens a card leads to a reading with its shape and the same lines.
 opens-words : (reading next : ScriptReading) (line text : List ℕ) (shape : Shape) → text ≡ [] → next ≡ record reading { opened = true; shape = shape }

@@ -32,9 +32,9 @@ use Rattle.upc_ports.specs.ScriptAnswers.{AnswersEach}
 
 -- The desk may refuse a command with this fault.
 refuses : (command : Command) (names : List Id) (fault : DeskFault) (text : List ℕ) → MayReply command (reply.Refused fault)
-    → reply_text command (length names) (reply.Refused fault) ≡ Some text → (told : List ℕ) × Replies command names told names
-refuses command names fault text possible told =
-    (text, record { reply = reply.Refused fault; possible = possible; named = sym (append-nil names); told = told })
+    → reply_text command (length names) (reply.Refused fault) ≡ Some text → (printed : List ℕ) × Replies command names printed names
+refuses command names fault text possible printed =
+    (text, record { reply = reply.Refused fault; possible = possible; named = sym (append-nil names); printed = printed })
 
 -- The lines of two of its faults.
 abbrev no_program : List ℕ
@@ -51,7 +51,7 @@ named-some command names (Some id) some = some
 reading-some : (digits : List ℕ) (names : List Id) (reading : ProgramReading) → (text : List ℕ) × RepliesToReading digits reading names text names
 reading-some digits names (is_program code) = (
   line (codes "fault desk " ++ codes "6 ProgramsFull"),
-  record { reply = reply.NotLoaded ProgramsFull code; possible = refl; named = sym (append-nil names); told = refl },
+  record { reply = reply.NotLoaded ProgramsFull code; possible = refl; named = sym (append-nil names); printed = refl },
 )
 reading-some digits names (is_refused fault) = (fault, (refl, refl))
 
@@ -60,14 +60,14 @@ load-some : (digits : List ℕ) (names : List Id) (found : Option (List ℕ))
 load-some digits names None = (bad_hex, (refl, refl))
 load-some digits names (Some octets) =
     let reading = reads-as octets in
-    let told = reading-some digits names reading.0 in (told.0, (reading.0, reading.1, told.1))
+    let printed = reading-some digits names reading.0 in (printed.0, (reading.0, reading.1, printed.1))
 
 setup-some : (vc : Vc) (number : ℕ) (wanted : List Wanted) (names : List Id) (fault : Option GcraFault)
     → (text : List ℕ) × MatchOption fault (RepliesToNamed (setup vc number wanted) number names text names) (λ f. Refuses (gcra_fault f) names text names)
 setup-some vc number wanted names None =
     named-some (setup vc number wanted) names (program_named names number) (
       line (codes "set " ++ connection_name vc),
-      record { reply = reply.SetUp (record { vc = vc; incarnation = 0 }); possible = refl; named = sym (append-nil names); told = refl },
+      record { reply = reply.SetUp (record { vc = vc; incarnation = 0 }); possible = refl; named = sym (append-nil names); printed = refl },
     )
 setup-some vc number wanted names (Some fault) = (gcra_fault fault, (refl, refl))
 
@@ -88,7 +88,7 @@ cell-some : (side : Side) (all : List Id) (octets : List ℕ) (moment : ℕ) (is
     → (text : List ℕ) × MatchBool is_cell (MayAnswerCell side all octets moment text nothing) (Faults (wrong_length (length octets)) text nothing)
 cell-some side all octets moment true = (
   line (codes "fault arrive " ++ codes "1 NoConnection"),
-  record { answer = NoConnectionAnswer; possible = record { judged = tt; blames = tt }; told = refl; counted = refl },
+  record { answer = NoConnectionAnswer; possible = record { judged = tt; blames = tt }; printed = refl; counted = refl },
 )
 cell-some side all octets moment false = (wrong_length (length octets), (refl, refl))
 
@@ -98,11 +98,11 @@ digits-some side all moment None = (bad_hex, (refl, refl))
 digits-some side all moment (Some octets) = cell-some side all (cell_of_octets octets) moment (length (cell_of_octets octets) == 52)
 
 obeyed-some : (command : Command) (names : List Id) → (text : List ℕ) × (MayObey command names text names × (nothing ≡ nothing))
-obeyed-some command names = let told = obey-some command names in (told.0, (told.1, refl))
+obeyed-some command names = let printed = obey-some command names in (printed.0, (printed.1, refl))
 
 command-some : (side : Side) (all : List Id) (names : List Id) (command : Command)
     → (text : List ℕ) × MayAnswerCommand side all command names text names nothing
-command-some side all names (cell moment digits) = let told = digits-some side all moment (octets_of_digits digits) in (told.0, (told.1, refl))
+command-some side all names (cell moment digits) = let printed = digits-some side all moment (octets_of_digits digits) in (printed.0, (printed.1, refl))
 command-some side all names (load digits) = obeyed-some (load digits) names
 command-some side all names (retire number) = obeyed-some (retire number) names
 command-some side all names (setup vc number wanted) = obeyed-some (setup vc number wanted) names
@@ -117,14 +117,14 @@ line-some side all names (Some command) = command-some side all names command
 
 each-some : (side : Side) (all : List Id) (names : List Id) (lines : List (List ℕ)) → (text : List ℕ) × AnswersEach side all lines names text names nothing
 each-some side all names [] = ([], (refl, refl, refl))
-each-some side all names (said ∷ lines) =
-    let here = line-some side all names (command_of side (words_of said)) in
+each-some side all names (line_content ∷ lines) =
+    let here = line-some side all names (command_of side (words_of line_content)) in
     let later = each-some side all names lines in (here.0 ++ later.0, (here.0, later.0, names, nothing, nothing, refl, refl, here.1, later.1))
 
 -- A card of any shape has a text for any lines.
 pub some-card : (shape : Shape) (lines : List (List ℕ)) → (text : List ℕ) × IsCardText shape lines text Whole
 some-card shape lines =
-    let told = each-some shape.side [] [] lines in (
-      codes "ready\n" ++ told.0 ++ closing_text nothing None,
-      record { answers = told.0; counts = nothing; each = ([], told.1); uneven = None; within = tt; whole = refl; ends = refl },
+    let printed = each-some shape.side [] [] lines in (
+      codes "ready\n" ++ printed.0 ++ closing_text nothing None,
+      record { answers = printed.0; counts = nothing; each = ([], printed.1); uneven = None; within = tt; whole = refl; ends = refl },
     )

@@ -8,7 +8,7 @@ use Rattle.port_card.specs.Seats.{counts_after}
 use Rattle.gen_arena.specs.declared.id.Id.{Id}
 use Rattle.upc_cell.specs.Connection.{vc_of}
 use Rattle.upc_cell.specs.declared.side.Side.{Side}
-use Rattle.card_core.specs.Sections.{told}
+use Rattle.card_core.specs.Sections.{judgement_in}
 use Rattle.card_core.specs.declared.answer.Answer.{Answer}
 use Rattle.card_core.specs.declared.fault.DeskFault.TheVariants.{ProgramsFull}
 use Rattle.card_core.specs.declared.reply.Reply.{Reply}
@@ -54,7 +54,7 @@ pub record Replies (command : Command) (names : List Id) (text : List ℕ) (name
   pub reply : Reply
   pub possible : MayReply command reply
   pub named : names' ≡ names ++ loaded_id reply
-  pub told : reply_text command (length names) reply ≡ Some text
+  pub printed : reply_text command (length names) reply ≡ Some text
 
 -- The program is loaded or refused by the desk, or the answer is the fault line of its octets.
 abbrev pub RepliesToReading : List ℕ → ProgramReading → List Id → List ℕ → List Id → Type 0
@@ -87,12 +87,12 @@ MayObey (cell moment digits) names text names' = Refuses bad_line names text nam
 -- A cell of these octets that arrived at this moment may have this answer: a judged cell leaves as its verdict requires,
 -- and the moment is the error only if it is too late or goes back.
 pub record MayAnswer (octets : List ℕ) (moment : ℕ) (answer : Answer) : Type 0 where
-  pub judged : IfSome (told answer) (IsJudgedAnswer octets moment)
+  pub judged : IfSome (judgement_in answer) (IsJudgedAnswer octets moment)
   pub blames : BlamesRightly moment answer
 
 -- The counts of an answer: one cell with its verdict if the cell is judged, otherwise none.
 abbrev pub counts_of : Answer → Tally
-counts_of answer = counts_after nothing (told answer)
+counts_of answer = counts_after nothing (judgement_in answer)
 
 -- The text is the line of an answer that the cell may have, on the connection of its own header. `all` are the ids of
 -- all programs that the script loads; a judged cell's program has a name only if it is one of these. The counts are those of
@@ -100,7 +100,7 @@ counts_of answer = counts_after nothing (told answer)
 pub record MayAnswerCell (side : Side) (all : List Id) (octets : List ℕ) (moment : ℕ) (text : List ℕ) (counts : Tally) : Type 0 where
   pub answer : Answer
   pub possible : MayAnswer octets moment answer
-  pub told : answer_text all (vc_of side octets) answer ≡ Some text
+  pub printed : answer_text all (vc_of side octets) answer ≡ Some text
   pub counted : counts ≡ counts_of answer
 
 -- The answer is this fault, and no cell is counted.

@@ -2,9 +2,10 @@
 pub mod ReadingLaws
 pub mod Reading
 pub mod FirstLines
-pub mod Told
+pub mod Answered
 pub mod Arrivals
 pub mod DeskTexts
 pub mod AtOnce
 pub mod InOrder
+pub mod Rest
 pub mod Script

@@ -6,7 +6,7 @@ ghost use Rattle.line_record.specs.Tally.{nothing};
 ghost use Rattle.port_card.specs.Seats.{tally_of_seat};
 ghost use Rattle.upc_ports.specs.inner.AtOnce.{KeepsPromise};
 ghost use Rattle.upc_ports.specs.inner.Arrivals.{AnswersPort};
-ghost use Rattle.upc_ports.specs.inner.DeskTexts.{TellsEach};
+ghost use Rattle.upc_ports.specs.inner.DeskTexts.{ObeysEach};
 
 use crate::busy_ports::BusyPort;
 use crate::port_arrivals::arrive_from_each;
@@ -39,7 +39,7 @@ type Running<'a, 'l, S> = PromisedHandle<Result<BusyPort<S>, AllocError>, Answer
 #[derive(Drop)]
 pub struct AtOnce<S: Ledgers> {
     pub ports: Vec<BusyPort<S>>,
-    pub told: Vec<Vec<u8>>,
+    pub desk_texts: Vec<Vec<u8>>,
     pub desk: ScriptDesk<S>,
 }
 
@@ -127,8 +127,8 @@ fn run_in<'s, 'e: 's, 'l: 'e, S: Ledgers + Send + Sync, G: Gate + Sync, R: Threa
 ) -> Result<AtOnce<S>, AllocError>
     ensures ports { IfOk result (λ done. AllZip (AnswersPort card.now.side) (map (λ job. map (λ line. line.now) job.lines.now) jobs.entry.items)
         (map (λ port. port.arrivals.items) done.ports.items)) }
-    ensures desk { IfOk result (λ done. TellsEach card.now.side (map (λ line. line.now) lines.now)
-        desk.names (map (λ text. text.items) done.told.items) done.desk.names) }
+    ensures desk { IfOk result (λ done. ObeysEach card.now.side (map (λ line. line.now) lines.now)
+        desk.names (map (λ text. text.items) done.desk_texts.items) done.desk.names) }
 {
     let mut desk = desk;
     let alloc = desk.alloc;
@@ -137,11 +137,11 @@ fn run_in<'s, 'e: 's, 'l: 'e, S: Ledgers + Send + Sync, G: Gate + Sync, R: Threa
     let side = card.side();
     match start_ports(scope, rt, alloc, card, side, gate, jobs, running) {
         Ok(running) => {
-            let told = answer_each(rt, card, &mut desk, lines);
+            let desk_texts = answer_each(rt, card, &mut desk, lines);
             let ports = join_ports(rt, running, ended)?;
             Ok(AtOnce {
                 ports,
-                told: told?,
+                desk_texts: desk_texts?,
                 desk,
             })
         }
@@ -173,8 +173,8 @@ pub fn run_at_once<'l, S: Ledgers + Send + Sync, G: Gate + Sync, R: Threads + Wa
     requires unused { All (λ seat. tally_of_seat seat ≡ nothing) seats.items }
     ensures ports { IfOk result (λ done. AllZip (AnswersPort card.now.side) (map (λ own. map (λ line. line.now) own.items) arrivals.now)
         (map (λ port. port.arrivals.items) done.ports.items)) }
-    ensures desk { IfOk result (λ done. TellsEach card.now.side (map (λ line. line.now) lines.now)
-        desk.names (map (λ text. text.items) done.told.items) done.desk.names) }
+    ensures desk { IfOk result (λ done. ObeysEach card.now.side (map (λ line. line.now) lines.now)
+        desk.names (map (λ text. text.items) done.desk_texts.items) done.desk.names) }
 {
     let jobs = jobs_of(alloc, seats, arrivals)?;
     thread::scope(thread::scope_env(), rt, |scope| {

@@ -2,9 +2,9 @@
 
 ghost use Rattle.std.specs.Prelude.{◌≡◌, IfOk, map};
 ghost use Rattle.port_card.specs.Seats.{tally_of_seat};
-ghost use Rattle.upc_ports.specs.inner.Told.{cells_counts};
+ghost use Rattle.upc_ports.specs.inner.Answered.{cells_counts};
 
-use crate::told::ToldCell;
+use crate::answered::AnsweredCell;
 use port_card::{Ledgers, PortSeat};
 use std::alloc::{AllocError, Global};
 
@@ -12,7 +12,7 @@ use std::alloc::{AllocError, Global};
 #[derive(Drop)]
 pub struct BusyPort<S: Ledgers> {
     pub seat: PortSeat<S>,
-    pub arrivals: Vec<ToldCell>,
+    pub arrivals: Vec<AnsweredCell>,
     ghost counted: { tally_of_seat seat ≡ cells_counts arrivals.items },
 }
 

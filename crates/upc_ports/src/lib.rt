@@ -6,6 +6,7 @@
 //! answers are written in the script's order, after all have ended.
 #![tactic(auto)]
 
+mod answered;
 mod at_once;
 mod busy_ports;
 mod closing_lines;
@@ -14,8 +15,8 @@ pub mod laws;
 mod port_arrivals;
 mod port_job;
 mod ports;
+mod rest;
 mod script;
 mod script_desk;
-mod told;
 
 pub use ports::{run_ports, run_ports_with};

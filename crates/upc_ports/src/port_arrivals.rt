@@ -3,12 +3,12 @@
 ghost use Rattle.std.specs.Prelude.{◌≡◌, ◌++◌, IfOk, OnOk, map, option_to_list};
 ghost use Rattle.line_record.specs.Tally.{plus};
 ghost use Rattle.port_card.specs.Seats.{tally_of_seat};
-ghost use Rattle.upc_ports.specs.inner.Told.{told_counts};
-ghost use Rattle.upc_ports.specs.inner.Arrivals.{AnswersPort, IsToldFrom};
+ghost use Rattle.upc_ports.specs.inner.Answered.{stored_counts};
+ghost use Rattle.upc_ports.specs.inner.Arrivals.{AnswersPort, IsStoredFrom};
 
+use crate::answered::{AnsweredCell, answered_cell};
 use crate::busy_ports::BusyPort;
 use crate::port_job::PortJob;
-use crate::told::{ToldCell, told_cell};
 use port_card::{Card, Gate, Ledgers, PortSeat};
 use std::alloc::{AllocError, Global};
 use std::sync::Wait;
@@ -25,26 +25,29 @@ fn arrive_from<S: Ledgers, G: Gate, R: Wait>(
     side: Side,
     line: &[u8],
     gate: &G,
-) -> Result<Option<ToldCell>, AllocError>
-    ensures told { IfOk result (IsToldFrom side line.now) }
-    ensures counted { IfOk result (λ told. tally_of_seat seat.new ≡ plus (tally_of_seat seat.old) (told_counts told)) }
+) -> Result<Option<AnsweredCell>, AllocError>
+    ensures stored { IfOk result (IsStoredFrom side line.now) }
+    ensures counted { IfOk result (λ stored. tally_of_seat seat.new ≡ plus (tally_of_seat seat.old) (stored_counts stored)) }
 {
     match read_cell_line(alloc, side, line)? {
         CellLine::Comes(moment, cell) => {
             let answer = card.arrive(rt, seat, &cell, moment, gate);
-            Ok(Some(told_cell(&cell, &answer)))
+            Ok(Some(answered_cell(&cell, &answer)))
         }
         CellLine::IsFaulty(_) => Ok(None),
     }
 }
 
 /// Adds what is stored of a line.
-fn add_told(arrivals: &mut Vec<ToldCell>, told: Option<ToldCell>) -> Result<(), AllocError>
-    ensures { OnOk result (arrivals.new.items ≡ arrivals.old.items ++ option_to_list told) }
+fn add_stored(
+    arrivals: &mut Vec<AnsweredCell>,
+    stored: Option<AnsweredCell>,
+) -> Result<(), AllocError>
+    ensures { OnOk result (arrivals.new.items ≡ arrivals.old.items ++ option_to_list stored) }
 {
-    match told {
-        Some(told) => {
-            arrivals.push(told)?;
+    match stored {
+        Some(stored) => {
+            arrivals.push(stored)?;
             Ok(())
         }
         None => Ok(()),
@@ -65,8 +68,8 @@ pub fn arrive_from_each<S: Ledgers, G: Gate, R: Wait>(
     let PortJob { mut seat, lines } = job;
     let mut arrivals = Vec::with_capacity(alloc, lines.len())?;
     for line in lines {
-        let told = arrive_from(rt, alloc, card, &mut seat, side, line, gate)?;
-        add_told(&mut arrivals, told)?;
+        let stored = arrive_from(rt, alloc, card, &mut seat, side, line, gate)?;
+        add_stored(&mut arrivals, stored)?;
     }
     Ok(BusyPort { seat, arrivals })
 }

@@ -17,6 +17,7 @@ use crate::at_once::{AtOnce, run_at_once};
 use crate::busy_ports::seats_of;
 use crate::closing_lines::{add_closing, done_after};
 use crate::in_order::add_in_order;
+use crate::rest::all_unprinted;
 use crate::script::Script;
 use crate::script_desk::ScriptDesk;
 use port_card::{Blanks, Card, Closing, Gate, Ledgers, NoWait, PortSeat};
@@ -74,18 +75,15 @@ fn answer_later<S: Ledgers + Send + Sync, G: Gate + Sync, R: Threads + Wait + Sy
         order,
         desk: desk_lines,
         arrivals,
+        lengths,
     } = deal_lines(alloc, side, lines, seats.len())?;
-    let AtOnce { ports, told, desk } = run_at_once(
-        rt,
-        alloc,
-        card,
-        gate,
-        seats,
-        &arrivals,
+    let AtOnce {
+        ports,
+        desk_texts,
         desk,
-        &desk_lines,
-    )?;
-    add_in_order(side, &order, &ports, &told, &desk.names, answers)?;
+    } = run_at_once(rt, alloc, card, gate, seats, &arrivals, desk, &desk_lines)?;
+    let rest = all_unprinted(alloc, &ports, &desk_texts, &lengths)?;
+    add_in_order(side, &order, &desk.names, rest, answers)?;
     seats_of(alloc, ports)
 }
 

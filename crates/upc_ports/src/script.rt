@@ -11,18 +11,21 @@ use std::mem::replace;
 use text_io::{Done, Machine, Turn};
 use upc_card_lines::{add_no_card, add_shape_fault, read_card};
 use upc_cell::Side;
-use upc_script::{after_command, asking_word};
+use upc_script::asking_word;
 use upc_words::add_too_long;
 
-/// Returns whether the line has no words or is a comment. A cell line in most cases needs no search for its words.
+/// Returns whether the line has no words or is a comment. Only a line that begins with a blank needs a search for its first word.
 #[inline(always)]
 fn is_silent(line: &[u8]) -> bool
     ensures { result ≡ is_silent (words_of line.now) }
 {
-    match after_command(line) {
-        Some(_) => false,
-        None => asking_word(line).is_none(),
+    let [first, ..] = line else {
+        return true;
+    };
+    if *first == b' ' || *first == b'\t' {
+        return asking_word(line).is_none();
     }
+    *first == b'#'
 }
 
 /// The state of the reading of a script.

@@ -227,7 +227,7 @@ impl<S: Ledgers> ScriptDesk<S> {
 }
 
 ghost use Rattle.std.specs.Prelude.{IfOk, map};
-ghost use Rattle.upc_ports.specs.inner.DeskTexts.{TellsEach};
+ghost use Rattle.upc_ports.specs.inner.DeskTexts.{ObeysEach};
 
 /// Answers the desk's lines, one by one. Each has a text of its own.
 pub fn answer_each<S: Ledgers, R: Wait>(
@@ -236,14 +236,14 @@ pub fn answer_each<S: Ledgers, R: Wait>(
     desk: &mut ScriptDesk<S>,
     lines: &[&[u8]],
 ) -> Result<Vec<Vec<u8>>, AllocError>
-    ensures { IfOk result (λ told. TellsEach card.now.side (map (λ line. line.now) lines.now)
-        desk.old.names (map (λ text. text.items) told.items) desk.new.names) }
+    ensures { IfOk result (λ desk_texts. ObeysEach card.now.side (map (λ line. line.now) lines.now)
+        desk.old.names (map (λ text. text.items) desk_texts.items) desk.new.names) }
 {
-    let mut told = Vec::new(desk.alloc);
+    let mut desk_texts = Vec::new(desk.alloc);
     for line in lines {
         let mut text = Vec::new(desk.alloc);
         desk.answer(rt, card, line, &mut text)?;
-        told.push(text)?;
+        desk_texts.push(text)?;
     }
-    Ok(told)
+    Ok(desk_texts)
 }

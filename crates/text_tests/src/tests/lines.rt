@@ -159,8 +159,8 @@ fn each_failure_of_a_run_has_its_text(rt: HostRuntime) -> Result<(), Fail> {
         (RunFault::WriteFailed, "writing failed"),
         (RunFault::NoMemory, "out of memory"),
     ] {
-        let told = format!(in rt.alloc(); "{fault}")?;
-        assert_eq!(rt; told.as_str(), text);
+        let printed = format!(in rt.alloc(); "{fault}")?;
+        assert_eq!(rt; printed.as_str(), text);
     }
     Ok(())
 }

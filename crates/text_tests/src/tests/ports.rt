@@ -122,8 +122,8 @@ fn cells_are_dealt_by_the_path_of_the_cards_side(rt: HostRuntime) -> Result<(), 
         let gate = Remembering {
             port: AtomicU64::new(0),
         };
-        let (told, _) = printed(&rt, rt.alloc(), script, &gate)?;
-        assert_eq!(rt; told.as_slice(), text);
+        let (text_printed, _) = printed(&rt, rt.alloc(), script, &gate)?;
+        assert_eq!(rt; text_printed.as_slice(), text);
         assert_eq!(rt; gate.port.load(Ordering::SeqCst), port);
     }
     Ok(())

@@ -20,8 +20,8 @@ abbrev pub MayObeyLine : Side → List (List ℕ) → List Id → List ℕ → L
 MayObeyLine side words names text names' = MayObeySeen (command_of side words) names text names'
 
 -- One text for each line of the desk, in order.
-abbrev pub TellsEach : Side → List (List ℕ) → List Id → List (List ℕ) → List Id → Type 0
-TellsEach side [] names [] names' = names' ≡ names
-TellsEach side (line ∷ lines) names (text ∷ texts) names' =
-    (next : List Id) × MayObeyLine side (words_of line) names text next × TellsEach side lines next texts names'
-TellsEach side _ names _ names' = ⊥
+abbrev pub ObeysEach : Side → List (List ℕ) → List Id → List (List ℕ) → List Id → Type 0
+ObeysEach side [] names [] names' = names' ≡ names
+ObeysEach side (line ∷ lines) names (text ∷ texts) names' =
+    (next : List Id) × MayObeyLine side (words_of line) names text next × ObeysEach side lines next texts names'
+ObeysEach side _ names _ names' = ⊥

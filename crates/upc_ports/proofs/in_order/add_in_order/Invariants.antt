@@ -1,10 +1,12 @@
--- The texts of the answerers so far were appended.
-use Rattle.std.proofs.Common.{map, take}
+-- The texts of the answerers so far were appended, and the others aren't printed yet.
+use Rattle.std.proofs.Common.{◌≡◌, take}
 use Rattle.text_io.specs.Devices.{Adds}
-use Rattle.upc_ports.specs.inner.InOrder.{AllTell}
+use Rattle.upc_ports.specs.inner.InOrder.{AllPrint, after_all}
+use Rattle.upc_ports.specs.inner.Rest.{unprinted}
 use Rattle.upc_ports.proofs.in_order.add_in_order.Given as goal
 
 abbrev pub invariant-loop-answerer : goal.invariant-loop-answerer
-invariant-loop-answerer g l =
-    Adds (AllTell l.side l.names (map (λ port. port.arrivals.items) l.ports) (map (λ text. text.items) l.told) (take l.answerer-index l.order))
-    l.fn.answers.items l.answers.items
+invariant-loop-answerer l = record {
+  added : Adds (AllPrint l.side l.names (unprinted l.fn.rest) (take l.answerer-index l.order)) l.fn.answers.items l.answers.items;
+  rest : unprinted l.rest ≡ after_all (take l.answerer-index l.order) (unprinted l.fn.rest);
+}

@@ -19,10 +19,10 @@ returns-in-Err g c =
     c.in_ok-octets.ensures ∙ ap (λ found. option_map (λ octets. octets.items) found) c.in-Some.is ∙ ap Some (sym c.deref.ensures.value) in
     let found = subst (λ code. Finds (ReadsAs c.deref.result.now) (option_map (λ code. code.items) code) c.args.answers.now.items c.read_code.new.answers.items) c.in-Some-2.is c.in_ok-code.ensures.found in
     on_ok_weaker c.add_desk_fault.result (λ added.
-    let told = adds-some _ _ _ added in
+    let printed = adds-some _ _ _ added in
     load-reply digits c.deref.result.now c.in-Some-2.code.items names names _ _ spelled found.0
-    (replied (load digits) (NotLoaded c.in-Err.fault c.in-Err.field-0-1) names told.0 _ _ c.in-Err.ensures.refused refl told.2
-    (told.1 ∙ ap (λ (t : List ℕ). t ++ told.0) found.1))) c.add_desk_fault.ensures
+    (replied (load digits) (NotLoaded c.in-Err.fault c.in-Err.field-0-1) names printed.0 _ _ c.in-Err.ensures.refused refl printed.2
+    (printed.1 ∙ ap (λ (t : List ℕ). t ++ printed.0) found.1))) c.add_desk_fault.ensures
 
 pub returns : goal.returns
 returns g c =

@@ -9,8 +9,8 @@ use Rattle.upc_ports.proofs.script_desk.ScriptDesk.release.Goals as goal
 pub returns-in-Err : goal.returns-in-Err
 returns-in-Err g c =
     on_ok_weaker c.add_desk_fault.result (λ added.
-    let told = adds-some _ _ _ added in
-    replied (release c.args.vc) (Refused c.in-Err.fault) c.args.self.now.names told.0 _ _ c.in-Err.ensures.refused refl told.2 told.1) c.add_desk_fault.ensures
+    let printed = adds-some _ _ _ added in
+    replied (release c.args.vc) (Refused c.in-Err.fault) c.args.self.now.names printed.0 _ _ c.in-Err.ensures.refused refl printed.2 printed.1) c.add_desk_fault.ensures
 
 pub returns : goal.returns
 returns g c =

@@ -11,9 +11,9 @@ returns-in-Err g c =
     let command = reload c.args.vc c.args.number in
     let names = c.args.self.now.names in
     on_ok_weaker c.add_desk_fault.result (λ added.
-    let told = adds-some _ _ _ added in
+    let printed = adds-some _ _ _ added in
     named-reply command c.args.number c.in-Some.program names names _ _ (sym c.named.ensures ∙ c.in-Some.is)
-    (replied command (Refused c.in-Err.fault) names told.0 _ _ c.in-Err.ensures refl told.2 told.1)) c.add_desk_fault.ensures
+    (replied command (Refused c.in-Err.fault) names printed.0 _ _ c.in-Err.ensures refl printed.2 printed.1)) c.add_desk_fault.ensures
 
 pub returns : goal.returns
 returns g c =

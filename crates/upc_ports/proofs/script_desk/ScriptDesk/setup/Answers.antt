@@ -12,10 +12,10 @@ returns-in-Err-setup g c =
     let command = setup c.args.vc c.args.number wanted in
     let names = c.args.self.now.names in
     on_ok_weaker c.add_desk_fault.result (λ added.
-    let told = adds-some _ _ _ added in
+    let printed = adds-some _ _ _ added in
     setup-reply c.args.vc c.args.number wanted names names _ _ c.in-Ok.ensures.sound
     (named-reply command c.args.number c.in-Some.program names names _ _ (sym c.named.ensures ∙ c.in-Some.is)
-    (replied command (NotSetUp c.in-Err-setup.fault c.in-Err-setup.field-0-1) names told.0 _ _ c.in-Err-setup.ensures.refused refl told.2 told.1))) c.add_desk_fault.ensures
+    (replied command (NotSetUp c.in-Err-setup.fault c.in-Err-setup.field-0-1) names printed.0 _ _ c.in-Err-setup.ensures.refused refl printed.2 printed.1))) c.add_desk_fault.ensures
 
 pub returns : goal.returns
 returns g c =

@@ -14,7 +14,7 @@ use Rattle.upc_cell.specs.declared.side.Side.TheVariants.{Uni, Nni}
 use Rattle.upc_cell.specs.declared.vc.Vc.{Vc}
 use Rattle.line_record.specs.Tally.{nothing}
 use Rattle.line_record.specs.declared.tally.Tally.{Tally}
-use Rattle.card_core.specs.Sections.{told}
+use Rattle.card_core.specs.Sections.{judgement_in}
 use Rattle.card_core.specs.Steps.{cell_after}
 use Rattle.card_core.specs.declared.answer.Answer.{Answer}
 use Rattle.card_core.specs.declared.answer.Answer.TheVariants.{Judged, NoConnection, Released, Stale, MomentTooLate, MomentBack, JournalFull, NoMemory}
@@ -30,12 +30,12 @@ use Rattle.upc_ports.specs.LineAnswers.{Faults, MayAnswerCommand, MayAnswerLine,
 use Rattle.upc_dealing.specs.declared.cell_line.CellLineFault.{CellLineFault}
 use Rattle.upc_dealing.specs.declared.cell_line.CellLineFault.TheVariants.{BadLine, BadHex, WrongLength}
 use Rattle.upc_dealing.specs.declared.cell_line.CellLine.TheVariants.{IsFaulty}
-use Rattle.upc_ports.specs.declared.told.ToldCell.{ToldCell}
-use Rattle.upc_ports.specs.inner.Arrivals.{AnswersPort, HasCell, IsToldFrom, IsStoredOf}
-use Rattle.upc_dealing.specs.CellLine.{IsCellLine, fault_text}
+use Rattle.upc_ports.specs.declared.answered.AnsweredCell.{AnsweredCell}
+use Rattle.upc_ports.specs.inner.Arrivals.{AnswersPort, HasCell, IsStoredFrom, IsStoredOf}
+use Rattle.upc_dealing.specs.CellLine.{IsCellLine}
 use Rattle.upc_dealing.specs.Dealing.{is_cell_line}
-use Rattle.upc_ports.specs.inner.InOrder.{TellsCell}
-use Rattle.upc_ports.specs.inner.Told.{answer_kept, cell_counts, header_of, ruled, shown_cell}
+use Rattle.upc_ports.specs.inner.InOrder.{PrintsCell}
+use Rattle.upc_ports.specs.inner.Answered.{answer_kept, cell_counts, header_of, ruled, shown_cell}
 use Rattle.upc_ports.proofs.CountsLemmas.{same-counts}
 use Rattle.upc_ports.proofs.DeskLemmas.{bad-cell}
 
@@ -60,7 +60,7 @@ same-judged (a ∷ b ∷ []) whole verdict judging = absurd (omega (arith, whole
 same-judged (a ∷ b ∷ c ∷ []) whole verdict judging = absurd (omega (arith, whole))
 same-judged (a ∷ b ∷ c ∷ d ∷ rest) whole verdict judging = same-verdict verdict judging a b c d rest
 
-same-answer : (all : List Id) (vc : Vc) (octets : List ℕ) (moment : ℕ) → length octets ≡ 52 → (answer : Answer) → IfSome (told answer) (IsJudgedAnswer octets moment)
+same-answer : (all : List Id) (vc : Vc) (octets : List ℕ) (moment : ℕ) → length octets ≡ 52 → (answer : Answer) → IfSome (judgement_in answer) (IsJudgedAnswer octets moment)
     → answer_text all vc (answer_kept (shown_cell (header_of octets)) (ruled answer)) ≡ answer_text all vc answer
 same-answer all vc octets moment whole (Judged line number when value program verdict leaving) judged =
     let judging = judging_text vc (number_of_program all program) value in
@@ -72,6 +72,12 @@ same-answer all vc octets moment whole MomentTooLate judged = refl
 same-answer all vc octets moment whole (MomentBack last) judged = refl
 same-answer all vc octets moment whole JournalFull judged = refl
 same-answer all vc octets moment whole NoMemory judged = refl
+
+-- The answer to a cell line without a cell.
+abbrev pub fault_text : CellLineFault → List ℕ
+fault_text BadLine = bad_line
+fault_text BadHex = bad_hex
+fault_text (WrongLength count) = wrong_length count
 
 -- A line whose command is a cell of 52 octets.
 polices-line : (side : Side) (all names : List Id) (words : List (List ℕ)) (moment : ℕ) (digits octets here : List ℕ) (text : List ℕ) (counts : Tally)
@@ -86,20 +92,20 @@ polices-line side all names words moment digits octets here text counts is spell
     subst (λ (found : Option Command). MatchOption found (Refuses bad_line names text names × (counts ≡ nothing)) (λ command. MayAnswerCommand side all command names text names counts))
     (sym is) (of_digits, refl)
 
-pub told-answered : (side : Side) (all names : List Id) (line : List ℕ) (one : ToldCell) (text : List ℕ) → IsStoredOf side line one
-    → TellsCell side all (Some one) text → MayAnswerLine side all (words_of line) names text names (cell_counts one)
-told-answered side all names line one text is tells =
+pub stored-answered : (side : Side) (all names : List Id) (line : List ℕ) (one : AnsweredCell) (text : List ℕ) → IsStoredOf side line one
+    → PrintsCell side all (Some one) text → MayAnswerLine side all (words_of line) names text names (cell_counts one)
+stored-answered side all names line one text is prints =
     let digits = is.brings.0 in
     let word = is.brings.2 in
     let shown = shown_cell (header_of is.cell) in
-    let tells' : answer_text all (vc_of side shown) (answer_kept shown (ruled is.answer)) ≡ Some text =
-    subst (λ (t : ToldCell). answer_text all (vc_of side (shown_cell t.header)) (answer_kept (shown_cell t.header) t.told) ≡ Some text) is.kept tells in
+    let prints' : answer_text all (vc_of side shown) (answer_kept shown (ruled is.answer)) ≡ Some text =
+    subst (λ (t : AnsweredCell). answer_text all (vc_of side (shown_cell t.header)) (answer_kept (shown_cell t.header) t.decision) ≡ Some text) is.kept prints in
     polices-line side all names (words_of line) is.moment digits word.0 is.cell text (cell_counts one) is.brings.1 word.1 word.2 word.3
     (record {
       answer = is.answer;
       possible = is.possible;
-      told = sym (same-answer all (vc_of side is.cell) is.cell is.moment word.3 is.answer is.possible.judged)
-          ∙ ap (λ (vc : Vc). answer_text all vc (answer_kept shown (ruled is.answer))) (sym (same-vc side is.cell)) ∙ tells';
+      printed = sym (same-answer all (vc_of side is.cell) is.cell is.moment word.3 is.answer is.possible.judged)
+          ∙ ap (λ (vc : Vc). answer_text all vc (answer_kept shown (ruled is.answer))) (sym (same-vc side is.cell)) ∙ prints';
       counted = ap cell_counts is.kept ∙ same-counts is.cell is.answer;
     })
 
@@ -118,12 +124,17 @@ wrong-answered side all names words moment digits octets count is spelled counte
     (λ command. MayAnswerCommand side all command names (wrong_length count) names nothing))
     (sym is) (of_digits, refl)
 
+-- A line that is no command.
+pub no-command-answered : (side : Side) (all names : List Id) (line : List ℕ) → command_of side (words_of line) ≡ None
+    → MayAnswerLine side all (words_of line) names bad_line names nothing
+no-command-answered side all names line is =
+    subst (λ (command : Option Command). MatchOption command (Refuses bad_line names bad_line names × (nothing ≡ nothing)) (λ c. MayAnswerCommand side all c names bad_line names nothing))
+    (sym is) ((refl, refl), refl)
+
 -- A cell line without a cell.
 pub fault-answered : (side : Side) (all names : List Id) (line : List ℕ) (fault : CellLineFault) → is_cell_line (words_of line) ≡ true
     → IsCellLine (command_of side (words_of line)) (IsFaulty fault) → MayAnswerLine side all (words_of line) names (fault_text fault) names nothing
-fault-answered side all names line BadLine is found =
-    subst (λ (command : Option Command). MatchOption command (Refuses bad_line names bad_line names × (nothing ≡ nothing)) (λ c. MayAnswerCommand side all c names bad_line names nothing))
-    (sym (bad-cell side (words_of line) is found)) ((refl, refl), refl)
+fault-answered side all names line BadLine is found = no-command-answered side all names line (bad-cell side (words_of line) is found)
 fault-answered side all names line BadHex is found =
     let spelled = subst (λ (octets : Option (List ℕ)). MatchOption octets (Faults bad_hex bad_hex nothing) (λ xs. MayAnswerOctets side all (cell_of_octets xs) found.0 bad_hex nothing)) (sym found.1.2) (refl, refl) in
     subst (λ (command : Option Command). MatchOption command (Refuses bad_line names bad_hex names × (nothing ≡ nothing)) (λ c. MayAnswerCommand side all c names bad_hex names nothing))
@@ -132,18 +143,18 @@ fault-answered side all names line (WrongLength count) is found =
     wrong-answered side all names (words_of line) found.0 found.1.0 found.1.2.0 count found.1.1 found.1.2.1 found.1.2.2 found.1.2.3
 
 -- One more line of a port, with its stored answer or without a cell.
-pub port-more : (side : Side) (xs : List (List ℕ)) (arrivals : List ToldCell) (line : List ℕ) (one : ToldCell) → AnswersPort side xs arrivals → IsStoredOf side line one
+pub port-more : (side : Side) (xs : List (List ℕ)) (arrivals : List AnsweredCell) (line : List ℕ) (one : AnsweredCell) → AnswersPort side xs arrivals → IsStoredOf side line one
     → AnswersPort side (xs ++ line ∷ []) (arrivals ++ one ∷ [])
 port-more side xs arrivals line one answers is = λ all.
     let parts = All-pop (HasCell side) (xs ++ line ∷ []) xs (Some line) refl all in
     all_zipped_more (IsStoredOf side) xs arrivals line one (answers parts.0) is
 
-pub port-skips : (side : Side) (xs : List (List ℕ)) (arrivals : List ToldCell) (line : List ℕ) → (HasCell side line → ⊥)
+pub port-skips : (side : Side) (xs : List (List ℕ)) (arrivals : List AnsweredCell) (line : List ℕ) → (HasCell side line → ⊥)
     → AnswersPort side (xs ++ line ∷ []) arrivals
 port-skips side xs arrivals line none = λ all.
     let parts = All-pop (HasCell side) (xs ++ line ∷ []) xs (Some line) refl all in absurd (none parts.1)
 
-pub port-next : {X : Type 0} (v : X → List ℕ) (side : Side) (xs : List X) (k : ℕ) (d : X) (arrivals arrivals' : List ToldCell) (one : ToldCell) → k < length xs
+pub port-next : {X : Type 0} (v : X → List ℕ) (side : Side) (xs : List X) (k : ℕ) (d : X) (arrivals arrivals' : List AnsweredCell) (one : AnsweredCell) → k < length xs
     → arrivals' ≡ arrivals ++ one ∷ [] → AnswersPort side (map v (take k xs)) arrivals → IsStoredOf side (v (get_or xs k d)) one
     → AnswersPort side (map v (take (k + 1) xs)) arrivals'
 port-next v side xs k d arrivals arrivals' one within pushed answers is =
@@ -152,7 +163,7 @@ port-next v side xs k d arrivals arrivals' one within pushed answers is =
     subst (λ (zs : List (List ℕ)). AnswersPort side zs arrivals') (sym lines)
     (subst (AnswersPort side (map v (take k xs) ++ v x ∷ [])) (sym pushed) (port-more side (map v (take k xs)) arrivals (v x) one answers is))
 
-pub port-same : {X : Type 0} (v : X → List ℕ) (side : Side) (xs : List X) (k : ℕ) (d : X) (arrivals : List ToldCell) → k < length xs
+pub port-same : {X : Type 0} (v : X → List ℕ) (side : Side) (xs : List X) (k : ℕ) (d : X) (arrivals : List AnsweredCell) → k < length xs
     → (HasCell side (v (get_or xs k d)) → ⊥) → AnswersPort side (map v (take (k + 1) xs)) arrivals
 port-same v side xs k d arrivals within none =
     let x = get_or xs k d in
@@ -173,8 +184,8 @@ faulty-no_cell side line (WrongLength count) found (moment, here, brings) =
     let equal : brings.2.0 ≡ found.1.2.0 = cc in
     found.1.2.3 (sym found.1.2.2 ∙ ap (λ (xs : List ℕ). length (cell_of_octets xs)) (sym equal) ∙ ap length brings.2.2 ∙ brings.2.3)
 
-pub port-step : {X : Type 0} (v : X → List ℕ) (side : Side) (xs : List X) (k : ℕ) (d : X) (arrivals arrivals' : List ToldCell) (found : Option ToldCell) → k < length xs
-    → arrivals' ≡ arrivals ++ option_to_list found → AnswersPort side (map v (take k xs)) arrivals → IsToldFrom side (v (get_or xs k d)) found
+pub port-step : {X : Type 0} (v : X → List ℕ) (side : Side) (xs : List X) (k : ℕ) (d : X) (arrivals arrivals' : List AnsweredCell) (found : Option AnsweredCell) → k < length xs
+    → arrivals' ≡ arrivals ++ option_to_list found → AnswersPort side (map v (take k xs)) arrivals → IsStoredFrom side (v (get_or xs k d)) found
     → AnswersPort side (map v (take (k + 1) xs)) arrivals'
 port-step v side xs k d arrivals arrivals' None within pushed answers is = port-same v side xs k d arrivals' within is
 port-step v side xs k d arrivals arrivals' (Some one) within pushed answers is = port-next v side xs k d arrivals arrivals' one within pushed answers is

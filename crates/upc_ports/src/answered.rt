@@ -1,7 +1,7 @@
 //! The stored part of an answered cell: what the line of the answer shows.
 
 ghost use Rattle.std.specs.Prelude.{◌≡◌};
-ghost use Rattle.upc_ports.specs.inner.Told.{judgement_by, ruled, shown_cell, answered_cell};
+ghost use Rattle.upc_ports.specs.inner.Answered.{judgement_by, ruled, shown_cell, answered_cell};
 
 use card_core::{Answer, Judgement, Unjudged};
 use gen_arena::Id;
@@ -21,10 +21,10 @@ pub struct Ruling {
 
 /// An answered cell.
 #[derive(Clone, Copy)]
-pub struct ToldCell {
+pub struct AnsweredCell {
     /// Octets 0 to 3 of the cell on arrival.
     pub header: [u8; 4],
-    pub told: Result<Ruling, Unjudged>,
+    pub decision: Result<Ruling, Unjudged>,
 }
 
 /// Returns the stored part of the answer: the ruling on a judged cell, or the reason why it isn't judged.
@@ -55,13 +55,13 @@ fn ruled(answer: &Answer) -> Result<Ruling, Unjudged>
 }
 
 /// Returns the stored part of this cell and its answer.
-pub fn told_cell(cell: &Cell, answer: &Answer) -> ToldCell
+pub fn answered_cell(cell: &Cell, answer: &Answer) -> AnsweredCell
     ensures { result ≡ answered_cell cell.now answer.now }
 {
     let octets = cell.bytes();
-    ToldCell {
+    AnsweredCell {
         header: [octets[0], octets[1], octets[2], octets[3]],
-        told: ruled(answer),
+        decision: ruled(answer),
     }
 }
 

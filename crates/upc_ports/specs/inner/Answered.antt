@@ -9,8 +9,8 @@ use Rattle.card_core.specs.declared.answer.Answer.TheVariants.{Judged, NoConnect
 use Rattle.card_core.specs.declared.answer.Judgement.{Judgement}
 use Rattle.card_core.specs.declared.answer.Unjudged.{Unjudged}
 use Rattle.card_core.specs.declared.answer.Unjudged.TheVariants as unjudged
-use Rattle.upc_ports.specs.declared.told.Ruling.{Ruling}
-use Rattle.upc_ports.specs.declared.told.ToldCell.{ToldCell}
+use Rattle.upc_ports.specs.declared.answered.Ruling.{Ruling}
+use Rattle.upc_ports.specs.declared.answered.AnsweredCell.{AnsweredCell}
 
 -- The ruling on a judged cell, or the reason why the cell isn't judged.
 abbrev pub ruled : Answer → Result Ruling Unjudged
@@ -28,8 +28,8 @@ abbrev pub header_of : List ℕ → List ℕ
 header_of cell = slice_index cell 0 ∷ slice_index cell 1 ∷ slice_index cell 2 ∷ slice_index cell 3 ∷ []
 
 -- The stored part of a cell and its answer.
-abbrev pub answered_cell : List ℕ → Answer → ToldCell
-answered_cell cell answer = record { header = header_of cell; told = ruled answer }
+abbrev pub answered_cell : List ℕ → Answer → AnsweredCell
+answered_cell cell answer = record { header = header_of cell; decision = ruled answer }
 
 -- A cell with this header and a payload of zeros. No answer shows a payload.
 abbrev pub shown_cell : List ℕ → List ℕ
@@ -56,14 +56,14 @@ abbrev pub ruling_counts : Result Ruling Unjudged → Tally
 ruling_counts (Ok ruling) = counted nothing ruling.verdict
 ruling_counts (Err reason) = nothing
 
-abbrev pub cell_counts : ToldCell → Tally
-cell_counts cell = ruling_counts cell.told
+abbrev pub cell_counts : AnsweredCell → Tally
+cell_counts cell = ruling_counts cell.decision
 
 -- The counts of what was stored of a line, if anything was.
-abbrev pub told_counts : Option ToldCell → Tally
-told_counts None = nothing
-told_counts (Some cell) = cell_counts cell
+abbrev pub stored_counts : Option AnsweredCell → Tally
+stored_counts None = nothing
+stored_counts (Some cell) = cell_counts cell
 
 -- The counts of several cells.
-abbrev pub cells_counts : List ToldCell → Tally
+abbrev pub cells_counts : List AnsweredCell → Tally
 cells_counts cells = total (map cell_counts cells)
