@@ -53,7 +53,7 @@ def silent():
         return
     for commit in git("log", "--no-merges", "--format=%H", f"{first[0]}..HEAD").split():
         subject, _, body = git("log", "-1", "--format=%s%n%b", commit).partition("\n")
-        diff = git("show", "--format=", "--unified=0", commit, "--", "crates/*/src", "crates/*/specs", "bench/RESULTS.md")
+        diff = git("show", "--format=", "--unified=0", commit, "--", "crates/*/src/*", "crates/*/specs/*", "bench/RESULTS.md")
         lacks = fault(body, changes(diff))
         if lacks:
             yield f"commit {commit[:8]} ({subject}) {lacks}"

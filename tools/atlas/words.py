@@ -7,8 +7,8 @@ from .parts import OTHERS, parts_of
 
 # Words of a question that say nothing of what is asked.
 IDLE = frozenset(
-    "a an and are as at be by can could do does for from get gets happens has have how i in is it its many may me much must my of on or "
-    "per shall should so than that the their them then there they this to was what when where which who why will with would".split()
+    "a an and are as at be by can code could do does for from get gets happens has have how i implemented in is it its many may me much must my of on or "
+    "per shall should so struct than that the their them then there they this to was what when where which who why will with would written".split()
 )
 # Endings, the longest first, and what has to be left of a word without them.
 ENDINGS = re.compile(r"(?<=\w{4})(?:ations?|ments?|ness)$|(?<=\w{3})(?:ings?|ions?|ers?|ors?|ed|ly)$")
