@@ -23,7 +23,7 @@ def row(title, values):
     return [f"    {title if not k else '':<12}{it}" for k, it in enumerate(values)]
 
 
-def said(text):
+def wrapped(text):
     """Returns a sentence in lines."""
     return textwrap.wrap(re.sub(r"\s+", " ", text), 110, initial_indent="    ", subsequent_indent="    ")
 
@@ -41,7 +41,7 @@ def about_function(sources, it):
         *row("clauses", clauses),
         *row("definitions", listed([f"{cited.name} {cited.module.path}:{cited.line}" for cited in sources.cited_by(it)])),
         *row("calls", listed(called)),
-        *row("proof", [sources.proof_of(it) or "found by the prover"]),
+        *row("proof", sources.proof_of(it) or ["found by the prover"]),
         *row("tests", listed(tests)),
         *row("bugs", listed(edits)),
     ]
@@ -56,7 +56,7 @@ def about_definition(sources, it):
     tests = sorted({test.full for function in by[:3] for test in sources.tests_of(function)})
     edits = [f"{edit.name} {edit.where}" for function in by[:3] for edit in sources.edits_of(function) + sources.edits_below(function)]
     clauses = [f"{function.full} {function.path}:{function.line}" for function in by]
-    proofs = [proof for function in by[:3] if (proof := sources.proof_of(function))]
+    proofs = [proof for function in by[:3] for proof in sources.proof_of(function)]
     return [
         *row("promised by", listed(clauses) if clauses else ["no public contract: it only helps"]),
         *row("proof", proofs or ["found by the prover"] if by else []),
@@ -69,11 +69,11 @@ def about(sources, found):
     """Returns the lines of one answer."""
     it = found.it
     if found.kind in ("function", "test"):
-        return [name_of(found), *said(it.sentence), *(about_function(sources, it) if found.kind == "function" else [])]
+        return [name_of(found), *wrapped(it.sentence), *(about_function(sources, it) if found.kind == "function" else [])]
     if found.kind == "definition":
-        return [name_of(found), *said(sentence(it.sentence) if it.sentence else ""), *about_definition(sources, it)]
+        return [name_of(found), *wrapped(sentence(it.sentence) if it.sentence else ""), *about_definition(sources, it)]
     if found.kind in ("page", "declaration", "type", "case"):
-        return [name_of(found), *said(it.text)]
+        return [name_of(found), *wrapped(it.text)]
     if found.kind == "planted bug":
         turned = next((function for function in sources.functions if function.crate == it.crate and it in sources.edits_of(function)), None)
         head = [name_of(found), *row("turns", [f"{turned.full} {turned.path}:{turned.line}" if turned else it.function or "a table"])]
@@ -97,9 +97,9 @@ def name_of(found):
     return f"{found.kind} {getattr(it, 'full', it.name)}  {it.path}:{it.line}"
 
 
-def answer(sources, words, whole=False):
-    """Returns the answer to a question: the best whole, and the names of some others."""
-    found = Index(sources).search(words)
+def answer(sources, words, whole=False, is_code=False):
+    """Returns the answer to a question, or the code that answers it: the best whole, and the names of some others."""
+    found = Index(sources, is_code).search(words)
     if not found:
         return f"nothing has one of the words {' '.join(words)}\n"
     shown = found if whole else [it for it in found if it.rank == found[0].rank][:MOST_SHOWN]

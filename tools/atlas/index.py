@@ -18,6 +18,7 @@ OFTEN, LONG = 1.2, 0.5
 # The pages that say what the programs do; the others say how and why.
 RULING = ("docs/FORMATS.md", "docs/RULES.md", "docs/CONTRACTS.md", "docs/LAB.md", "include/upc.h")
 STRING = re.compile(r'"((?:[^"\\\n]|\\.)*)"')
+COMMENT = re.compile(r"^\s*//+ ?(.*)$", re.M)
 # Tests come after what they test, and bugs last.
 TESTS, BUGS = 1, 2
 RANKS = {"test": TESTS, "case": TESTS, "patch": BUGS, "planted bug": BUGS}
@@ -28,6 +29,8 @@ class Answer:
 
     def __init__(self, kind, it, counts, fields):
         self.kind, self.it, self.counts, self.rank, self.score = kind, it, counts, RANKS.get(kind, 0), 0
+        # A law is a function without a body.
+        self.is_code = kind == "type" or kind == "function" and not it.is_law
         self.words, self.pairs, self.length = {}, set(), 0
         for weight, text in fields:
             stems = stems_of(text)
@@ -40,15 +43,16 @@ class Answer:
 class Index:
     """All answers, by their words."""
 
-    def __init__(self, sources):
-        self.answers, self.having = list(answers(sources)), {}
+    def __init__(self, sources, is_code=False):
+        """Makes the index of all answers, or of the functions and types that the programs are made of."""
+        self.answers, self.having = [it for it in answers(sources) if it.is_code or not is_code], {}
         for it in self.answers:
             for stem in it.words:
                 self.having.setdefault(stem, []).append(it)
         self.usual = sum(it.length for it in self.answers) / len(self.answers)
 
     def rarity(self, stem):
-        """Returns how much a word tells: the fewer answers have it, the more."""
+        """Returns how rare a word is: the fewer answers have it, the greater the number."""
         return math.log(1 + len(self.answers) / (1 + len(self.having.get(stem, []))))
 
     def fit(self, answer, stems):
@@ -83,24 +87,33 @@ class Index:
             if id(answer.it) not in best or best[id(answer.it)].score < answer.score:
                 best[id(answer.it)] = answer
         least = WORTH * max((it.score for it in best.values()), default=0)
-        return sorted((it for it in best.values() if it.score >= least), key=lambda it: (it.rank, -it.score))
+        # A name copied from code means what has that name.
+        named = {id(it.it): it for it in self.answers if is_identifier(it.it.name or "", words)}
+        found = {at: it for at, it in best.items() if it.score >= least} | {at: best.get(at, it) for at, it in named.items()}
+        return sorted(found.values(), key=lambda it: (it.rank, id(it.it) not in named, -it.score))
+
+
+def is_identifier(name, words):
+    """Returns whether one of these words is this name, as code spells names: of several words, or asked for alone."""
+    return name in words and (len(words) == 1 or "_" in name or bool(re.search("[a-z][A-Z]", name)))
 
 
 def answers(sources):
     """Yields all that may answer: functions with their clauses, definitions, parts of pages, tests and planted bugs."""
     for it in sources.functions:
-        strings = " ".join(STRING.findall(it.body))
+        strings, comments = " ".join(STRING.findall(it.body)), " ".join(COMMENT.findall(it.body))
         clauses = " ".join(f"{clause.name} {clause.sentence}" for clause in it.clauses)
         is_test = it.is_test or it.module.startswith("tests")
         kind, counts = ("test", 0.8) if is_test else ("function", 0.9 if sources.is_open(it) else 0.6)
-        yield Answer(kind, it, counts, [(NAME, it.name), (CONTEXT, it.full), (SENTENCE, it.sentence), (TEXT, clauses), (TEXT, strings)])
+        yield Answer(kind, it, counts, [(NAME, it.name), (CONTEXT, it.full), (SENTENCE, it.sentence), (TEXT, clauses), (TEXT, strings), (REST, comments)])
     for module in sources.specs.modules.values():
         for it in module.definitions.values():
             context = f"{module.crate} {module.inside}"
             yield Answer("definition", it, 0.6 if module.helps() else 1.0, [(NAME, it.name), (SENTENCE, it.sentence), (TEXT, it.text), (CONTEXT, context)])
     for crate in sources.crates:
         for it in types_of(crate):
-            yield Answer("type", it, 0.9, [(NAME, it.name), (SENTENCE, it.text), (TEXT, it.about), (CONTEXT, crate)])
+            if "/src/tests" not in it.path:
+                yield Answer("type", it, 0.9, [(NAME, it.name), (SENTENCE, it.text), (TEXT, it.about), (CONTEXT, crate)])
     for it in all_parts():
         counts = 1.3 if it.path in RULING else 0.7
         for sentence in it.sentences:

@@ -24,7 +24,7 @@ def rows(pairs):
 def function_part(sources, it):
     """Returns the part of a page on a public function."""
     clauses = [f"<code>{html.escape(clause.kind + ' ' + clause.name)}</code> {html.escape(clause.sentence)}" for clause in it.clauses]
-    proof = sources.proof_of(it)
+    proofs = sources.proof_of(it)
     reason = "a law has no code to turn" if it.is_law else it.no_edit
     edits = [link(edit.path, edit.line, edit.name) for edit in sources.edits_of(it) + sources.edits_below(it)] or [html.escape(f"none: {reason}" if reason else "none")]
     return f'<h3 id="{html.escape(it.full)}"><code>{html.escape(it.full)}</code></h3><p>{html.escape(it.sentence)}</p>' + rows([
@@ -32,7 +32,7 @@ def function_part(sources, it):
         ("clauses", clauses),
         ("definitions", [link(cited.module.path, name=cited.name) for cited in sources.cited_by(it)]),
         ("calls", [f"{html.escape(other.name)} {link(other.path, other.line)}" for other in sources.called_by(it)]),
-        ("proof", [link(proof) if proof else "found by the prover"]),
+        ("proof", [link(proof) for proof in proofs] or ["found by the prover"]),
         ("tests", [link(test.path, test.line, test.full) for test in sources.tests_of(it)]),
         ("planted bugs", edits),
     ])
@@ -41,8 +41,8 @@ def function_part(sources, it):
 def definition_part(sources, it):
     """Returns the part of a page on a definition."""
     by = [f'<a href="{function.crate}.html#{html.escape(function.full)}"><code>{html.escape(function.full)}</code></a>' for function in sources.promisers.get(it, [])[:12]]
-    said = html.escape(sentence(it.sentence)) if it.sentence else ""
-    return f"<h3><code>{html.escape(it.name)}</code></h3><p>{said}</p>" + rows([("defined", [link(it.module.path, it.line)]), ("promised by", by)])
+    shown = html.escape(sentence(it.sentence)) if it.sentence else ""
+    return f"<h3><code>{html.escape(it.name)}</code></h3><p>{shown}</p>" + rows([("defined", [link(it.module.path, it.line)]), ("promised by", by)])
 
 
 def page(sources, crate):

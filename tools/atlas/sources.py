@@ -50,10 +50,17 @@ class Sources:
         return found
 
     def proof_of(self, function):
-        """Returns the folder of what is written of a function's proof, or nothing."""
+        """Returns the files with what is written of a function's proof: its own, and those of the lemmas that its attribute names."""
         path = "/".join(it for it in (function.module.replace("::", "/"), function.owner + function.trait, function.name) if it)
         folder = f"crates/{function.crate}/proofs/{path}"
-        return folder if exists(folder) else ""
+        above, at = [], function.line - 2
+        lines = text_of(function.path).split("\n")
+        while at >= 0 and lines[at].strip().startswith(("//", "#[")):
+            above.append(lines[at])
+            at -= 1
+        lemmas = re.findall(r"crate::proofs::([\w:]+)::\w+", "\n".join(above))
+        shared = {f"crates/{function.crate}/proofs/{it.replace('::', '/')}.antt" for it in lemmas}
+        return [*files_below(folder, ".antt"), *sorted(it for it in shared if exists(it))]
 
     def called_by(self, function):
         """Returns the functions of its own crate that a function calls."""

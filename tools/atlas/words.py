@@ -5,7 +5,7 @@ import re
 from .files import text_of
 from .parts import OTHERS, parts_of
 
-# Words of a question that say nothing of what is asked.
+# Words that any question may have, whatever it is about.
 IDLE = frozenset(
     "a an and are as at be by can code could do does for from get gets happens has have how i implemented in is it its many may me much must my of on or "
     "per shall should so struct than that the their them then there they this to was what when where which who why will with would written".split()
@@ -40,23 +40,23 @@ def stems_of(text):
 
 @functools.lru_cache(maxsize=None)
 def others():
-    """Returns what docs/GLOSSARY.md says for words of other texts: for the stems of each the stems of those that are used here."""
+    """Returns what docs/GLOSSARY.md has for words of other texts: for the stems of each the stems of those that are used here."""
     found = {}
     for part in parts_of("docs/GLOSSARY.md", text_of("docs/GLOSSARY.md")):
         for it in part.name.split(",") if part.heading == OTHERS and part.name else []:
-            found.setdefault(telling(it), []).extend(telling(ours) for ours in part.text.split(","))
+            found.setdefault(searched_stems(it), []).extend(searched_stems(ours) for ours in part.text.split(","))
     return found
 
 
-def telling(text):
-    """Returns the words of a text that tell something, without their endings; all of them if none does."""
+def searched_stems(text):
+    """Returns the stems by which a text is searched: those of its words but the idle ones, or of all if each is idle."""
     words = words_of(text)
     return tuple(stem(it) for it in [it for it in words if it not in IDLE] or words)
 
 
 def meanings_of(words):
     """Returns for each part of a question what it may be called: lists of stems, its own first."""
-    stems = telling(" ".join(words))
+    stems = searched_stems(" ".join(words))
     known, found, at = others(), [], 0
     while at < len(stems):
         end = next((end for end in range(len(stems), at, -1) if stems[at:end] in known), at + 1)

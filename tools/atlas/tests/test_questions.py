@@ -10,15 +10,19 @@ QUESTIONS = os.path.join(os.path.dirname(os.path.realpath(__file__)), "questions
 FIRST, LEFT = 3, 2
 
 
+# The parts of the file: questions of which LEFT may stay unanswered, those that all are answered, and those about code.
+OTHER_WORDS, ALL, CODE = "other words", "all", "code"
+
+
 def questions():
-    """Yields each question with its places, and whether it is in the part of those that all are answered."""
-    is_all = False
+    """Yields each question with its places, and its part of the file."""
+    part = OTHER_WORDS
     with open(QUESTIONS, encoding="utf-8") as it:
         for line in it:
-            is_all = is_all or "All of these" in line
+            part = ALL if "All of these" in line else CODE if line.startswith("# Code") else part
             if line.strip() and not line.startswith("#"):
-                words, *places = (part.strip() for part in line.split("|"))
-                yield words, [tuple(place.split(": ", 1)) for place in places], is_all
+                words, *places = (piece.strip() for piece in line.split("|"))
+                yield words, [tuple(place.split(": ", 1)) for place in places], part
 
 
 def is_at(answer, places):
@@ -34,7 +38,8 @@ def is_at(answer, places):
 class Questions(unittest.TestCase):
     @classmethod
     def setUpClass(cls):
-        cls.index = Index(Sources())
+        sources = Sources()
+        cls.index, cls.code = Index(sources), Index(sources, is_code=True)
 
     def test_places_are_there(self):
         every = [it for it in self.index.answers if not it.rank]
@@ -43,14 +48,16 @@ class Questions(unittest.TestCase):
                 self.assertTrue(any(is_at(it, [place]) for it in every), f"{words}: {place}")
 
     def test_answers(self):
-        asked, missed = [], []
-        for words, places, is_all in questions():
-            is_answered = any(is_at(it, places) for it in self.index.search(words.split())[:FIRST])
-            self.assertTrue(is_answered or not is_all, words)
-            asked += [] if is_all else [words]
-            missed += [] if is_answered else [words]
-        self.assertEqual(len(asked), 40)
-        self.assertLessEqual(len(missed), LEFT, missed)
+        asked, missed = {OTHER_WORDS: 0, ALL: 0, CODE: 0}, {OTHER_WORDS: [], ALL: [], CODE: []}
+        for words, places, part in questions():
+            index = self.code if part == CODE else self.index
+            is_answered = any(is_at(it, places) for it in index.search(words.split())[:FIRST])
+            asked[part] += 1
+            missed[part] += [] if is_answered else [words]
+        self.assertEqual((asked[OTHER_WORDS], asked[CODE]), (40, 20))
+        self.assertEqual(missed[ALL], [])
+        self.assertLessEqual(len(missed[OTHER_WORDS]), LEFT, missed)
+        self.assertLessEqual(len(missed[CODE]), LEFT, missed)
 
 
 if __name__ == "__main__":
