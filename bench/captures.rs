@@ -103,11 +103,11 @@ impl Police {
         let verdict = policed.connection.verdict(moment, value, low);
         policed.counts[verdict as usize] += 1;
         if self.lines > u8::from(verdict == Verdict::Pass) {
-            self.tell(moment, header_of(cell), value, verdict, excess);
+            self.write_row(moment, header_of(cell), value, verdict, excess);
         }
     }
 
-    fn tell(&mut self, moment: u64, header: u32, value: u32, verdict: Verdict, excess: Option<(u32, u64)>) {
+    fn write_row(&mut self, moment: u64, header: u32, value: u32, verdict: Verdict, excess: Option<(u32, u64)>) {
         let answers = &mut self.answers;
         answers.reserve();
         if !self.is_headed {

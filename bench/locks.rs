@@ -1,6 +1,6 @@
-//! Takes the locks that a cell takes at a port of a running card, in the same order and with nothing behind them: the
-//! programs' to read, the directory's and back, a line's and the books'. Prints for one, two and four threads, each on
-//! lines of its own, how often, the time of the slowest, and the least time of a hundredth part.
+//! Takes the locks that a cell takes at a port of a running card, in the same order, and does nothing while it holds
+//! them: the programs' to read, the directory's and back, a line's and the books'. Prints for one, two and four threads,
+//! each on lines of its own, how often, the time of the slowest, and the least time of a hundredth part.
 use std::hint::black_box;
 use std::sync::{Mutex, RwLock};
 use std::thread;

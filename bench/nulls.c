@@ -1,5 +1,5 @@
-/* What the layer that refuses null pointers costs: three calls of the library, each beside the proved call behind it, in turns. Prints
- * the least time a call of many rounds. */
+/* What the layer that refuses null pointers costs: three calls of the library, each beside the proved call that it makes, in turns.
+ * Prints the least time a call of many rounds. */
 #include <stdio.h>
 #include <string.h>
 #include <time.h>

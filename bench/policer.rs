@@ -1,6 +1,6 @@
 //! What `upc run` answers to lawful scripts, by a plain program that nothing is proved of: the cells' path is
-//! written for speed, and the desk's commands by the structures that std has for them. A fault is told where a cell
-//! may have it.
+//! written for speed, and the desk's commands by the structures that std has for them. It prints the faults that a
+//! cell may have; on any other it ends with status 1.
 
 use std::collections::HashMap;
 use std::hash::{BuildHasherDefault, Hasher};
@@ -156,7 +156,7 @@ pub fn number(word: &[u8]) -> u64 {
     number
 }
 
-/// The word that a line begins with, and the line behind the blank that ends it.
+/// The first word of a line, and the rest of the line after the blank that ends it.
 pub fn first(line: &[u8]) -> (&[u8], &[u8]) {
     match line.iter().position(|&octet| octet == b' ') {
         Some(end) => (&line[..end], &line[end + 1..]),
@@ -170,7 +170,7 @@ pub fn name(answers: &mut impl Text, key: u32) {
     answers.number(key & 0xffff);
 }
 
-/// The moment and the cell of a line behind its command.
+/// The moment and the cell in the rest of a line, after its command.
 pub fn arrival(line: &[u8]) -> Option<(u64, [u8; 52])> {
     let (moment, word) = first(line);
     let moment = number(moment);
@@ -227,7 +227,7 @@ impl Connection {
 }
 
 /// The answer to a judged cell.
-pub fn tell(answers: &mut impl Text, program: u32, key: u32, value: u32, verdict: Verdict, cell: &[u8; 52]) {
+pub fn write_answer(answers: &mut impl Text, program: u32, key: u32, value: u32, verdict: Verdict, cell: &[u8; 52]) {
     answers.text(match verdict {
         Verdict::Pass => b"pass ",
         Verdict::Tag => b"tag ",
@@ -269,8 +269,8 @@ pub fn steps_of(word: &[u8]) -> Vec<Step> {
     steps.collect()
 }
 
-/// What is told of a journal that is handed out.
-fn tell_journal(answers: &mut impl Text, command: &[u8], key: u32, journal: &[Entry]) {
+/// The answer to a cut or a release: how many cells the returned journal has, and how many of each verdict.
+fn write_journal(answers: &mut impl Text, command: &[u8], key: u32, journal: &[Entry]) {
     answers.text(command);
     name(answers, key);
     answers.text(b" ");
@@ -298,7 +298,7 @@ impl Card {
         let Some(code) = &self.programs[connection.program as usize].code else { exit(1) };
         let (value, _) = run(code, &cell);
         let verdict = connection.judge(moment, value, &cell, self.most);
-        tell(answers, connection.program, key, value, verdict, &cell);
+        write_answer(answers, connection.program, key, value, verdict, &cell);
     }
 
     pub fn desk(&mut self, command: &[u8], line: &[u8], answers: &mut impl Text) {
@@ -354,12 +354,12 @@ impl Card {
                 let most = self.most;
                 let journal = &mut self.connection(key(&words)).journal;
                 let full = std::mem::replace(journal, Vec::with_capacity(most));
-                tell_journal(answers, b"cut ", key(&words), &full);
+                write_journal(answers, b"cut ", key(&words), &full);
             }
             b"release" => {
                 let gone = self.connections.remove(&key(&words)).unwrap_or_else(|| exit(1));
                 self.programs[gone.program as usize].uses -= 1;
-                tell_journal(answers, b"released ", key(&words), &gone.journal);
+                write_journal(answers, b"released ", key(&words), &gone.journal);
             }
             _ => exit(1),
         }
@@ -369,8 +369,8 @@ impl Card {
 pub fn police() {
     let mut card = Card::default();
     each_line(|line, answers| match first(line) {
-        (b"cell", behind) => card.cell(behind, answers),
+        (b"cell", rest) => card.cell(rest, answers),
         ([] | [b'#', ..], _) => {}
-        (command, behind) => card.desk(command, behind, answers),
+        (command, rest) => card.desk(command, rest, answers),
     });
 }

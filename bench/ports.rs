@@ -6,7 +6,7 @@ use std::process::exit;
 use std::sync::{Mutex, RwLock};
 use std::thread;
 
-use crate::policer::{Card, Connection, Stored, Verdict, arrival, first, key_of, name, number, program, steps_of, tell};
+use crate::policer::{Card, Connection, Stored, Verdict, arrival, first, key_of, name, number, program, steps_of, write_answer};
 use crate::{Text, find_feed, run};
 
 /// What the order of the answers has for a line that no port answers.
@@ -88,7 +88,7 @@ impl Shared {
         let (value, _) = run(code, cell);
         let verdict = connection.judge(moment, value, cell, self.most);
         self.books.lock().unwrap()[verdict as usize] += 1;
-        tell(answers, connection.program, key, value, verdict, cell);
+        write_answer(answers, connection.program, key, value, verdict, cell);
     }
 
     fn police(&self, port: &mut Port) {

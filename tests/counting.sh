@@ -26,12 +26,12 @@ check() {
 
 # add COMMAND..: adds what a command counted, whose last line is 'N passed, M failed'; one without it has failed.
 add() {
-  local said
-  said=$("$@")
-  if [[ ${said##*$'\n'} =~ ^([0-9]+)\ passed,\ ([0-9]+)\ failed$ ]]; then
+  local output
+  output=$("$@")
+  if [[ ${output##*$'\n'} =~ ^([0-9]+)\ passed,\ ([0-9]+)\ failed$ ]]; then
     passed=$((passed + BASH_REMATCH[1]))
     failed=$((failed + BASH_REMATCH[2]))
-    printf '%s\n' "$said" | head -n -1
+    printf '%s\n' "$output" | head -n -1
   else
     fail "$*"
   fi

@@ -70,11 +70,11 @@ def main(name):
     left, ready, running, longest = list(program.below()), set(), {}, chains(program)
     number, lanes = len(left) + 1, rtlib.cores()
 
-    def tell(said):
+    def report(text):
         with printing:
-            print(f"{name}: {said}", file=sys.stderr, flush=True)
+            print(f"{name}: {text}", file=sys.stderr, flush=True)
 
-    tell(f"proving and building {number} crates on {lanes} processors; the first time this takes some minutes")
+    report(f"proving and building {number} crates on {lanes} processors; the first time this takes some minutes")
     locks = rtlib.lock([program, *program.below()])
     with ThreadPoolExecutor(lanes) as pool:
         while left or running:
@@ -90,12 +90,12 @@ def main(name):
                 running[pool.submit(built, crate, jobs, 0 if leads else 5)] = crate
             for it in wait(running, return_when=FIRST_COMPLETED).done:
                 crate = running.pop(it)
-                said = it.result()
-                if said:
-                    tell(f"{crate.name} is not proved\n{said}")
+                output = it.result()
+                if output:
+                    report(f"{crate.name} is not proved\n{output}")
                     return 1
                 ready.add(crate.name)
-                tell(f"{crate.name} is proved, crate {len(ready)} of {number}, {kit.minutes(time.time() - begun)}")
+                report(f"{crate.name} is proved, crate {len(ready)} of {number}, {kit.minutes(time.time() - begun)}")
     for it in locks:
         os.close(it)
     product = f"{program.folder}/out/" + (f"lib{name}.a" if program.is_static else name)
@@ -105,9 +105,9 @@ def main(name):
     word = "lib" if program.is_static else "run"
     ended = subprocess.run(["rt", word], cwd=program.folder, stdin=subprocess.DEVNULL, stdout=subprocess.PIPE, stderr=subprocess.STDOUT)
     if not os.path.exists(product):
-        tell("it is not built\n" + ended.stdout.decode(errors="replace"))
+        report("it is not built\n" + ended.stdout.decode(errors="replace"))
         return 1
-    tell(f"{name} is proved and built, {kit.minutes(time.time() - begun)}")
+    report(f"{name} is proved and built, {kit.minutes(time.time() - begun)}")
     return 0
 
 

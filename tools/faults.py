@@ -2,7 +2,7 @@
 """Makes the constants and names of the library's errors from docs/FORMATS.md and the crate.
 
     tools/faults.py           writes the enums of include/upc.h and the lists of docs/upc.3 again
-    tools/faults.py --check   says whether they are what it would write, and whether the crate's kinds are the header's
+    tools/faults.py --check   reports whether they are what it would write, and whether the crate's kinds are the header's
     tools/faults.py --c       prints upc_strerror and upc_kind_name as C
 
 The result of a call is 256 times the kind of its error, plus its number. Both files mark what is made by two comments,
@@ -106,7 +106,7 @@ def marked(path, made):
 
 
 def wrong_constants():
-    """What the header says otherwise: constants of enum upc_call, and kinds."""
+    """Where the header differs: constants of enum upc_call, and kinds."""
     header, crate = text(HEADER), text(f"{ROOT}/crates/upc_c/src/fault.rt")
     declared = dict(re.findall(r"^\s+(UPC_\w+) = (\d+)", header, re.M))
     for value, constant, _, _ in faults():

@@ -4,7 +4,7 @@
 `rt` is a Python program. Its module knows which crates there are, what each depends on, and with which words the prover
 is called. These scripts use it to call the prover as `rt` does.
 
-    tools/kit.py MINUTES             says how long the gate takes with this toolchain, if it takes so many minutes from nothing
+    tools/kit.py MINUTES             prints how long the gate takes with this toolchain, if from nothing it takes MINUTES
     tools/kit.py --note COMMIT LAST  prints what bin/test notes of a commit that passed: it, the toolchain, the logic, the last line
 """
 import functools
@@ -27,24 +27,24 @@ def module():
 
 
 @functools.lru_cache(maxsize=None)
-def said(word):
+def output_of(word):
     """Returns what `rt` prints for a word. (The status of its help isn't 0.)"""
     return subprocess.run(["rt", word], stdout=subprocess.PIPE, stderr=subprocess.STDOUT, text=True).stdout.strip()
 
 
 def name():
     """Returns the toolchain's name, such as rattle-kit-13f."""
-    return said("version").split()[0]
+    return output_of("version").split()[0]
 
 
 def logic():
     """Returns the sum of the logic that proofs are checked in. Toolchains of one logic accept the same proofs."""
-    return said("version").split()[-1]
+    return output_of("version").split()[-1]
 
 
 def keeps():
     """Returns whether `rt ci` keeps what passed on this machine: some toolchains prove everything in each run."""
-    return "rt ci NAME" in said("help")
+    return "rt ci NAME" in output_of("help")
 
 
 def crates(root=ROOT):

@@ -2,7 +2,7 @@
 """Makes the tables of docs/upc.1 and docs/upc-lab.1 from those of docs/FORMATS.md and docs/RULES.md.
 
     tools/manual.py           writes both pages again
-    tools/manual.py --check   says whether they are what it would write
+    tools/manual.py --check   reports whether they are what it would write
 
 The page marks each table by a comment `.\\" table NAME` and ends it by `.\\" end`. NAME is a function of TABLES below.
 """

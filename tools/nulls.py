@@ -31,7 +31,7 @@ class Parameter:
     def __init__(self, text):
         const, self.type, star, self.name = PARAMETER.match(" ".join(text.split())).groups()
         self.is_const, self.is_pointer, self.length = bool(const), bool(star), None
-        self.said = f"{'const ' if const else ''}{self.type} {star}{self.name}"
+        self.declaration = f"{'const ' if const else ''}{self.type} {star}{self.name}"
 
     def is_lent(self):
         """Is it a handle that the header takes as const?"""
@@ -52,9 +52,9 @@ class Call:
         """Its pointers but for the fault."""
         return [it for it in self.parameters if it.is_pointer and it.name != "fault"]
 
-    def said(self, name, is_inner=False):
+    def declaration(self, name, is_inner=False):
         """Its declaration under this name. The proved call takes no handle as const."""
-        words = [f"{it.type} *{it.name}" if is_inner and it.is_lent() else it.said for it in self.parameters]
+        words = [f"{it.type} *{it.name}" if is_inner and it.is_lent() else it.declaration for it in self.parameters]
         return f"{self.result} {name}({', '.join(words)})"
 
     def given(self, **instead):
@@ -75,7 +75,7 @@ def calls():
 
 def layer_of(call):
     """The layer's function in front of a proved call."""
-    lines = [f"{call.said(call.inner, is_inner=True)};", "", call.said(call.name), "{"]
+    lines = [f"{call.declaration(call.inner, is_inner=True)};", "", call.declaration(call.name), "{"]
     if call.result == "void":
         lines += [f"\tif ({call.pointers()[0].name} != NULL)", f"\t\t{call.inner}({call.given()});", "}"]
         return "\n".join(lines)

@@ -1,4 +1,4 @@
-"""What the repository itself says, without the toolchain."""
+"""What scripts ask of the repository without the toolchain."""
 import os
 import subprocess
 
@@ -11,6 +11,6 @@ def crates():
         return [line.split(":")[0].split()[0] for line in it if ":" in line and not line.startswith("#")]
 
 
-def said_by(*command):
+def output_of(*command):
     """Returns what a command prints."""
     return subprocess.run(command, cwd=ROOT, check=True, stdout=subprocess.PIPE, text=True).stdout.strip()

@@ -6,7 +6,7 @@
 static upc_fault fault;
 
 /* Prints the error of a call, a result that isn't the error's, and a write although the call failed. */
-static void tell(const char *what, uint32_t result, const void *lent, const void *before, size_t size)
+static void report(const char *what, uint32_t result, const void *lent, const void *before, size_t size)
 {
 	printf("%s: kind %u number %u", what, (unsigned)fault.kind, (unsigned)fault.number);
 	printf(" place %lu word %u code %04x", (unsigned long)fault.place, (unsigned)fault.word, (unsigned)fault.code);
@@ -26,7 +26,7 @@ static void judge(const char *what, upc_contract contract, upc_levels levels, ui
 	upc_excess excess = {7, 7};
 	uint32_t verdict = 9, early = upc_excess_of(&contract, &levels, 0, moment, &excess, &fault);
 
-	tell(what, upc_judge(&contract, &levels, 0, moment, &verdict, &fault), &levels, &before, sizeof levels);
+	report(what, upc_judge(&contract, &levels, 0, moment, &verdict, &fault), &levels, &before, sizeof levels);
 	if (fault.number != 0 && verdict != 9)
 		printf("%s: it wrote a verdict\n", what);
 	if (early != 256 * fault.kind + fault.number || (early != 0 && (excess.bucket != 7 || excess.ticks != 7)))
@@ -55,15 +55,15 @@ static void judge_all(void)
 	judge("bucket 2 too large", it, opening, 0);
 	judge("late levels", vbr, late, UPC_LAST_MOMENT + 1);
 	judge("late moment", vbr, opening, UPC_LAST_MOMENT + 1);
-	tell("contract", upc_contract_check(&vbr, &fault), "", "", 0);
-	tell("no contract", upc_contract_check(&it, &fault), "", "", 0);
+	report("contract", upc_contract_check(&vbr, &fault), "", "", 0);
+	report("no contract", upc_contract_check(&it, &fault), "", "", 0);
 }
 
 static void burst(const char *what, uint64_t mbs, uint64_t sustained, uint64_t peak)
 {
 	uint64_t ticks = 7, before = 7;
 
-	tell(what, upc_burst_tolerance(mbs, sustained, peak, &ticks, &fault), &ticks, &before, sizeof ticks);
+	report(what, upc_burst_tolerance(mbs, sustained, peak, &ticks, &fault), &ticks, &before, sizeof ticks);
 	if (fault.number == 0)
 		printf("%s: %lu ticks\n", what, (unsigned long)ticks);
 }
@@ -76,10 +76,10 @@ static void cell(const char *what, size_t length, uint32_t side)
 	memcpy(before, octets, sizeof octets);
 	memset(&fields, 0, sizeof fields);
 	memset(&unread, 0, sizeof unread);
-	tell(what, upc_cell_fields(octets, length, side, &fields, &fault), &fields, &unread, sizeof fields);
+	report(what, upc_cell_fields(octets, length, side, &fields, &fault), &fields, &unread, sizeof fields);
 	if (fault.number == 0)
 		printf("%s: vpi %d vci %d gfc %d pti %d clp %d\n", what, fields.vpi, fields.vci, fields.gfc, fields.pti, fields.clp);
-	tell(what, upc_cell_tag(octets, length, &fault), octets, before, sizeof octets);
+	report(what, upc_cell_tag(octets, length, &fault), octets, before, sizeof octets);
 	if (fault.number == 0)
 		printf("%s: %02x%02x%02x%02x\n", what, octets[0], octets[1], octets[2], octets[3]);
 }
@@ -95,8 +95,8 @@ static void program(const char *digits)
 		sscanf(digits + 2 * k, "%2x", &octet);
 		octets[k] = (uint8_t)octet;
 	}
-	tell(digits, upc_check(octets, length, &fault), octets, octets, length);
-	tell(digits, upc_listing(octets, length, room, 4, &count, &fault), room, before, sizeof room);
+	report(digits, upc_check(octets, length, &fault), octets, octets, length);
+	report(digits, upc_listing(octets, length, room, 4, &count, &fault), room, before, sizeof room);
 }
 
 static void source(const char *text, size_t room_length)
@@ -104,7 +104,7 @@ static void source(const char *text, size_t room_length)
 	uint8_t room[16] = {0}, before[16] = {0};
 	size_t count = 9;
 
-	tell(text, upc_assemble((const uint8_t *)text, strlen(text), room, room_length, &count, &fault), room, before,
+	report(text, upc_assemble((const uint8_t *)text, strlen(text), room, room_length, &count, &fault), room, before,
 	     sizeof room);
 	if (count != (fault.number ? 9 : 8))
 		printf("%s: the count is %lu\n", text, (unsigned long)count);
@@ -115,7 +115,7 @@ static void rules(const char *what, const char *text, size_t room_length)
 	uint8_t room[16] = {0}, before[16] = {0};
 	size_t count = 9;
 
-	tell(what, upc_rules_compile((const uint8_t *)text, strlen(text), room, room_length, &count, &fault), room, before,
+	report(what, upc_rules_compile((const uint8_t *)text, strlen(text), room, room_length, &count, &fault), room, before,
 	     sizeof room);
 	if (count != (fault.number ? 9 : 8))
 		printf("%s: the count is %lu\n", what, (unsigned long)count);
@@ -148,11 +148,11 @@ static void far_and_long(void)
 	for (k = 0; k < 256; k++)
 		strcat(text, "txa\n");
 	strcat(text, "l: ret a\n");
-	tell("far label", upc_assemble((const uint8_t *)text, strlen(text), octets, sizeof octets, &k, &fault), text, text, 1);
+	report("far label", upc_assemble((const uint8_t *)text, strlen(text), octets, sizeof octets, &k, &fault), text, text, 1);
 	for (k = 0; k < 4097; k++)
 		octets[8 * k + 1] = 0x16;
-	tell("4096 instructions", upc_check(octets, 8 * 4096, &fault), text, text, 1);
-	tell("4097 instructions", upc_check(octets, 8 * 4097, &fault), text, text, 1);
+	report("4096 instructions", upc_check(octets, 8 * 4096, &fault), text, text, 1);
+	report("4097 instructions", upc_check(octets, 8 * 4097, &fault), text, text, 1);
 }
 
 /* The errors of a upc_program: a run without a program, a second program, octets that aren't a cell. */
@@ -164,15 +164,15 @@ static void kept_program(void)
 	uint32_t value[2] = {1, 2}, before[2] = {1, 2};
 
 	upc_program_free(&program);
-	tell("no program", upc_program_run(&program, cell, sizeof cell, &value[0], &value[1], &fault), value, before, sizeof value);
-	tell("none yet", upc_program_new(wrong, sizeof wrong, &program, &fault), "", "", 0);
-	tell("put in", upc_program_new(octets, sizeof octets, &program, &fault), "", "", 0);
-	tell("put in again", upc_program_new(octets, sizeof octets, &program, &fault), "", "", 0);
-	tell("no cell", upc_program_run(&program, cell, 51, &value[0], &value[1], &fault), value, before, sizeof value);
-	tell("run", upc_program_run(&program, cell, sizeof cell, &value[0], &value[1], &fault), value, value, 0);
+	report("no program", upc_program_run(&program, cell, sizeof cell, &value[0], &value[1], &fault), value, before, sizeof value);
+	report("none yet", upc_program_new(wrong, sizeof wrong, &program, &fault), "", "", 0);
+	report("put in", upc_program_new(octets, sizeof octets, &program, &fault), "", "", 0);
+	report("put in again", upc_program_new(octets, sizeof octets, &program, &fault), "", "", 0);
+	report("no cell", upc_program_run(&program, cell, 51, &value[0], &value[1], &fault), value, before, sizeof value);
+	report("run", upc_program_run(&program, cell, sizeof cell, &value[0], &value[1], &fault), value, value, 0);
 	printf("run: value %u steps %u\n", (unsigned)value[0], (unsigned)value[1]);
 	upc_program_free(&program);
-	tell("let go", upc_program_run(&program, cell, sizeof cell, &value[0], &value[1], &fault), value, value, 0);
+	report("let go", upc_program_run(&program, cell, sizeof cell, &value[0], &value[1], &fault), value, value, 0);
 }
 
 /* Expects an error for a card with these numbers. */
@@ -181,7 +181,7 @@ static void no_card(const char *what, uint32_t side, uint64_t programs, uint64_t
 	upc_shape shape = {side, programs, lines, ports, journal};
 	static upc_card card, none;
 
-	tell(what, upc_card_new(&shape, &card, &fault), &card, &none, sizeof card);
+	report(what, upc_card_new(&shape, &card, &fault), &card, &none, sizeof card);
 }
 
 /* A cell on VPI/VCI 1/CHANNEL at a moment. */
@@ -191,7 +191,7 @@ static void arrive(const char *what, upc_card *card, uint8_t channel, size_t len
 	upc_answer answer;
 
 	memcpy(before, octets, sizeof octets);
-	tell(what, upc_card_arrive(card, octets, length, moment, &answer, &fault), octets, before, sizeof octets);
+	report(what, upc_card_arrive(card, octets, length, moment, &answer, &fault), octets, before, sizeof octets);
 	if (fault.number == 0)
 		printf("%s: verdict %u value %u number %lu line %u\n", what, (unsigned)answer.verdict, (unsigned)answer.value,
 		       (unsigned long)answer.number, (unsigned)answer.line);
@@ -204,7 +204,7 @@ static void set_up(const char *what, upc_card *card, uint16_t path, uint16_t cha
 
 	for (k = 0; k < 5; k++)
 		all[k] = it;
-	tell(what, upc_card_setup(card, path, channel, &id, all, count, &fault), "", "", 0);
+	report(what, upc_card_setup(card, path, channel, &id, all, count, &fault), "", "", 0);
 }
 
 /* The desk of a card with one program and one line, whose journal holds two cells. */
@@ -214,9 +214,9 @@ static void card_desk(upc_card *card, upc_id id, upc_contract it)
 	upc_id other = {3, 1}, unread = {3, 1};
 	upc_contract none = it;
 
-	tell("load no program", upc_card_load(card, wrong, sizeof wrong, &other, &fault), &other.generation, &unread.generation,
+	report("load no program", upc_card_load(card, wrong, sizeof wrong, &other, &fault), &other.generation, &unread.generation,
 	     sizeof other.generation);
-	tell("load one more", upc_card_load(card, octets, sizeof octets, &other, &fault), &other.generation, &unread.generation,
+	report("load one more", upc_card_load(card, octets, sizeof octets, &other, &fault), &other.generation, &unread.generation,
 	     sizeof other.generation);
 	none.peak_increment = 0;
 	set_up("five contracts", card, 1, 1, id, it, 5);
@@ -235,22 +235,22 @@ static void card_desk(upc_card *card, upc_id id, upc_contract it)
 	set_up("connection again", card, 1, 1, id, it, 1);
 	set_up("one more connection without contracts", card, 1, 2, id, it, 0);
 	set_up("one more connection", card, 1, 2, id, it, 1);
-	tell("retire a program in use", upc_card_retire(card, &id, &fault), "", "", 0);
-	tell("retire another", upc_card_retire(card, &other, &fault), "", "", 0);
-	tell("reload another", upc_card_reload(card, 1, 1, &other, &unread, &fault), "", "", 0);
-	tell("reload elsewhere", upc_card_reload(card, 1, 2, &id, &unread, &fault), "", "", 0);
-	tell("reload", upc_card_reload(card, 1, 1, &id, &unread, &fault), "", "", 0);
+	report("retire a program in use", upc_card_retire(card, &id, &fault), "", "", 0);
+	report("retire another", upc_card_retire(card, &other, &fault), "", "", 0);
+	report("reload another", upc_card_reload(card, 1, 1, &other, &unread, &fault), "", "", 0);
+	report("reload elsewhere", upc_card_reload(card, 1, 2, &id, &unread, &fault), "", "", 0);
+	report("reload", upc_card_reload(card, 1, 1, &id, &unread, &fault), "", "", 0);
 	printf("reload: the same program %d\n", unread.slot == id.slot && unread.generation == id.generation);
 }
 
 /* The room of a journal of two cells, and one entry more. */
 static upc_entry room[3], room_before[3];
 
-static void tell_journal(const char *what, uint32_t number, const upc_journal *journal)
+static void report_journal(const char *what, uint32_t number, const upc_journal *journal)
 {
 	size_t k;
 
-	tell(what, number, room, room_before, sizeof room);
+	report(what, number, room, room_before, sizeof room);
 	if (number != 0)
 		return;
 	printf("%s: %lu cells, refused %lu to %lu\n", what, (unsigned long)journal->cells, (unsigned long)journal->before.refused,
@@ -277,7 +277,7 @@ static void arrive_many(const char *what, upc_card *card, size_t length, size_t 
 	memcpy(before, octets, sizeof octets);
 	memset(answers, 7, sizeof answers);
 	memset(unread, 7, sizeof unread);
-	tell(what, upc_card_arrive_many(card, octets, length, stride, moments, count, answers, room, &done, &fault), octets, before,
+	report(what, upc_card_arrive_many(card, octets, length, stride, moments, count, answers, room, &done, &fault), octets, before,
 	     sizeof octets);
 	printf("%s: %lu judged\n", what, (unsigned long)done);
 	for (k = 0; k < done && k < 3; k++)
@@ -298,24 +298,24 @@ static void card_batches(upc_card *card)
 	arrive_many("a short cell after one", card, 103, 52, 9, 2, 3);
 	arrive_many("a cell far beyond the octets", card, 156, (size_t)-1, 9, 2, 3);
 	arrive_many("a cell more", card, 156, 52, 9, 1, 1);
-	tell_journal("cut", upc_card_cut(card, 1, 1, room, 3, &journal, &fault), &journal);
+	report_journal("cut", upc_card_cut(card, 1, 1, room, 3, &journal, &fault), &journal);
 	arrive_many("three cells", card, 156, 52, 9, 3, 3);
-	tell_journal("cut", upc_card_cut(card, 1, 1, room, 3, &journal, &fault), &journal);
+	report_journal("cut", upc_card_cut(card, 1, 1, room, 3, &journal, &fault), &journal);
 	arrive_many("one cell twice", card, 52, 0, 9, 2, 2);
-	tell_journal("cut", upc_card_cut(card, 1, 1, room, 3, &journal, &fault), &journal);
+	report_journal("cut", upc_card_cut(card, 1, 1, room, 3, &journal, &fault), &journal);
 	arrive_many("late cells", card, 156, 52, UPC_LAST_MOMENT + 1, 2, 2);
 	arrive_many("earlier cells", card, 156, 52, 8, 2, 2);
 	arrive_many("a cell between others", card, 155, 51, 9, 2, 2);
 }
 
 /* The size that a card reports. */
-static void tell_shape(const char *what, upc_card *card)
+static void report_shape(const char *what, upc_card *card)
 {
 	upc_shape shape, unread;
 
 	memset(&shape, 7, sizeof shape);
 	memset(&unread, 7, sizeof unread);
-	tell(what, upc_card_shape(card, &shape, &fault), &shape, &unread, sizeof shape);
+	report(what, upc_card_shape(card, &shape, &fault), &shape, &unread, sizeof shape);
 	if (fault.number == 0)
 		printf("%s: side %u, %lu programs, %lu lines, %lu ports, %lu cells\n", what, (unsigned)shape.side,
 		       (unsigned long)shape.programs, (unsigned long)shape.lines, (unsigned long)shape.ports, (unsigned long)shape.journal);
@@ -327,8 +327,8 @@ static void inspect(const char *what, upc_card *card, uint16_t path, uint16_t ch
 	upc_counts counts = {7, 7, 7, 7}, unread = counts;
 	size_t cells = 77, unasked = 77;
 
-	tell(what, upc_card_journal(card, path, channel, &cells, &fault), &cells, &unasked, sizeof cells);
-	tell(what, upc_card_counts(card, path, channel, &counts, &fault), &counts, &unread, sizeof counts);
+	report(what, upc_card_journal(card, path, channel, &cells, &fault), &cells, &unasked, sizeof cells);
+	report(what, upc_card_counts(card, path, channel, &counts, &fault), &counts, &unread, sizeof counts);
 	if (fault.number == 0)
 		printf("%s: %lu cells, refused %lu\n", what, (unsigned long)cells, (unsigned long)counts.refused);
 }
@@ -342,7 +342,7 @@ static void read_state(const char *what, upc_card *card, uint16_t path, uint16_t
 
 	memset(meters, 7, sizeof meters);
 	memset(unread, 7, sizeof unread);
-	tell(what, upc_card_state(card, path, channel, meters, length, &state, &fault), meters, unread, sizeof meters);
+	report(what, upc_card_state(card, path, channel, meters, length, &state, &fault), meters, unread, sizeof meters);
 	if (fault.number == 0)
 		printf("%s: setup %lu last %lu cells %lu contracts %lu refused %lu program %u/%u line %u: kind %u %lu/%lu due %lu\n", what,
 		       (unsigned long)state.incarnation, (unsigned long)state.last, (unsigned long)state.cells,
@@ -352,7 +352,7 @@ static void read_state(const char *what, upc_card *card, uint16_t path, uint16_t
 		       (unsigned long)meters[0].levels.first);
 	if (memcmp(meters + 1, unread + 1, sizeof *meters) != 0)
 		printf("%s: it wrote after the meters\n", what);
-	tell(what, upc_card_next(card, &at, &fault), &at, &before, sizeof at);
+	report(what, upc_card_next(card, &at, &fault), &at, &before, sizeof at);
 	if (fault.number == 0)
 		printf("%s: then %u/%u\n", what, (unsigned)at.path, (unsigned)at.channel);
 }
@@ -362,9 +362,9 @@ static void null_pointers(void)
 {
 	const upc_contract cbr = {UPC_CBR1, 10, 5, 0, 0};
 
-	tell("null contract", upc_contract_check(NULL, &fault), "", "", 0);
-	tell("null octets", upc_check(NULL, 8, &fault), "", "", 0);
-	tell("no octets at null", upc_check(NULL, 0, &fault), "", "", 0);
+	report("null contract", upc_contract_check(NULL, &fault), "", "", 0);
+	report("null octets", upc_check(NULL, 8, &fault), "", "", 0);
+	report("no octets at null", upc_check(NULL, 0, &fault), "", "", 0);
 	printf("null contract and no fault: %u\n", (unsigned)upc_contract_check(NULL, NULL));
 	printf("contract and no fault: %u\n", (unsigned)upc_contract_check(&cbr, NULL));
 	upc_program_free(NULL);
@@ -393,17 +393,17 @@ static void kept_card(void)
 	arrive_many("several on no card", &card, 156, 52, 0, 3, 3);
 	arrive_many("several and no card, the first short", &card, 51, 0, 0, 3, 3);
 	arrive_many("none on no card", &card, 156, 52, 0, 0, 3);
-	tell_shape("the size of no card", &card);
+	report_shape("the size of no card", &card);
 	inspect("inspect no card", &card, 1, 1);
 	read_state("state of no card", &card, 1, 1, 2);
-	tell_journal("cut no card", upc_card_cut(&card, 1, 1, room, 3, &journal, &fault), &journal);
+	report_journal("cut no card", upc_card_cut(&card, 1, 1, room, 3, &journal, &fault), &journal);
 	set_up("set up on no card", &card, 1, 1, id, cbr, 1);
 	set_up("five on no card", &card, 1, 1, id, cbr, 5);
 	set_up("no contract's numbers on no card", &card, 256, 1, id, zero, 1);
-	tell("new card", upc_card_new(&shape, &card, &fault), "", "", 0);
-	tell("new card again", upc_card_new(&shape, &card, &fault), "", "", 0);
-	tell_shape("size", &card);
-	tell("load", upc_card_load(&card, octets, sizeof octets, &id, &fault), "", "", 0);
+	report("new card", upc_card_new(&shape, &card, &fault), "", "", 0);
+	report("new card again", upc_card_new(&shape, &card, &fault), "", "", 0);
+	report_shape("size", &card);
+	report("load", upc_card_load(&card, octets, sizeof octets, &id, &fault), "", "", 0);
 	card_desk(&card, id, cbr);
 	arrive("short cell", &card, 1, 51, 0);
 	arrive("cell elsewhere", &card, 2, 52, 0);
@@ -419,17 +419,17 @@ static void kept_card(void)
 	read_state("state on a large path", &card, 256, 1, 0);
 	read_state("state into none", &card, 1, 1, 0);
 	read_state("state", &card, 1, 1, 1);
-	tell_journal("cut elsewhere", upc_card_cut(&card, 1, 2, room, 0, &journal, &fault), &journal);
-	tell_journal("cut into one entry", upc_card_cut(&card, 1, 1, room, 1, &journal, &fault), &journal);
-	tell_journal("release into none", upc_card_release(&card, 1, 1, room, 0, &journal, &fault), &journal);
-	tell_journal("cut", upc_card_cut(&card, 1, 1, room, 2, &journal, &fault), &journal);
-	tell_journal("cut an empty journal", upc_card_cut(&card, 1, 1, room, 0, &journal, &fault), &journal);
+	report_journal("cut elsewhere", upc_card_cut(&card, 1, 2, room, 0, &journal, &fault), &journal);
+	report_journal("cut into one entry", upc_card_cut(&card, 1, 1, room, 1, &journal, &fault), &journal);
+	report_journal("release into none", upc_card_release(&card, 1, 1, room, 0, &journal, &fault), &journal);
+	report_journal("cut", upc_card_cut(&card, 1, 1, room, 2, &journal, &fault), &journal);
+	report_journal("cut an empty journal", upc_card_cut(&card, 1, 1, room, 0, &journal, &fault), &journal);
 	arrive("cell after the cut", &card, 1, 52, 9);
-	tell_journal("cut", upc_card_cut(&card, 1, 1, room, 2, &journal, &fault), &journal);
+	report_journal("cut", upc_card_cut(&card, 1, 1, room, 2, &journal, &fault), &journal);
 	card_batches(&card);
-	tell_journal("release on a large path", upc_card_release(&card, 256, 1, room, 3, &journal, &fault), &journal);
-	tell_journal("release", upc_card_release(&card, 1, 1, room, 3, &journal, &fault), &journal);
-	tell("retire", upc_card_retire(&card, &id, &fault), "", "", 0);
+	report_journal("release on a large path", upc_card_release(&card, 256, 1, room, 3, &journal, &fault), &journal);
+	report_journal("release", upc_card_release(&card, 1, 1, room, 3, &journal, &fault), &journal);
+	report("retire", upc_card_retire(&card, &id, &fault), "", "", 0);
 	upc_card_free(&card);
 	arrive("card let go", &card, 1, 52, 0);
 }

@@ -45,7 +45,7 @@ def connections(subcommand):
 
 
 def journal(subcommand):
-    """A journal of 65,536 cells, and a cell that finds it full; by `run` a cut tells them all."""
+    """A journal of 65,536 cells, and a cell that finds it full; by `run` a cut counts them all."""
     yield "card 1 1 16 %d" % MOST_ENTRIES
     yield "load " + ALWAYS_1
     yield "setup 1 100 p1 vbr3:5/0:20/20"

@@ -24,12 +24,12 @@ def number(octets, place, order, width="I"):
     return struct.unpack_from(order + width, octets, place)[0]
 
 
-def sized(said, least, most, place):
-    if said < least:
-        raise Broken(f"2 ShortLength {said}", place)
-    if said > most:
-        raise Broken(f"3 LongLength {said}", place)
-    return said
+def sized(length, least, most, place):
+    if length < least:
+        raise Broken(f"2 ShortLength {length}", place)
+    if length > most:
+        raise Broken(f"3 LongLength {length}", place)
+    return length
 
 
 def frame_at(octets, place, size):
@@ -65,7 +65,7 @@ def pcap_records(octets, order):
 
 
 def block_order(head, order, place):
-    """Returns the order of the numbers in a block. A section header says it."""
+    """Returns the order of the numbers in a block. A section header gives it."""
     if number(head, 0, ">") != SECTION:
         return order
     magic = number(head, 8, ">")

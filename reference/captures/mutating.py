@@ -11,7 +11,7 @@ SECOND = 2**32
 
 
 class Places:
-    """Where a well-formed capture has its frames, and the numbers that say how they go on: the place, width and order of each."""
+    """Where a well-formed capture has its frames, and the numbers that decide how the rest is read: the place, width and order of each."""
 
     def __init__(self, octets):
         self.octets = octets
@@ -98,13 +98,13 @@ def with_octets(draw, octets):
 
 
 def with_lies(draw, octets):
-    """Makes some lengths and other numbers say something else."""
+    """Replaces some lengths and other numbers by wrong ones."""
     numbers, octets = Places(octets).numbers, bytearray(octets)
     for place, width, order in draw.choices(numbers, k=draw.choice([1, 1, 1, 2, 3])) if numbers else []:
         most = 2**16 if width == "H" else 2**32
         true = formats.number(octets, place, order, width)
-        said = draw.choice([draw.choice(LIES), draw.choice([0, most - 1]), true + draw.choice([-16, -12, -4, -1, 1, 4, 12, 16]), len(octets) - place])
-        struct.pack_into(order + width, octets, place, said % most)
+        wrong = draw.choice([draw.choice(LIES), draw.choice([0, most - 1]), true + draw.choice([-16, -12, -4, -1, 1, 4, 12, 16]), len(octets) - place])
+        struct.pack_into(order + width, octets, place, wrong % most)
     return bytes(octets)
 
 

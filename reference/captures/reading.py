@@ -38,7 +38,7 @@ def content_of(octets):
 
 
 def record_of(number, octets):
-    """Returns what the octets of a record say."""
+    """Returns the record that these octets encode."""
     cell, reason = content_of(octets)
     return Record(number, octets[9] % 4, struct.unpack_from("<Q", octets)[0], cell, reason)
 

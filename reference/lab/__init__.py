@@ -1,1 +1,1 @@
-"""What `upc-lab trace` and `upc-lab list` say of programs, beside the machine and the assembler of reference/policer."""
+"""What `upc-lab trace` and `upc-lab list` print for programs, beside the machine and the assembler of reference/policer."""

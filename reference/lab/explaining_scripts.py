@@ -42,7 +42,7 @@ BLAMED = {
 
 
 def is_command(words, side):
-    """Returns whether the words spell a command on a card of this side, whatever the card then says."""
+    """Returns whether the words spell a command on a card of this side, whatever the card then answers."""
     command, *rest = words
     try:
         if command == b"setup":

@@ -151,10 +151,10 @@ class Calls:
             def excess(moment=moment, clp=clp, meter=meter):
                 return meter().excess(moment, int(clp != 0))
 
-            before, told = values_of(levels), Excess(7, 7)
-            given = (ctypes.byref(it), ctypes.byref(levels), clp, ctypes.c_uint64(moment), ctypes.byref(told))
+            before, reported = values_of(levels), Excess(7, 7)
+            given = (ctypes.byref(it), ctypes.byref(levels), clp, ctypes.c_uint64(moment), ctypes.byref(reported))
             wanted = self.asked("upc_excess_of", excess, *given)
-            same("upc_excess_of, the excess", values_of(told), wanted or (7, 7))
+            same("upc_excess_of, the excess", values_of(reported), wanted or (7, 7))
             same("upc_excess_of, the levels", values_of(levels), before)
             wanted = self.asked("upc_judge", judged, ctypes.byref(it), ctypes.byref(levels), clp, ctypes.c_uint64(moment), ctypes.byref(verdict))
             if wanted is None:

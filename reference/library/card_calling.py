@@ -43,9 +43,9 @@ class CardCalls(Calls):
         found = self.asked("upc_card_new", made, ctypes.byref(Shape(*shape)), ctypes.byref(self.card))
         if found is not None:
             self.model, self.moment, self.ended, self.before = found, 0, {(0, 0, 0, 0)}, {}
-        told = Shape(7, 7, 7, 7, 7)
-        wanted = self.asked("upc_card_shape", lambda: self.there().shape, ctypes.byref(self.card), ctypes.byref(told))
-        same("upc_card_shape, the shape", values_of(told), wanted or (7,) * 5)
+        reported = Shape(7, 7, 7, 7, 7)
+        wanted = self.asked("upc_card_shape", lambda: self.there().shape, ctypes.byref(self.card), ctypes.byref(reported))
+        same("upc_card_shape, the shape", values_of(reported), wanted or (7,) * 5)
 
     def try_load(self):
         """upc_card_load."""
@@ -146,7 +146,7 @@ class CardCalls(Calls):
         length, state = self.rng.choice((0, 1, 4, 4, 4, 5)), State()
         room = (Meter * length)(*(Meter(Contract(*[7] * 5), (7, 7)) for _ in range(length))) if length else None
 
-        def told():
+        def read():
             vc = self.there().vc_of(path, channel)
             numbers, meters = self.model.state_of(vc)
             if len(meters) > length:
@@ -154,7 +154,7 @@ class CardCalls(Calls):
             return vc, numbers, meters
 
         given = (ctypes.c_uint16(path), ctypes.c_uint16(channel), room, ctypes.c_size_t(length), ctypes.byref(state))
-        wanted = self.asked("upc_card_state", told, ctypes.byref(self.card), *given)
+        wanted = self.asked("upc_card_state", read, ctypes.byref(self.card), *given)
         meters = [] if wanted is None else wanted[2]
         rest = [((7,) * 5, (7, 7))] * (length - len(meters))
         same("upc_card_state, the meters", [values_of(it) for it in room or ()], meters + rest)

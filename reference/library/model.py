@@ -93,7 +93,7 @@ class CardModel(Card):
         self.shape = shape
         self.ids = {}        # the library's id of each program
         self.journals = {}   # the entries of each connection
-        self.lines = {}      # the line of each connection, once a cell has told it
+        self.lines = {}      # the line of each connection, once an answer has it
         self.counts = {}     # the counts of each connection's line since the setup
         self.incarnations = {}
         self.given = set()

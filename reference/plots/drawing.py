@@ -165,7 +165,7 @@ def draw_fill(panel, plan, shown, fill):
 
 
 def bucket_title(shown, fill):
-    """Returns which bucket it is. Of several contracts it is to say which one."""
+    """Returns which bucket it is. If there are several contracts, it names the contract."""
     if len(shown.contracts) > 1:
         return f"contract {fill.contract}, {shown.contracts[fill.contract - 1]}: bucket {fill.bucket}"
     return f"bucket {fill.bucket} ({BUCKETS[fill.bucket]}): increment {fill.increment:,}"

@@ -48,9 +48,9 @@ def check_scratch(program):
         word = word_read(instruction)
         if word is not None and word not in stored[place]:
             raise Fault("verify", "Unwritten", place, word)
-        behind = stored[place]
+        after = stored[place]
         if word_stored(instruction) is not None:
-            behind = behind | {word_stored(instruction)}
+            after = after | {word_stored(instruction)}
         for successor in successors(instruction, place):
             known = stored[successor]
-            stored[successor] = behind if known is None else known & behind
+            stored[successor] = after if known is None else known & after

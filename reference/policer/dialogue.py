@@ -8,7 +8,8 @@ def answered(text, dialogue):
     """The answers to a whole input, and the exit status: 1 if a fault line ended the run, else 0.
 
     A dialogue answers the words of a line, and refuses them by a Fault. Until it is open a fault ends the run;
-    later only a line over the limits does. `close` says what is wrong with an input that ends there.
+    later only a line over the limits does. `refuse_end` raises the fault of an
+    input that ends before the dialogue is open.
     """
     answers = []
     try:

@@ -12,7 +12,7 @@ class Open(Exception):
 
 
 def ported(text):
-    """The answers and the totals, or the one line that tells why the script can't be run."""
+    """The answers and the totals, or the one line with the reason why the script can't be run."""
     answers, status = answered(text, RunDialogue())
     lines = answers.decode("ascii").splitlines()
     if status != 0:

@@ -21,7 +21,7 @@ def card_of(words):
 
 
 class RunDialogue:
-    """No card yet, or the card that obeys each further line. A line's words go before what the card says."""
+    """No card yet, or the card that obeys each further line. A fault of a line's words goes before one of the card."""
 
     def __init__(self):
         self.card = None
@@ -35,12 +35,12 @@ class RunDialogue:
         if not self.is_open:
             self.card = card_of(words)
             return "ready"
-        command, *behind = words
+        command, *rest = words
         if command == b"setup":
-            return self.setup(behind)
-        if (command, len(behind)) not in COMMANDS:
+            return self.setup(rest)
+        if (command, len(rest)) not in COMMANDS:
             raise bad_line()
-        return COMMANDS[command, len(behind)](self, *behind)
+        return COMMANDS[command, len(rest)](self, *rest)
 
     def refuse_end(self):
         """What is wrong with a script that ends without a card."""

@@ -1,4 +1,4 @@
-"""The words of a script. What has another form is a BadLine; what a word says may still be refused later."""
+"""The words of a script. A word of another form is a BadLine; one of the right form may still be refused later."""
 
 import re
 

@@ -1,5 +1,5 @@
-"""Compares the compiled code of random rules with the evaluator, on cells at the bounds of their comparisons, and what is said of which
-rule decides each.
+"""Compares the compiled code of random rules with the evaluator, on cells at the bounds of their comparisons, and the
+answers of `why`, which name the rule that decides each.
 
     python3 -m rules PROGRAM [COUNT] [SEED]      PROGRAM is upc-lab
 

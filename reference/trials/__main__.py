@@ -63,7 +63,7 @@ def compared(pool, program, subcommand, seed, count):
     return None, reached
 
 
-def tell_difference(program, subcommand, seed, number):
+def report_difference(program, subcommand, seed, number):
     """Prints the difference, and keeps the input, whole and shortened."""
     text = input_of(subcommand, seed, number)
     folder = tempfile.mkdtemp(prefix="upc-compare-")
@@ -71,9 +71,9 @@ def tell_difference(program, subcommand, seed, number):
     for name, octets in (("whole", text), ("short", less)):
         with open(os.path.join(folder, name), "wb") as file:
             file.write(octets)
-    told = first_difference(of_program(program, subcommand, less), of_reference(subcommand, less))
+    difference = first_difference(of_program(program, subcommand, less), of_reference(subcommand, less))
     print("otherwise: upc %s, input %d of the seed %s" % (subcommand, number, seed))
-    print("  %s" % told)
+    print("  %s" % difference)
     print("  bin/upc %s < %s/short" % (subcommand, folder))
     print("  (cd reference && python3 -m policer %s < %s/short)" % (subcommand, folder))
     print("  The whole input is %s/whole" % folder)
@@ -98,10 +98,10 @@ def main():
         reached += counts
         if found is None:
             passed += 1
-            told = (subcommand, asked.count, len(edges_of(subcommand)))
-            print("upc %s: %d random inputs and %d at the limits, no difference" % told, flush=True)
+            tried_inputs = (subcommand, asked.count, len(edges_of(subcommand)))
+            print("upc %s: %d random inputs and %d at the limits, no difference" % tried_inputs, flush=True)
         else:
-            tell_difference(program, subcommand, seed, found)
+            report_difference(program, subcommand, seed, found)
     if asked.coverage:
         lines, missed = table(reached, subcommands)
         print("\n".join(lines))

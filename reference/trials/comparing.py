@@ -29,7 +29,7 @@ def input_of(subcommand, seed, number):
 
 
 def of_program(program, subcommand, text):
-    """What the program writes, its exit status, and what it tells of errors."""
+    """What the program writes, its exit status, and what it writes to standard error."""
     try:
         ended = subprocess.run([program, subcommand], input=text, capture_output=True, timeout=SECONDS, check=False)
     except subprocess.TimeoutExpired:
@@ -38,7 +38,7 @@ def of_program(program, subcommand, text):
 
 
 def of_reference(subcommand, text):
-    """The same of the reference, which has nothing to tell of errors."""
+    """The same of the reference, which writes nothing to standard error."""
     return (*SUBCOMMANDS[subcommand](text), b"")
 
 

@@ -100,7 +100,7 @@ class Coverage:
                 self.count("machine", name)
                 return step(machine)
             step(machine)
-            # A branch whose offsets are alike tells nothing of its test.
+            # A branch whose offsets are equal doesn't show whether its test holds.
             if instruction.jt != instruction.jf:
                 holds = machine.place == place + 1 + instruction.jt
                 self.count("machine", name + (" holds" if holds else " fails"))

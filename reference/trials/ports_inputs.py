@@ -23,13 +23,13 @@ def make(rng):
 
 def lines_of(rng):
     """The lines of a script, cells last; of the commands that end something only a few stay."""
-    first, *behind = Script(rng).lines
+    first, *rest = Script(rng).lines
     if rng.random() < 0.04:
         first = rng.choice(FIRST_LINES)
-    cells = [line for line in behind if line.startswith(b"cell")]
+    cells = [line for line in rest if line.startswith(b"cell")]
     setting_up = [
         line
-        for line in behind
+        for line in rest
         if not line.startswith(b"cell") and (line.split(b" ")[0] in (b"load", b"setup") or rng.random() < 0.2)
     ]
     return [first] + setting_up + cells

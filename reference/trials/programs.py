@@ -70,7 +70,7 @@ def accepted(rng, count=None):
         else:
             instruction = next_instruction(rng, place, count, stored[place])
         if instruction.mnemonic in BRANCHES and program:
-            instruction = instruction._replace(k=compared_behind(rng, program[-1], instruction))
+            instruction = instruction._replace(k=compared_after(rng, program[-1], instruction))
         program.append(instruction)
         lead(instruction, place, stored)
     return program
@@ -81,11 +81,11 @@ def lead(instruction, place, stored):
     if stored[place] is None:
         return
     word_of = word_stored(instruction)
-    behind = stored[place] | ({word_of} if word_of is not None else set())
+    after = stored[place] | ({word_of} if word_of is not None else set())
     for successor in successors(instruction, place):
         if successor < len(stored):
             known = stored[successor]
-            stored[successor] = behind if known is None else known & behind
+            stored[successor] = after if known is None else known & after
 
 
 def next_instruction(rng, place, count, stored):
@@ -112,7 +112,7 @@ def filled(rng, spelling, place, count, stored):
     return Instruction(code, k=operand(rng, mnemonic, form, stored))
 
 
-def compared_behind(rng, before, branch):
+def compared_after(rng, before, branch):
     """What a branch compares with, often about what the instruction before it leaves in A."""
     if branch.form != "#k" or rng.random() < 0.3:
         return branch.k

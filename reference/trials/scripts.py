@@ -52,18 +52,18 @@ class Script:
         self.moment = rng.choice((0, 0, 0, 3, rng.getrandbits(61) if self.is_large else 7))
         self.open_card()
         for _ in range(rng.choice((1, 1, 2))):
-            self.say(self.load(0.03))
+            self.add(self.load(0.03))
         for _ in range(rng.randrange(1, 5)):
-            self.say(self.setup(0.1))
+            self.add(self.setup(0.1))
         for _ in range(rng.choice((0, 5, 15, 30, 60))):
-            self.say(self.next_line())
+            self.add(self.next_line())
 
     @property
     def card(self):
         """The card that has taken the lines so far."""
         return self.answers.card
 
-    def say(self, line):
+    def add(self, line):
         """Adds the line, and has the reference's card take it."""
         self.lines.append(line)
         try:
@@ -79,7 +79,7 @@ class Script:
         if rng.random() < 0.03:
             sizes = (1024, 4096, 16, 65536)
         side = rng.choice(("", "", " uni", " nni"))
-        self.say(("card %d %d %d %d" % sizes + side).encode())
+        self.add(("card %d %d %d %d" % sizes + side).encode())
 
     def next_line(self):
         """A cell as a rule, else a command, or seldom a line of another form. Full journals are often cut."""
@@ -91,10 +91,10 @@ class Script:
         full = [vc for vc, connection in self.card.connections.items() if self.is_full(connection)]
         if full and rng.random() < 0.5:
             return ("cut %d %d" % rng.choice(full)).encode()
-        say = rng.choices(
+        command = rng.choices(
             (self.load, self.retire, self.setup, self.reload, self.release, self.cut), (4, 4, 6, 5, 4, 7)
         )[0]
-        return say(0.25)
+        return command(0.25)
 
     def is_full(self, connection):
         """No further cell fits into the connection's journal."""

@@ -1,6 +1,7 @@
 """What the sources and pages have to be like."""
 import os
 import re
+import subprocess
 
 from . import definitions, history, memory, places
 from .definitions import reached
@@ -137,7 +138,17 @@ def explained(sources):
     yield from history.silent()
 
 
-CHECKS = (comments, turned, defined, meant, linked, named, placed, failed, coded, explained)
+def applied(sources):
+    """Yields each wrong body that only tests find whose patch doesn't fit the sources. The gate tries only some of them."""
+    for crate in sources.crates:
+        for path in files_below(f"crates/{crate}/must-fail-by-test", ".patch"):
+            with open(f"{ROOT}/{path}", "rb") as it:
+                tried = subprocess.run(["patch", "-p1", "--fuzz=0", "--dry-run"], cwd=ROOT, stdin=it, stdout=subprocess.PIPE, stderr=subprocess.STDOUT)
+            if tried.returncode:
+                yield f"{path}: it can't be applied"
+
+
+CHECKS = (comments, turned, defined, meant, linked, named, placed, failed, coded, explained, applied)
 
 
 def checked(sources):

@@ -43,34 +43,34 @@ class Module:
         self.read(source.split("\n"))
 
     def read(self, lines):
-        said, current, begun, indent, block = [], None, False, "", False
+        comment, current, begun, indent, block = [], None, False, "", False
         for at, line in enumerate(lines):
             if MUTUAL.match(line):
-                indent, block, said, current = "  ", True, [], None
+                indent, block, comment, current = "  ", True, [], None
                 continue
             if block and line.strip() and not line.startswith("  "):
                 indent, block = "", False
             if line.startswith("module "):
-                indent, said, current = "  ", [], None
+                indent, comment, current = "  ", [], None
                 continue
             own = line[len(indent) :] if line.startswith(indent) else line
             if own.startswith("-- "):
-                said, current = said + [own[3:]], None
+                comment, current = comment + [own[3:]], None
             elif own.startswith(("use ", "pub use ", "pub mod ")):
-                self.sentence = self.sentence if begun else " ".join(said)
-                said, begun = [], True
+                self.sentence = self.sentence if begun else " ".join(comment)
+                comment, begun = [], True
             elif not own.strip():
                 current = None
                 if not begun:
-                    self.sentence, said, begun = " ".join(said), [], True
+                    self.sentence, comment, begun = " ".join(comment), [], True
             elif own[0] in " \t":
                 if current:
                     current.add(own)
             else:
-                current = self.begin(own, said, current, at + 1)
-                said = []
+                current = self.begin(own, comment, current, at + 1)
+                comment = []
 
-    def begin(self, line, said, current, number):
+    def begin(self, line, comment, current, number):
         found = BEGINS.match(line)
         if not found:
             return current
@@ -78,7 +78,7 @@ class Module:
         if name in self.definitions:
             self.definitions[name].add(line)
         else:
-            self.definitions[name] = Definition(self, name, kind, " ".join(said), line)
+            self.definitions[name] = Definition(self, name, kind, " ".join(comment), line)
             self.definitions[name].line = number
         return self.definitions[name]
 
@@ -253,10 +253,10 @@ def in_order(specs, crate):
     return [specs.modules[it] for it in names if it in specs.modules and not specs.modules[it].helps()]
 
 
-def sentence(said):
+def sentence(text):
     """Returns a sentence with its capital and its stop."""
-    said = said[:1].upper() + said[1:]
-    return said if said.endswith((".", ":")) else said + "."
+    text = text[:1].upper() + text[1:]
+    return text if text.endswith((".", ":")) else text + "."
 
 
 def hidden_types(definition):

@@ -25,7 +25,7 @@ class Place:
 
 
 class Edit:
-    """A planted bug of a crate, the line where it stands, and the function that it turns."""
+    """A planted bug of a crate, the line where it is, and the function that it turns."""
 
     def __init__(self, crate, path, bug, is_deep):
         self.crate, self.path, self.line, self.name, self.is_deep = crate, path, bug.line, bug.name, is_deep

@@ -1,4 +1,4 @@
-"""Which files there are, and what they say."""
+"""Which files there are, and their texts."""
 import functools
 import os
 import re

@@ -71,14 +71,14 @@ def block(text, at):
 
 def comment_above(lines, at, sign):
     """Returns the lines of the comment of this sign above a line, without attributes and comments of other signs between."""
-    said = []
+    comment = []
     at -= 1
     while at >= 0 and lines[at].strip().startswith(("//", "#[")):
         found = re.match(r"\s*(//[/!]?)\s?(.*)", lines[at])
         if found and found[1] == sign:
-            said.insert(0, found[2].strip())
+            comment.insert(0, found[2].strip())
         at -= 1
-    return said
+    return comment
 
 
 def clauses_of(text):
@@ -151,8 +151,8 @@ def functions_in(crate, path, text):
             it.is_pub = bool(found[2]) and found[2] == "pub "
             it.is_exported = "extern" in line
             it.is_test = any(line.startswith("#[test]") for line in above[-3:])
-            said = [line for line in comment_above(lines, at, "///")]
-            it.sentence = " ".join(said).strip()
+            comment = [line for line in comment_above(lines, at, "///")]
+            it.sentence = " ".join(comment).strip()
             at = read(it, lines, at)
             yield it
         at += 1

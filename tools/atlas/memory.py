@@ -9,7 +9,7 @@ import re
 ERROR = re.compile(r"\b(?:\w+::)*(?:NoMemory|OutOfMemory)\b|\bAllocError\b|\bout_of_memory\(\)")
 # What follows a pattern, and a type.
 PATTERN = re.compile(r"[\s,)}.]*(?:=>|\|(?!\|)|if\b)")
-# What stands between a cause and the error that it makes.
+# What may be between a cause and the error that it makes.
 WRAPPED = r"(?:return\s+)?(?:\w+\((?:\w+, )*)?(?:Err\()?\(?\s*(?:\w+::)*(?:\w+\()?$"
 # What would be larger than any memory, so no call is made for it: a block of more than 2^63 octets, and 2^32 instructions.
 TOO_LARGE = re.compile(r"^!may_hold::<[\w<>]+>\(\w+\)$|^self\.reversed\.len\(\) >= ROOM$")

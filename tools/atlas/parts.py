@@ -1,4 +1,4 @@
-"""The parts of pages, and of the header for C: what they say of one thing."""
+"""The parts of pages, and of the header for C: each is about one thing."""
 import re
 
 from .files import files_below, text_of

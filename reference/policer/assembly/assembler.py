@@ -28,7 +28,7 @@ def assembled(source):
 def parsed(lines):
     """The label and the statement of each line. In a line a bad number goes before all else, a label last."""
     labels = set()
-    told = []
+    pairs = []
     for number, line in enumerate(lines, start=1):
         try:
             label, statement = line_of(tokens_of(line))
@@ -40,8 +40,8 @@ def parsed(lines):
             raise Fault("asm", "LabelTwice", number)
         if label is not None:
             labels.add(label)
-        told.append((label, statement))
-    return told
+        pairs.append((label, statement))
+    return pairs
 
 
 def refuse_dangling(lines):

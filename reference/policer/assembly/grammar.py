@@ -10,7 +10,7 @@ class NoLine(Exception):
 
 
 class Statement(NamedTuple):
-    """What an instruction line says: a row of the instruction table, and the labels of a jump or a branch.
+    """The statement of an instruction line: a row of the instruction table, and the labels of a jump or a branch.
 
     A side of a branch without a label continues after it.
     """

@@ -76,7 +76,7 @@ class Functions(unittest.TestCase):
 
 class Heads(unittest.TestCase):
     def test_types(self):
-        self.assertEqual(type_of("impl<'a, R: Read> Input for Taking<R> {"), ("Taking", "Input"))
+        self.assertEqual(type_of("impl<'a, R: Read> Input for ReaderInput<R> {"), ("ReaderInput", "Input"))
         self.assertEqual(type_of("impl From<AllocError> for Fault {"), ("Fault", "From"))
         self.assertEqual(type_of("pub trait Machine {"), ("Machine", ""))
 
