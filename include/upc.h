@@ -3,14 +3,14 @@
  * Each call returns 0, or the constant of the fault for which it refused, such as UPC_VERIFY_UNWRITTEN, and fills
  * *fault with zeros, or with that fault. A call that refuses writes nothing else, except upc_card_arrive_many.
  *
- * Each call first looks for null pointers. A fault may be null: then only the result says it. Octets, moments, contracts,
+ * Each call first looks for null pointers. A fault may be null: then only the result reports it. Octets, moments, contracts,
  * meters, entries and answers may be at null if the length next to them is 0. Any other null pointer is refused as
  * UPC_NULL_POINTER, and nothing is read. The two calls that free do nothing with null. These tests are C, made by a script and tested.
  *
- * What a call answers behind them is proved (crates/upc_c/README.md) if its caller keeps these rules, which nothing checks:
+ * What a call does after these tests is proved (crates/upc_c/README.md) if its caller keeps these rules, which nothing checks:
  *
  *  - Each pointer that isn't null points to memory of its type, aligned for it; octets, moments, contracts, meters, entries
- *    and answers to as many as the length next to them says, which take at most PTRDIFF_MAX octets. The call may read them,
+ *    and answers to as many as the length next to them, which take at most PTRDIFF_MAX octets. The call may read them,
  *    and write if the pointer is to no const.
  *  - Memory that a call may write is borrowed by that argument alone: it overlaps none of the others, and no other
  *    thread reads or writes it before the call returns. Memory that a call may only read is not changed before that.
@@ -37,7 +37,7 @@
 extern "C" {
 #endif
 
-/* What compilers are told: the result of a call that may refuse is looked at. */
+/* Compilers warn if the result of a call that may refuse isn't looked at. */
 #if defined(__GNUC__)
 #define UPC_RESULT __attribute__((__warn_unused_result__))
 #else

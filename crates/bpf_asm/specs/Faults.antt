@@ -22,8 +22,8 @@ IsLineFault before here _ = ⊥
 pub record IsFirstLineFault (source : List (List ℕ)) (fault : AsmFault) : Type 0 where
   pub before : List (List ℕ)
   pub here : List ℕ
-  pub behind : List (List ℕ)
-  pub split : source ≡ before ++ here ∷ behind
+  pub after : List (List ℕ)
+  pub split : source ≡ before ++ here ∷ after
   pub number : fault.line ≡ length before + 1
   pub lines : List SourceLine
   pub spelled : AreLines before lines
@@ -77,12 +77,12 @@ pub record IsStatementFault (lines : List SourceLine) (place : ℕ) (statement :
 pub record IsFirstOperandFault (lines : List SourceLine) (fault : AsmFault) : Type 0 where
   pub before : List SourceLine
   pub here : SourceLine
-  pub behind : List SourceLine
-  pub split : lines ≡ before ++ here ∷ behind
+  pub after : List SourceLine
+  pub split : lines ≡ before ++ here ∷ after
   pub number : fault.line ≡ length before + 1
   pub earlier : HaveOffsets lines 0 (statements_of before)
   pub statement : Statement
-  pub stands : here.statement ≡ Some statement
+  pub holds : here.statement ≡ Some statement
   pub faulty : IsStatementFault lines (length (statements_of before)) statement fault.kind
 
 -- A fault of labels. All lines are in the grammar, and no label occurs twice. A label that no instruction follows comes

@@ -17,8 +17,8 @@ HasLabel lines at label = (line : SourceLine) × (slice_get lines at ≡ Some li
 pub record NamesPlace (lines : List SourceLine) (label : List ℕ) (place : ℕ) : Type 0 where
   pub before : List SourceLine
   pub here : SourceLine
-  pub behind : List SourceLine
-  pub split : lines ≡ before ++ here ∷ behind
+  pub after : List SourceLine
+  pub split : lines ≡ before ++ here ∷ after
   pub named : here.label ≡ Some label
   pub counted : place ≡ length (statements_of before)
 
@@ -56,5 +56,5 @@ operands_of (branch test by met unmet) = side met ++ side unmet
 
 -- The offset of a label operand in the instruction at this place: the label's place minus this place, minus 1.
 pub record IsOffset (lines : List SourceLine) (place : ℕ) (operand : Operand) (offset : ℕ) : Type 0 where
-  pub stands : NamesPlace lines operand.label (place + 1 + offset)
+  pub holds : NamesPlace lines operand.label (place + 1 + offset)
   pub fits : offset ≤ operand.most

@@ -3,7 +3,7 @@ use Rattle.std.specs.Prelude.{◌+◌, ◌≤◌, ◌<◌, ℕ, List, [], ◌∷
 use Rattle.bpf_asm.specs.StatementSpelling.{Part, Statement, plain, jump, branch, spelling_octets, spellings}
 use Rattle.bpf_asm.specs.declared.fault.ListFault.{ListFault}
 use Rattle.bpf_asm.specs.declared.fault.ListFault.TheVariants.{JumpOutside, NoMemory}
-use Rattle.bpf_code.specs.Flow.{StandsAt, JumpsTo}
+use Rattle.bpf_code.specs.Flow.{IsInstrAt, JumpsTo}
 use Rattle.bpf_code.specs.declared.instr.Instr.{Instr}
 use Rattle.bpf_code.specs.declared.instr.Instr.TheVariants.{Jump, Branch}
 
@@ -49,8 +49,8 @@ Leaves count place i = (target : ℕ) × JumpsTo place i target × (count ≤ ta
 
 -- The first instruction that leaves the code is at this place.
 pub record IsFirstLeaving (code : List Instr) (place : ℕ) : Type 0 where
-  pub leaves : (i : Instr) × StandsAt code place i × Leaves (length code) place i
-  pub before : (earlier : ℕ) (i : Instr) → earlier < place → StandsAt code earlier i → StaysWithin (length code) earlier i
+  pub leaves : (i : Instr) × IsInstrAt code place i × Leaves (length code) place i
+  pub before : (earlier : ℕ) (i : Instr) → earlier < place → IsInstrAt code earlier i → StaysWithin (length code) earlier i
 
 -- The code may have this error: JumpOutside at the first instruction that leaves it. NoMemory is allowed for any code.
 abbrev pub IsListFault : List Instr → ListFault → Type 0

@@ -9,15 +9,15 @@ digit_of octet =
     if nat_le 65 octet && nat_le octet 70 then octet - 55 else 16))
 
 -- The number that digits of this base spell, the highest first, after digits with the value `high`.
-unfoldable pub value_behind : ℕ → ℕ → List ℕ → Option ℕ
-value_behind base high [] = Some high
-value_behind base high (octet ∷ rest) =
-    if nat_lt (digit_of octet) base then value_behind base (high * base + digit_of octet) rest else None
+unfoldable pub value_after : ℕ → ℕ → List ℕ → Option ℕ
+value_after base high [] = Some high
+value_after base high (octet ∷ rest) =
+    if nat_lt (digit_of octet) base then value_after base (high * base + digit_of octet) rest else None
 
 -- The number that one or more digits of this base spell.
 abbrev pub value_in : ℕ → List ℕ → Option ℕ
 value_in base [] = None
-value_in base (octet ∷ rest) = value_behind base 0 (octet ∷ rest)
+value_in base (octet ∷ rest) = value_after base 0 (octet ∷ rest)
 
 -- Whether a word begins with `0x` or `0X`.
 abbrev pub is_hexadecimal : List ℕ → Bool

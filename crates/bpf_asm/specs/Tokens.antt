@@ -65,15 +65,15 @@ has_faulty [] = false
 has_faulty (token ∷ tokens) = is_faulty token || has_faulty tokens
 
 -- The tokens after one more in front: `#` before `-` and a number becomes `#` and 2^32 minus the number, modulo 2^32.
-abbrev pub signed_behind : Token → List Token → List Token
-signed_behind (mark hash) (mark minus ∷ number value ∷ tokens) =
+abbrev pub signed_after : Token → List Token → List Token
+signed_after (mark hash) (mark minus ∷ number value ∷ tokens) =
     if hash == 35 && minus == 45 then mark hash ∷ number ((2 ^ 32 - value) % 2 ^ 32) ∷ tokens else mark hash ∷ mark minus ∷ number value ∷ tokens
-signed_behind token tokens = token ∷ tokens
+signed_after token tokens = token ∷ tokens
 
 -- The tokens, with each `#-n` as one number.
 unfoldable pub signed : List Token → List Token
 signed [] = []
-signed (token ∷ tokens) = signed_behind token (signed tokens)
+signed (token ∷ tokens) = signed_after token (signed tokens)
 
 -- The tokens that the grammar reads in these octets of a line.
 unfoldable pub tokens_read : List ℕ → List Token

@@ -38,7 +38,7 @@ fn bad_number(text: &[u8]) -> bool
 }
 
 /// Reads the rest of a line after its label.
-fn behind_label<'a>(label: &'a [u8], text: &'a [u8]) -> Option<LentLine<'a>>
+fn after_label<'a>(label: &'a [u8], text: &'a [u8]) -> Option<LentLine<'a>>
     ensures { MatchOption result (body_in (Some label.entry.now) (tokens_in text.entry.now) ≡ None)
         (λ lent. body_in (Some label.entry.now) (tokens_in text.entry.now) ≡ Some (line_seen lent)) }
 {
@@ -72,7 +72,7 @@ fn line_of(text: &[u8]) -> Option<LentLine<'_>>
         };
     };
     if let Some(rest) = after_mark(rest, b':') {
-        return behind_label(name, rest);
+        return after_label(name, rest);
     }
     let statement = named(name, rest)?;
     Some(LentLine {

@@ -162,14 +162,14 @@ fn put_line(text: &mut Vec<u8>, place: usize, instr: Instr) -> Result<(), AllocE
     text.extend_from_slice(b"\n")
 }
 
-/// Returns whether some target of an instruction is outside the code, if `behind` instructions follow it.
-fn leaves(behind: usize, instr: Instr) -> bool
+/// Returns whether some target of an instruction is outside the code, if `following` instructions follow it.
+fn leaves(following: usize, instr: Instr) -> bool
     ensures { (place : ℕ) → MatchBool result
-        (Leaves (place + 1 + behind) place instr) (StaysWithin (place + 1 + behind) place instr) }
+        (Leaves (place + 1 + following) place instr) (StaysWithin (place + 1 + following) place instr) }
 {
     match instr {
-        Instr::Jump(k) => k as usize >= behind,
-        Instr::Branch { jt, jf, .. } => jt as usize >= behind || jf as usize >= behind,
+        Instr::Jump(k) => k as usize >= following,
+        Instr::Branch { jt, jf, .. } => jt as usize >= following || jf as usize >= following,
         _ => false,
     }
 }

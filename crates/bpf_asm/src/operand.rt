@@ -2,7 +2,7 @@
 
 ghost use Rattle.std.specs.Prelude.{◌≡◌, ◌≢◌, ◌-◌, ◌%◌, ◌^◌, ℕ, true, MatchOption};
 ghost use Rattle.bpf_asm.specs.inner.Reading.{cut_constant, cut_length, cut_mark, cut_name, cut_number, cut_operand, cut_target, cut_value, cut_word, is_ended};
-ghost use Rattle.bpf_asm.specs.Tokens.{mark, signed_behind, tokens_in};
+ghost use Rattle.bpf_asm.specs.Tokens.{mark, signed_after, tokens_in};
 ghost use Rattle.bpf_asm.specs.inner.WordRuns.{is_mark};
 
 use crate::token::{digit, is_spent, next_mark, next_word, number};
@@ -50,7 +50,7 @@ pub(crate) fn after_name(text: &[u8]) -> Option<(&[u8], &[u8])>
 /// Takes `#`, whatever follows it.
 fn after_hash(text: &[u8]) -> Option<&[u8]>
     ensures { MatchOption result (cut_mark 35 (tokens_in text.now) ≡ None)
-        (λ rest. tokens_in text.now ≡ signed_behind (mark 35) (tokens_in rest.now)) }
+        (λ rest. tokens_in text.now ≡ signed_after (mark 35) (tokens_in rest.now)) }
 {
     let rest = next_mark(text, b'#')?;
     Some(rest)

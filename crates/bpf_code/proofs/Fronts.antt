@@ -21,8 +21,8 @@ pub IsFront-more : (octets : List ℕ) (place : ℕ) (code : List Instr) (i : In
 IsFront-more octets place code i f s = record {
   spelled = λ rest r.
       let next : 8 * (place + 1) ≡ 8 * place + 8 = omega arith in
-      let behind : SpellsCode (drop 8 (drop (8 * place) octets)) rest = rw drop-drop (subst (λ (n : ℕ). SpellsCode (drop n octets) rest) next r) in
-      rw append_assoc (f.spelled (i ∷ rest) (s, behind));
+      let after : SpellsCode (drop 8 (drop (8 * place) octets)) rest = rw drop-drop (subst (λ (n : ℕ). SpellsCode (drop n octets) rest) next r) in
+      rw append_assoc (f.spelled (i ∷ rest) (s, after));
   before = below_more (λ (earlier : ℕ). (j : Instr) × Spells (eight_at octets earlier) j) place f.before (i, s);
 }
 

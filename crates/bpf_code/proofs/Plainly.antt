@@ -30,11 +30,11 @@ plainly-more octets eight [] i s spells unused =
 plainly-more octets eight (j ∷ code) i s spells unused =
     let here = Spells-length octets j s.0 in
     let front = take-append-le 8 octets eight here in
-    let behind = drop-append-le 8 octets eight here in
+    let after = drop-append-le 8 octets eight here in
     let P : List ℕ → Type 0 = λ xs. Spells xs j in
     let Q : List ℕ → Type 0 = λ xs. UnusedAreZero xs j in
     let R : List ℕ → Type 0 = λ xs. SpellsPlainly xs (code ++ i ∷ []) in
-    (subst P (sym front) s.0, subst Q (sym front) s.1, subst R (sym behind) (plainly-more (drop 8 octets) eight code i s.2 spells unused))
+    (subst P (sym front) s.0, subst Q (sym front) s.1, subst R (sym after) (plainly-more (drop 8 octets) eight code i s.2 spells unused))
 
 -- The same in terms of the loop's place.
 pub plainly-step : (octets octets' eight : List ℕ) (code : List Instr) (k : ℕ) (d : Instr) → k < length code → SpellsPlainly octets (take k code)

@@ -6,7 +6,7 @@ use Rattle.bpf_code.proofs.Total as total
 use Rattle.bpf_code.proofs.Written as written
 use Rattle.bpf_code.specs.Decoding.{IsDecodeFault}
 use Rattle.bpf_code.specs.Encoding.{code_octets}
-use Rattle.bpf_code.specs.Flow.{StandsAt}
+use Rattle.bpf_code.specs.Flow.{IsInstrAt}
 use Rattle.bpf_code.specs.OctetSpelling.{Spells, SpellsCode, SpellsPlainly, eight_at}
 use Rattle.bpf_code.specs.Widths.{FitsFields}
 use Rattle.bpf_code.specs.declared.decoder.DecodeFault.{DecodeFault}
@@ -38,5 +38,5 @@ pub one-decode_fault : (octets : List ℕ) (one other : DecodeFault) → one ≢
 one-decode_fault = faults.one-decode_fault
 
 -- The octets of a code whose instructions fit their fields spell it, with 0 in unused fields.
-pub code_octets-plainly : (code : List Instr) → ((place : ℕ) (i : Instr) → StandsAt code place i → FitsFields i) → SpellsPlainly (code_octets code) code
+pub code_octets-plainly : (code : List Instr) → ((place : ℕ) (i : Instr) → IsInstrAt code place i → FitsFields i) → SpellsPlainly (code_octets code) code
 code_octets-plainly = written.code_octets-plainly

@@ -115,19 +115,19 @@ cut (suc count) octets sized =
     elim (spelled_or_not (take 8 octets) (omega arith)) [
       | inr nothing ↦ inr (0, instr_number (take 8 octets), record { within = omega arith; there = refl; unknown = nothing; before = λ earlier lt. absurd (omega arith) })
       | inl here ↦ elim (cut count (drop 8 octets) (omega arith)) [
-        | inl behind ↦ inl (here.0 ∷ behind.0, (here.1, behind.1))
-        | inr behind ↦
-            let first = behind.2 in
+        | inl after ↦ inl (here.0 ∷ after.0, (here.1, after.1))
+        | inr after ↦
+            let first = after.2 in
             let h = first.within in
             let P : List ℕ → Type 0 = λ eight. (i : Instr) → Spells eight i → ⊥ in
             inr (
-              suc behind.0,
-              behind.1,
+              suc after.0,
+              after.1,
               record {
                 within = omega arith;
-                there = ap instr_number (sym (later octets behind.0)) ∙ first.there;
-                unknown = subst P (later octets behind.0) first.unknown;
-                before = before octets here.0 here.1 behind.0 first.before;
+                there = ap instr_number (sym (later octets after.0)) ∙ first.there;
+                unknown = subst P (later octets after.0) first.unknown;
+                before = before octets here.0 here.1 after.0 first.before;
               },
             )
       ]
@@ -136,9 +136,9 @@ cut (suc count) octets sized =
     before : (octets : List ℕ) (i : Instr) → Spells (take 8 octets) i → (at : ℕ)
         → ((earlier : ℕ) → earlier < at → (j : Instr) × Spells (eight_at (drop 8 octets) earlier) j)
         → (earlier : ℕ) → earlier < suc at → (j : Instr) × Spells (eight_at octets earlier) j
-    before octets i spells at behind zero lt = (i, spells)
-    before octets i spells at behind (suc earlier) lt =
-        let found = behind earlier (omega arith) in
+    before octets i spells at after zero lt = (i, spells)
+    before octets i spells at after (suc earlier) lt =
+        let found = after earlier (omega arith) in
         let P : List ℕ → Type 0 = λ eight. Spells eight found.0 in
         (found.0, subst P (later octets earlier) found.1)
 

@@ -5,7 +5,7 @@ use Rattle.byteorder.specs.Endian.{big_bytes, big_number}
 use Rattle.byteorder.specs.Numbers.{big_number-reads_back}
 use Rattle.bpf_code.specs.Encoding.{code_octets, octets_of_instr}
 use Rattle.bpf_code.specs.Fields.{instr_number, jt_in, jf_in, k_in}
-use Rattle.bpf_code.specs.Flow.{StandsAt}
+use Rattle.bpf_code.specs.Flow.{IsInstrAt}
 use Rattle.bpf_code.specs.OctetSpelling.{Spells, SpellsPlainly, UnusedAreZero}
 use Rattle.bpf_code.specs.Table.{code_of, jt_of, jf_of, k_of}
 use Rattle.bpf_code.specs.Widths.{FitsFields}
@@ -100,6 +100,6 @@ octets_plain : (i : Instr) → UnusedAreZero (octets_of_instr i) i
 octets_plain i = record { jt = unused (jt_of i); jf = unused (jf_of i); k = operand_unused (k_of i) }
 
 -- The octets of a code spell it.
-pub code_octets-plainly : (code : List Instr) → ((place : ℕ) (i : Instr) → StandsAt code place i → FitsFields i) → SpellsPlainly (code_octets code) code
+pub code_octets-plainly : (code : List Instr) → ((place : ℕ) (i : Instr) → IsInstrAt code place i → FitsFields i) → SpellsPlainly (code_octets code) code
 code_octets-plainly [] fits = refl
 code_octets-plainly (i ∷ code) fits = (octets_spell i (fits zero i refl), octets_plain i, code_octets-plainly code (λ place. fits (suc place)))

@@ -4,7 +4,7 @@ ghost use Rattle.std.specs.Prelude.{◌≡◌, ◌≢◌, ◌⊎◌, ℕ, List};
 ghost use Rattle.bpf_code.specs.Decoding.{IsDecodeFault};
 ghost use Rattle.bpf_code.specs.EarlierTable.{SpelledCodeEarlier};
 ghost use Rattle.bpf_code.specs.Encoding.{code_octets};
-ghost use Rattle.bpf_code.specs.Flow.{StandsAt};
+ghost use Rattle.bpf_code.specs.Flow.{IsInstrAt};
 ghost use Rattle.bpf_code.specs.OctetSpelling.{SpellsCode, SpellsPlainly};
 ghost use Rattle.bpf_code.specs.Widths.{FitsFields};
 ghost use Rattle.bpf_code.specs.declared.decoder.DecodeFault.{DecodeFault as TheFault};
@@ -45,7 +45,7 @@ pub fn octets_have_one_fault()
 
 /// The octets that `encode` writes spell the code, with 0 in all unused fields, if each instruction fits its fields.
 pub fn written_octets_spell_their_code()
-    ensures { (code : List Instr) → ((place : ℕ) (i : Instr) → StandsAt code place i → FitsFields i)
+    ensures { (code : List Instr) → ((place : ℕ) (i : Instr) → IsInstrAt code place i → FitsFields i)
         → SpellsPlainly (code_octets code) code }
 {}
 

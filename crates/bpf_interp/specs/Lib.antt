@@ -2,6 +2,7 @@ pub mod Arithmetic
 pub mod ScratchMemory
 pub mod Operand
 pub mod Packet
+pub mod Registers
 pub mod Runs
 pub mod State
 pub mod Step

@@ -10,3 +10,4 @@ mod turn;
 mod twos;
 
 pub use interpreter::{Outcome, run};
+pub use registers::Registers;

@@ -4,16 +4,16 @@ use Rattle.std.proofs.lemmas.Bool.{cases_lt}
 use Rattle.std.proofs.lemmas.Option.{slice_get_cases, slice_get_within}
 use Rattle.bpf_code.specs.declared.instr.Instr.{Instr}
 use Rattle.bpf_code.specs.declared.instr.Instr.TheVariants.{LoadMem, LdxMem}
-use Rattle.bpf_code.specs.Flow.{StandsAt, IsReturn, IsSuccessor, LeadsTo}
+use Rattle.bpf_code.specs.Flow.{IsInstrAt, IsReturn, IsSuccessor, LeadsTo}
 use Rattle.bpf_code.specs.Scratch.{ReadsWord}
 use Rattle.bpf_verify.specs.declared.fault.Fault.{Fault}
 use Rattle.bpf_verify.specs.declared.fault.Fault.TheVariants.{Empty, TooLong, NoReturn, Unwritten}
 use Rattle.bpf_verify.specs.Accepted.{IsAccepted, IsSized, IsSoundInstr, EndsInReturn}
 use Rattle.bpf_verify.specs.Faults.{BreaksFirst, FailsFirst, IsOwnFault, IsSoundBelow, IsUnwrittenAt, LacksReturn}
 use Rattle.bpf_verify.specs.Paths.{IsPath, IsWrittenAt, Stores}
-use Rattle.bpf_verify.proofs.FirstFault.{sound_or_fault, fails-from_break, decide_return, decide_stores, last_stands, one_read}
+use Rattle.bpf_verify.proofs.FirstFault.{sound_or_fault, fails-from_break, decide_return, decide_stores, last_instr, one_read}
 use Rattle.bpf_verify.proofs.Onward.{decide_leads, successor_forward}
-use Rattle.bpf_verify.proofs.Places.{any_here, any_later, any_none, any_split, one_stands}
+use Rattle.bpf_verify.proofs.Places.{any_here, any_later, any_none, any_split, one_there}
 use Rattle.bpf_verify.proofs.Visit.{all_written}
 
 -- If each number below a bound has a fact or lacks it, either some number is the first that has it or all lack it.
@@ -44,20 +44,20 @@ sized_or_fault code =
 
 -- The instruction at this place has a fault.
 Breaks : List Instr → ℕ → Type 0
-Breaks code place = (fault : Fault) × ((i : Instr) × StandsAt code place i × IsOwnFault (length code) place i fault)
+Breaks code place = (fault : Fault) × ((i : Instr) × IsInstrAt code place i × IsOwnFault (length code) place i fault)
 
 -- Each instruction at this place is sound.
 Holds : List Instr → ℕ → Type 0
-Holds code place = (i : Instr) → StandsAt code place i → IsSoundInstr (length code) place i
+Holds code place = (i : Instr) → IsInstrAt code place i → IsSoundInstr (length code) place i
 
 breaks_or_holds : (code : List Instr) (place : ℕ) → Breaks code place ⊎ Holds code place
 unfolding Breaks Holds
 breaks_or_holds code place =
     elim (slice_get_cases code place).1 [
-      | inr past ↦ inr (λ i stands. absurd (omega (arith, past.0, slice_get_within code place i stands)))
+      | inr past ↦ inr (λ i instr_there. absurd (omega (arith, past.0, slice_get_within code place i instr_there)))
       | inl here ↦ elim (sound_or_fault (length code) place here.0) [
         | inr faulty ↦ inl (faulty.0, (here.0, here.2, faulty.1))
-        | inl sound ↦ inr (λ i stands. subst (λ j. IsSoundInstr (length code) place j) (one_stands code place here.0 i here.2 stands) sound)
+        | inl sound ↦ inr (λ i instr_there. subst (λ j. IsSoundInstr (length code) place j) (one_there code place here.0 i here.2 instr_there) sound)
       ]
     ]
 
@@ -66,17 +66,17 @@ sound_or_break : (code : List Instr) → IsSoundBelow code (length code) ⊎ ((p
 unfolding Breaks Holds
 sound_or_break code =
     elim (first_below (Breaks code) (Holds code) (length code) (λ place lt. breaks_or_holds code place)) [
-      | inr sound ↦ inl (λ place i lt stands. sound place lt i stands)
-      | inl first ↦ inr (first.0, first.1.0, ((λ place i lt stands. first.2 place lt i stands), first.1.1))
+      | inr sound ↦ inl (λ place i lt instr_there. sound place lt i instr_there)
+      | inl first ↦ inr (first.0, first.1.0, ((λ place i lt instr_there. first.2 place lt i instr_there), first.1.1))
     ]
 
 -- The code ends in a return or lacks it.
 ends_or_lacks : (code : List Instr) → 0 < length code → EndsInReturn code ⊎ LacksReturn code
 ends_or_lacks code some =
-    let last = last_stands code some in
+    let last = last_instr code some in
     elim (decide_return last.0) [
       | inl returns ↦ inl (last.0, last.1, returns)
-      | inr goes_on ↦ inr (λ i stands returns. goes_on (subst IsReturn (one_stands code (length code - 1) i last.0 stands last.1) returns))
+      | inr goes_on ↦ inr (λ i instr_there returns. goes_on (subst IsReturn (one_there code (length code - 1) i last.0 instr_there last.1) returns))
     ]
 
 decide_successor : (code : List Instr) (place next : ℕ) → IsSuccessor code place next ⊎ (IsSuccessor code place next → ⊥)
@@ -85,7 +85,7 @@ decide_successor code place next =
       | inr past ↦ inr (λ s. omega (arith, past.0, slice_get_within code place s.0 s.1))
       | inl here ↦ elim (decide_leads place here.0 next) [
         | inl leads ↦ inl (here.0, here.2, leads)
-        | inr apart ↦ inr (λ s. apart (subst (λ i. LeadsTo place i next) (one_stands code place s.0 here.0 s.1 here.2) s.2))
+        | inr apart ↦ inr (λ s. apart (subst (λ i. LeadsTo place i next) (one_there code place s.0 here.0 s.1 here.2) s.2))
       ]
     ]
 
@@ -123,8 +123,8 @@ module _ (code : List Instr) (word : ℕ) where
   -- Every path to a place after the first passes an earlier place.
   covers-from_each : (place : ℕ) → 0 < place → ((earlier : ℕ) → earlier < place → CoversThrough place earlier) → Covers place
   unfolding Covers CoversThrough
-  covers-from_each place behind each [] path = absurd (omega (arith, path, behind))
-  covers-from_each place behind each (latest ∷ passed) path =
+  covers-from_each place after each [] path = absurd (omega (arith, path, after))
+  covers-from_each place after each (latest ∷ passed) path =
       each latest (successor_forward code latest place path.1) path.1 passed path.0
 
   spares_or_covers : (bound place : ℕ) → place < bound → Spares place ⊎ Covers place
@@ -151,11 +151,11 @@ unwritten_or_written code place =
     elim (slice_get_cases code place).1 [
       | inr past ↦ inr (λ word passed path reads. absurd (omega (arith, past.0, slice_get_within code place reads.0 reads.1)))
       | inl here ↦ elim (reads_or_not here.0) [
-        | inr none ↦ inr (λ word passed path reads. absurd (none word (subst (λ i. ReadsWord i word) (one_stands code place reads.0 here.0 reads.1 here.2) reads.2)))
+        | inr none ↦ inr (λ word passed path reads. absurd (none word (subst (λ i. ReadsWord i word) (one_there code place reads.0 here.0 reads.1 here.2) reads.2)))
         | inl read ↦ elim (spares_or_covers code read.0 (suc place) place (omega arith)) [
           | inl spares ↦ inl (read.0, ((here.0, here.2, read.1), spares))
           | inr covers ↦ inr (λ word passed path reads.
-              let reads_here : ReadsWord here.0 word = subst (λ i. ReadsWord i word) (one_stands code place reads.0 here.0 reads.1 here.2) reads.2 in
+              let reads_here : ReadsWord here.0 word = subst (λ i. ReadsWord i word) (one_there code place reads.0 here.0 reads.1 here.2) reads.2 in
               subst (λ w. Any (Stores code w) passed) (one_read here.0 read.0 word read.1 reads_here) (covers passed path))
         ]
       ]
@@ -173,7 +173,7 @@ accepted-or_fault code =
             | inl first ↦ inr (Unwritten first.0 first.1.0, (sized, sound, ends, first.2, first.1.1))
             | inr written ↦ inl (record {
               sized = sized;
-              sound = λ place i stands. sound place i (slice_get_within code place i stands) stands;
+              sound = λ place i instr_there. sound place i (slice_get_within code place i instr_there) instr_there;
               ends = ends;
               written = all_written code written;
             })

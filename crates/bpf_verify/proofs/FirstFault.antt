@@ -6,7 +6,7 @@ use Rattle.bpf_code.specs.declared.instr.By.TheVariants.{Imm}
 use Rattle.bpf_code.specs.declared.instr.Instr.{Instr}
 use Rattle.bpf_code.specs.declared.instr.Instr.TheVariants.{Alu, Branch, Jump, LdxMem, LoadMem, RetA, RetK, Store, StoreX}
 use Rattle.bpf_code.specs.declared.instr.Op.TheVariants.{Div, Lsh, Mod, Rsh}
-use Rattle.bpf_code.specs.Flow.{StandsAt, IsReturn, JumpsTo}
+use Rattle.bpf_code.specs.Flow.{IsInstrAt, IsReturn, JumpsTo}
 use Rattle.bpf_code.specs.Operands.{DividesBy, ShiftsBy}
 use Rattle.bpf_code.specs.Scratch.{NamesWord, ReadsWord, StoresWord}
 use Rattle.bpf_verify.specs.declared.fault.Fault.{Fault}
@@ -15,7 +15,7 @@ use Rattle.bpf_verify.specs.Accepted.{IsAccepted, IsSized, IsSoundInstr, EndsInR
 use Rattle.bpf_verify.specs.Faults.{BreaksFirst, FailsFirst, IsOwnFault, IsSoundBelow, IsUnwrittenAt}
 use Rattle.bpf_verify.specs.Paths.{IsWrittenAt, Stores}
 use Rattle.bpf_verify.proofs.Masks.{decide_store}
-use Rattle.bpf_verify.proofs.Places.{decide_any, one_stands}
+use Rattle.bpf_verify.proofs.Places.{decide_any, one_there}
 
 -- An instruction that has a fault isn't sound.
 unsound-from_fault : (size place : ℕ) (i : Instr) (fault : Fault) → IsOwnFault size place i fault → IsSoundInstr size place i → ⊥
@@ -104,7 +104,7 @@ Passes code (suc (suc (suc (suc part)))) = (place : ℕ) → IsWrittenAt code pl
 passes-from_accepted : (code : List Instr) → IsAccepted code → (part : ℕ) → Passes code part
 passes-from_accepted code accepted zero = accepted.sized.least
 passes-from_accepted code accepted (suc zero) = accepted.sized.most
-passes-from_accepted code accepted (suc (suc zero)) = λ place i within stands. accepted.sound place i stands
+passes-from_accepted code accepted (suc (suc zero)) = λ place i within instr_there. accepted.sound place i instr_there
 passes-from_accepted code accepted (suc (suc (suc zero))) = accepted.ends
 passes-from_accepted code accepted (suc (suc (suc (suc part)))) = accepted.written
 
@@ -165,8 +165,8 @@ one_break code a b one other p q =
     let at_b = q.1 in
     elim (cases_order a b) [
       | inl e ↦
-          let there : StandsAt code a at_b.0 = subst (λ n. StandsAt code n at_b.0) (sym e) at_b.1 in
-          let same : at_b.0 ≡ at_a.0 = one_stands code a at_b.0 at_a.0 there at_a.1 in
+          let there : IsInstrAt code a at_b.0 = subst (λ n. IsInstrAt code n at_b.0) (sym e) at_b.1 in
+          let same : at_b.0 ≡ at_a.0 = one_there code a at_b.0 at_a.0 there at_a.1 in
           let breaks : IsOwnFault (length code) a at_a.0 other = subst (λ i. IsOwnFault (length code) a i other) same (subst (λ n. IsOwnFault (length code) n at_b.0 other) (sym e) at_b.2) in
           one_fault-of (length code) a at_a.0 one other at_a.2 breaks
       | inr apart ↦ elim apart [
@@ -188,8 +188,8 @@ one_unwritten code a b v w p q =
     let at_b = q.4.0 in
     elim (cases_order a b) [
       | inl e ↦
-          let there : StandsAt code a at_b.0 = subst (λ n. StandsAt code n at_b.0) (sym e) at_b.1 in
-          let same : at_b.0 ≡ at_a.0 = one_stands code a at_b.0 at_a.0 there at_a.1 in
+          let there : IsInstrAt code a at_b.0 = subst (λ n. IsInstrAt code n at_b.0) (sym e) at_b.1 in
+          let same : at_b.0 ≡ at_a.0 = one_there code a at_b.0 at_a.0 there at_a.1 in
           let f : v ≡ w = one_read at_a.0 v w at_a.2 (subst (λ i. ReadsWord i w) same at_b.2) in
           ap (λ at. Unwritten at v) e ∙ ap (λ word. Unwritten b word) f
       | inr apart ↦ elim apart [
@@ -328,15 +328,15 @@ decide_stores code word place =
     elim (slice_get_cases code place).1 [
       | inl here ↦ elim (decide_store here.0 word) [
         | inl stores ↦ inl (here.0, here.2, stores)
-        | inr keeps ↦ inr (λ h. keeps (subst (λ i. StoresWord i word) (one_stands code place h.0 here.0 h.1 here.2) h.2))
+        | inr keeps ↦ inr (λ h. keeps (subst (λ i. StoresWord i word) (one_there code place h.0 here.0 h.1 here.2) h.2))
       ]
       | inr past ↦ inr (λ h. omega (arith, past.0, slice_get_within code place h.0 h.1))
     ]
 
 -- The last instruction of a code that isn't empty.
-pub last_stands : (code : List Instr) → 0 < length code → (i : Instr) × StandsAt code (length code - 1) i
-last_stands [] h = absurd (omega arith)
-last_stands (i ∷ code) h =
+pub last_instr : (code : List Instr) → 0 < length code → (i : Instr) × IsInstrAt code (length code - 1) i
+last_instr [] h = absurd (omega arith)
+last_instr (i ∷ code) h =
     (get_or (i ∷ code) (length (i ∷ code) - 1) i, slice_get-get_or (i ∷ code) (length (i ∷ code) - 1) i (omega arith))
 
 module _ (code : List Instr) (none : (fault : Fault) → FailsFirst code fault → ⊥) where
@@ -347,25 +347,25 @@ module _ (code : List Instr) (none : (fault : Fault) → FailsFirst code fault �
   }
 
   sound_below : (bound : ℕ) → IsSoundBelow code bound
-  sound_below zero place i lt stands = absurd (omega arith)
-  sound_below (suc bound) place i lt stands =
+  sound_below zero place i lt instr_there = absurd (omega arith)
+  sound_below (suc bound) place i lt instr_there =
       elim (cases_lt place bound) [
-        | inl earlier ↦ sound_below bound place i earlier stands
+        | inl earlier ↦ sound_below bound place i earlier instr_there
         | inr le ↦ elim (sound_or_fault (length code) place i) [
           | inl sound ↦ sound
           | inr faulty ↦
               let e : bound ≡ place = omega arith in
               let before : IsSoundBelow code place = subst (λ n. IsSoundBelow code n) e (sound_below bound) in
-              absurd (none faulty.0 (fails-from_break code place faulty.0 sized-without_fault (before, (i, stands, faulty.1))))
+              absurd (none faulty.0 (fails-from_break code place faulty.0 sized-without_fault (before, (i, instr_there, faulty.1))))
         ]
       ]
 
   ends-without_fault : EndsInReturn code
   ends-without_fault =
-      let last = last_stands code sized-without_fault.least in
+      let last = last_instr code sized-without_fault.least in
       elim (decide_return last.0) [
         | inl returns ↦ (last.0, last.1, returns)
-        | inr goes_on ↦ absurd (none NoReturn (sized-without_fault, sound_below (length code), λ i stands returns. goes_on (subst IsReturn (one_stands code (length code - 1) i last.0 stands last.1) returns)))
+        | inr goes_on ↦ absurd (none NoReturn (sized-without_fault, sound_below (length code), λ i instr_there returns. goes_on (subst IsReturn (one_there code (length code - 1) i last.0 instr_there last.1) returns)))
       ]
 
   written_below : (bound place : ℕ) → place < bound → IsWrittenAt code place
@@ -385,7 +385,7 @@ module _ (code : List Instr) (none : (fault : Fault) → FailsFirst code fault �
   pub accepted-without_fault : IsAccepted code
   accepted-without_fault = record {
     sized = sized-without_fault;
-    sound = λ place i stands. sound_below (suc place) place i (omega arith) stands;
+    sound = λ place i instr_there. sound_below (suc place) place i (omega arith) instr_there;
     ends = ends-without_fault;
     written = λ place. written_below (suc place) place (omega arith);
   }

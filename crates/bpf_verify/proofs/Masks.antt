@@ -6,12 +6,12 @@ use Rattle.std.proofs.lemmas.Grind.{common_steps}
 use Rattle.std.proofs.lemmas.Nat.Bits.{bit_at-lt, bit_at-zero, bit_at_ones}
 use Rattle.bpf_code.specs.declared.instr.Instr.{Instr}
 use Rattle.bpf_code.specs.declared.instr.Instr.TheVariants.{Store, StoreX}
-use Rattle.bpf_code.specs.Flow.{IsSuccessor, LeadsTo, StandsAt}
+use Rattle.bpf_code.specs.Flow.{IsSuccessor, LeadsTo, IsInstrAt}
 use Rattle.bpf_code.specs.Scratch.{ReadsWord, StoresWord}
 use Rattle.bpf_verify.specs.Faults.{IsUnwrittenAt}
 use Rattle.bpf_verify.specs.Paths.{IsPath, IsWrittenAt, Stores}
 use Rattle.bpf_verify.proofs.Onward.{decide_leads, decide_same, successor_forward}
-use Rattle.bpf_verify.proofs.Places.{any_here, any_later, any_none, any_split, one_stands}
+use Rattle.bpf_verify.proofs.Places.{any_here, any_later, any_none, any_split, one_there}
 
 -- Initially each of the masks has every word.
 pub all_begin : (size all place : ℕ) → place < size → get_or (replicate size all) place 0 ≡ all
@@ -78,13 +78,13 @@ pub record ArePassedOn (i : Instr) (place mask : ℕ) (old new : List ℕ) : Typ
   pub others : (other : ℕ) → (LeadsTo place i other → ⊥) → get_or new other 0 ≡ get_or old other 0
   pub same_length : length new ≡ length old
 
-module _ (code : List Instr) (old new : List ℕ) (here mask : ℕ) (i : Instr) (stands : StandsAt code here i)
+module _ (code : List Instr) (old new : List ℕ) (here mask : ℕ) (i : Instr) (instr_there : IsInstrAt code here i)
     (within : here < length old) (passes : ArePassedOn i here mask old new) (marks : AreWritten code old here) where
   -- Each path through the instruction stores each word of the mask after it.
   stored_through : (word : ℕ) → bit_at mask word ≡ 1 → (passed : List ℕ) → IsPath code passed here → Any (Stores code word) (here ∷ passed)
   stored_through word one passed path =
       elim (decide_store i word) [
-        | inl stores ↦ any_here (Stores code word) here passed (i, stands, stores)
+        | inl stores ↦ any_here (Stores code word) here passed (i, instr_there, stores)
         | inr keeps ↦ any_later (Stores code word) here passed (marks.has here word (sym (passes.kept word keeps) ∙ one) passed path (path_before code passed here path))
       ]
 
@@ -98,7 +98,7 @@ module _ (code : List Instr) (old new : List ℕ) (here mask : ℕ) (i : Instr) 
               before.0,
               before.1,
               λ h. elim (any_split (Stores code word) here before.0 h) [
-                | inl at_here ↦ keeps (subst (λ j. StoresWord j word) (one_stands code here at_here.0 i at_here.1 stands) at_here.2)
+                | inl at_here ↦ keeps (subst (λ j. StoresWord j word) (one_there code here at_here.0 i at_here.1 instr_there) at_here.2)
                 | inr later ↦ before.3 later
               ],
             )
@@ -129,7 +129,7 @@ module _ (code : List Instr) (old new : List ℕ) (here mask : ℕ) (i : Instr) 
         | inr le ↦
             let e : latest ≡ here = omega (arith, before) in
             let s : IsSuccessor code here place = subst (λ p. IsSuccessor code p place) e path.1 in
-            let leads : LeadsTo here i place = subst (λ j. LeadsTo here j place) (one_stands code here s.0 i s.1 stands) s.2 in
+            let leads : LeadsTo here i place = subst (λ j. LeadsTo here j place) (one_there code here s.0 i s.1 instr_there) s.2 in
             let through = stored_through word (bits_one place word leads one).1 passed (subst (λ p. IsPath code passed p) e path.0) in
             subst (λ p. Any (Stores code word) (p ∷ passed)) (sym e) through
       ]
@@ -147,9 +147,9 @@ module _ (code : List Instr) (old new : List ℕ) (here mask : ℕ) (i : Instr) 
         | inr apart ↦ lacked place word inside lt (ap (λ m. bit_at m word) (sym (passes.others place apart)) ∙ none)
         | inl leads ↦ elim (bits_zero place word leads none) [
           | inl was ↦ lacked place word inside lt was
-          | inr behind ↦
-              let through = unstored_through word lt behind in
-              (here ∷ through.0, (through.1, (i, stands, leads)), omega arith, through.2)
+          | inr after ↦
+              let through = unstored_through word lt after in
+              (here ∷ through.0, (through.1, (i, instr_there, leads)), omega arith, through.2)
         ]
       ]
 
@@ -157,14 +157,14 @@ module _ (code : List Instr) (old new : List ℕ) (here mask : ℕ) (i : Instr) 
   written_next = record { has = has_next; lacks = lacks_next }
 
 -- When the check visits a place, its mask accounts for every path to it.
-pub written-from_mask : (code : List Instr) (masks : List ℕ) (here : ℕ) (i : Instr) → StandsAt code here i → AreWritten code masks here
+pub written-from_mask : (code : List Instr) (masks : List ℕ) (here : ℕ) (i : Instr) → IsInstrAt code here i → AreWritten code masks here
     → ((word : ℕ) → ReadsWord i word → bit_at (get_or masks here 0) word ≡ 1) → IsWrittenAt code here
-written-from_mask code masks here i stands marks all word passed path reads =
-    let reads_here : ReadsWord i word = subst (λ j. ReadsWord j word) (one_stands code here reads.0 i reads.1 stands) reads.2 in
+written-from_mask code masks here i instr_there marks all word passed path reads =
+    let reads_here : ReadsWord i word = subst (λ j. ReadsWord j word) (one_there code here reads.0 i reads.1 instr_there) reads.2 in
     marks.has here word (all word reads_here) passed path (path_before code passed here path)
 
-pub unwritten-from_mask : (code : List Instr) (masks : List ℕ) (here word : ℕ) (i : Instr) → StandsAt code here i → AreWritten code masks here
+pub unwritten-from_mask : (code : List Instr) (masks : List ℕ) (here word : ℕ) (i : Instr) → IsInstrAt code here i → AreWritten code masks here
     → here < length masks → word < 16 → ReadsWord i word → bit_at (get_or masks here 0) word ≡ 0 → IsUnwrittenAt code here word
-unwritten-from_mask code masks here word i stands marks within lt reads none =
+unwritten-from_mask code masks here word i instr_there marks within lt reads none =
     let path = marks.lacks here word within lt none in
-    ((i, stands, reads), (path.0, path.1, path.3))
+    ((i, instr_there, reads), (path.0, path.1, path.3))

@@ -4,8 +4,8 @@ use Rattle.std.proofs.lemmas.Option.{same_Some}
 
 module _ {X : Type 0} where
   -- Two elements at one place are the same.
-  pub one_stands : (xs : List X) (k : ℕ) (x y : X) → slice_get xs k ≡ Some x → slice_get xs k ≡ Some y → x ≡ y
-  one_stands xs k x y p q = same_Some x y (sym p ∙ q)
+  pub one_there : (xs : List X) (k : ℕ) (x y : X) → slice_get xs k ≡ Some x → slice_get xs k ≡ Some y → x ≡ y
+  one_there xs k x y p q = same_Some x y (sym p ∙ q)
 
   pub slice_get-append_left : (xs ys : List X) (k : ℕ) → k < length xs → slice_get (xs ++ ys) k ≡ slice_get xs k
   slice_get-append_left [] ys k h = absurd (omega arith)

@@ -4,35 +4,35 @@ use Rattle.std.proofs.lemmas.Bool.{cases_lt}
 use Rattle.std.proofs.lemmas.Option.{slice_get-get_or, slice_get_within}
 use Rattle.bpf_code.specs.declared.instr.Instr.{Instr}
 use Rattle.bpf_code.specs.declared.instr.Instr.TheVariants.{Branch, Jump, RetA, RetK}
-use Rattle.bpf_code.specs.Flow.{IsReturn, LeadsTo, StandsAt}
+use Rattle.bpf_code.specs.Flow.{IsReturn, LeadsTo, IsInstrAt}
 use Rattle.bpf_verify.specs.Accepted.{EndsInReturn, IsSoundInstr}
 use Rattle.bpf_verify.specs.Faults.{IsSoundBelow, LacksReturn}
 use Rattle.bpf_verify.specs.Paths.{IsWrittenAt}
-use Rattle.bpf_verify.proofs.Places.{one_stands}
+use Rattle.bpf_verify.proofs.Places.{one_there}
 
 module _ (code : List Instr) (at : ℕ) (default : Instr) (within : at < length code) where
-  pub stands_there : StandsAt code at (get_or code at default)
-  stands_there = slice_get-get_or code at default within
+  pub default_there : IsInstrAt code at (get_or code at default)
+  default_there = slice_get-get_or code at default within
 
   -- One more place is sound.
   pub one_sound : IsSoundBelow code at → IsSoundInstr (length code) at (get_or code at default) → IsSoundBelow code (at + 1)
-  one_sound before here place i lt stands =
+  one_sound before here place i lt instr_there =
       elim (cases_lt place at) [
-        | inl earlier ↦ before place i earlier stands
+        | inl earlier ↦ before place i earlier instr_there
         | inr le ↦
             let e : at ≡ place = omega arith in
-            let there : StandsAt code at i = subst (λ n. StandsAt code n i) (sym e) stands in
-            let same = one_stands code at (get_or code at default) i stands_there there in
+            let there : IsInstrAt code at i = subst (λ n. IsInstrAt code n i) (sym e) instr_there in
+            let same = one_there code at (get_or code at default) i default_there there in
             subst (λ n. IsSoundInstr (length code) n i) e (subst (λ j. IsSoundInstr (length code) at j) same here)
       ]
 
 -- The last instruction decides whether the code ends in a return.
-pub ends_there : (code : List Instr) (i : Instr) → StandsAt code (length code - 1) i → IsReturn i → EndsInReturn code
-ends_there code i stands returns = (i, stands, returns)
+pub ends_there : (code : List Instr) (i : Instr) → IsInstrAt code (length code - 1) i → IsReturn i → EndsInReturn code
+ends_there code i instr_there returns = (i, instr_there, returns)
 
-pub lacks_there : (code : List Instr) (i : Instr) → StandsAt code (length code - 1) i → (IsReturn i → ⊥) → LacksReturn code
-lacks_there code i stands goes_on j there returns =
-    goes_on (subst IsReturn (one_stands code (length code - 1) j i there stands) returns)
+pub lacks_there : (code : List Instr) (i : Instr) → IsInstrAt code (length code - 1) i → (IsReturn i → ⊥) → LacksReturn code
+lacks_there code i instr_there goes_on j there returns =
+    goes_on (subst IsReturn (one_there code (length code - 1) j i there instr_there) returns)
 
 -- A sound instruction leads at most to the place after the last.
 pub next_within : (code : List Instr) (at : ℕ) (i : Instr) → at < length code → IsSoundInstr (length code) at i

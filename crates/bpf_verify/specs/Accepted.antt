@@ -2,7 +2,7 @@
 -- counts only if some path through the code reaches it.
 use Rattle.std.specs.Prelude.{ℕ, ◌-◌, ◌<◌, ◌≤◌, List, length}
 use Rattle.bpf_code.specs.declared.instr.Instr.{Instr}
-use Rattle.bpf_code.specs.Flow.{StandsAt, IsReturn, JumpsTo}
+use Rattle.bpf_code.specs.Flow.{IsInstrAt, IsReturn, JumpsTo}
 use Rattle.bpf_code.specs.Operands.{DividesBy, ShiftsBy}
 use Rattle.bpf_code.specs.Scratch.{NamesWord}
 use Rattle.bpf_verify.specs.Paths.{IsWrittenAt}
@@ -23,11 +23,11 @@ pub record IsSoundInstr (size place : ℕ) (i : Instr) : Type 0 where
 
 -- The last instruction is a return.
 abbrev pub EndsInReturn : List Instr → Type 0
-EndsInReturn code = (i : Instr) × StandsAt code (length code - 1) i × IsReturn i
+EndsInReturn code = (i : Instr) × IsInstrAt code (length code - 1) i × IsReturn i
 
 -- A code that the check accepts.
 pub record IsAccepted (code : List Instr) : Type 0 where
   pub sized : IsSized code
-  pub sound : (place : ℕ) (i : Instr) → StandsAt code place i → IsSoundInstr (length code) place i
+  pub sound : (place : ℕ) (i : Instr) → IsInstrAt code place i → IsSoundInstr (length code) place i
   pub ends : EndsInReturn code
   pub written : (place : ℕ) → IsWrittenAt code place

@@ -1,7 +1,7 @@
 -- The faults of a code, and which one is first.
 use Rattle.std.specs.Prelude.{◌≡◌, ℕ, ◌-◌, ◌<◌, ◌≤◌, List, length, Any}
 use Rattle.bpf_code.specs.declared.instr.Instr.{Instr}
-use Rattle.bpf_code.specs.Flow.{StandsAt, IsReturn, JumpsTo}
+use Rattle.bpf_code.specs.Flow.{IsInstrAt, IsReturn, JumpsTo}
 use Rattle.bpf_code.specs.Operands.{DividesBy, ShiftsBy}
 use Rattle.bpf_code.specs.Scratch.{NamesWord}
 use Rattle.bpf_verify.specs.declared.fault.Fault.{Fault}
@@ -20,16 +20,16 @@ IsOwnFault size place i _ = ⊥
 -- Each instruction before this bound is sound by itself.
 abbrev pub IsSoundBelow : List Instr → ℕ → Type 0
 IsSoundBelow code bound =
-    (place : ℕ) (i : Instr) → place < bound → StandsAt code place i → IsSoundInstr (length code) place i
+    (place : ℕ) (i : Instr) → place < bound → IsInstrAt code place i → IsSoundInstr (length code) place i
 
 -- The instruction at this place has this fault, and each instruction before it is sound by itself.
 abbrev pub BreaksFirst : List Instr → ℕ → Fault → Type 0
 BreaksFirst code place fault =
-    IsSoundBelow code place × ((i : Instr) × StandsAt code place i × IsOwnFault (length code) place i fault)
+    IsSoundBelow code place × ((i : Instr) × IsInstrAt code place i × IsOwnFault (length code) place i fault)
 
 -- The last instruction isn't a return.
 abbrev pub LacksReturn : List Instr → Type 0
-LacksReturn code = (i : Instr) → StandsAt code (length code - 1) i → ¬ IsReturn i
+LacksReturn code = (i : Instr) → IsInstrAt code (length code - 1) i → ¬ IsReturn i
 
 -- The instruction at this place reads the word, and some path to the place has passed no store of the word.
 abbrev pub IsUnwrittenAt : List Instr → ℕ → ℕ → Type 0

@@ -1,16 +1,16 @@
 -- Paths through a code, and the scratch words that they store.
 use Rattle.std.specs.Prelude.{◌≡◌, ℕ, List, [], ◌∷◌, Any}
 use Rattle.bpf_code.specs.declared.instr.Instr.{Instr}
-use Rattle.bpf_code.specs.Flow.{StandsAt, IsSuccessor}
+use Rattle.bpf_code.specs.Flow.{IsInstrAt, IsSuccessor}
 use Rattle.bpf_code.specs.Scratch.{ReadsWord, StoresWord}
 
 -- The instruction at this place reads the scratch word.
 abbrev pub Reads : List Instr → ℕ → ℕ → Type 0
-Reads code word place = (i : Instr) × StandsAt code place i × ReadsWord i word
+Reads code word place = (i : Instr) × IsInstrAt code place i × ReadsWord i word
 
 -- The instruction at this place stores the scratch word.
 abbrev pub Stores : List Instr → ℕ → ℕ → Type 0
-Stores code word place = (i : Instr) × StandsAt code place i × StoresWord i word
+Stores code word place = (i : Instr) × IsInstrAt code place i × StoresWord i word
 
 -- A path from place 0 to this place. The list has the places that it passed, the latest first; each leads to the next
 -- in one step.

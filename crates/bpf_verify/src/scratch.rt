@@ -51,7 +51,7 @@ pub(crate) fn pass_on(written: &mut [u16], at: usize, instr: Instr, mask: u16) -
         ≡ min (bit_at (slice_index written.old next) word) (bit_at mask word) }
     ensures others { (place : ℕ) → ¬ LeadsTo at instr place
         → slice_index written.new place ≡ slice_index written.old place }
-    ensures behind { result ≡ slice_index written.new (at + 1) }
+    ensures after { result ≡ slice_index written.new (at + 1) }
 {
     match instr {
         Instr::Jump(skipped) => {

@@ -25,7 +25,7 @@ pub has_head : (format : Format) (at : ℕ) (octets : List ℕ) → head_length 
     → first_frame format at octets ≡ frame_of_size format at octets (frame_size format octets)
 has_head format at octets headed = when_above (length octets) (head_length format) _ _ headed
 
--- A head may say no size.
+-- A head may give no size.
 pub lacks_size : (format : Format) (at : ℕ) (octets : List ℕ) (reason : RecordFault) → head_length format ≤ length octets
     → frame_size format octets ≡ Err reason → first_frame format at octets ≡ Some (Err reason)
 lacks_size format at octets reason headed size =

@@ -5,7 +5,7 @@ use Rattle.captures.specs.Frames.{Frame, first_frame}
 use Rattle.captures.specs.Reading.{EndsReading, HasOneReading, IsFraming, IsGiven, IsRecordFault, count_after, records_in}
 use Rattle.captures.specs.Record.{HasExtensions}
 use Rattle.captures.specs.RecordContent.{IsContent, cell_place}
-use Rattle.captures.specs.RecordReading.{SaysRecord}
+use Rattle.captures.specs.RecordReading.{IsRecordOf}
 use Rattle.captures.specs.declared.content.NoCell.{NoCell}
 use Rattle.captures.specs.declared.content.NoCell.TheVariants.{OtherType, Errored, CutShort}
 use Rattle.captures.specs.declared.fault.Fault.{Fault}
@@ -59,9 +59,9 @@ same_record a b numbers interfaces times contents =
     ∙ ap (λ n. record b { time = n; content = a.content }) times
     ∙ ap (λ n. record b { content = n }) contents
 
--- A record says one thing.
-one_saying : (number : ℕ) (octets : List ℕ) (a b : Record) → SaysRecord number octets a → SaysRecord number octets b → a ≡ b
-one_saying number octets a b one other =
+-- A record has one reading.
+one_record_of : (number : ℕ) (octets : List ℕ) (a b : Record) → IsRecordOf number octets a → IsRecordOf number octets b → a ≡ b
+one_record_of number octets a b one other =
     same_record
     a
     b
@@ -118,7 +118,7 @@ one_given count None None (Some record_read) one other = absurd other
 one_given count None (Some record_read) b one other = absurd one
 one_given count (Some octets) None b one other = absurd one
 one_given count (Some octets) (Some record_read) None one other = absurd other
-one_given count (Some octets) (Some record_read) (Some second) one other = ap Some (one_saying (count + 1) octets record_read second one other)
+one_given count (Some octets) (Some record_read) (Some second) one other = ap Some (one_record_of (count + 1) octets record_read second one other)
 
 -- Octets are one list of frames.
 one_framing : (format : Format) (count at : ℕ) (octets : List ℕ) (frames others : List (Option Record)) (ending other : Option Fault)

@@ -1,4 +1,4 @@
--- What the first octets of a file say, whatever follows them.
+-- What a file is by its first octets, whatever follows them.
 use Rattle.std.proofs.Common.{◌≡◌, ◌≢◌, ◌≤◌, ◌<◌, ◌+◌, ◌%◌, ◌==◌, inl, inr, ℕ, Bool, true, false, List, ◌++◌, length, take, drop, arith, refl, ◌∙◌, sym, ap, subst, length-append, if◌then◌else◌}
 use Rattle.std.specs.List.{list_all}
 use Rattle.std.proofs.lemmas.Bool.{cases_lt}

@@ -9,7 +9,7 @@ use Rattle.captures.specs.Framing.{number_in_order, or_fault, sized}
 use Rattle.captures.specs.Reading.{HasSomeReading, IsFraming, IsGiven, count_after, records_in}
 use Rattle.captures.specs.Record.{HasExtensions, record_flags, record_interface, record_length, record_time, record_type}
 use Rattle.captures.specs.RecordContent.{IsContent, IsErrored, IsOfCell, cell_place}
-use Rattle.captures.specs.RecordReading.{SaysRecord}
+use Rattle.captures.specs.RecordReading.{IsRecordOf}
 use Rattle.captures.specs.declared.content.NoCell.{NoCell}
 use Rattle.captures.specs.declared.content.NoCell.TheVariants.{OtherType, Errored, CutShort}
 use Rattle.captures.specs.declared.fault.Fault.{Fault}
@@ -74,8 +74,8 @@ some_content octets =
       ]
     ]
 
-some_saying : (number : ℕ) (octets : List ℕ) → (record_read : Record) × SaysRecord number octets record_read
-some_saying number octets =
+some_record_of : (number : ℕ) (octets : List ℕ) → (record_read : Record) × IsRecordOf number octets record_read
+some_record_of number octets =
     let content = some_content octets in (
       record { number = number; interface = record_interface octets; time = record_time octets; content = content.0 },
       record { numbered = refl; interface = refl; time = refl; content = content.1 },
@@ -83,7 +83,7 @@ some_saying number octets =
 
 some_given : (count : ℕ) (held : Option (List ℕ)) → (given : Option Record) × IsGiven count held given
 some_given count None = (None, tt)
-some_given count (Some octets) = let record_read = some_saying (count + 1) octets in (Some record_read.0, record_read.1)
+some_given count (Some octets) = let record_read = some_record_of (count + 1) octets in (Some record_read.0, record_read.1)
 
 -- A frame has octets, and no more than there are.
 sized_some : (before least most stated size : ℕ) → 0 < before + least → sized before least most stated ≡ Ok size → 0 < size
@@ -113,7 +113,7 @@ block_some (Ok order) octets size is =
     even_some (sized 0 12 most_block (number_in_order order (drop 4 octets))) size
     (λ n one. sized_some 0 12 most_block (number_in_order order (drop 4 octets)) n (omega arith) one) is
 
--- The size of a frame is that which it says.
+-- The size of a frame is that of its length field.
 size_of_held : (at size : ℕ) (held : Result (Format × Option (List ℕ)) RecordFault) (frame : Frame) → held_frame at size held ≡ Ok frame → frame.size ≡ size
 size_of_held at size (Err reason) frame is = cc
 size_of_held at size (Ok held) frame is =

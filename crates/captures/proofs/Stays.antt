@@ -1,4 +1,4 @@
--- What the first octets of a capture say, whatever follows them.
+-- What a capture is by its first octets, whatever follows them.
 use Rattle.std.proofs.Common.{◌≡◌, ◌≤◌, ◌+◌, ◌==◌, inl, inr, ℕ, List, ◌++◌, length, take, drop, Some, None, Result, Ok, Err, arith, refl, ◌∙◌, sym, ap, ap₂, length-drop, length-append, if◌then◌else◌}
 use Rattle.std.proofs.lemmas.Bool.{cases_lt}
 use Rattle.std.proofs.lemmas.List.{drop-append-le, take-append-le}
@@ -54,7 +54,7 @@ or_fault-alike : {A B : Type 0} (r : Result A RecordFault) (f g : A → Result B
 or_fault-alike (Ok a) f g alike = alike a
 or_fault-alike (Err reason) f g alike = refl
 
--- And the length that a frame says.
+-- And the length field of a frame.
 pub frame_size-append : (format : Format) (xs ys : List ℕ) → head_length format ≤ length xs
     → frame_size format (xs ++ ys) ≡ frame_size format xs
 unfolding frame_size

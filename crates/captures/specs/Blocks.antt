@@ -23,7 +23,7 @@ order_of_magic magic =
     else if magic == 0x4d3c2b1a then Ok LowestFirst
     else Err (OtherMagic magic)
 
--- The order of the numbers in a block of a section. A section header says it in octets 8 to 11.
+-- The order of the numbers in a block of a section. A section header has it in octets 8 to 11.
 abbrev pub block_order : Section → List ℕ → Result Order RecordFault
 block_order section octets =
     if is_section_header octets then order_of_magic (big_number 4 (drop 8 octets)) else Ok section.order

@@ -14,7 +14,7 @@ format_start Erf = 0
 format_start (Pcap order) = 24
 format_start (PcapNg section) = 0
 
--- How many octets of a frame say its length: the first header of a record, the header of a packet, the beginning of a block.
+-- How many octets of a frame are read for its length: the first header of a record, the header of a packet, the beginning of a block.
 abbrev pub head_length : Format → ℕ
 head_length Erf = 16
 head_length (Pcap order) = 16

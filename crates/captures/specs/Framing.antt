@@ -23,15 +23,15 @@ abbrev pub half_in_order : Order → List ℕ → ℕ
 half_in_order HighestFirst octets = big_number 2 octets
 half_in_order LowestFirst octets = little_number 2 octets
 
--- How many octets a frame has that says this number: those before what the number counts, and as many more as it says. The number has a
--- least and a greatest value.
+-- How many octets a frame has whose length field is this number: those that it doesn't count, and as many more. The number has a least
+-- and a greatest value.
 abbrev pub sized : ℕ → ℕ → ℕ → ℕ → Result ℕ RecordFault
 sized before least most stated =
     if nat_lt stated least then Err (ShortLength stated)
     else if nat_lt most stated then Err (LongLength stated)
     else Ok (before + stated)
 
--- The record in a packet: as much of the packet as the record says it has. It has its first header of 16 octets at least.
+-- The record in a packet: as much of the packet as the length in the record's header. It has its first header of 16 octets at least.
 abbrev pub record_in_packet : List ℕ → Result (List ℕ) RecordFault
 record_in_packet packet =
     if nat_lt (length packet) 16 then Err ShortRecord

@@ -1,4 +1,4 @@
--- What a file is, as its first octets say.
+-- What a file is, by its first octets.
 use Rattle.std.specs.Prelude.{◌≡◌, ◌≢◌, ◌++◌, ◌/◌, ◌%◌, ◌==◌, ◌&&◌, ◌||◌, nat_le, nat_lt, if◌then◌else◌, Bool, ℕ, List, length, take, drop}
 use Rattle.std.specs.List.{list_all}
 use Rattle.byteorder.specs.Endian.{big_number}
@@ -47,8 +47,8 @@ pcap_opening order octets =
     else if pcap_link order octets == 197 then Opened (Pcap order)
     else Refused (OtherLink (pcap_link order octets))
 
--- What a file is that begins with this number of four octets. The first block of a pcapng file is a section header, which says in
--- which order the numbers come, so that the order here is not read.
+-- What a file is that begins with this number of four octets. The first block of a pcapng file is a section header, which has the
+-- order of the numbers, so that the order here is not read.
 abbrev pub opening_by : ℕ → List ℕ → Opening
 opening_by magic octets =
     if is_pcap_magic HighestFirst magic then pcap_opening HighestFirst octets

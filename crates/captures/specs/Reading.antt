@@ -2,7 +2,7 @@
 use Rattle.std.specs.Prelude.{◌≡◌, ◌≤◌, ◌<◌, ◌+◌, ◌^◌, ◌⊎◌, ℕ, List, [], ◌∷◌, ◌++◌, length, drop, Option, Some, None, Ok, Err}
 use Rattle.captures.specs.Blocks.{most_block}
 use Rattle.captures.specs.Frames.{Frame, first_frame}
-use Rattle.captures.specs.RecordReading.{SaysRecord}
+use Rattle.captures.specs.RecordReading.{IsRecordOf}
 use Rattle.captures.specs.declared.fault.Fault.{Fault}
 use Rattle.captures.specs.declared.fault.RecordFault.{RecordFault}
 use Rattle.captures.specs.declared.fault.RecordFault.TheVariants.{CutOff}
@@ -30,7 +30,7 @@ abbrev pub IsGiven : ℕ → Option (List ℕ) → Option Record → Type 0
 IsGiven count None None = Unit {0}
 IsGiven count None (Some record_read) = ⊥
 IsGiven count (Some octets) None = ⊥
-IsGiven count (Some octets) (Some record_read) = SaysRecord (count + 1) octets record_read
+IsGiven count (Some octets) (Some record_read) = IsRecordOf (count + 1) octets record_read
 
 -- How many records there are after a frame.
 abbrev pub count_after : ℕ → Option Record → ℕ
@@ -57,17 +57,17 @@ IsReading format count at octets records ending =
     (frames : List (Option Record)) × IsFraming format count at octets frames ending × (records ≡ records_in frames)
 
 -- A reader goes on by one frame of this many octets, of which this is given. A frame has one octet at least.
-pub record TakesFrame (before : Reader) (octets : List ℕ) (given : Option Record) (own : ℕ) (after : Reader) : Type 0 where
+pub record TakesFrame (before : Reader) (octets : List ℕ) (given : Option Record) (consumed : ℕ) (after : Reader) : Type 0 where
   pub frame : Frame
   pub first : first_frame before.format before.at octets ≡ Some (Ok frame)
   pub given_of : IsGiven before.count frame.held given
-  pub size : own ≡ frame.size
-  pub some : 0 < own
-  pub within : own ≤ length octets
-  pub near : before.at + own < 2 ^ 64
+  pub size : consumed ≡ frame.size
+  pub some : 0 < consumed
+  pub within : consumed ≤ length octets
+  pub near : before.at + consumed < 2 ^ 64
   pub format : after.format ≡ frame.after
   pub count : after.count ≡ count_after before.count given
-  pub at : after.at ≡ before.at + own
+  pub at : after.at ≡ before.at + consumed
 
 -- A reader stays where it is.
 pub record IsSamePlace (before after : Reader) : Type 0 where
@@ -78,8 +78,8 @@ pub record IsSamePlace (before after : Reader) : Type 0 where
 -- What comes next for a reader at octets, of which more may follow, and the reader after it: the frame with which they
 -- begin, what is given of it, and how many octets it has; or more octets are wanted; or a fault, whatever follows.
 abbrev pub ComesNext : Reader → List ℕ → Next → Reader → Type 0
-ComesNext before octets (Taken record_read own) after = TakesFrame before octets (Some record_read) own after
-ComesNext before octets (Passed own) after = TakesFrame before octets None own after
+ComesNext before octets (Taken record_read consumed) after = TakesFrame before octets (Some record_read) consumed after
+ComesNext before octets (Passed consumed) after = TakesFrame before octets None consumed after
 ComesNext before octets Unfinished after =
     (first_frame before.format before.at octets ≡ None) × (length octets < most_block) × IsSamePlace before after
 ComesNext before octets (Broken fault) after =
@@ -87,9 +87,9 @@ ComesNext before octets (Broken fault) after =
 
 -- A reading begins with the frame that comes next, and goes on as the reading of what follows it.
 abbrev pub FramesAreReadInOrder : Type 0
-FramesAreReadInOrder = (before after : Reader) (octets more : List ℕ) (given : Option Record) (own : ℕ) (frames : List (Option Record)) (ending : Option Fault)
-    → TakesFrame before octets given own after
-    → IsFraming after.format after.count after.at (drop own octets ++ more) frames ending
+FramesAreReadInOrder = (before after : Reader) (octets more : List ℕ) (given : Option Record) (consumed : ℕ) (frames : List (Option Record)) (ending : Option Fault)
+    → TakesFrame before octets given consumed after
+    → IsFraming after.format after.count after.at (drop consumed octets ++ more) frames ending
     → IsFraming before.format before.count before.at (octets ++ more) (given ∷ frames) ending
 
 -- A reading ends with the fault that comes next, whatever follows.

@@ -23,8 +23,8 @@ record_interface octets = record_flags octets % 4
 unfoldable pub record_length : List ℕ → ℕ
 record_length octets = big_number 2 (drop 10 octets)
 
--- A record has this number of extension headers, each of eight octets. The highest bit of octet 8 says that one follows
--- the header; the highest bit of an extension header's first octet says that another one follows.
+-- A record has this number of extension headers, each of eight octets. The highest bit of octet 8 is set if one follows
+-- the header; the highest bit of an extension header's first octet is set if another one follows.
 pub record HasExtensions (octets : List ℕ) (count : ℕ) : Type 0 where
   pub more : (k : ℕ) → k < count → 128 ≤ slice_index octets (8 + 8 * k)
   pub last : slice_index octets (8 + 8 * count) < 128

@@ -30,7 +30,7 @@ const ENHANCED_PACKET_OCTETS: usize = 32;
 /// Where the packet begins in its block.
 const PACKET_PLACE: usize = 28;
 
-/// What the blocks of a section of a pcapng file stated so far.
+/// A section of a pcapng file, from its blocks so far.
 #[derive(Clone, Copy, PartialEq, Eq, Debug)]
 pub struct Section {
     /// In which order the octets of its numbers come.
@@ -97,7 +97,7 @@ fn begun_by(order: Order, block: &[u8]) -> Result<Section, RecordFault>
 }
 
 impl Section {
-    /// Returns the order of the numbers in a block, which its first twelve octets say.
+    /// Returns the order of the numbers in a block, from its first twelve octets.
     fn order_of(self, octets: &[u8]) -> Result<Order, RecordFault>
         requires { 12 ≤ length octets.now }
         ensures { result ≡ block_order self octets.now }

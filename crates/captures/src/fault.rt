@@ -14,7 +14,7 @@ pub enum RecordFault {
     /// The length of the packet or block, which is above that of any.
     #[error("3 LongLength {0}")]
     LongLength(u32),
-    /// The packet is shorter than the first header of a record, or its record says that it is.
+    /// The packet, or the length of its record, is shorter than the first header of a record.
     #[error("4 ShortRecord")]
     ShortRecord,
     /// The record, packet or block ends after 2^64 - 1 octets.

@@ -30,7 +30,7 @@ pub enum Format {
     Erf,
     /// A file header of 24 octets, and then packets, each with a record. Numbers outside of the records are in this order.
     Pcap(Order),
-    /// Blocks, some with a record. The blocks so far stated this of their section.
+    /// Blocks, some with a record, and the section that the blocks so far are in.
     PcapNg(Section),
 }
 
@@ -82,7 +82,7 @@ impl Format {
         }
     }
 
-    /// Returns how many octets of a frame say its length.
+    /// Returns how many octets of a frame are read for its length.
     #[inline(always)]
     pub(crate) fn head(self) -> usize
         ensures { result ≡ head_length self }

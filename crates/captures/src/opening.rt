@@ -23,7 +23,7 @@ pub enum FileFault {
     Text,
 }
 
-/// What the first octets of a file say.
+/// What a file is, by its first octets.
 #[derive(Clone, Copy, PartialEq, Eq, Debug)]
 pub enum Opening {
     /// The file is a capture.

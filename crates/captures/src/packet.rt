@@ -20,7 +20,7 @@ pub(crate) fn from_place(octets: &[u8], place: usize) -> &[u8]
     &octets[place..]
 }
 
-/// Returns the size of a frame that says this number.
+/// Returns the size of a frame whose length field is `stated`: that, and the `before` octets that it doesn't count.
 #[inline(always)]
 pub(crate) fn sized(before: usize, least: u32, most: u32, stated: u32) -> Result<usize, RecordFault>
     requires { before ≤ 16 }
@@ -37,7 +37,7 @@ pub(crate) fn sized(before: usize, least: u32, most: u32, stated: u32) -> Result
     Ok(before + stated as usize)
 }
 
-/// Returns the length that a record says it has.
+/// Returns the length in the header of a record.
 #[tactic(auto, unfolding(crate::specs::Record::record_length))]
 #[inline(always)]
 pub(crate) fn length_of(octets: &[u8]) -> u16

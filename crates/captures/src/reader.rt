@@ -2,7 +2,7 @@
 
 ghost use Rattle.std.specs.Prelude.{◌≡◌, ◌≤◌, length};
 ghost use Rattle.captures.specs.RecordContent.{IsContent};
-ghost use Rattle.captures.specs.RecordReading.{SaysRecord};
+ghost use Rattle.captures.specs.RecordReading.{IsRecordOf};
 
 use crate::content::{NoCell, cell_at, place_of};
 use crate::fault::{Fault, RecordFault};
@@ -10,7 +10,7 @@ use crate::format::Format;
 use crate::lent_cell::LentCell;
 use byteorder::{ByteOrder, LittleEndian};
 
-/// What a record says. It borrows its cell from the octets that it was read from.
+/// A record of a capture. It borrows its cell from the octets that it was read from.
 #[derive(PartialEq, Eq, Drop, Debug)]
 pub struct Record<'a> {
     /// The number of the record in its capture, from 1.
@@ -48,12 +48,12 @@ pub struct Reader {
     ghost counted: { count ≤ at },
 }
 
-/// Returns what a record says that has this content.
+/// Returns the record with this number and content, whose octets begin with these.
 #[inline(always)]
 fn record_of<'a>(number: u64, octets: &'a [u8], content: Result<LentCell<'a>, NoCell>) -> Record<'a>
     requires headed { 16 ≤ length octets.now }
     requires held { IsContent octets.now content }
-    ensures { SaysRecord number octets.now result }
+    ensures { IsRecordOf number octets.now result }
 {
     Record {
         number,
@@ -81,8 +81,8 @@ impl Reader {
         }
     }
 
-    /// Reads the next record of a capture, of which these are octets that come next, as many as there are yet. Give it the
-    /// octets after the record then.
+    /// Reads the next record of a capture from the octets that come next, as many as were read yet. The call after it wants
+    /// the octets after the record.
     ///
     /// It and what it calls are inlined into the caller's loop. No octet is copied: the record borrows its cell from these octets.
     #[inline(always)]
@@ -93,32 +93,32 @@ impl Reader {
         if octets.len() < format.head() {
             return Next::Unfinished;
         }
-        let own = match format.size_of(octets) {
-            Ok(own) => own,
+        let size = match format.size_of(octets) {
+            Ok(size) => size,
             Err(reason) => return self.broken(reason),
         };
-        if octets.len() < own {
+        if octets.len() < size {
             return Next::Unfinished;
         }
-        let held = match format.held_in(&octets[..own]) {
+        let held = match format.held_in(&octets[..size]) {
             Ok(held) => held,
             Err(reason) => return self.broken(reason),
         };
-        let Some(at) = self.at.checked_add(own as u64) else {
+        let Some(at) = self.at.checked_add(size as u64) else {
             return self.broken(RecordFault::TooFar);
         };
         self.at = at;
         self.format = held.after;
         let Some(framed) = held.framed else {
-            return Next::Passed(own);
+            return Next::Passed(size);
         };
         self.count += 1;
         match place_of(framed) {
             Ok(place) => {
                 let content = Ok(cell_at(framed, place));
-                Next::Taken(record_of(self.count, framed, content), own)
+                Next::Taken(record_of(self.count, framed, content), size)
             }
-            Err(why) => Next::Taken(record_of(self.count, framed, Err(why)), own),
+            Err(why) => Next::Taken(record_of(self.count, framed, Err(why)), size),
         }
     }
 

@@ -43,7 +43,7 @@ pub record IsAllowed (world : World) (connection : Connection) (moment : ℕ) : 
   pub early : moment ≤ 2 ^ 62
   pub forward : last_moment 0 connection.history ≤ moment
   pub kept : length (kept_cells connection) < world.shape.journal
-  pub counted : length (world.judged connection.line) < 2 ^ 62
+  pub counted : length (world.verdicts connection.line) < 2 ^ 62
 
 pub cell-allowed : (world : World) (connection : Connection) (moment : ℕ)
     → cell_refusal world connection moment ≡ None → IsAllowed world connection moment
@@ -51,12 +51,12 @@ cell-allowed world connection moment e =
     let one = passed_on (nat_lt (2 ^ 62) moment) _ _ e in
     let two = passed_on (nat_lt moment (last_moment 0 connection.history)) _ _ one.1 in
     let three = passed_on (nat_le world.shape.journal (length (kept_cells connection))) _ _ two.1 in
-    let four = passed_on (nat_le (2 ^ 62) (length (world.judged connection.line))) _ _ three.1 in
+    let four = passed_on (nat_le (2 ^ 62) (length (world.verdicts connection.line))) _ _ three.1 in
     record {
       early = ltb-false (2 ^ 62) moment one.0;
       forward = ltb-false moment (last_moment 0 connection.history) two.0;
       kept = leb-false world.shape.journal (length (kept_cells connection)) three.0;
-      counted = leb-false (2 ^ 62) (length (world.judged connection.line)) four.0;
+      counted = leb-false (2 ^ 62) (length (world.verdicts connection.line)) four.0;
     }
 
 -- A picked cell that isn't refused is on the picked connection.
@@ -87,7 +87,7 @@ pub record MaySetUp (before : World) (ask : Ask) : Type 0 where
   pub live : IsSome (code_in before.live ask.program)
   pub free : connection_in before.connections ask.vc ≡ None
   pub some : 0 < length ask.contracts.items
-  pub used : before.used < 2 ^ 62
+  pub used : before.incarnations < 2 ^ 62
 
 pub setup-allowed : (before : World) (ask : Ask) → refusal before (Setup ask) ≡ None → MaySetUp before ask
 setup-allowed before ask allowed =
@@ -95,14 +95,14 @@ setup-allowed before ask allowed =
     let two = passed_on (is_some (connection_in before.connections ask.vc)) _ _ one.1 in
     let three = passed_on (length ask.contracts.items == 0) _ _ two.1 in
     let four = passed_on (not (any_below before.shape.lines (is_open_line before))) _ _ three.1 in
-    let five = passed_on (nat_le (2 ^ 62) before.used) _ _ four.1 in
+    let five = passed_on (nat_le (2 ^ 62) before.incarnations) _ _ four.1 in
     let code = is_there (code_in before.live ask.program) one.0 in
     let empty : length ask.contracts.items ≢ 0 = eqb-false (length ask.contracts.items) 0 three.0 in
     record {
       live = IsSome-of (code_in before.live ask.program) code.0 code.1;
       free = is_missing (connection_in before.connections ask.vc) two.0;
       some = omega (arith, empty);
-      used = leb-false (2 ^ 62) before.used five.0;
+      used = leb-false (2 ^ 62) before.incarnations five.0;
     }
 
 -- The line of a connection isn't open.

@@ -53,10 +53,10 @@ three-taken old middle later new one two three first second third goes then last
     follows-next old later new (one ∷ two ∷ []) (first ∷ second ∷ []) three third refl (two-taken old middle later one two first second goes then) last
 
 -- A state that is written to an existing port is there.
-stands : (ports : List Port) (port : ℕ) (old next : Port) → slice_get ports port ≡ Some old → slice_get (slice_set ports port next) port ≡ Some next
-stands [] port old next e = absurd (cc)
-stands (first ∷ later) zero old next e = refl
-stands (first ∷ later) (suc port) old next e = stands later port old next e
+set_there : (ports : List Port) (port : ℕ) (old next : Port) → slice_get ports port ≡ Some old → slice_get (slice_set ports port next) port ≡ Some next
+set_there [] port old next e = absurd (cc)
+set_there (first ∷ later) zero old next e = refl
+set_there (first ∷ later) (suc port) old next e = set_there later port old next e
 
 -- A second write replaces the first.
 again : (ports : List Port) (port : ℕ) (one other : Port) → slice_set (slice_set ports port one) port other ≡ slice_set ports port other
@@ -83,7 +83,7 @@ module _ (shape : Shape) (store : List (Slot (List Instr))) (directory : Directo
   left-entered = again ports port (EnteredPort here) Outside ∙ set-again ports port Outside (outside-there (slice_get ports port) free)
 
   entered-there : slice_get entered_ports port ≡ Some (EnteredPort here)
-  entered-there = stands ports port Outside (EnteredPort here) (outside-there (slice_get ports port) free)
+  entered-there = set_there ports port Outside (EnteredPort here) (outside-there (slice_get ports port) free)
 
   -- The pick answers the cell.
   pub arrives-missed : (answer : Answer) → IsMissed store directory (vc_of shape.side here.cell) answer
@@ -103,7 +103,7 @@ module _ (shape : Shape) (store : List (Slot (List Instr))) (directory : Directo
       let picked_ports : List Port = slice_set entered_ports port (PickedPort found) in
       let Entering : CoreView = core_of shape store directory lines entered_ports in
       let Picking : CoreView = core_of shape store directory lines picked_ports in
-      let picked-there = stands entered_ports port (EnteredPort here) (PickedPort found) entered-there in
+      let picked-there = set_there entered_ports port (EnteredPort here) (PickedPort found) entered-there in
       let left : slice_set picked_ports port Outside ≡ ports = again entered_ports port (PickedPort found) Outside ∙ left-entered in
       let enters = enter-goes shape store directory lines ports port here free in
       let picks = pick-goes shape store directory lines entered_ports port here (ap came_in entered-there) found is in

@@ -108,12 +108,12 @@ pub contains-without : (connections : List (Vc × Connection)) (vc : Vc) (entry 
     → Contains (without_connection connections vc) entry → Contains connections entry × (entry.0 ≢ vc)
 contains-without [] vc entry there = absurd (omega (arith, there.1))
 contains-without (here ∷ later) vc entry there =
-    let behind : Contains (without_connection later vc) entry → Contains (here ∷ later) entry × (entry.0 ≢ vc) = λ there.
+    let after : Contains (without_connection later vc) entry → Contains (here ∷ later) entry × (entry.0 ≢ vc) = λ there.
     let rest = contains-without later vc entry there in (contains-later here entry later rest.0, rest.1) in
     let choice : (b : Bool) → is_same_vc vc here.0 ≡ b
     → Contains (cond b (without_connection later vc) (here ∷ without_connection later vc)) entry
     → Contains (here ∷ later) entry × (entry.0 ≢ vc) = elim [
-      | true ↦ λ e. behind
+      | true ↦ λ e. after
       | false ↦ λ e there. elim (contains-first here entry (without_connection later vc) there) [
         | inl is ↦ (
           (zero, omega arith, is),
@@ -122,7 +122,7 @@ contains-without (here ∷ later) vc entry there =
               let itself : is_same_vc vc here.0 ≡ true = subst (λ (v : Vc). is_same_vc vc v ≡ true) (sym at) (vc_itself vc) in
               cc,
         )
-        | inr rest ↦ behind rest
+        | inr rest ↦ after rest
       ]
     ] in
     choice (is_same_vc vc here.0) refl there

@@ -12,7 +12,7 @@ use Rattle.line_record.proofs.Public.{each_cell_is_judged}
 use Rattle.card_core.specs.declared.connection_state.ConnectionState.{ConnectionState}
 use Rattle.card_core.specs.Agreement.{CoreView, CoreAgrees, seating_of}
 use Rattle.card_core.specs.ConnectionState.{IsStateIn}
-use Rattle.card_core.specs.World.{World, Connection, connection_in, handed_cells, kept_cells}
+use Rattle.card_core.specs.World.{World, Connection, connection_in, returned_cells, kept_cells}
 use Rattle.card_core.specs.inner.Listing.{IsReadState}
 use Rattle.card_core.proofs.LookUps.{same_some, unmapped, mapped}
 
@@ -35,7 +35,7 @@ state-read core world vc seating line read_state agrees sits here values =
     let there : slice_get core.lines connection.line ≡ Some line = subst (λ (n : ℕ). slice_get core.lines n ≡ Some line) numbers here in
     let serving = agrees.lines.serving vc connection is in
     let same : serving.0 ≡ line = same_some serving.0 line (sym serving.1 ∙ there) in
-    let judged = (each_cell_is_judged connection.contracts empty_buckets (handed_cells connection) (kept_cells connection)).0 in record {
+    let judged = (each_cell_is_judged connection.contracts empty_buckets (returned_cells connection) (kept_cells connection)).0 in record {
       connection = connection;
       found = is;
       incarnation = values.incarnation ∙ ap (λ (s : Seating). s.incarnation) seated;

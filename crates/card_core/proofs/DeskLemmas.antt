@@ -18,7 +18,7 @@ use Rattle.line_record.specs.JournalRun.{tallied}
 use Rattle.line_record.specs.StateAfter.{IsStateAfter}
 use Rattle.line_record.specs.Tally.{tally_of}
 use Rattle.card_core.specs.declared.ask.Ask.{Ask}
-use Rattle.card_core.specs.World.{World, Connection, handed_cells}
+use Rattle.card_core.specs.World.{World, Connection, returned_cells}
 use Rattle.card_core.specs.Steps.{IsPieceOf, new_connection}
 use Rattle.card_core.specs.Agreement.{Serves, owner_of}
 use Rattle.card_core.proofs.LookUps.{same_some}
@@ -33,13 +33,13 @@ drop-all (x ∷ xs) = drop-all xs
 
 -- The journal of a line that serves a connection is a piece of the connection's record.
 pub piece-is : (world : World) (vc : Vc) (connection : Connection) (line : LineView) (piece : PieceView)
-    → Serves line vc connection (world.judged connection.line) → line.state.counts ≡ tally_of (world.judged connection.line)
+    → Serves line vc connection (world.verdicts connection.line) → line.state.counts ≡ tally_of (world.verdicts connection.line)
     → IsJournalOf line piece → IsPieceOf world vc connection piece
 piece-is world vc connection line piece serves counts journal = record {
   owner = same_some piece.owner (owner_of vc connection) (sym journal.owner ∙ serves.owner);
   contracts = journal.contracts ∙ serves.contracts;
   entries = journal.entries ∙ serves.entries;
-  start = subst (λ (state : State). IsStateAfter connection.contracts (handed_cells connection) state) (sym journal.start) serves.start;
+  start = subst (λ (state : State). IsStateAfter connection.contracts (returned_cells connection) state) (sym journal.start) serves.start;
   end = subst (λ (state : State). IsStateAfter connection.contracts connection.history state) (sym journal.end) serves.state;
   together = ap (λ (state : State). tallied state.counts piece.entries) journal.start
       ∙ ap (tallied line.start.counts) journal.entries ∙ serves.together;
@@ -49,7 +49,7 @@ piece-is world vc connection line piece serves counts journal = record {
 -- After a cut the line serves its connection, all of whose cells were returned.
 pub cut-serves : (vc : Vc) (connection : Connection) (line : LineView) (verdicts : List Verdict)
     → Serves line vc connection verdicts → line.state.counts ≡ tally_of verdicts
-    → Serves (record line { start = line.state; entries = [] }) vc (record connection { handed = length connection.history }) verdicts
+    → Serves (record line { start = line.state; entries = [] }) vc (record connection { returned = length connection.history }) verdicts
 cut-serves vc connection line verdicts serves counts =
     let history = connection.history in
     let none : drop (length history) history ≡ [] = drop-all history in

@@ -62,16 +62,16 @@ module _ (shape : Shape) (store : List (Slot (List Instr))) (directory : Directo
   -- The line of a connection serves it.
   line-serves : (before : World) → CoreAgrees Old before → (vc : Vc) (seating : Seating) (connection : Connection) (line : LineView)
       → connection_in before.connections vc ≡ Some connection → seating_of connection ≡ seating → slice_get lines seating.line ≡ Some line
-      → Serves line vc connection (before.judged connection.line)
+      → Serves line vc connection (before.verdicts connection.line)
   line-serves before agrees vc seating connection line known seatings there =
       let serving = agrees.lines.serving vc connection known in
       let at : slice_get lines seating.line ≡ Some serving.0 =
       subst (λ (s : Seating). slice_get lines s.line ≡ Some serving.0) seatings serving.1 in
-      subst (λ (l : LineView). Serves l vc connection (before.judged connection.line))
+      subst (λ (l : LineView). Serves l vc connection (before.verdicts connection.line))
       (same_some serving.0 line (sym at ∙ there)) serving.2
 
   holds : (before : World) (vc : Vc) (seating : Seating) (connection : Connection) (line : LineView)
-      → seating_of connection ≡ seating → Serves line vc connection (before.judged connection.line) → line.owner ≡ Some (holder vc seating)
+      → seating_of connection ≡ seating → Serves line vc connection (before.verdicts connection.line) → line.owner ≡ Some (holder vc seating)
   holds before vc seating connection line seatings serves =
       serves.owner ∙ ap (λ (s : Seating). Some (holder vc s)) seatings
 
@@ -91,20 +91,20 @@ module _ (shape : Shape) (store : List (Slot (List Instr))) (directory : Directo
       let counts = agrees.lines.counts number line there in
       let did : LeavesLine directory new vc piece line next =
       subst (λ (r : Result PieceView DeskFault). ReleasesOrRefuses directory new vc seating r line next) is change.did in
-      let changed : Change before.shape lines before.connections before.judged agrees.lines number line next before.judged = record {
+      let changed : Change before.shape lines before.connections before.verdicts agrees.lines number line next before.verdicts = record {
         there = there;
         journal = ap (λ (l : LineView). l.journal) did.freed;
         counts = ap (λ (l : LineView). l.state.counts) did.freed ∙ counts;
         others = λ other apart. refl;
       } in
-      let lines_after = lines-without before.shape lines before.connections before.judged agrees.lines number line next before.judged changed
+      let lines_after = lines-without before.shape lines before.connections before.verdicts agrees.lines number line next before.verdicts changed
       vc (ap (λ (l : LineView). l.owner) did.freed)
       (λ other another apart found same. apart (sound.connections.lines_apart other vc another connection found known.1 same))
       (λ old found. ap (λ (c : Connection). c.line) (same_some old connection (sym found ∙ known.1))) in
       let fault = missing-is before vc (Some connection) known.1 in
       let world : World = record before { connections = without_connection before.connections vc } in
-      let lines_new : LinesAgree before.shape after (without_connection before.connections vc) before.judged =
-      subst (λ (list : List LineView). LinesAgree before.shape list (without_connection before.connections vc) before.judged)
+      let lines_new : LinesAgree before.shape after (without_connection before.connections vc) before.verdicts =
+      subst (λ (list : List LineView). LinesAgree before.shape list (without_connection before.connections vc) before.verdicts)
       (sym (change.after ∙ ap (λ (n : ℕ). set lines n next) (sym on))) lines_after in (
         world,
         step-taken before world (Release vc) (Released piece) (ap (option_map Refused) fault) (record {
@@ -118,7 +118,7 @@ module _ (shape : Shape) (store : List (Slot (List Instr))) (directory : Directo
         record {
           shape = agrees.shape;
           store = agrees.store;
-          seatings = seatings-without before.shape directory before.connections before.used agrees.seatings vc new did.gone did.used;
+          seatings = seatings-without before.shape directory before.connections before.incarnations agrees.seatings vc new did.gone did.used;
           lines = lines_new;
           ports = agrees.ports;
         },
@@ -149,24 +149,24 @@ module _ (shape : Shape) (store : List (Slot (List Instr))) (directory : Directo
       let serves = line-serves before agrees vc seating connection line known.1 known.2 change.there in
       let counts = agrees.lines.counts number line there in
       let did = subst (λ (r : Result PieceView DeskFault). CutsOrRefuses vc seating r line next) is change.did in
-      let changed : Change before.shape lines before.connections before.judged agrees.lines number line next before.judged = record {
+      let changed : Change before.shape lines before.connections before.verdicts agrees.lines number line next before.verdicts = record {
         there = there;
         journal = ap (λ (l : LineView). l.journal) did.1;
         counts = ap (λ (l : LineView). l.state.counts) did.1 ∙ counts;
         others = λ other apart. refl;
       } in
-      let later : Connection = record connection { handed = length connection.history } in
-      let served : Serves next vc later (before.judged number) =
-      subst (λ (l : LineView). Serves l vc later (before.judged number)) (sym did.1)
-      (cut-serves vc connection line (before.judged number) serves counts) in
-      let lines_after = lines-with before.shape lines before.connections before.judged agrees.lines number line next before.judged changed
+      let later : Connection = record connection { returned = length connection.history } in
+      let served : Serves next vc later (before.verdicts number) =
+      subst (λ (l : LineView). Serves l vc later (before.verdicts number)) (sym did.1)
+      (cut-serves vc connection line (before.verdicts number) serves counts) in
+      let lines_after = lines-with before.shape lines before.connections before.verdicts agrees.lines number line next before.verdicts changed
       vc later refl served
       (λ other another apart found same. apart (sound.connections.lines_apart other vc another connection found known.1 same))
       (λ old found. ap (λ (c : Connection). c.line) (same_some old connection (sym found ∙ known.1))) in
       let fault = missing-is before vc (Some connection) known.1 in
       let world : World = record before { connections = with_connection before.connections vc later } in
-      let lines_new : LinesAgree before.shape after (with_connection before.connections vc later) before.judged =
-      subst (λ (list : List LineView). LinesAgree before.shape list (with_connection before.connections vc later) before.judged)
+      let lines_new : LinesAgree before.shape after (with_connection before.connections vc later) before.verdicts =
+      subst (λ (list : List LineView). LinesAgree before.shape list (with_connection before.connections vc later) before.verdicts)
       (sym (change.after ∙ ap (λ (n : ℕ). set lines n next) (sym on))) lines_after in (
         world,
         step-taken before world (Cut vc) (CutOff piece) (ap (option_map Refused) fault) (record {
@@ -180,7 +180,7 @@ module _ (shape : Shape) (store : List (Slot (List Instr))) (directory : Directo
         record {
           shape = agrees.shape;
           store = agrees.store;
-          seatings = seatings-kept before.shape directory before.connections before.used agrees.seatings vc later
+          seatings = seatings-kept before.shape directory before.connections before.incarnations agrees.seatings vc later
               (agrees.seatings.seatings vc ∙ ap (option_map seating_of) known.1);
           lines = lines_new;
           ports = agrees.ports;
@@ -237,13 +237,13 @@ module _ (shape : Shape) (store : List (Slot (List Instr))) (directory : Directo
       let number = connection.line in
       let serving = agrees.lines.serving vc connection known.1 in
       let line = serving.0 in
-      let changed : Change before.shape lines before.connections before.judged agrees.lines number line line before.judged = record {
+      let changed : Change before.shape lines before.connections before.verdicts agrees.lines number line line before.verdicts = record {
         there = serving.1;
         journal = refl;
         counts = agrees.lines.counts number line serving.1;
         others = λ other apart. refl;
       } in
-      let served : Serves line vc later (before.judged number) = record {
+      let served : Serves line vc later (before.verdicts number) = record {
         owner = serving.2.owner;
         contracts = serving.2.contracts;
         entries = serving.2.entries;
@@ -251,7 +251,7 @@ module _ (shape : Shape) (store : List (Slot (List Instr))) (directory : Directo
         state = serving.2.state;
         together = serving.2.together;
       } in
-      let lines_after = lines-with before.shape lines before.connections before.judged agrees.lines number line line before.judged changed
+      let lines_after = lines-with before.shape lines before.connections before.verdicts agrees.lines number line line before.verdicts changed
       vc later refl served
       (λ other another apart found same. apart (sound.connections.lines_apart other vc another connection found known.1 same))
       (λ old found. ap (λ (c : Connection). c.line) (same_some old connection (sym found ∙ known.1))) in
@@ -270,9 +270,9 @@ module _ (shape : Shape) (store : List (Slot (List Instr))) (directory : Directo
         record {
           shape = agrees.shape;
           store = agrees.store;
-          seatings = seatings-with before.shape directory before.connections before.used agrees.seatings vc later new before.used
+          seatings = seatings-with before.shape directory before.connections before.incarnations agrees.seatings vc later new before.incarnations
               (subst (λ (s : Option Seating). Sits directory vc s new) seatings moved) (used ∙ agrees.seatings.used_up);
-          lines = subst (λ (list : List LineView). LinesAgree before.shape list (with_connection before.connections vc later) before.judged)
+          lines = subst (λ (list : List LineView). LinesAgree before.shape list (with_connection before.connections vc later) before.verdicts)
               (set-again lines number line serving.1) lines_after;
           ports = agrees.ports;
         },

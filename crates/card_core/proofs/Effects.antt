@@ -23,16 +23,16 @@ use Rattle.card_core.proofs.ConnectionLemmas.{with-here, with-others}
 
 -- The effect on the codes: none, or one was loaded, or one was retired.
 pub data StoreEffects (before after : World) (step : Step) (reply : Reply) : Type 0 where
-  store_same : after.given ≡ before.given → after.live ≡ before.live
+  store_same : after.loaded ≡ before.loaded → after.live ≡ before.live
       → ((id : Id) → loads id (event_of step reply) ≡ false) → ((id : Id) → retires id (event_of step reply) ≡ false)
       → StoreEffects before after step reply
   store_loaded : (id : Id) (code : List Instr) → step ≡ Load code → reply ≡ Loaded id
-      → after.given ≡ record { id = id; code = code } ∷ before.given
+      → after.loaded ≡ record { id = id; code = code } ∷ before.loaded
       → after.live ≡ record { id = id; code = code } ∷ before.live
-      → code_in before.given id ≡ None
+      → code_in before.loaded id ≡ None
       → StoreEffects before after step reply
   store_retired : (id : Id) (code : List Instr) → step ≡ Retire id → reply ≡ Retired code
-      → after.given ≡ before.given → after.live ≡ without_code before.live id
+      → after.loaded ≡ before.loaded → after.live ≡ without_code before.live id
       → code_in before.live id ≡ Some code
       → StoreEffects before after step reply
 
@@ -41,7 +41,7 @@ pub record Kept (shape : Shape) (old connection : Connection) (vc : Vc) (step : 
   pub incarnation : connection.incarnation ≡ old.incarnation
   pub line : connection.line ≡ old.line
   pub contracts : connection.contracts ≡ old.contracts
-  pub standing : changes vc (event_of step reply) ≡ false
+  pub unchanged : changes vc (event_of step reply) ≡ false
   pub program : connection.program ≡ named_after vc old.program reply step
   pub cells : connection.history ≡ old.history ++ cells_judged_on shape vc (event_of step reply ∷ [])
   pub held : connection.history ≡ old.history ++ cells_on old.line (event_of step reply ∷ [])
@@ -60,7 +60,7 @@ pub record IsFresh (used : ℕ) (connection : Connection) (vc : Vc) (step : Step
 pub data Fate (shape : Shape) (before : World) (vc : Vc) (connection : Connection) (step : Step) (reply : Reply) : Type 0 where
   kept : (old : Connection) → connection_in before.connections vc ≡ Some old → Kept shape old connection vc step reply
       → Fate shape before vc connection step reply
-  fresh : IsFresh before.used connection vc step reply → Fate shape before vc connection step reply
+  fresh : IsFresh before.incarnations connection vc step reply → Fate shape before vc connection step reply
 
 abbrev pub ConnectionEffects : Shape → World → World → Step → Reply → Type 0
 ConnectionEffects shape before after step reply = (vc : Vc) (connection : Connection)
@@ -68,7 +68,7 @@ ConnectionEffects shape before after step reply = (vc : Vc) (connection : Connec
 
 -- The step has no effect on the connection.
 pub record IsSilent (vc : Vc) (step : Step) (reply : Reply) : Type 0 where
-  pub standing : changes vc (event_of step reply) ≡ false
+  pub unchanged : changes vc (event_of step reply) ≡ false
   pub programs : (program : Id) → named_after vc program reply step ≡ program
   pub cells : judged_cells (event_of step reply ∷ []) ≡ []
 
@@ -80,7 +80,7 @@ kept-silent shape old connection vc step reply silent incarnation line contracts
   incarnation = incarnation;
   line = line;
   contracts = contracts;
-  standing = silent.standing;
+  unchanged = silent.unchanged;
   program = program ∙ sym (silent.programs old.program);
   cells = history
       ∙ sym (ap (λ (added : List JudgedView). old.history ++ map as_it_came (filter (λ judged. is_same_vc vc (vc_of shape.side judged.cell)) added)) silent.cells
@@ -140,7 +140,7 @@ pub record IsPickedNow (before : World) (port : ℕ) (picking : Picking) (step :
   pub incarnation : picking.incarnation ≡ connection.incarnation
   pub program : picking.program ≡ connection.program
   pub code : List Instr
-  pub given : code_in before.given picking.program ≡ Some code
+  pub given : code_in before.loaded picking.program ≡ Some code
   pub gives : Gives code picking.cell picking.value
 
 pub record PortEffects (before after : World) (step : Step) (reply : Reply) : Type 0 where
@@ -188,4 +188,4 @@ pub record StepEffects (shape : Shape) (before : World) (step : Step) (reply : R
   pub store : StoreEffects before after step reply
   pub connections : ConnectionEffects shape before after step reply
   pub ports : PortEffects before after step reply
-  pub verdicts : (line : ℕ) → after.judged line ≡ before.judged line ++ verdicts_on line (event_of step reply ∷ [])
+  pub verdicts : (line : ℕ) → after.verdicts line ≡ before.verdicts line ++ verdicts_on line (event_of step reply ∷ [])

@@ -17,9 +17,9 @@ use Rattle.card_core.specs.declared.shape.Shape.{Shape}
 use Rattle.card_core.specs.declared.step.Step.{Step}
 use Rattle.card_core.specs.declared.step.Step.TheVariants.{Enter, Pick, Judge}
 use Rattle.card_core.specs.World.{World, Connection, Picking, PortState, outside, entered, picked, connection_in, with_port, with_verdict}
-use Rattle.card_core.specs.Steps.{Enters, Picks, Judges, cell_after, cell_of_picking, with_cell, verdict_on, judgement_of, picking_of, judged_world, number_with}
-use Rattle.card_core.specs.Judged.{JudgedView, judgement_in}
-use Rattle.card_core.specs.Headline.{loads, retires, changes, named_after, judged_in, as_it_came, verdicts_on, cells_on, cells_judged_on}
+use Rattle.card_core.specs.Steps.{Enters, Picks, Judges, cell_after, cell_of_picking, with_cell, verdict_on, judged_answer, picking_of, judged_world, number_with}
+use Rattle.card_core.specs.Judged.{JudgedView, judged_in_answer}
+use Rattle.card_core.specs.Headline.{loads, retires, changes, named_after, judged_in_reply, as_it_came, verdicts_on, cells_on, cells_judged_on}
 use Rattle.card_core.proofs.LogLemmas.{event_of, none-judged}
 use Rattle.card_core.proofs.Sound.{WorldInvariant}
 use Rattle.card_core.proofs.CellLemmas.{vc-after, came}
@@ -33,7 +33,7 @@ pub record IsQuiet (reply : Reply) : Type 0 where
   pub none_retired : (id : Id) (step : Step) → retires id (event_of step reply) ≡ false
   pub no_change : (vc : Vc) (step : Step) → changes vc (event_of step reply) ≡ false
   pub no_program : (vc : Vc) (program : Id) (step : Step) → named_after vc program reply step ≡ program
-  pub no_cell : judged_in reply ≡ None
+  pub no_cell : judged_in_reply reply ≡ None
 
 pub quiet-not_now : IsQuiet NotNow
 quiet-not_now = record {
@@ -44,7 +44,7 @@ quiet-not_now = record {
   no_cell = refl;
 }
 
-pub quiet-answered : (answer : Answer) → judgement_in answer ≡ None → IsQuiet (Answered answer)
+pub quiet-answered : (answer : Answer) → judged_in_answer answer ≡ None → IsQuiet (Answered answer)
 quiet-answered answer unjudged = record {
   no_code = λ id step. refl;
   none_retired = λ id step. refl;
@@ -82,12 +82,12 @@ quiet-not_set_up fault ask = record {
 
 pub silent-quiet : (vc : Vc) (step : Step) (reply : Reply) → IsQuiet reply → IsSilent vc step reply
 silent-quiet vc step reply quiet = record {
-  standing = quiet.no_change vc step;
+  unchanged = quiet.no_change vc step;
   programs = λ program. quiet.no_program vc program step;
   cells = none-judged step reply quiet.no_cell;
 }
 
-pub no-verdicts : (judged : List Verdict) (line : ℕ) (step : Step) (reply : Reply) → judged_in reply ≡ None
+pub no-verdicts : (judged : List Verdict) (line : ℕ) (step : Step) (reply : Reply) → judged_in_reply reply ≡ None
     → judged ≡ judged ++ verdicts_on line (event_of step reply ∷ [])
 no-verdicts given line step reply none =
     sym (ap (λ (added : List JudgedView). given ++ map (λ judged. judged.verdict) (filter (λ judged. judged.line == line) added)) (none-judged step reply none)
@@ -101,7 +101,7 @@ effects-quiet shape before step reply ports quiet moves = record {
   store = store_same refl refl (λ id. quiet.no_code id step) (λ id. quiet.none_retired id step);
   connections = connections-same shape before (record before { ports = ports }) step reply (λ vc. silent-quiet vc step reply quiet) refl;
   ports = moves;
-  verdicts = λ line. no-verdicts (before.judged line) line step reply quiet.no_cell;
+  verdicts = λ line. no-verdicts (before.verdicts line) line step reply quiet.no_cell;
 }
 
 -- The reply and the world after a step, replaced by equal ones.
@@ -131,11 +131,11 @@ effects-enters shape before port cell moment reply after w =
     effects-at shape before step reply Entered after later w.answer w.world (record {
       shape_same = refl;
       store = store_same refl refl (λ id. refl) (λ id. refl);
-      connections = connections-same shape before later step Entered (λ vc. record { standing = refl; programs = λ program. refl; cells = refl }) refl;
+      connections = connections-same shape before later step Entered (λ vc. record { unchanged = refl; programs = λ program. refl; cells = refl }) refl;
       ports = ports-moved before later step Entered port (entered cell moment) refl (λ other. refl)
           (λ other another e. (enter_same port cell other moment another e, refl))
           (λ picking e. absurd (cc));
-      verdicts = λ line. no-verdicts (before.judged line) line step Entered refl;
+      verdicts = λ line. no-verdicts (before.verdicts line) line step Entered refl;
     })
 
 pub effects-picks : (shape : Shape) (before : World) (port : ℕ) (reply : Reply) (after : World)
@@ -160,18 +160,18 @@ effects-picks shape before port reply after w =
     effects-at shape before step reply Picked after later w.answer w.world (record {
       shape_same = refl;
       store = store_same refl refl (λ id. refl) (λ id. refl);
-      connections = connections-same shape before later step Picked (λ vc. record { standing = refl; programs = λ program. refl; cells = refl }) refl;
+      connections = connections-same shape before later step Picked (λ vc. record { unchanged = refl; programs = λ program. refl; cells = refl }) refl;
       ports = ports-moved before later step Picked port (picked new) refl (λ other. refl)
           (λ cell moment e. absurd (cc))
           (λ picking e. subst (λ (p : Picking). IsPickedNow before port p step Picked) (picked_same new picking e) now);
-      verdicts = λ line. no-verdicts (before.judged line) line step Picked refl;
+      verdicts = λ line. no-verdicts (before.verdicts line) line step Picked refl;
     })
 
 -- The judged cell of the answer.
 abbrev pub judgement_on : World → Picking → Connection → JudgedView
 judgement_on before picking connection = record {
   line = connection.line;
-  number = number_with (before.judged connection.line) (verdict_on connection (cell_of_picking picking));
+  number = number_with (before.verdicts connection.line) (verdict_on connection (cell_of_picking picking));
   moment = picking.moment;
   value = picking.value;
   program = picking.program;
@@ -194,7 +194,7 @@ cell-judged before picking connection =
 
 module _ (shape : Shape) (before : World) (sound : WorldInvariant before) (same_shape : before.shape ≡ shape) (port : ℕ) (picking : Picking) (had : slice_get before.ports port ≡ Some (picked picking)) (connection : Connection) (found : connection_in before.connections picking.vc ≡ Some connection) where
   judged_reply : Reply
-  judged_reply = Answered (judgement_of before picking connection)
+  judged_reply = Answered (judged_answer before picking connection)
 
   judgement : JudgedView
   judgement = judgement_on before picking connection
@@ -238,7 +238,7 @@ module _ (shape : Shape) (before : World) (sound : WorldInvariant before) (same_
     incarnation = refl;
     line = refl;
     contracts = refl;
-    standing = refl;
+    unchanged = refl;
     program = refl;
     cells = sym (ap (λ added. connection.history ++ added) judged_here);
     held = sym (ap (λ added. connection.history ++ added) judged_on_line);
@@ -251,7 +251,7 @@ module _ (shape : Shape) (before : World) (sound : WorldInvariant before) (same_
     incarnation = refl;
     line = refl;
     contracts = refl;
-    standing = refl;
+    unchanged = refl;
     program = refl;
     cells = sym (ap (λ added. old.history ++ added) (judged_others other apart) ∙ append-nil old.history);
     held = sym (ap (λ added. old.history ++ added)
@@ -259,19 +259,19 @@ module _ (shape : Shape) (before : World) (sound : WorldInvariant before) (same_
         ∙ append-nil old.history);
   }
 
-  verdict_added : (line : ℕ) → with_verdict before.judged connection.line (verdict_on connection (cell_of_picking picking)) line
-      ≡ before.judged line ++ verdicts_on line (event_of (Judge port) judged_reply ∷ [])
+  verdict_added : (line : ℕ) → with_verdict before.verdicts connection.line (verdict_on connection (cell_of_picking picking)) line
+      ≡ before.verdicts line ++ verdicts_on line (event_of (Judge port) judged_reply ∷ [])
   unfolding judged_reply judgement shown
   verdict_added line =
       let verdict : Verdict = verdict_on connection (cell_of_picking picking) in
       elim (cases_eq line connection.line) [
         | inl same ↦
-            ap (λ b. cond b (before.judged line ++ verdict ∷ []) (before.judged line)) (eq-eqb line connection.line same)
-            ∙ ap (λ b. before.judged line ++ shown (λ judged. judged.verdict) b) (sym (eq-eqb connection.line line (sym same)))
+            ap (λ b. cond b (before.verdicts line ++ verdict ∷ []) (before.verdicts line)) (eq-eqb line connection.line same)
+            ∙ ap (λ b. before.verdicts line ++ shown (λ judged. judged.verdict) b) (sym (eq-eqb connection.line line (sym same)))
         | inr apart ↦
-            ap (λ b. cond b (before.judged line ++ verdict ∷ []) (before.judged line)) (ne_eqb line connection.line apart)
-            ∙ sym (append-nil (before.judged line))
-            ∙ ap (λ b. before.judged line ++ shown (λ judged. judged.verdict) b) (sym (ne_eqb connection.line line (λ same. apart (sym same))))
+            ap (λ b. cond b (before.verdicts line ++ verdict ∷ []) (before.verdicts line)) (ne_eqb line connection.line apart)
+            ∙ sym (append-nil (before.verdicts line))
+            ∙ ap (λ b. before.verdicts line ++ shown (λ judged. judged.verdict) b) (sym (ne_eqb connection.line line (λ same. apart (sym same))))
       ]
 
   judged-effects : StepEffects shape before (Judge port) judged_reply (judged_world before port picking connection)
@@ -290,6 +290,6 @@ pub effects-judges : (shape : Shape) (before : World) (port : ℕ) (reply : Repl
     → Judges before port reply after → StepEffects shape before (Judge port) reply after
 unfolding judged_reply
 effects-judges shape before port reply after sound same_shape w =
-    effects-at shape before (Judge port) reply (Answered (judgement_of before w.picking w.connection)) after
+    effects-at shape before (Judge port) reply (Answered (judged_answer before w.picking w.connection)) after
     (judged_world before port w.picking w.connection) w.answer w.world
     (judged-effects shape before sound same_shape port w.picking w.had w.connection w.found)

@@ -14,7 +14,7 @@ use Rattle.card_core.specs.World.{World, Connection, Picking, PortState, outside
 use Rattle.card_core.specs.Refusals.{refusal, enter_refusal, pick_refusal, judge_refusal, picking_refusal, cell_refusal, load_fault, retire_fault, setup_fault, reload_fault, missing_fault}
 use Rattle.card_core.specs.Steps.{without_memory}
 use Rattle.card_core.proofs.LeftLemmas.{with_answered, left_with}
-use Rattle.card_core.specs.Judged.{judgement_in}
+use Rattle.card_core.specs.Judged.{judged_in_answer}
 use Rattle.card_core.specs.Headline.{is_at, moves}
 use Rattle.card_core.proofs.LogLemmas.{event_of}
 use Rattle.card_core.proofs.Effects.{ports-same, ports-moved, StepEffects}
@@ -22,7 +22,7 @@ use Rattle.card_core.proofs.LookUps.{same_some, refused_by, mapped}
 use Rattle.card_core.proofs.EffectsOfCells.{IsQuiet, quiet-not_now, quiet-answered, quiet-refused, quiet-not_loaded, quiet-not_set_up, effects-quiet}
 
 abbrev pub IsUnjudged : Answer → Type 0
-IsUnjudged answer = judgement_in answer ≡ None
+IsUnjudged answer = judged_in_answer answer ≡ None
 
 -- The replies of a refused Pick or Judge.
 pub data CellRefused (refused : Reply) : Type 0 where
@@ -49,7 +49,7 @@ cell-refused before connection moment =
     refused_by IsUnjudged (nat_lt (2 ^ 62) moment) MomentTooLate _ refl
     (refused_by IsUnjudged (nat_lt moment (last_moment 0 connection.history)) (MomentBack (last_moment 0 connection.history)) _ refl
     (refused_by IsUnjudged (nat_le before.shape.journal (length (kept_cells connection))) JournalFull _ refl
-    (refused_by IsUnjudged (nat_le (2 ^ 62) (length (before.judged connection.line))) JournalFull None refl
+    (refused_by IsUnjudged (nat_le (2 ^ 62) (length (before.verdicts connection.line))) JournalFull None refl
     (λ x e. absurd (cc)))))
 
 picking-refused : (before : World) (picking : Picking) (o : Option Connection) (answer : Answer)

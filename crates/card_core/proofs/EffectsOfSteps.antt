@@ -28,16 +28,16 @@ effects-loads : (shape : Shape) (before : World) (code : List Instr) (reply : Re
     → Loads before code reply after → StepEffects shape before (Load code) reply after
 effects-loads shape before code reply after sound w =
     let later : World = record before {
-      given = record { id = w.id; code = code } ∷ before.given;
+      loaded = record { id = w.id; code = code } ∷ before.loaded;
       live = record { id = w.id; code = code } ∷ before.live;
     } in
-    let next = subst (λ slot. w.id.generation ≡ times_given before.given slot + 1) (sym w.here) w.next in
+    let next = subst (λ slot. w.id.generation ≡ times_given before.loaded slot + 1) (sym w.here) w.next in
     effects-at shape before (Load code) reply (Loaded w.id) after later w.answer w.world (record {
       shape_same = refl;
       store = store_loaded w.id code refl refl refl refl (new-id before sound w.id next);
-      connections = connections-same shape before later (Load code) (Loaded w.id) (λ vc. record { standing = refl; programs = λ program. refl; cells = refl }) refl;
+      connections = connections-same shape before later (Load code) (Loaded w.id) (λ vc. record { unchanged = refl; programs = λ program. refl; cells = refl }) refl;
       ports = ports-same before later (Load code) (Loaded w.id) refl (λ port. refl);
-      verdicts = λ line. no-verdicts (before.judged line) line (Load code) (Loaded w.id) refl;
+      verdicts = λ line. no-verdicts (before.verdicts line) line (Load code) (Loaded w.id) refl;
     })
 
 effects-retires : (shape : Shape) (before : World) (id : Id) (reply : Reply) (after : World)
@@ -47,21 +47,21 @@ effects-retires shape before id reply after w =
     effects-at shape before (Retire id) reply (Retired w.code) after later w.answer w.world (record {
       shape_same = refl;
       store = store_retired id w.code refl refl refl refl w.was;
-      connections = connections-same shape before later (Retire id) (Retired w.code) (λ vc. record { standing = refl; programs = λ program. refl; cells = refl }) refl;
+      connections = connections-same shape before later (Retire id) (Retired w.code) (λ vc. record { unchanged = refl; programs = λ program. refl; cells = refl }) refl;
       ports = ports-same before later (Retire id) (Retired w.code) refl (λ port. refl);
-      verdicts = λ line. no-verdicts (before.judged line) line (Retire id) (Retired w.code) refl;
+      verdicts = λ line. no-verdicts (before.verdicts line) line (Retire id) (Retired w.code) refl;
     })
 
 effects-sets_up : (shape : Shape) (before : World) (ask : Ask) (reply : Reply) (after : World)
     → SetsUp before ask reply after → StepEffects shape before (Setup ask) reply after
 effects-sets_up shape before ask reply after w =
-    let new : Connection = new_connection ask w.line (before.used + 1) in
-    let granted : Reply = SetUp (record { vc = ask.vc; incarnation = before.used + 1 }) in
+    let new : Connection = new_connection ask w.line (before.incarnations + 1) in
+    let granted : Reply = SetUp (record { vc = ask.vc; incarnation = before.incarnations + 1 }) in
     let later : World = record before {
       connections = with_connection before.connections ask.vc new;
-      used = before.used + 1;
+      incarnations = before.incarnations + 1;
     } in
-    let now : IsFresh before.used new ask.vc (Setup ask) granted = record {
+    let now : IsFresh before.incarnations new ask.vc (Setup ask) granted = record {
       ask = ask;
       asked = refl;
       step_is = refl;
@@ -76,9 +76,9 @@ effects-sets_up shape before ask reply after w =
       store = store_same refl refl (λ id. refl) (λ id. refl);
       connections = connections-with shape before later (Setup ask) granted ask.vc new refl (fresh now)
           (λ other apart old at. same-silent shape old old other (Setup ask) granted
-          (record { standing = vc_differs other ask.vc apart; programs = λ program. refl; cells = refl }) refl);
+          (record { unchanged = vc_differs other ask.vc apart; programs = λ program. refl; cells = refl }) refl);
       ports = ports-same before later (Setup ask) granted refl (λ port. refl);
-      verdicts = λ line. no-verdicts (before.judged line) line (Setup ask) granted refl;
+      verdicts = λ line. no-verdicts (before.verdicts line) line (Setup ask) granted refl;
     })
 
 effects-reloads : (shape : Shape) (before : World) (vc : Vc) (program : Id) (reply : Reply) (after : World)
@@ -94,7 +94,7 @@ effects-reloads shape before vc program reply after w =
       incarnation = refl;
       line = refl;
       contracts = refl;
-      standing = refl;
+      unchanged = refl;
       program = sym named;
       cells = sym (append-nil connection.history);
       held = sym (append-nil connection.history);
@@ -104,9 +104,9 @@ effects-reloads shape before vc program reply after w =
       store = store_same refl refl (λ id. refl) (λ id. refl);
       connections = connections-with shape before later (Reload vc program) granted vc new refl (kept connection w.found now)
           (λ other apart old at. same-silent shape old old other (Reload vc program) granted
-          (record { standing = refl; programs = λ named. ap (λ b. cond b program named) (vc_differs other vc apart); cells = refl }) refl);
+          (record { unchanged = refl; programs = λ named. ap (λ b. cond b program named) (vc_differs other vc apart); cells = refl }) refl);
       ports = ports-same before later (Reload vc program) granted refl (λ port. refl);
-      verdicts = λ line. no-verdicts (before.judged line) line (Reload vc program) granted refl;
+      verdicts = λ line. no-verdicts (before.verdicts line) line (Reload vc program) granted refl;
     })
 
 effects-releases : (shape : Shape) (before : World) (vc : Vc) (reply : Reply) (after : World)
@@ -126,20 +126,20 @@ effects-releases shape before vc reply after w =
         | inr apart ↦
             kept connection (sym (without-others before.connections vc other apart) ∙ at)
             (same-silent shape connection connection other (Release vc) granted
-            (record { standing = vc_differs other vc apart; programs = λ program. refl; cells = refl }) refl)
+            (record { unchanged = vc_differs other vc apart; programs = λ program. refl; cells = refl }) refl)
       ];
       ports = ports-same before later (Release vc) granted refl (λ port. refl);
-      verdicts = λ line. no-verdicts (before.judged line) line (Release vc) granted refl;
+      verdicts = λ line. no-verdicts (before.verdicts line) line (Release vc) granted refl;
     })
 
 effects-cuts : (shape : Shape) (before : World) (vc : Vc) (reply : Reply) (after : World)
     → Cuts before vc reply after → StepEffects shape before (Cut vc) reply after
 effects-cuts shape before vc reply after w =
     let connection : Connection = w.connection in
-    let new : Connection = record connection { handed = length connection.history } in
+    let new : Connection = record connection { returned = length connection.history } in
     let granted : Reply = CutOff w.piece in
     let later : World = record before { connections = with_connection before.connections vc new } in
-    let silent : (other : Vc) → IsSilent other (Cut vc) granted = λ other. record { standing = refl; programs = λ program. refl; cells = refl } in
+    let silent : (other : Vc) → IsSilent other (Cut vc) granted = λ other. record { unchanged = refl; programs = λ program. refl; cells = refl } in
     effects-at shape before (Cut vc) reply granted after later w.answer w.world (record {
       shape_same = refl;
       store = store_same refl refl (λ id. refl) (λ id. refl);
@@ -147,7 +147,7 @@ effects-cuts shape before vc reply after w =
           (kept connection w.found (kept-silent shape connection new vc (Cut vc) granted (silent vc) refl refl refl refl refl))
           (λ other apart old at. same-silent shape old old other (Cut vc) granted (silent other) refl);
       ports = ports-same before later (Cut vc) granted refl (λ port. refl);
-      verdicts = λ line. no-verdicts (before.judged line) line (Cut vc) granted refl;
+      verdicts = λ line. no-verdicts (before.verdicts line) line (Cut vc) granted refl;
     })
 
 -- Every step with every reply has the effect that the reply shows.

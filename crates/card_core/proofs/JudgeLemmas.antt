@@ -14,7 +14,7 @@ use Rattle.line_record.specs.Tally.{cells_in, counted, tally_of}
 use Rattle.line_record.proofs.Public.{cells_are_judged_in_turn, verdicts_count}
 use Rattle.card_core.specs.declared.answer.Answer.{Answer}
 use Rattle.card_core.specs.declared.answer.Answer.TheVariants.{MomentTooLate, MomentBack, JournalFull}
-use Rattle.card_core.specs.World.{World, Connection, kept_cells, handed_cells, with_verdict}
+use Rattle.card_core.specs.World.{World, Connection, kept_cells, returned_cells, with_verdict}
 use Rattle.card_core.specs.Refusals.{cell_refusal}
 use Rattle.card_core.specs.Steps.{with_cell}
 use Rattle.card_core.specs.Sections.{answer_for}
@@ -40,7 +40,7 @@ by_tests false false false false last = refl
 pub refusals_agree : (line : LineView) (world : World) (connection : Connection) (moment : ℕ)
     → line.journal ≡ world.shape.journal → line.state.last ≡ last_moment 0 connection.history
     → length line.entries ≡ length (kept_cells connection)
-    → cells_in line.state.counts ≡ length (world.judged connection.line)
+    → cells_in line.state.counts ≡ length (world.verdicts connection.line)
     → option_map answer_for (line_refusal line moment) ≡ cell_refusal world connection moment
 refusals_agree line world connection moment journals lasts entries counts =
     let Refuses : ℕ → ℕ → ℕ → ℕ → Option Answer = λ journal last kept cells.
@@ -55,24 +55,24 @@ refusals_agree line world connection moment journals lasts entries counts =
     ∙ ap (λ (n : ℕ). Refuses world.shape.journal (last_moment 0 connection.history) (length (kept_cells connection)) n) counts
 
 -- The cells that no cut has returned, with one more.
-pub kept-with_cell : (connection : Connection) (cell : NamedCell) → connection.handed ≤ length connection.history
+pub kept-with_cell : (connection : Connection) (cell : NamedCell) → connection.returned ≤ length connection.history
     → kept_cells (with_cell connection cell) ≡ kept_cells connection ++ cell ∷ []
-kept-with_cell connection cell within = drop-append-le connection.handed connection.history (cell ∷ []) within
+kept-with_cell connection cell within = drop-append-le connection.returned connection.history (cell ∷ []) within
 
-pub handed-with_cell : (connection : Connection) (cell : NamedCell) → connection.handed ≤ length connection.history
-    → handed_cells (with_cell connection cell) ≡ handed_cells connection
-handed-with_cell connection cell within = take-append-le connection.handed connection.history (cell ∷ []) within
+pub handed-with_cell : (connection : Connection) (cell : NamedCell) → connection.returned ≤ length connection.history
+    → returned_cells (with_cell connection cell) ≡ returned_cells connection
+handed-with_cell connection cell within = take-append-le connection.returned connection.history (cell ∷ []) within
 
 -- The journal with one more cell is that of the longer history.
-pub judged-with_cell : (connection : Connection) (cell : NamedCell) (entry : Entry) → connection.handed ≤ length connection.history
+pub judged-with_cell : (connection : Connection) (cell : NamedCell) (entry : Entry) → connection.returned ≤ length connection.history
     → named_cell_of entry ≡ cell → entry.verdict ≡ verdict_after connection.contracts empty_buckets connection.history cell
-    → judged connection.contracts empty_buckets (handed_cells connection) (kept_cells connection) ++ entry ∷ []
-    ≡ judged connection.contracts empty_buckets (handed_cells (with_cell connection cell)) (kept_cells (with_cell connection cell))
+    → judged connection.contracts empty_buckets (returned_cells connection) (kept_cells connection) ++ entry ∷ []
+    ≡ judged connection.contracts empty_buckets (returned_cells (with_cell connection cell)) (kept_cells (with_cell connection cell))
 judged-with_cell connection cell entry within cells verdict =
     let contracts = connection.contracts in
-    let handed = handed_cells connection in
+    let handed = returned_cells connection in
     let kept = kept_cells connection in
-    let whole : handed ++ kept ≡ connection.history = take-append-drop connection.handed connection.history in
+    let whole : handed ++ kept ≡ connection.history = take-append-drop connection.returned connection.history in
     let is_entry : entry ≡ entry_of cell (verdict_after contracts empty_buckets connection.history cell) =
     λ i. entry_of (cells i) (verdict i) in
     let one : judged contracts empty_buckets (handed ++ kept) (cell ∷ []) ≡ entry ∷ [] =

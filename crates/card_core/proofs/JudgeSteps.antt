@@ -25,7 +25,7 @@ use Rattle.card_core.specs.declared.port.Found.{Found}
 use Rattle.card_core.specs.declared.reply.Reply.TheVariants.{Answered}
 use Rattle.card_core.specs.declared.step.Step.TheVariants.{Judge}
 use Rattle.card_core.specs.declared.shape.Shape.{Shape}
-use Rattle.card_core.specs.World.{World, Connection, Picking, outside, picked, with_port, connection_in, kept_cells, handed_cells}
+use Rattle.card_core.specs.World.{World, Connection, Picking, outside, picked, with_port, connection_in, kept_cells, returned_cells}
 use Rattle.card_core.specs.Refusals.{refusal, judge_refusal, picking_refusal, cell_refusal}
 use Rattle.card_core.specs.Steps.{WorldStep, cell_of_picking, cell_after, verdict_on, with_cell, judged_world, number_with}
 use Rattle.card_core.specs.Agreement.{CoreView, CoreAgrees, Follows, Serves, LinesAgree, seating_of}
@@ -43,18 +43,18 @@ use Rattle.card_core.proofs.JudgeLemmas.{match_some, match_none, refusals_agree,
 
 -- A line that serves a connection, after it judged the connection's next cell.
 module _ (line next : LineView) (vc : Vc) (connection : Connection) (verdicts : List Verdict) (found : Found) (answer : Answer)
-    (serves : Serves line vc connection verdicts) (within : connection.handed ≤ length connection.history)
+    (serves : Serves line vc connection verdicts) (within : connection.returned ≤ length connection.history)
     (counts : line.state.counts ≡ tally_of verdicts)
     (judges : JudgesAt line found.seating found.named found.moment answer next) where
   abbrev Cell : NamedCell
   Cell = cell_of_picking (found_picking found)
 
-  stands : IsStateAfter line.contracts connection.history line.state
-  stands = subst (λ (under : List Contract). IsStateAfter under connection.history line.state) (sym serves.contracts) serves.state
+  holds : IsStateAfter line.contracts connection.history line.state
+  holds = subst (λ (under : List Contract). IsStateAfter under connection.history line.state) (sym serves.contracts) serves.state
 
   pub judged-verdict : judges.entry.verdict ≡ verdict_on connection Cell
   judged-verdict =
-      judges.verdict connection.history stands
+      judges.verdict connection.history holds
       ∙ ap (λ (under : List Contract). verdict_after under empty_buckets connection.history (named_cell_of judges.entry)) serves.contracts
       ∙ ap (verdict_after connection.contracts empty_buckets connection.history) judges.cell
 
@@ -74,14 +74,14 @@ module _ (line next : LineView) (vc : Vc) (connection : Connection) (verdicts : 
         ∙ judged-with_cell connection Cell judges.entry within judges.cell judged-verdict;
     start = subst (λ (history : List NamedCell). IsStateAfter connection.contracts history next.start)
         (sym (handed-with_cell connection Cell within))
-        (subst (λ (state : State). IsStateAfter connection.contracts (handed_cells connection) state)
+        (subst (λ (state : State). IsStateAfter connection.contracts (returned_cells connection) state)
         (sym (ap (λ (l : LineView). l.start) judges.gains.after)) serves.start);
     together = ap (λ (l : LineView). tallied l.start.counts l.entries) judges.gains.after
         ∙ tallied-more line.start.counts line.entries verdicts judges.entry (verdict_on connection Cell) judged-verdict serves.together;
     state = subst (λ (under : List Contract). IsStateAfter under (connection.history ++ Cell ∷ []) next.state)
         (ap (λ (l : LineView). l.contracts) judges.gains.after ∙ serves.contracts)
         (subst (λ (cell : NamedCell). IsStateAfter next.contracts (connection.history ++ cell ∷ []) next.state) judges.cell
-        (judges.history connection.history stands));
+        (judges.history connection.history holds));
   }
 
   pub judged-answer : found.seating.line ≡ connection.line
@@ -132,32 +132,32 @@ module _ (shape : Shape) (store : List (Slot (List Instr))) (directory : Directo
   taken : (before : World) → WorldInvariant before → CoreAgrees Old before → (answer : Answer) (line next : LineView) (connection : Connection)
       → slice_get lines found.seating.line ≡ Some line
       → connection_in before.connections found.vc ≡ Some connection → connection.line ≡ found.seating.line
-      → Serves line found.vc connection (before.judged connection.line)
+      → Serves line found.vc connection (before.verdicts connection.line)
       → JudgesAt line found.seating found.named found.moment answer next
       → refusal before (Judge port) ≡ None
       → (world : World) × WorldStep before (Judge port) (Answered answer) world × CoreAgrees (New (set lines found.seating.line next)) world
   taken before sound agrees answer line next connection at known on serves judges free =
       let number = connection.line in
-      let verdicts = before.judged number in
+      let verdicts = before.verdicts number in
       let vc = found.vc in
       let here : slice_get lines number ≡ Some line = subst (λ (n : ℕ). slice_get lines n ≡ Some line) (sym on) at in
       let counts : line.state.counts ≡ tally_of verdicts = agrees.lines.counts number line here in
-      let within = (sound.connections.each vc connection known).handed in
+      let within = (sound.connections.each vc connection known).returned in
       let cell = cell_of_picking (found_picking found) in
       let verdict = verdict_on connection cell in
       let after : World = judged_world before port (found_picking found) connection in
-      let added = with_verdict-here before.judged number verdict in
-      let change : Change before.shape lines before.connections before.judged agrees.lines number line next after.judged = record {
+      let added = with_verdict-here before.verdicts number verdict in
+      let change : Change before.shape lines before.connections before.verdicts agrees.lines number line next after.verdicts = record {
         there = here;
         journal = ap (λ (l : LineView). l.journal) judges.gains.after;
         counts = judged-counts line next vc connection verdicts found answer serves within counts judges ∙ ap tally_of (sym added);
-        others = λ other apart. with_verdict-other before.judged number verdict other apart;
+        others = λ other apart. with_verdict-other before.verdicts number verdict other apart;
       } in
-      let served : Serves next vc (with_cell connection cell) (after.judged number) =
+      let served : Serves next vc (with_cell connection cell) (after.verdicts number) =
       subst (λ (list : List Verdict). Serves next vc (with_cell connection cell) list) (sym added)
       (judged-serves line next vc connection verdicts found answer serves within counts judges) in
-      let lines_after : LinesAgree before.shape (set lines number next) after.connections after.judged =
-      lines-with before.shape lines before.connections before.judged agrees.lines number line next after.judged change
+      let lines_after : LinesAgree before.shape (set lines number next) after.connections after.verdicts =
+      lines-with before.shape lines before.connections before.verdicts agrees.lines number line next after.verdicts change
       vc (with_cell connection cell) refl served
       (λ other another apart is same. apart (sound.connections.lines_apart other vc another connection is known same))
       (λ old is. ap (λ (c : Connection). c.line) (same_some old connection (sym is ∙ known))) in (
@@ -173,9 +173,9 @@ module _ (shape : Shape) (store : List (Slot (List Instr))) (directory : Directo
         record {
           shape = agrees.shape;
           store = agrees.store;
-          seatings = seatings-kept before.shape directory before.connections before.used agrees.seatings vc (with_cell connection cell)
+          seatings = seatings-kept before.shape directory before.connections before.incarnations agrees.seatings vc (with_cell connection cell)
               (agrees.seatings.seatings vc ∙ ap (option_map seating_of) known);
-          lines = subst (λ (n : ℕ). LinesAgree before.shape (set lines n next) after.connections after.judged) on lines_after;
+          lines = subst (λ (n : ℕ). LinesAgree before.shape (set lines n next) after.connections after.verdicts) on lines_after;
           ports = moved ports before.ports port Outside agrees.ports;
         },
       )
@@ -195,12 +195,12 @@ module _ (shape : Shape) (store : List (Slot (List Instr))) (directory : Directo
     -- A connection with the picked incarnation has the line that was found.
     line-of : (before : World) → CoreAgrees Old before → (connection : Connection)
         → connection_in before.connections found.vc ≡ Some connection → connection.line ≡ found.seating.line
-        → Serves change.line found.vc connection (before.judged connection.line)
+        → Serves change.line found.vc connection (before.verdicts connection.line)
     line-of before agrees connection known on =
         let serving = agrees.lines.serving found.vc connection known in
         let at : slice_get lines found.seating.line ≡ Some serving.0 =
         subst (λ (n : ℕ). slice_get lines n ≡ Some serving.0) on serving.1 in
-        subst (λ (l : LineView). Serves l found.vc connection (before.judged connection.line))
+        subst (λ (l : LineView). Serves l found.vc connection (before.verdicts connection.line))
         (same_some serving.0 change.line (sym at ∙ change.there)) serving.2
 
     -- The line doesn't serve the picked connection.
@@ -249,9 +249,9 @@ module _ (shape : Shape) (store : List (Slot (List Instr))) (directory : Directo
         subst (λ (n : ℕ). slice_get lines n ≡ Some change.line) (sym of.line) change.there in
         let kept : length change.line.entries ≡ length (kept_cells connection) =
         ap length serves.entries
-        ∙ (each_cell_is_judged connection.contracts empty_buckets (handed_cells connection) (kept_cells connection)).0 in
-        let counts : cells_in change.line.state.counts ≡ length (before.judged connection.line) =
-        ap cells_in (agrees.lines.counts connection.line change.line at) ∙ verdicts_count.cells (before.judged connection.line) in
+        ∙ (each_cell_is_judged connection.contracts empty_buckets (returned_cells connection) (kept_cells connection)).0 in
+        let counts : cells_in change.line.state.counts ≡ length (before.verdicts connection.line) =
+        ap cells_in (agrees.lines.counts connection.line change.line at) ∙ verdicts_count.cells (before.verdicts connection.line) in
         let same : option_map answer_for (line_refusal change.line found.moment) ≡ cell_refusal before connection found.moment =
         refusals_agree change.line before connection found.moment
         (agrees.lines.journals connection.line change.line at) serves.state.last kept counts in

@@ -12,7 +12,7 @@ use Rattle.card_core.specs.declared.step.Step.TheVariants.{Enter, Pick, Setup}
 use Rattle.card_core.specs.World.{World, Loading, Connection, Picking, outside, entered, picked, code_in, connection_in, opening_world}
 use Rattle.card_core.specs.Steps.{Gives, WorldStep}
 use Rattle.card_core.specs.Log.{Event, Run, Leads}
-use Rattle.card_core.specs.Headline.{Never, moves, changes, loads, retires, named_after, program_after, verdicts_on, cells_on, cells_judged_on, entering, picking, setting_up, HasEntered, StandsSince, IsLoadedOnce}
+use Rattle.card_core.specs.Headline.{Never, moves, changes, loads, retires, named_after, program_after, verdicts_on, cells_on, cells_judged_on, entering, picking, setting_up, HasEntered, IsInForceSince, IsLoadedOnce}
 use Rattle.card_core.proofs.Sound.{WorldInvariant}
 use Rattle.card_core.proofs.GivenOnce.{given-step, code-kept}
 use Rattle.card_core.proofs.Effects.{Kept, IsFresh, kept, fresh, IsPickedNow, StepEffects}
@@ -24,9 +24,9 @@ use Rattle.card_core.proofs.LogLemmas.{event_of, cut-more, never-nothing, never-
 use Rattle.card_core.proofs.KnowsCodes.{KnowsCodes, codes-step}
 
 -- The connection agrees with the log since its setup, in all but its program.
-pub record Stood (shape : Shape) (log : List Event) (vc : Vc) (connection : Connection) (ask : Ask) (since : List Event) : Type 0 where
-  pub stands : StandsSince log vc ask since
-  pub incarnation : stands.incarnation ≡ connection.incarnation
+pub record AgreesSince (shape : Shape) (log : List Event) (vc : Vc) (connection : Connection) (ask : Ask) (since : List Event) : Type 0 where
+  pub in_force : IsInForceSince log vc ask since
+  pub incarnation : in_force.incarnation ≡ connection.incarnation
   pub contracts : connection.contracts ≡ ask.contracts.items
   pub cells : connection.history ≡ cells_judged_on shape vc since
   pub held : connection.history ≡ cells_on connection.line since
@@ -35,22 +35,22 @@ pub record Stood (shape : Shape) (log : List Event) (vc : Vc) (connection : Conn
 pub record KnowsConnection (shape : Shape) (log : List Event) (vc : Vc) (connection : Connection) : Type 0 where
   pub ask : Ask
   pub since : List Event
-  pub stood : Stood shape log vc connection ask since
+  pub agrees : AgreesSince shape log vc connection ask since
   pub program : connection.program ≡ program_after vc ask.program since
 
 -- One more event.
-pub stood-more : (shape : Shape) (log : List Event) (vc : Vc) (old connection : Connection) (ask : Ask) (since : List Event) (step : Step) (reply : Reply)
-    → Kept shape old connection vc step reply → Stood shape log vc old ask since
-    → Stood shape (log ++ event_of step reply ∷ []) vc connection ask (since ++ event_of step reply ∷ [])
-stood-more shape log vc old connection ask since step reply keeps known =
+pub agrees-more : (shape : Shape) (log : List Event) (vc : Vc) (old connection : Connection) (ask : Ask) (since : List Event) (step : Step) (reply : Reply)
+    → Kept shape old connection vc step reply → AgreesSince shape log vc old ask since
+    → AgreesSince shape (log ++ event_of step reply ∷ []) vc connection ask (since ++ event_of step reply ∷ [])
+agrees-more shape log vc old connection ask since step reply keeps known =
     let event : Event = event_of step reply in
     record {
-      stands = record {
-        earlier = known.stands.earlier;
-        incarnation = known.stands.incarnation;
-        asked = known.stands.asked;
-        cut = cut-more log known.stands.earlier since (setting_up ask known.stands.incarnation) event known.stands.cut;
-        standing = never-more (changes vc) since event known.stands.standing keeps.standing;
+      in_force = record {
+        earlier = known.in_force.earlier;
+        incarnation = known.in_force.incarnation;
+        asked = known.in_force.asked;
+        cut = cut-more log known.in_force.earlier since (setting_up ask known.in_force.incarnation) event known.in_force.cut;
+        unchanged = never-more (changes vc) since event known.in_force.unchanged keeps.unchanged;
       };
       incarnation = known.incarnation ∙ sym keeps.incarnation;
       contracts = keeps.contracts ∙ known.contracts;
@@ -67,7 +67,7 @@ connection-more : (shape : Shape) (log : List Event) (vc : Vc) (old connection :
 connection-more shape log vc old connection step reply keeps known = record {
   ask = known.ask;
   since = known.since ++ event_of step reply ∷ [];
-  stood = stood-more shape log vc old connection known.ask known.since step reply keeps known.stood;
+  agrees = agrees-more shape log vc old connection known.ask known.since step reply keeps known.agrees;
   program = keeps.program ∙ ap (λ (p : Id). named_after vc p reply step) known.program
       ∙ sym (program_named-append vc known.ask.program known.since (event_of step reply ∷ []));
 }
@@ -78,13 +78,13 @@ connection-fresh shape log used vc connection step reply new =
     let now : KnowsConnection shape (log ++ setting_up new.ask connection.incarnation ∷ []) vc connection = record {
       ask = new.ask;
       since = [];
-      stood = record {
-        stands = record {
+      agrees = record {
+        in_force = record {
           earlier = log;
           incarnation = connection.incarnation;
           asked = new.asked;
           cut = refl;
-          standing = never-nothing (changes vc);
+          unchanged = never-nothing (changes vc);
         };
         incarnation = refl;
         contracts = new.contracts;
@@ -123,7 +123,7 @@ entered-now log port cell moment step reply step_is reply_is =
 pub record KnowsPickedOn (shape : Shape) (log since : List Event) (port : ℕ) (pick : Picking) (connection : Connection) : Type 0 where
   pub ask : Ask
   pub until : List Event
-  pub stood : Stood shape log pick.vc connection ask (until ++ picking port ∷ since)
+  pub agrees : AgreesSince shape log pick.vc connection ask (until ++ picking port ∷ since)
   pub named : pick.program ≡ program_after pick.vc ask.program until
 
 pub record KnowsPick (shape : Shape) (log : List Event) (given : List Loading) (connections : List (Vc × Connection)) (port : ℕ) (pick : Picking) : Type 0 where
@@ -136,16 +136,16 @@ pub record KnowsPick (shape : Shape) (log : List Event) (given : List Loading) (
   pub given_code : code_in given pick.program ≡ Some code
   pub loaded : IsLoadedOnce at_pick pick.program code
   pub gives : Gives code pick.cell pick.value
-  pub standing : (connection : Connection) → connection_in connections pick.vc ≡ Some connection
+  pub unchanged : (connection : Connection) → connection_in connections pick.vc ≡ Some connection
       → connection.incarnation ≡ pick.incarnation → KnowsPickedOn shape log since port pick connection
 
 -- One more event that doesn't move the port.
 pick-more : (shape : Shape) (log : List Event) (before after : World) (step : Step) (reply : Reply) (port : ℕ) (pick : Picking)
     → WorldInvariant before → StepEffects shape before step reply after
-    → ((id : Id) (code : List Instr) → code_in before.given id ≡ Some code → code_in after.given id ≡ Some code)
+    → ((id : Id) (code : List Instr) → code_in before.loaded id ≡ Some code → code_in after.loaded id ≡ Some code)
     → slice_get before.ports port ≡ Some (picked pick) → moves port (event_of step reply) ≡ false
-    → KnowsPick shape log before.given before.connections port pick
-    → KnowsPick shape (log ++ event_of step reply ∷ []) after.given after.connections port pick
+    → KnowsPick shape log before.loaded before.connections port pick
+    → KnowsPick shape (log ++ event_of step reply ∷ []) after.loaded after.connections port pick
 pick-more shape log before after step reply port pick sound effects keeps_codes had still known =
     let event : Event = event_of step reply in
     record {
@@ -158,15 +158,15 @@ pick-more shape log before after step reply port pick sound effects keeps_codes 
       given_code = keeps_codes pick.program known.code known.given_code;
       loaded = known.loaded;
       gives = known.gives;
-      standing = λ connection found same. elim (effects.connections pick.vc connection found) [
+      unchanged = λ connection found same. elim (effects.connections pick.vc connection found) [
         | kept old at keeps ↦
-            let on = known.standing old at (sym keeps.incarnation ∙ same) in
+            let on = known.unchanged old at (sym keeps.incarnation ∙ same) in
             record {
               ask = on.ask;
               until = on.until;
-              stood = subst (λ (s : List Event). Stood shape (log ++ event ∷ []) pick.vc connection on.ask s)
+              agrees = subst (λ (s : List Event). AgreesSince shape (log ++ event ∷ []) pick.vc connection on.ask s)
                   (append_assoc on.until (picking port ∷ known.since) (event ∷ []))
-                  (stood-more shape log pick.vc old connection on.ask (on.until ++ picking port ∷ known.since) step reply keeps on.stood);
+                  (agrees-more shape log pick.vc old connection on.ask (on.until ++ picking port ∷ known.since) step reply keeps on.agrees);
               named = on.named;
             }
         | fresh new ↦ absurd (omega (arith, new.later, same, (sound.ports port pick had).old))
@@ -176,13 +176,13 @@ pick-more shape log before after step reply port pick sound effects keeps_codes 
 -- The event in which the cell is picked.
 pick-now : (shape : Shape) (log : List Event) (before after : World) (step : Step) (reply : Reply) (port : ℕ) (pick : Picking)
     → StepEffects shape before step reply after
-    → ((id : Id) (code : List Instr) → code_in before.given id ≡ Some code → code_in after.given id ≡ Some code)
-    → KnowsCodes log before.given before.live
+    → ((id : Id) (code : List Instr) → code_in before.loaded id ≡ Some code → code_in after.loaded id ≡ Some code)
+    → KnowsCodes log before.loaded before.live
     → ((vc : Vc) (connection : Connection) → connection_in before.connections vc ≡ Some connection → KnowsConnection shape log vc connection)
     → HasEntered log port pick.cell pick.moment
     → WorldInvariant before
     → IsPickedNow before port pick step reply
-    → KnowsPick shape (log ++ event_of step reply ∷ []) after.given after.connections port pick
+    → KnowsPick shape (log ++ event_of step reply ∷ []) after.loaded after.connections port pick
 pick-now shape log before after step reply port pick effects keeps_codes codes connections arrived sound now =
     let event : Event = event_of step reply in
     let event_is : event ≡ picking port =
@@ -197,7 +197,7 @@ pick-now shape log before after step reply port pick effects keeps_codes codes c
       given_code = keeps_codes pick.program now.code now.given;
       loaded = codes.loaded pick.program now.code now.given;
       gives = now.gives;
-      standing = λ connection found same. elim (effects.connections pick.vc connection found) [
+      unchanged = λ connection found same. elim (effects.connections pick.vc connection found) [
         | kept old at keeps ↦
             let known = connections pick.vc old at in
             let named : pick.program ≡ old.program =
@@ -205,9 +205,9 @@ pick-now shape log before after step reply port pick effects keeps_codes codes c
             record {
               ask = known.ask;
               until = known.since;
-              stood = subst (λ (e : Event). Stood shape (log ++ event ∷ []) pick.vc connection known.ask (known.since ++ e ∷ []))
+              agrees = subst (λ (e : Event). AgreesSince shape (log ++ event ∷ []) pick.vc connection known.ask (known.since ++ e ∷ []))
                   event_is
-                  (stood-more shape log pick.vc old connection known.ask known.since step reply keeps known.stood);
+                  (agrees-more shape log pick.vc old connection known.ask known.since step reply keeps known.agrees);
               named = named ∙ known.program;
             }
         | fresh new ↦
@@ -219,14 +219,14 @@ pick-now shape log before after step reply port pick effects keeps_codes codes c
 -- Facts from a log about all parts of the world that it leads to.
 pub record Knows (shape : Shape) (log : List Event) (world : World) : Type 0 where
   pub shape_is : world.shape ≡ shape
-  pub codes : KnowsCodes log world.given world.live
+  pub codes : KnowsCodes log world.loaded world.live
   pub connections : (vc : Vc) (connection : Connection) → connection_in world.connections vc ≡ Some connection
       → KnowsConnection shape log vc connection
   pub entered_ports : (port : ℕ) (cell : List ℕ) (moment : ℕ) → slice_get world.ports port ≡ Some (entered cell moment)
       → HasEntered log port cell moment
   pub picked_ports : (port : ℕ) (pick : Picking) → slice_get world.ports port ≡ Some (picked pick)
-      → KnowsPick shape log world.given world.connections port pick
-  pub verdicts : (line : ℕ) → world.judged line ≡ verdicts_on line log
+      → KnowsPick shape log world.loaded world.connections port pick
+  pub verdicts : (line : ℕ) → world.verdicts line ≡ verdicts_on line log
 
 knows-opening : (shape : Shape) → Knows shape [] (opening_world shape)
 knows-opening shape = record {
@@ -249,13 +249,13 @@ pub knows-step : (shape : Shape) (log : List Event) (before after : World) (step
     → Knows shape log before → WorldStep before step reply after → Knows shape (log ++ event_of step reply ∷ []) after
 knows-step shape log before after step reply sound known w =
     let effects = step-effects shape before step reply after sound known.shape_is w in
-    let keeps_codes = code-kept before.given after.given (given-step before step reply after sound w) in
+    let keeps_codes = code-kept before.loaded after.loaded (given-step before step reply after sound w) in
     record {
       shape_is = effects.shape_same ∙ known.shape_is;
       codes = codes-step log before after step reply sound known.codes effects.store;
       connections = λ vc connection found. elim (effects.connections vc connection found) [
         | kept old at keeps ↦ connection-more shape log vc old connection step reply keeps (known.connections vc old at)
-        | fresh new ↦ connection-fresh shape log before.used vc connection step reply new
+        | fresh new ↦ connection-fresh shape log before.incarnations vc connection step reply new
       ];
       entered_ports = λ port cell moment e. elim (effects.ports.entered_ports port cell moment e) [
         | inl stays ↦ entered-more log port cell moment step reply stays.1 (known.entered_ports port cell moment stays.0)

@@ -58,12 +58,12 @@ none-given given id other code e = elim (id_cases other id) [
 ]
 
 pub codes-step : (log : List Event) (before after : World) (step : Step) (reply : Reply) → WorldInvariant before
-    → KnowsCodes log before.given before.live → StoreEffects before after step reply
-    → KnowsCodes (log ++ event_of step reply ∷ []) after.given after.live
+    → KnowsCodes log before.loaded before.live → StoreEffects before after step reply
+    → KnowsCodes (log ++ event_of step reply ∷ []) after.loaded after.live
 codes-step log before after step reply sound known (store_same given live none_loaded none_retired) =
     let event : Event = event_of step reply in
     subst (λ (g : List Loading). KnowsCodes (log ++ event ∷ []) g after.live) (sym given)
-    (subst (λ (l : List Loading). KnowsCodes (log ++ event ∷ []) before.given l) (sym live) (record {
+    (subst (λ (l : List Loading). KnowsCodes (log ++ event ∷ []) before.loaded l) (sym live) (record {
       loaded = λ id code e. loaded-more log event id code (known.loaded id code e) (none_loaded id);
       unloaded = λ id e. never-more (loads id) log event (known.unloaded id e) (none_loaded id);
       kept = λ id code e. never-more (retires id) log event (known.kept id code e) (none_retired id);
@@ -72,32 +72,32 @@ codes-step log before after step reply sound known (store_same given live none_l
 codes-step log before after step reply sound known (store_loaded id code step_is reply_is given live new) =
     let first : Loading = record { id = id; code = code } in
     let event : Event = loading code id in
-    let now : KnowsCodes (log ++ event ∷ []) (first ∷ before.given) (first ∷ before.live) = record {
-      loaded = λ other found e. elim (code-cases first before.given other found e) [
+    let now : KnowsCodes (log ++ event ∷ []) (first ∷ before.loaded) (first ∷ before.live) = record {
+      loaded = λ other found e. elim (code-cases first before.loaded other found e) [
         | inl here ↦
             subst (λ (i : Id). IsLoadedOnce (log ++ event ∷ []) i found) (sym here.0)
             (subst (λ (c : List Instr). IsLoadedOnce (log ++ event ∷ []) id c) here.1 (loaded-now log id code (known.unloaded id new)))
         | inr there ↦ loaded-more log event other found (known.loaded other found there.1) (id_differs other id there.0)
       ];
       unloaded = λ other e.
-          let none = none-given before.given id other code e in
+          let none = none-given before.loaded id other code e in
           never-more (loads other) log event (known.unloaded other none.1) (id_differs other id none.0);
       kept = λ other found e. elim (code-cases first before.live other found e) [
         | inl here ↦
-            let none : code_in before.given other ≡ None = subst (λ (i : Id). code_in before.given i ≡ None) (sym here.0) new in
+            let none : code_in before.loaded other ≡ None = subst (λ (i : Id). code_in before.loaded i ≡ None) (sym here.0) new in
             never-more (retires other) log event (known.untouched other none) refl
         | inr there ↦ never-more (retires other) log event (known.kept other found there.1) refl
       ];
       untouched = λ other e.
-          never-more (retires other) log event (known.untouched other (none-given before.given id other code e).1) refl;
+          never-more (retires other) log event (known.untouched other (none-given before.loaded id other code e).1) refl;
     } in
-    subst (λ (s : Step). KnowsCodes (log ++ event_of s reply ∷ []) after.given after.live) (sym step_is)
-    (subst (λ (r : Reply). KnowsCodes (log ++ event_of (Load code) r ∷ []) after.given after.live) (sym reply_is)
+    subst (λ (s : Step). KnowsCodes (log ++ event_of s reply ∷ []) after.loaded after.live) (sym step_is)
+    (subst (λ (r : Reply). KnowsCodes (log ++ event_of (Load code) r ∷ []) after.loaded after.live) (sym reply_is)
     (subst (λ (g : List Loading). KnowsCodes (log ++ event ∷ []) g after.live) (sym given)
-    (subst (λ (l : List Loading). KnowsCodes (log ++ event ∷ []) (first ∷ before.given) l) (sym live) now)))
+    (subst (λ (l : List Loading). KnowsCodes (log ++ event ∷ []) (first ∷ before.loaded) l) (sym live) now)))
 codes-step log before after step reply sound known (store_retired id code step_is reply_is given live was) =
     let event : Event = event_of (Retire id) (Retired code) in
-    let now : KnowsCodes (log ++ event ∷ []) before.given (without_code before.live id) = record {
+    let now : KnowsCodes (log ++ event ∷ []) before.loaded (without_code before.live id) = record {
       loaded = λ other found e. loaded-more log event other found (known.loaded other found e) refl;
       unloaded = λ other e. never-more (loads other) log event (known.unloaded other e) refl;
       kept = λ other found e.
@@ -106,11 +106,11 @@ codes-step log before after step reply sound known (store_retired id code step_i
       untouched = λ other e.
           let apart : other ≢ id = λ same.
           let given_too = sound.programs.live_given id code was in
-          let none : code_in before.given id ≡ None = subst (λ (i : Id). code_in before.given i ≡ None) same e in
+          let none : code_in before.loaded id ≡ None = subst (λ (i : Id). code_in before.loaded i ≡ None) same e in
           absurd (cc) in
           never-more (retires other) log event (known.untouched other e) (id_differs other id apart);
     } in
-    subst (λ (s : Step). KnowsCodes (log ++ event_of s reply ∷ []) after.given after.live) (sym step_is)
-    (subst (λ (r : Reply). KnowsCodes (log ++ event_of (Retire id) r ∷ []) after.given after.live) (sym reply_is)
+    subst (λ (s : Step). KnowsCodes (log ++ event_of s reply ∷ []) after.loaded after.live) (sym step_is)
+    (subst (λ (r : Reply). KnowsCodes (log ++ event_of (Retire id) r ∷ []) after.loaded after.live) (sym reply_is)
     (subst (λ (g : List Loading). KnowsCodes (log ++ event ∷ []) g after.live) (sym given)
-    (subst (λ (l : List Loading). KnowsCodes (log ++ event ∷ []) before.given l) (sym live) now)))
+    (subst (λ (l : List Loading). KnowsCodes (log ++ event ∷ []) before.loaded l) (sym live) now)))

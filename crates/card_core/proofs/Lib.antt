@@ -38,7 +38,7 @@ pub mod Sound
 pub mod SoundChanges
 pub mod SoundSteps
 pub mod Spares
-pub mod Standing
+pub mod ConnectionsOfLog
 pub mod StoreLemmas
 pub mod StoreSteps
 pub mod EffectsOfSteps

@@ -12,7 +12,7 @@ use Rattle.card_core.specs.declared.shape.Shape.{Shape}
 use Rattle.card_core.specs.declared.step.Step.{Step}
 use Rattle.card_core.specs.Judged.{JudgedView}
 use Rattle.card_core.specs.Log.{Event}
-use Rattle.card_core.specs.Headline.{Never, named_after, program_after, judged_in, judged_cells, verdicts_on, cells_on, cells_judged_on, as_it_came}
+use Rattle.card_core.specs.Headline.{Never, named_after, program_after, judged_in_reply, judged_cells, verdicts_on, cells_on, cells_judged_on, as_it_came}
 
 abbrev pub event_of : Step → Reply → Event
 event_of step reply = record { step = step; reply = reply }
@@ -136,7 +136,7 @@ module _ (does : Event → Bool) where
 -- Two logs, one after the other.
 
 judged-append : (log further : List Event) → judged_cells (log ++ further) ≡ judged_cells log ++ judged_cells further
-judged-append log further = filter_map-append (λ (event : Event). judged_in event.reply) log further
+judged-append log further = filter_map-append (λ (event : Event). judged_in_reply event.reply) log further
 
 chosen-append : {X : Type 0} (chosen : JudgedView → Bool) (shown : JudgedView → X) (log further : List Event)
     → map shown (filter chosen (judged_cells (log ++ further)))
@@ -163,5 +163,5 @@ program_named-append vc program log further =
     fold-append (λ (named : Id) (event : Event). named_after vc named event.reply event.step) program log further
 
 -- An event whose reply has no judged cell adds none.
-pub none-judged : (step : Step) (reply : Reply) → judged_in reply ≡ None → judged_cells (event_of step reply ∷ []) ≡ []
+pub none-judged : (step : Step) (reply : Reply) → judged_in_reply reply ≡ None → judged_cells (event_of step reply ∷ []) ≡ []
 none-judged step reply none = ap (λ (o : Option JudgedView). filter_map (λ (event : Event). o) (event_of step reply ∷ [])) none

@@ -17,7 +17,7 @@ use Rattle.card_core.specs.declared.step.Step.TheVariants.{Enter, Load, Setup}
 use Rattle.card_core.specs.Judged.{JudgedView}
 use Rattle.card_core.specs.Steps.{Gives, cell_after, named_cell, number_with}
 use Rattle.card_core.specs.Log.{Event}
-use Rattle.card_core.specs.Headline.{moves, changes, loads, program_after, cells_judged_on, verdicts_on, entering, picking, setting_up, loading, HasEntered, StandsSince, IsLoadedOnce, IsPromised}
+use Rattle.card_core.specs.Headline.{moves, changes, loads, program_after, cells_judged_on, verdicts_on, entering, picking, setting_up, loading, HasEntered, IsInForceSince, IsLoadedOnce, IsPromised}
 use Rattle.card_core.specs.Laws.{PromisesLeaveOneAnswer}
 use Rattle.card_core.proofs.LogLemmas.{one-cut}
 
@@ -66,12 +66,12 @@ one-entered log port cell other moment later one another =
 own-change : (vc : Vc) (ask : Ask) (incarnation : ℕ) → ask.vc ≡ vc → changes vc (setting_up ask incarnation) ≡ true
 own-change vc ask incarnation same = subst (λ (v : Vc). is_same_vc vc v ≡ true) (sym same) (vc_itself vc)
 
-pub one-standing : (log : List Event) (vc : Vc) (ask other : Ask) (since later : List Event) → StandsSince log vc ask since
-    → StandsSince log vc other later → (ask ≡ other) × (since ≡ later)
-one-standing log vc ask other since later one another =
+pub one-in_force : (log : List Event) (vc : Vc) (ask other : Ask) (since later : List Event) → IsInForceSince log vc ask since
+    → IsInForceSince log vc other later → (ask ≡ other) × (since ≡ later)
+one-in_force log vc ask other since later one another =
     let cut = one-cut (changes vc) one.earlier another.earlier (setting_up ask one.incarnation) (setting_up other another.incarnation)
     since later (own-change vc ask one.incarnation one.asked) (own-change vc other another.incarnation another.asked)
-    one.standing another.standing (sym one.cut ∙ another.cut) in
+    one.unchanged another.unchanged (sym one.cut ∙ another.cut) in
     (one_ask ask other one.incarnation another.incarnation cut.events, cut.ends)
 
 -- The code that was loaded under an id.
@@ -89,19 +89,19 @@ module _ (shape : Shape) (before : List Event) (port : ℕ) (judged : JudgedView
   abbrev at_pick : List Event
   at_pick = p.earlier ++ setting_up p.ask p.incarnation ∷ p.until
 
-  abbrev standing : List Event
-  standing = p.until ++ picking port ∷ p.since
+  abbrev unchanged : List Event
+  unchanged = p.until ++ picking port ∷ p.since
 
   cut-at_pick : before ≡ at_pick ++ picking port ∷ p.since
   cut-at_pick = p.parts ∙ sym (append_assoc p.earlier (setting_up p.ask p.incarnation ∷ p.until) (picking port ∷ p.since))
 
-  stands : StandsSince before p.ask.vc p.ask standing
-  stands = record {
+  in_force : IsInForceSince before p.ask.vc p.ask unchanged
+  in_force = record {
     earlier = p.earlier;
     incarnation = p.incarnation;
     asked = refl;
     cut = p.parts;
-    standing = p.standing;
+    unchanged = p.unchanged;
   }
 
 -- Two promises for one port after the same events.
@@ -114,10 +114,10 @@ module _ (shape : Shape) (before : List Event) (port : ℕ) (one other : JudgedV
   at_second = at_pick shape before port other q
 
   abbrev since_first : List Event
-  since_first = standing shape before port one p
+  since_first = unchanged shape before port one p
 
   abbrev since_second : List Event
-  since_second = standing shape before port other q
+  since_second = unchanged shape before port other q
 
   -- Both cells were picked in one event and entered in one event.
   one-pick : at_first ≡ at_second
@@ -137,8 +137,8 @@ module _ (shape : Shape) (before : List Event) (port : ℕ) (one other : JudgedV
 
   one-asked : (p.ask ≡ q.ask) × (since_first ≡ since_second)
   one-asked =
-      one-standing before p.ask.vc p.ask q.ask since_first since_second (stands shape before port one p)
-      (subst (λ (v : Vc). StandsSince before v q.ask since_second) (sym one-vc) (stands shape before port other q))
+      one-in_force before p.ask.vc p.ask q.ask since_first since_second (in_force shape before port one p)
+      (subst (λ (v : Vc). IsInForceSince before v q.ask since_second) (sym one-vc) (in_force shape before port other q))
 
   one-until : p.until ≡ q.until
   one-until =

@@ -16,7 +16,7 @@ use Rattle.card_core.specs.Refusals.{refusal}
 use Rattle.card_core.specs.Steps.{Judges, WorldStep, cell_of_picking, verdict_on, number_with}
 use Rattle.card_core.specs.Log.{Event, Run}
 use Rattle.card_core.specs.Judged.{JudgedView}
-use Rattle.card_core.specs.Headline.{Never, moves, changes, loads, retires, program_after, cells_judged_on, judged_in, picking, judging, setting_up, loading, HasEntered, IsLoadedOnce, IsLiveCode, IsLiveThrough, IsPromised, EachJudgedCellIsPromised, TheHeadline}
+use Rattle.card_core.specs.Headline.{Never, moves, changes, loads, retires, program_after, cells_judged_on, judged_in_reply, picking, judging, setting_up, loading, HasEntered, IsLoadedOnce, IsLiveCode, IsLiveThrough, IsPromised, EachJudgedCellIsPromised, TheHeadline}
 use Rattle.card_core.proofs.Sound.{WorldInvariant}
 use Rattle.card_core.proofs.LookUps.{same_some, there_is}
 use Rattle.card_core.proofs.Allowed.{IsAllowed, succeeded, starved, rejected, step-case, picking-allowed}
@@ -72,7 +72,7 @@ module _ (shape : Shape) (log : List Event) (world : World) (sound : WorldInvari
   own-vc : pick.vc ≡ vc_of shape.side pick.cell
   own-vc = (sound.ports port pick had).own ∙ ap (λ (s : Shape). vc_of s.side pick.cell) known.shape_is
 
-  live-picked : (p : KnowsPick shape log world.given world.connections port pick)
+  live-picked : (p : KnowsPick shape log world.loaded world.connections port pick)
       → IsLiveThrough p.at_pick (picking port ∷ p.since) pick.program p.code
   live-picked p =
       let there = there_is (code_in world.live pick.program) (sound.ports port pick had).live in
@@ -86,9 +86,9 @@ module _ (shape : Shape) (log : List Event) (world : World) (sound : WorldInvari
   pub promised-picked : IsPromised shape log port (judgement_on world pick connection)
   promised-picked =
       let p = known.picked_ports port pick had in
-      let on = p.standing connection found same in
-      let set_up = on.stood.stands in
-      let standing : List Event = on.until ++ picking port ∷ p.since in
+      let on = p.unchanged connection found same in
+      let set_up = on.agrees.in_force in
+      let unchanged : List Event = on.until ++ picking port ∷ p.since in
       let front : List Event = set_up.earlier ++ setting_up on.ask set_up.incarnation ∷ on.until in
       -- The events before the pick are those before the setup, the setup, and those until the pick.
       let parted : p.at_pick ++ picking port ∷ p.since ≡ front ++ picking port ∷ p.since =
@@ -110,19 +110,19 @@ module _ (shape : Shape) (log : List Event) (world : World) (sound : WorldInvari
         arrived = subst (λ (l : List Event). HasEntered l port pick.cell pick.moment) at_front p.arrived;
         left = refl;
         own = set_up.asked ∙ own-vc;
-        standing = subst (λ (v : Vc). Never (changes v) standing) asked set_up.standing;
+        unchanged = subst (λ (v : Vc). Never (changes v) unchanged) asked set_up.unchanged;
         named = subst (λ (v : Vc). pick.program ≡ program_after v on.ask.program on.until) asked on.named;
         code = p.code;
         accepted = sound.programs.accepted pick.program p.code p.given_code;
         live = subst (λ (l : List Event). IsLiveThrough l (picking port ∷ p.since) pick.program p.code) at_front (live-picked p);
         gives = p.gives;
         history = connection.history;
-        cells = subst (λ (v : Vc). connection.history ≡ cells_judged_on shape v standing) asked on.stood.cells;
-        held = on.stood.held;
+        cells = subst (λ (v : Vc). connection.history ≡ cells_judged_on shape v unchanged) asked on.agrees.cells;
+        held = on.agrees.held;
         in_order = history-more 0 connection.history (cell_of_picking pick)
             (sound.connections.each pick.vc connection found).history allowed.forward;
         in_time = allowed.early;
-        decided = ap (λ (contracts : List Contract). verdict_after contracts empty_buckets connection.history (cell_of_picking pick)) on.stood.contracts;
+        decided = ap (λ (contracts : List Contract). verdict_after contracts empty_buckets connection.history (cell_of_picking pick)) on.agrees.contracts;
         counted = ap (λ verdicts. number_with verdicts (verdict_on connection (cell_of_picking pick))) (known.verdicts connection.line);
       }
 
@@ -130,28 +130,28 @@ module _ (shape : Shape) (log : List Event) (world : World) (sound : WorldInvari
 
 promised-judges : (shape : Shape) (log : List Event) (before : World) (port : ℕ) (reply : Reply) (after : World) (judged : JudgedView)
     → WorldInvariant before → Knows shape log before → refusal before (Judge port) ≡ None → Judges before port reply after
-    → judged_in reply ≡ Some judged → IsPromised shape log port judged
+    → judged_in_reply reply ≡ Some judged → IsPromised shape log port judged
 promised-judges shape log before port reply after judged sound known allowed w is =
     let may = picking-allowed before port w.picking w.connection w.had w.found allowed in
     let same : judgement_on before w.picking w.connection ≡ judged =
-    same_some (judgement_on before w.picking w.connection) judged (sym (ap judged_in w.answer) ∙ is) in
+    same_some (judgement_on before w.picking w.connection) judged (sym (ap judged_in_reply w.answer) ∙ is) in
     subst (IsPromised shape log port) same
     (promised-picked shape log before sound known port w.picking w.had w.connection w.found may.0 may.1)
 
 -- A refused Judge has no judged cell.
-refused-none : (refused : Reply) → CellRefused refused → judged_in refused ≡ None
-refused-none refused (at_no_time is) = ap judged_in is
-refused-none refused (with_answer answer is unjudged) = ap judged_in is ∙ unjudged
+refused-none : (refused : Reply) → CellRefused refused → judged_in_reply refused ≡ None
+refused-none refused (at_no_time is) = ap judged_in_reply is
+refused-none refused (with_answer answer is unjudged) = ap judged_in_reply is ∙ unjudged
 
 promised-step : (shape : Shape) (log : List Event) (before : World) (port : ℕ) (reply : Reply) (after : World) (judged : JudgedView)
     → WorldInvariant before → Knows shape log before → WorldStep before (Judge port) reply after
-    → judged_in reply ≡ Some judged → IsPromised shape log port judged
+    → judged_in_reply reply ≡ Some judged → IsPromised shape log port judged
 promised-step shape log before port reply after judged sound known w is = elim (step-case before (Judge port) reply after w) [
   | succeeded allowed success ↦ promised-judges shape log before port reply after judged sound known allowed success is
   | starved memory ↦ let none = memory.answer in absurd (cc)
   | rejected refused e refusing ↦
-      let none : judged_in reply ≡ None =
-      ap judged_in refusing.answer ∙ refused-none refused (judge-refused before (slice_get before.ports port) refused e) in
+      let none : judged_in_reply reply ≡ None =
+      ap judged_in_reply refusing.answer ∙ refused-none refused (judge-refused before (slice_get before.ports port) refused e) in
       absurd (cc)
 ]
 

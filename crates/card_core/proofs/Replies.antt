@@ -22,9 +22,9 @@ use Rattle.card_core.specs.declared.reply.Reply.{Reply}
 use Rattle.card_core.specs.declared.reply.Reply.TheVariants.{Entered, Picked, Answered, Loaded, Retired, SetUp, Reloaded, Released, Cut as CutOff}
 use Rattle.card_core.specs.declared.step.Step.{Step}
 use Rattle.card_core.specs.declared.step.Step.TheVariants.{Enter, Pick, Judge, Load, Retire, Setup, Reload, Release, Cut}
-use Rattle.card_core.specs.World.{World, Connection, PortState, outside, entered, picked, code_in, without_code, times_given, handed_cells, kept_cells, connection_in, without_connection, with_connection, with_port, is_busy, any_below, is_open_slot, is_open_line}
+use Rattle.card_core.specs.World.{World, Connection, PortState, outside, entered, picked, code_in, without_code, times_given, returned_cells, kept_cells, connection_in, without_connection, with_connection, with_port, is_busy, any_below, is_open_slot, is_open_line}
 use Rattle.card_core.specs.Refusals.{refusal, pick_refusal, judge_refusal, picking_refusal, load_fault, retire_fault, setup_fault, reload_fault, missing_fault}
-use Rattle.card_core.specs.Steps.{IsPieceOf, Succeeds, FindsNoMemory, IsRefused, WorldStep, left_by, picking_of, judgement_of, judged_world, new_connection}
+use Rattle.card_core.specs.Steps.{IsPieceOf, Succeeds, FindsNoMemory, IsRefused, WorldStep, left_by, picking_of, judged_answer, judged_world, new_connection}
 use Rattle.card_core.specs.Laws.{is_of_memory, LoadsAccepted, StepsHaveReplies}
 use Rattle.card_core.proofs.Sound.{WorldInvariant, SoundConnection}
 use Rattle.card_core.proofs.JudgeLemmas.{tallied-append}
@@ -54,18 +54,18 @@ front-goes_on earliest (suc number) (cell ∷ later) goes = (goes.0, front-goes_
 piece-of : (world : World) (vc : Vc) (connection : Connection) → SoundConnection world connection
     → (piece : PieceView) × IsPieceOf world vc connection piece
 piece-of world vc connection sound =
-    let before = histories_have_states connection.contracts (handed_cells connection)
-    (tallied sound.opening (judged connection.contracts empty_buckets [] (handed_cells connection)))
-    (front-goes_on 0 connection.handed connection.history sound.history)
-    (All-take (λ (cell : NamedCell). cell.moment ≤ 2 ^ 62) connection.handed connection.history sound.early) in
-    let after = histories_have_states connection.contracts connection.history (tally_of (world.judged connection.line))
+    let before = histories_have_states connection.contracts (returned_cells connection)
+    (tallied sound.opening (judged connection.contracts empty_buckets [] (returned_cells connection)))
+    (front-goes_on 0 connection.returned connection.history sound.history)
+    (All-take (λ (cell : NamedCell). cell.moment ≤ 2 ^ 62) connection.returned connection.history sound.early) in
+    let after = histories_have_states connection.contracts connection.history (tally_of (world.verdicts connection.line))
     sound.history sound.early in
     let owner : Owner = record { vc = vc; incarnation = connection.incarnation } in
     let piece : PieceView = record {
       owner = owner;
       contracts = connection.contracts;
       start = before.0;
-      entries = judged connection.contracts empty_buckets (handed_cells connection) (kept_cells connection);
+      entries = judged connection.contracts empty_buckets (returned_cells connection) (kept_cells connection);
       end = after.0;
     } in (
       piece,
@@ -76,11 +76,11 @@ piece-of world vc connection sound =
         start = before.2;
         end = after.2;
         counts = after.1;
-        together = ap (λ (counts : Tally). tallied counts (judged connection.contracts empty_buckets (handed_cells connection) (kept_cells connection))) before.1
-            ∙ sym (tallied-append sound.opening (judged connection.contracts empty_buckets [] (handed_cells connection))
-            (judged connection.contracts empty_buckets (handed_cells connection) (kept_cells connection)))
-            ∙ ap (tallied sound.opening) (sym (cells_are_judged_in_turn connection.contracts empty_buckets [] (handed_cells connection) (kept_cells connection)))
-            ∙ ap (λ (cells : List NamedCell). tallied sound.opening (judged connection.contracts empty_buckets [] cells)) (take-append-drop connection.handed connection.history)
+        together = ap (λ (counts : Tally). tallied counts (judged connection.contracts empty_buckets (returned_cells connection) (kept_cells connection))) before.1
+            ∙ sym (tallied-append sound.opening (judged connection.contracts empty_buckets [] (returned_cells connection))
+            (judged connection.contracts empty_buckets (returned_cells connection) (kept_cells connection)))
+            ∙ ap (tallied sound.opening) (sym (cells_are_judged_in_turn connection.contracts empty_buckets [] (returned_cells connection) (kept_cells connection)))
+            ∙ ap (λ (cells : List NamedCell). tallied sound.opening (judged connection.contracts empty_buckets [] cells)) (take-append-drop connection.returned connection.history)
             ∙ sound.counted;
       },
     )
@@ -131,7 +131,7 @@ can-judge before port (Some (picked picking)) had e =
     → CanSucceed before (Judge port) = elim [
       | None ↦ λ found e. absurd (cc)
       | Some connection ↦ λ found e. (
-        Answered (judgement_of before picking connection),
+        Answered (judged_answer before picking connection),
         judged_world before port picking connection,
         record {
           picking = picking;
@@ -152,10 +152,10 @@ can-load before code accepted e =
     let two = passed_on (not (any_below before.shape.programs (is_open_slot before))) _ _ one.1 in
     let found = below-some before.shape.programs (is_open_slot before)
     (not-false (any_below before.shape.programs (is_open_slot before)) two.0) in
-    let id : Id = record { slot = found.0; generation = times_given before.given found.0 + 1 } in (
+    let id : Id = record { slot = found.0; generation = times_given before.loaded found.0 + 1 } in (
       Loaded id,
       record before {
-        given = record { id = id; code = code } ∷ before.given;
+        loaded = record { id = id; code = code } ∷ before.loaded;
         live = record { id = id; code = code } ∷ before.live;
       },
       record {
@@ -191,10 +191,10 @@ can-set_up before ask e =
     let four = passed_on (not (any_below before.shape.lines (is_open_line before))) _ _ three.1 in
     let found = below-some before.shape.lines (is_open_line before)
     (not-false (any_below before.shape.lines (is_open_line before)) four.0) in (
-      SetUp (record { vc = ask.vc; incarnation = before.used + 1 }),
+      SetUp (record { vc = ask.vc; incarnation = before.incarnations + 1 }),
       record before {
-        connections = with_connection before.connections ask.vc (new_connection ask found.0 (before.used + 1));
-        used = before.used + 1;
+        connections = with_connection before.connections ask.vc (new_connection ask found.0 (before.incarnations + 1));
+        incarnations = before.incarnations + 1;
       },
       record { line = found.0; within = found.1; open_line = found.2; answer = refl; world = refl },
       refl,
@@ -233,7 +233,7 @@ can-cut before vc sound e =
     let piece = piece-of before vc connection (sound.connections.each vc connection found.1) in (
       CutOff piece.0,
       record before {
-        connections = with_connection before.connections vc (record connection { handed = length connection.history });
+        connections = with_connection before.connections vc (record connection { returned = length connection.history });
       },
       record { connection = connection; found = found.1; piece = piece.0; next = piece.1; answer = refl; world = refl },
       refl,

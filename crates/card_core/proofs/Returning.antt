@@ -62,9 +62,9 @@ returns-safely code cell accepted =
       only = λ other taken also. Value-unique code cell other some.0 taken some.1 also some.2;
       inside = λ taken pc a x m came.
           let on = next taken pc a x m came in slice_get_within code pc on.1.0 on.1.1;
-      written = λ taken pc a x word m i came stands reads.
+      written = λ taken pc a x word m i came instr_there reads.
           let on = next taken pc a x m came in
-          let same : on.1.0 ≡ i = same_Some on.1.0 i (sym on.1.1 ∙ stands) in
+          let same : on.1.0 ≡ i = same_Some on.1.0 i (sym on.1.1 ∙ instr_there) in
           reads-written cell i pc a x word m on.0 (subst (λ (j : Instr). Does cell j pc a x m on.0) same on.1.2) reads;
       goes_on = next;
     }

@@ -49,12 +49,12 @@ module _ (shape : Shape) (store : List (Slot (List Instr))) (directory : Directo
   tests-are : (before : World) (dead taken empty room worn : Bool)
       → is_none (code_in before.live ask.program) ≡ dead → is_some (connection_in before.connections ask.vc) ≡ taken
       → (length ask.contracts.items == 0) ≡ empty → any_below before.shape.lines (is_open_line before) ≡ room
-      → nat_le (2 ^ 62) before.used ≡ worn → setup_fault before ask ≡ fault_by dead taken empty room worn
+      → nat_le (2 ^ 62) before.incarnations ≡ worn → setup_fault before ask ≡ fault_by dead taken empty room worn
   tests-are before dead taken empty room worn a b c d e =
       let second = is_some (connection_in before.connections ask.vc) in
       let third = length ask.contracts.items == 0 in
       let fourth = any_below before.shape.lines (is_open_line before) in
-      let fifth = nat_le (2 ^ 62) before.used in
+      let fifth = nat_le (2 ^ 62) before.incarnations in
       ap (λ t. fault_by t second third fourth fifth) a
       ∙ ap (λ t. fault_by dead t third fourth fifth) b
       ∙ ap (λ t. fault_by dead taken t fourth fifth) c
@@ -129,15 +129,15 @@ module _ (shape : Shape) (store : List (Slot (List Instr))) (directory : Directo
       → setup_fault before ask ≡ Some fault
   unfit-is before sound agrees NoProgram why =
       tests-are before true (is_some (connection_in before.connections ask.vc)) (length ask.contracts.items == 0)
-      (any_below before.shape.lines (is_open_line before)) (nat_le (2 ^ 62) before.used)
+      (any_below before.shape.lines (is_open_line before)) (nat_le (2 ^ 62) before.incarnations)
       (is-dead before agrees why) refl refl refl refl
   unfit-is before sound agrees NoConnection why = absurd why
   unfit-is before sound agrees Taken why =
       tests-are before false true (length ask.contracts.items == 0)
-      (any_below before.shape.lines (is_open_line before)) (nat_le (2 ^ 62) before.used)
+      (any_below before.shape.lines (is_open_line before)) (nat_le (2 ^ 62) before.incarnations)
       (is-live before agrees why.0) (is-taken before agrees why.1) refl refl refl
   unfit-is before sound agrees NoLine why =
-      tests-are before false false false false (nat_le (2 ^ 62) before.used)
+      tests-are before false false false false (nat_le (2 ^ 62) before.incarnations)
       (is-live before agrees why.0.0.0) (ap is_some (absent before agrees why.0.0.1)) (some-is (length ask.contracts.items) why.0.1)
       (no-room before agrees why.1) refl
   unfit-is before sound agrees InUse why = absurd why
@@ -145,10 +145,10 @@ module _ (shape : Shape) (store : List (Slot (List Instr))) (directory : Directo
   unfit-is before sound agrees Exhausted why =
       tests-are before false false false true true
       (is-live before agrees why.0.0.0.0) (ap is_some (absent before agrees why.0.0.0.1)) (some-is (length ask.contracts.items) why.0.0.1)
-      (some-room before sound agrees why.0.1.0 why.0.1.1 why.0.1.2) (worn-is before.used (sym agrees.seatings.used_up ∙ why.1))
+      (some-room before sound agrees why.0.1.0 why.0.1.1 why.0.1.2) (worn-is before.incarnations (sym agrees.seatings.used_up ∙ why.1))
   unfit-is before sound agrees BadContracts why =
       tests-are before false false true
-      (any_below before.shape.lines (is_open_line before)) (nat_le (2 ^ 62) before.used)
+      (any_below before.shape.lines (is_open_line before)) (nat_le (2 ^ 62) before.incarnations)
       (is-live before agrees why.0.0) (ap is_some (absent before agrees why.0.1)) (empty-is (length ask.contracts.items) why.1) refl refl
   unfit-is before sound agrees Busy why = absurd why
   unfit-is before sound agrees NoMemory why = absurd why
@@ -166,7 +166,7 @@ module _ (shape : Shape) (store : List (Slot (List Instr))) (directory : Directo
       tests-are before false false false true false
       (is-live before agrees admits.live) (ap is_some (absent before agrees admits.new)) (some-is (length ask.contracts.items) admits.some)
       (some-room before sound agrees line admits.within admits.free)
-      (unworn-is before.used (omega (arith, agrees.seatings.used_up, admits.unworn)))
+      (unworn-is before.incarnations (omega (arith, agrees.seatings.used_up, admits.unworn)))
 
   module _ (number : ℕ) (admits : Admits store directory ask number) (new : DirectoryView) (result : Result Owner (DeskFault × Ask))
       (after : List LineView) (change : ChangesLine lines number (SetsUpOrRefuses directory new number ask result) after) where
@@ -176,24 +176,24 @@ module _ (shape : Shape) (store : List (Slot (List Instr))) (directory : Directo
         let next = change.next in
         let did : TakesLine directory new number ask owner line next =
         subst (λ (r : Result Owner (DeskFault × Ask)). SetsUpOrRefuses directory new number ask r line next) is change.did in
-        let connection : Connection = new_connection ask number (before.used + 1) in
-        let given : owner ≡ record { vc = ask.vc; incarnation = before.used + 1 } =
+        let connection : Connection = new_connection ask number (before.incarnations + 1) in
+        let given : owner ≡ record { vc = ask.vc; incarnation = before.incarnations + 1 } =
         did.given ∙ ap (λ (n : ℕ). record { vc = ask.vc; incarnation = n + 1 }) agrees.seatings.used_up in
-        let counts : line.state.counts ≡ tally_of (before.judged number) = agrees.lines.counts number line change.there in
+        let counts : line.state.counts ≡ tally_of (before.verdicts number) = agrees.lines.counts number line change.there in
         let none = absent before agrees admits.new in
-        let changed : Change before.shape lines before.connections before.judged agrees.lines number line next before.judged = record {
+        let changed : Change before.shape lines before.connections before.verdicts agrees.lines number line next before.verdicts = record {
           there = change.there;
           journal = did.opened.journal;
           counts = did.opened.state.counts ∙ counts;
           others = λ other apart. refl;
         } in
-        let lines_after = lines-with before.shape lines before.connections before.judged agrees.lines number line next before.judged changed
-        ask.vc connection refl (open-serves ask number (before.used + 1) line next owner (before.judged number) given did.opened did.history counts)
+        let lines_after = lines-with before.shape lines before.connections before.verdicts agrees.lines number line next before.verdicts changed
+        ask.vc connection refl (open-serves ask number (before.incarnations + 1) line next owner (before.verdicts number) given did.opened did.history counts)
         (λ other another apart found. admits.free other (seating_of another) (agrees.seatings.seatings other ∙ ap (option_map seating_of) found))
         (λ old found. let is_none : None ≡ Some old = sym none ∙ found in absurd (cc)) in
         let world : World = record before {
           connections = with_connection before.connections ask.vc connection;
-          used = before.used + 1;
+          incarnations = before.incarnations + 1;
         } in
         let seating : Sits directory ask.vc (Some (seating_of connection)) new =
         subst (λ (n : ℕ). Sits directory ask.vc (Some (record { line = number; incarnation = n + 1; program = ask.program })) new)
@@ -210,9 +210,9 @@ module _ (shape : Shape) (store : List (Slot (List Instr))) (directory : Directo
           record {
             shape = agrees.shape;
             store = agrees.store;
-            seatings = seatings-with before.shape directory before.connections before.used agrees.seatings ask.vc connection new (before.used + 1)
+            seatings = seatings-with before.shape directory before.connections before.incarnations agrees.seatings ask.vc connection new (before.incarnations + 1)
                 seating (did.used ∙ ap (λ (n : ℕ). n + 1) agrees.seatings.used_up);
-            lines = subst (λ (list : List LineView). LinesAgree before.shape list (with_connection before.connections ask.vc connection) before.judged)
+            lines = subst (λ (list : List LineView). LinesAgree before.shape list (with_connection before.connections ask.vc connection) before.verdicts)
                 (sym change.after) lines_after;
             ports = agrees.ports;
           },
@@ -249,9 +249,9 @@ module _ (shape : Shape) (store : List (Slot (List Instr))) (directory : Directo
           record {
             shape = agrees.shape;
             store = agrees.store;
-            seatings = subst (λ (d : DirectoryView). SeatingsAgree before.shape d before.connections before.used) (sym did.2) agrees.seatings;
-            lines = subst (λ (list : List LineView). LinesAgree before.shape list before.connections before.judged) (sym change.after)
-                (lines-ready before.shape lines before.connections before.judged agrees.lines number change.line change.next change.there (readied change.line change.next did.4));
+            seatings = subst (λ (d : DirectoryView). SeatingsAgree before.shape d before.connections before.incarnations) (sym did.2) agrees.seatings;
+            lines = subst (λ (list : List LineView). LinesAgree before.shape list before.connections before.verdicts) (sym change.after)
+                (lines-ready before.shape lines before.connections before.verdicts agrees.lines number change.line change.next change.there (readied change.line change.next did.4));
             ports = agrees.ports;
           },
         ))

@@ -30,7 +30,7 @@ opening-sound shape = record {
   ports = λ port picking e.
       let none : outside ≡ picked picking = replicated shape.ports port outside (picked picking) e in absurd (cc);
   sized = length-replicate shape.ports outside;
-  used = omega arith;
+  incarnations = omega arith;
 }
 
 -- A change of the ports alone.
@@ -75,7 +75,7 @@ sound-ported before ports sound sized picks = record {
           some = s.some;
           history = s.history;
           early = s.early;
-          handed = s.handed;
+          returned = s.returned;
           opening = s.opening;
           counted = s.counted;
         };
@@ -86,7 +86,7 @@ sound-ported before ports sound sized picks = record {
       let s = picks port picking e in
       record { own = s.own; live = s.live; old = s.old; same_line = s.same_line };
   sized = sized;
-  used = sound.used;
+  incarnations = sound.incarnations;
 }
 
 pub sound-port : (before : World) (port : ℕ) (state : PortState) → WorldInvariant before
@@ -99,7 +99,7 @@ sound-port before port state sound new =
 -- The connection is new, on a line without a connection, or it has its incarnation and line from before.
 abbrev pub IsNewOrKept : World → Vc → Connection → Type 0
 IsNewOrKept before vc connection =
-    (before.used < connection.incarnation)
+    (before.incarnations < connection.incarnation)
     × ((other : Vc) (another : Connection) → connection_in before.connections other ≡ Some another
     → another.line ≢ connection.line)
     ⊎ ((old : Connection) × (connection_in before.connections vc ≡ Some old)
@@ -108,15 +108,15 @@ IsNewOrKept before vc connection =
 -- The world with new connections, incarnations, verdicts and ports.
 abbrev pub changed : World → List (Vc × Connection) → ℕ → (ℕ → List Verdict) → List PortState → World
 changed before connections used judged ports =
-    record before { connections = connections; used = used; judged = judged; ports = ports }
+    record before { connections = connections; incarnations = used; verdicts = judged; ports = ports }
 
 pub record OneChanges (before : World) (connections : List (Vc × Connection)) (used : ℕ) (judged : ℕ → List Verdict) (ports : List PortState) (vc : Vc) (new : Option Connection) : Type 0 where
   pub changes : ConnectionChanges before.connections connections vc new
   pub once : IsOnce connections
-  pub grows : before.used ≤ used
+  pub grows : before.incarnations ≤ used
   pub most : used ≤ 2 ^ 62
   pub verdicts : (other : Vc) (another : Connection) → other ≢ vc → connection_in before.connections other ≡ Some another
-      → judged another.line ≡ before.judged another.line
+      → judged another.line ≡ before.verdicts another.line
   pub sized : length ports ≡ before.shape.ports
   pub picks : (port : ℕ) (picking : Picking) → slice_get ports port ≡ Some (picked picking) → SoundPicking before picking
   pub sound : (connection : Connection) → new ≡ Some connection
@@ -147,7 +147,7 @@ module _ (before : World) (connections : List (Vc × Connection)) (used : ℕ) (
           some = s.some;
           history = s.history;
           early = s.early;
-          handed = s.handed;
+          returned = s.returned;
           opening = s.opening;
           counted = s.counted ∙ ap tally_of (sym (c.verdicts other connection apart (found_old other connection apart e)));
         }
@@ -232,7 +232,7 @@ module _ (before : World) (connections : List (Vc × Connection)) (used : ℕ) (
           same_line = same_line-changed picking s;
         };
     sized = c.sized;
-    used = c.most;
+    incarnations = c.most;
   }
 
 -- A connection keeps its line and its incarnation.
@@ -243,15 +243,15 @@ pub sound-rewritten : (before : World) (vc : Vc) (connection new : Connection) �
     → WorldInvariant (record before { connections = with_connection before.connections vc new })
 sound-rewritten before vc connection new sound found same_incarnation same_line one =
     let connections : List (Vc × Connection) = with_connection before.connections vc new in
-    sound-changed before connections before.used before.judged before.ports vc (Some new) sound (record {
+    sound-changed before connections before.incarnations before.verdicts before.ports vc (Some new) sound (record {
       changes = changes-with before.connections vc new;
       once = once-with before.connections vc new sound.connections.once;
       grows = omega arith;
-      most = sound.used;
+      most = sound.incarnations;
       verdicts = λ other another apart found. refl;
       sized = sound.sized;
       picks = sound.ports;
-      sound = λ found e. subst (λ (c : Connection). SoundConnection (changed before connections before.used before.judged before.ports) c) (same_some new found e) one;
+      sound = λ found e. subst (λ (c : Connection). SoundConnection (changed before connections before.incarnations before.verdicts before.ports) c) (same_some new found e) one;
       kept = λ other e. subst (λ (c : Connection). IsNewOrKept before vc c) (same_some new other e)
           (inr (connection, found, same_incarnation, same_line));
     })
@@ -268,11 +268,11 @@ some-more loading later id there =
 
 -- A world of which only the programs changed.
 pub sound-programs : (before : World) (given live : List Loading) → WorldInvariant before
-    → SoundPrograms (record before { given = given; live = live })
+    → SoundPrograms (record before { loaded = given; live = live })
     → ((vc : Vc) (connection : Connection) → connection_in before.connections vc ≡ Some connection
     → IsSome (code_in live connection.program))
     → ((port : ℕ) (picking : Picking) → slice_get before.ports port ≡ Some (picked picking) → IsSome (code_in live picking.program))
-    → WorldInvariant (record before { given = given; live = live })
+    → WorldInvariant (record before { loaded = given; live = live })
 sound-programs before given live sound programs named picks = record {
   programs = programs;
   connections = record {
@@ -287,7 +287,7 @@ sound-programs before given live sound programs named picks = record {
           some = s.some;
           history = s.history;
           early = s.early;
-          handed = s.handed;
+          returned = s.returned;
           opening = s.opening;
           counted = s.counted;
         };
@@ -298,5 +298,5 @@ sound-programs before given live sound programs named picks = record {
       let s = sound.ports port picking e in
       record { own = s.own; live = picks port picking e; old = s.old; same_line = s.same_line };
   sized = sound.sized;
-  used = sound.used;
+  incarnations = sound.incarnations;
 }

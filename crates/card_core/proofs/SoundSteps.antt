@@ -72,11 +72,11 @@ sound-judges before port reply after sound allowed w =
     let new : Connection = with_cell connection cell in
     let may = picking-allowed before port w.picking connection w.had w.found allowed in
     let s = sound.connections.each w.picking.vc connection w.found in
-    let verdicts : ℕ → List Verdict = with_verdict before.judged connection.line (verdict_on connection cell) in
+    let verdicts : ℕ → List Verdict = with_verdict before.verdicts connection.line (verdict_on connection cell) in
     let connections : List (Vc × Connection) = with_connection before.connections w.picking.vc new in
     let ports : List PortState = set before.ports port outside in
     let longer : length new.history ≡ length connection.history + 1 = length-append connection.history (cell ∷ []) in
-    let one : SoundConnection (changed before connections before.used verdicts ports) new = record {
+    let one : SoundConnection (changed before connections before.incarnations verdicts ports) new = record {
       within = s.within;
       first = s.first;
       old = s.old;
@@ -84,24 +84,24 @@ sound-judges before port reply after sound allowed w =
       some = s.some;
       history = history-more 0 connection.history cell s.history may.1.forward;
       early = All-push (λ (c : NamedCell). c.moment ≤ 2 ^ 62) connection.history cell s.early may.1.early;
-      handed = omega (arith, longer, s.handed);
+      returned = omega (arith, longer, s.returned);
       opening = s.opening;
       counted = ap (tallied s.opening) (cells_are_judged_in_turn connection.contracts empty_buckets [] connection.history (cell ∷ []))
-          ∙ tallied-more s.opening (judged_so connection) (before.judged connection.line)
+          ∙ tallied-more s.opening (judged_so connection) (before.verdicts connection.line)
           (entry_of cell (verdict_on connection cell)) (verdict_on connection cell) refl s.counted
-          ∙ ap tally_of (sym (with_verdict-here before.judged connection.line (verdict_on connection cell)));
+          ∙ ap tally_of (sym (with_verdict-here before.verdicts connection.line (verdict_on connection cell)));
     } in
-    subst WorldInvariant (sym w.world) (sound-changed before connections before.used verdicts ports w.picking.vc (Some new) sound (record {
+    subst WorldInvariant (sym w.world) (sound-changed before connections before.incarnations verdicts ports w.picking.vc (Some new) sound (record {
       changes = changes-with before.connections w.picking.vc new;
       once = once-with before.connections w.picking.vc new sound.connections.once;
       grows = omega arith;
-      most = sound.used;
+      most = sound.incarnations;
       verdicts = λ other another apart found.
-          with_verdict-other before.judged connection.line (verdict_on connection cell) another.line
+          with_verdict-other before.verdicts connection.line (verdict_on connection cell) another.line
           (λ same. apart (sound.connections.lines_apart other w.picking.vc another connection found w.found same));
       sized = length-set before.ports port outside ∙ sound.sized;
       picks = picks-set before port outside sound (λ picking e. absurd (cc));
-      sound = λ found e. subst (λ (c : Connection). SoundConnection (changed before connections before.used verdicts ports) c) (same_some new found e) one;
+      sound = λ found e. subst (λ (c : Connection). SoundConnection (changed before connections before.incarnations verdicts ports) c) (same_some new found e) one;
       kept = λ found e. subst (λ (c : Connection). IsNewOrKept before w.picking.vc c) (same_some new found e)
           (inr (connection, w.found, refl, refl));
     }))
@@ -125,7 +125,7 @@ sound-reloads before vc program reply after sound allowed w =
       some = s.some;
       history = s.history;
       early = s.early;
-      handed = s.handed;
+      returned = s.returned;
       opening = s.opening;
       counted = s.counted;
     }))
@@ -134,7 +134,7 @@ sound-cuts : (before : World) (vc : Vc) (reply : Reply) (after : World) → Worl
     → Cuts before vc reply after → WorldInvariant after
 sound-cuts before vc reply after sound w =
     let connection : Connection = w.connection in
-    let new : Connection = record connection { handed = length connection.history } in
+    let new : Connection = record connection { returned = length connection.history } in
     let s = sound.connections.each vc connection w.found in
     subst WorldInvariant (sym w.world) (sound-rewritten before vc connection new sound w.found refl refl (record {
       within = s.within;
@@ -144,7 +144,7 @@ sound-cuts before vc reply after sound w =
       some = s.some;
       history = s.history;
       early = s.early;
-      handed = omega arith;
+      returned = omega arith;
       opening = s.opening;
       counted = s.counted;
     }))
@@ -153,11 +153,11 @@ sound-releases : (before : World) (vc : Vc) (reply : Reply) (after : World) → 
     → Releases before vc reply after → WorldInvariant after
 sound-releases before vc reply after sound w =
     let connections : List (Vc × Connection) = without_connection before.connections vc in
-    subst WorldInvariant (sym w.world) (sound-changed before connections before.used before.judged before.ports vc None sound (record {
+    subst WorldInvariant (sym w.world) (sound-changed before connections before.incarnations before.verdicts before.ports vc None sound (record {
       changes = changes-without before.connections vc;
       once = once-without before.connections vc sound.connections.once;
       grows = omega arith;
-      most = sound.used;
+      most = sound.incarnations;
       verdicts = λ other another apart found. refl;
       sized = sound.sized;
       picks = sound.ports;
@@ -168,10 +168,10 @@ sound-releases before vc reply after sound w =
 sound-sets_up : (before : World) (ask : Ask) (reply : Reply) (after : World) → WorldInvariant before
     → refusal before (Setup ask) ≡ None → SetsUp before ask reply after → WorldInvariant after
 sound-sets_up before ask reply after sound allowed w =
-    let new : Connection = new_connection ask w.line (before.used + 1) in
+    let new : Connection = new_connection ask w.line (before.incarnations + 1) in
     let connections : List (Vc × Connection) = with_connection before.connections ask.vc new in
     let may = setup-allowed before ask allowed in
-    let one : SoundConnection (changed before connections (before.used + 1) before.judged before.ports) new = record {
+    let one : SoundConnection (changed before connections (before.incarnations + 1) before.verdicts before.ports) new = record {
       within = w.within;
       first = omega arith;
       old = omega arith;
@@ -179,11 +179,11 @@ sound-sets_up before ask reply after sound allowed w =
       some = may.some;
       history = tt;
       early = All-nil (λ (c : NamedCell). c.moment ≤ 2 ^ 62);
-      handed = omega arith;
-      opening = tally_of (before.judged w.line);
+      returned = omega arith;
+      opening = tally_of (before.verdicts w.line);
       counted = refl;
     } in
-    subst WorldInvariant (sym w.world) (sound-changed before connections (before.used + 1) before.judged before.ports ask.vc (Some new) sound (record {
+    subst WorldInvariant (sym w.world) (sound-changed before connections (before.incarnations + 1) before.verdicts before.ports ask.vc (Some new) sound (record {
       changes = changes-with before.connections ask.vc new;
       once = once-with before.connections ask.vc new sound.connections.once;
       grows = omega arith;
@@ -191,7 +191,7 @@ sound-sets_up before ask reply after sound allowed w =
       verdicts = λ other another apart found. refl;
       sized = sound.sized;
       picks = sound.ports;
-      sound = λ found e. subst (λ (c : Connection). SoundConnection (changed before connections (before.used + 1) before.judged before.ports) c) (same_some new found e) one;
+      sound = λ found e. subst (λ (c : Connection). SoundConnection (changed before connections (before.incarnations + 1) before.verdicts before.ports) c) (same_some new found e) one;
       kept = λ found e. subst (λ (c : Connection). IsNewOrKept before ask.vc c) (same_some new found e)
           (inl (omega arith, line-held before w.line w.open_line));
     }))
@@ -200,31 +200,31 @@ sound-loads : (before : World) (code : List Instr) (reply : Reply) (after : Worl
     → Loads before code reply after → WorldInvariant after
 sound-loads before code reply after sound w =
     let loading : Loading = record { id = w.id; code = code } in
-    let given : List Loading = loading ∷ before.given in
+    let given : List Loading = loading ∷ before.loaded in
     let live : List Loading = loading ∷ before.live in
-    let times : times_given given w.id.slot ≡ suc (times_given before.given w.id.slot) =
-    times-same loading before.given w.id.slot refl in
-    let next : w.id.generation ≡ times_given before.given w.id.slot + 1 =
-    subst (λ slot. w.id.generation ≡ times_given before.given slot + 1) (sym w.here) w.next in
-    let new : (id : Id) → code_in before.given id ≡ Some code → id ≢ w.id = λ id e same.
+    let times : times_given given w.id.slot ≡ suc (times_given before.loaded w.id.slot) =
+    times-same loading before.loaded w.id.slot refl in
+    let next : w.id.generation ≡ times_given before.loaded w.id.slot + 1 =
+    subst (λ slot. w.id.generation ≡ times_given before.loaded slot + 1) (sym w.here) w.next in
+    let new : (id : Id) → code_in before.loaded id ≡ Some code → id ≢ w.id = λ id e same.
     let old = sound.programs.once id code e in
-    let old_here : w.id.generation ≤ times_given before.given w.id.slot =
-    subst (λ (i : Id). i.generation ≤ times_given before.given i.slot) same old in
+    let old_here : w.id.generation ≤ times_given before.loaded w.id.slot =
+    subst (λ (i : Id). i.generation ≤ times_given before.loaded i.slot) same old in
     absurd (omega (arith, old_here, next)) in
-    let programs : SoundPrograms (record before { given = given; live = live }) = record {
-      once = λ id found e. elim (code-cases loading before.given id found e) [
+    let programs : SoundPrograms (record before { loaded = given; live = live }) = record {
+      once = λ id found e. elim (code-cases loading before.loaded id found e) [
         | inl here ↦
             subst (λ (i : Id). i.generation ≤ times_given given i.slot) (sym here.0) (omega (arith, times, next))
-        | inr there ↦ omega (arith, sound.programs.once id found there.1, times-grow loading before.given id.slot)
+        | inr there ↦ omega (arith, sound.programs.once id found there.1, times-grow loading before.loaded id.slot)
       ];
       live_given = λ id found e. elim (code-cases loading before.live id found e) [
         | inl here ↦
             let at : is_same_id id w.id ≡ true = subst (λ (i : Id). is_same_id i w.id ≡ true) (sym here.0) (id_itself w.id) in
-            code-first loading before.given id at ∙ ap Some here.1
+            code-first loading before.loaded id at ∙ ap Some here.1
         | inr there ↦
-            code-later loading before.given id (id_differs id w.id there.0) ∙ sound.programs.live_given id found there.1
+            code-later loading before.loaded id (id_differs id w.id there.0) ∙ sound.programs.live_given id found there.1
       ];
-      accepted = λ id found e. elim (code-cases loading before.given id found e) [
+      accepted = λ id found e. elim (code-cases loading before.loaded id found e) [
         | inl here ↦ subst IsAccepted here.1 w.accepted
         | inr there ↦ sound.programs.accepted id found there.1
       ];
@@ -238,7 +238,7 @@ sound-retires : (before : World) (id : Id) (reply : Reply) (after : World) → W
 sound-retires before id reply after sound allowed w =
     let may = retire-allowed before id allowed in
     let live : List Loading = without_code before.live id in
-    let programs : SoundPrograms (record before { given = before.given; live = live }) = record {
+    let programs : SoundPrograms (record before { loaded = before.loaded; live = live }) = record {
       once = sound.programs.once;
       live_given = λ other code e. sound.programs.live_given other code (without_code-was before.live id other code e).1;
       accepted = sound.programs.accepted;
@@ -249,7 +249,7 @@ sound-retires before id reply after sound allowed w =
     (λ v. subst (λ (i : Id). is_same_id connection.program i ≡ true) same (id_itself connection.program)) in
     let unnamed = may.unnamed in
     absurd (cc) in
-    subst WorldInvariant (sym w.world) (sound-programs before before.given live sound programs
+    subst WorldInvariant (sym w.world) (sound-programs before before.loaded live sound programs
     (λ vc connection e.
     ap is_some (without_code-others before.live id connection.program (named vc connection e))
     ∙ (sound.connections.each vc connection e).named_live)

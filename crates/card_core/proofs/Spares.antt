@@ -39,7 +39,7 @@ cell-spares before connection moment =
     refused_by CellSpares (nat_lt (2 ^ 62) moment) MomentTooLate _ (refl, refl)
     (refused_by CellSpares (nat_lt moment (last_moment 0 connection.history)) (MomentBack (last_moment 0 connection.history)) _ (refl, refl)
     (refused_by CellSpares (nat_le before.shape.journal (length (kept_cells connection))) JournalFull _ (refl, refl)
-    (refused_by CellSpares (nat_le (2 ^ 62) (length (before.judged connection.line))) JournalFull None (refl, refl)
+    (refused_by CellSpares (nat_le (2 ^ 62) (length (before.verdicts connection.line))) JournalFull None (refl, refl)
     (λ x e. absurd (cc)))))
 
 picking-spares : (before : World) (picking : Picking) (o : Option Connection) (answer : Answer)
@@ -100,7 +100,7 @@ module _ (reply : DeskFault → Reply) where
         (refused_by FaultSpares (is_some (connection_in before.connections ask.vc)) Taken _ taken
         (refused_by FaultSpares (length ask.contracts.items == 0) BadContracts _ bad
         (refused_by FaultSpares (not (any_below before.shape.lines (is_open_line before))) NoLine _ no_line
-        (refused_by FaultSpares (nat_le (2 ^ 62) before.used) Exhausted None exhausted
+        (refused_by FaultSpares (nat_le (2 ^ 62) before.incarnations) Exhausted None exhausted
         (λ x e. absurd (cc))))))
 
     reload-spares : (before : World) (vc : Vc) (program : Id) (fault : DeskFault) → reload_fault before vc program ≡ Some fault → FaultSpares fault

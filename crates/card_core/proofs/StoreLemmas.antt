@@ -106,12 +106,12 @@ times-other loading later slot apart =
 
 module _ (shape : Shape) (store : List (Slot (List Instr))) (given live : List Loading) (agrees : StoreAgrees shape store given live) where
   -- The slot of an id that was just given was open.
-  pub inserted-open : (world : World) → world.given ≡ given → world.live ≡ live → (new : List (Slot (List Instr))) (id : Id) (code : List Instr)
+  pub inserted-open : (world : World) → world.loaded ≡ given → world.live ≡ live → (new : List (Slot (List Instr))) (id : Id) (code : List Instr)
       → Inserts store new id code → is_open_slot world id.slot ≡ true
   inserted-open world same_given same_live new id code insert =
       let parts = free_parts insert.taken.value insert.taken.generation insert.was_free in
       let times : times_given given id.slot ≡ insert.taken.generation =
-      sym (agrees.generations id.slot) ∙ ap generation_or_zero insert.stood in
+      sym (agrees.generations id.slot) ∙ ap generation_or_zero insert.held in
       let unworn : nat_lt (times_given given id.slot) greatest_generation ≡ true =
       ap (λ (n : ℕ). nat_lt n greatest_generation) times ∙ parts.1 in
       let test = list_any (λ (loading : Loading). loading.id.slot == id.slot) live in
@@ -119,31 +119,31 @@ module _ (shape : Shape) (store : List (Slot (List Instr))) (given live : List L
         | true ↦ λ e.
             let other = tested-live live id.slot e in
             let value : live_value store other.0 ≡ Some other.1 = agrees.values other.0 ∙ other.3 in
-            let stands : slice_get store id.slot ≡ Some (full_slot other.0.generation other.1) =
+            let slot_there : slice_get store id.slot ≡ Some (full_slot other.0.generation other.1) =
             subst (λ (n : ℕ). slice_get store n ≡ Some (full_slot other.0.generation other.1)) other.2 (slot_of_live store other.0 other.1 value) in
-            let is : Some insert.taken ≡ Some (full_slot other.0.generation other.1) = sym insert.stood ∙ stands in
+            let is : Some insert.taken ≡ Some (full_slot other.0.generation other.1) = sym insert.held ∙ slot_there in
             let none = parts.0 in
             absurd (cc)
         | false ↦ λ e. refl
       ] in
       let empty : test ≡ false = choice test refl in
-      ap (λ (list : List Loading). not (list_any (λ (loading : Loading). loading.id.slot == id.slot) list) && nat_lt (times_given world.given id.slot) greatest_generation) same_live
+      ap (λ (list : List Loading). not (list_any (λ (loading : Loading). loading.id.slot == id.slot) list) && nat_lt (times_given world.loaded id.slot) greatest_generation) same_live
       ∙ ap (λ (list : List Loading). not test && nat_lt (times_given list id.slot) greatest_generation) same_given
       ∙ ap (λ b. not b && nat_lt (times_given given id.slot) greatest_generation) empty ∙ unworn
 
   -- The slot of the id is one of the card's, and its generation is the slot's next.
   pub inserted-within : (new : List (Slot (List Instr))) (id : Id) (code : List Instr) → Inserts store new id code → id.slot < shape.programs
   inserted-within new id code insert =
-      let within = slice_get_within store id.slot insert.taken insert.stood in
+      let within = slice_get_within store id.slot insert.taken insert.held in
       omega (arith, within, agrees.sized)
 
   pub inserted-next : (new : List (Slot (List Instr))) (id : Id) (code : List Instr) → Inserts store new id code
       → id.generation ≡ times_given given id.slot + 1
   inserted-next new id code insert =
-      insert.next ∙ ap (λ (n : ℕ). n + 1) (sym (sym (agrees.generations id.slot) ∙ ap generation_or_zero insert.stood))
+      insert.next ∙ ap (λ (n : ℕ). n + 1) (sym (sym (agrees.generations id.slot) ∙ ap generation_or_zero insert.held))
 
   -- If no slot is free, none is open.
-  pub full-closed : (world : World) → world.given ≡ given → world.live ≡ live → NoneIsFree store → (slot : ℕ) → slot < shape.programs
+  pub full-closed : (world : World) → world.loaded ≡ given → world.live ≡ live → NoneIsFree store → (slot : ℕ) → slot < shape.programs
       → is_open_slot world slot ≡ false
   full-closed world same_given same_live full slot within =
       let there = some_there store slot (omega (arith, agrees.sized)) in
@@ -156,16 +156,16 @@ module _ (shape : Shape) (store : List (Slot (List Instr))) (given live : List L
         | inl has ↦
             let value = some_value there.0.value has in
             let id : Id = record { slot = slot; generation = there.0.generation } in
-            let stands : slice_get store slot ≡ Some (full_slot there.0.generation value.0) =
+            let slot_there : slice_get store slot ≡ Some (full_slot there.0.generation value.0) =
             there.1 ∙ ap (λ (o : Option (List Instr)). Some (record { generation = there.0.generation; value = o })) value.1 in
-            let alive : code_in live id ≡ Some value.0 = sym (agrees.values id) ∙ live_of_slot store id value.0 stands in
+            let alive : code_in live id ≡ Some value.0 = sym (agrees.values id) ∙ live_of_slot store id value.0 slot_there in
             ap (λ b. not b && unworn) (live-tested live id value.0 alive)
         | inr worn ↦
             let all : unworn ≡ false =
             ap (λ (n : ℕ). nat_lt n greatest_generation) (times ∙ worn) in
             ap (λ b. not test && b) all ∙ and_false (not test)
       ] in
-      ap (λ (list : List Loading). not (list_any (λ (loading : Loading). loading.id.slot == slot) list) && nat_lt (times_given world.given slot) greatest_generation) same_live
+      ap (λ (list : List Loading). not (list_any (λ (loading : Loading). loading.id.slot == slot) list) && nat_lt (times_given world.loaded slot) greatest_generation) same_live
       ∙ ap (λ (list : List Loading). not test && nat_lt (times_given list slot) greatest_generation) same_given
       ∙ closed
 
@@ -180,9 +180,9 @@ module _ (shape : Shape) (store : List (Slot (List Instr))) (given live : List L
           | inl same ↦
               let here : slice_get new id.slot ≡ Some (full_slot id.generation code) =
               ap (λ (slots : List (Slot (List Instr))). slice_get slots id.slot) insert.after
-              ∙ get-set_same store id.slot (full_slot id.generation code) insert.taken insert.stood in
+              ∙ get-set_same store id.slot (full_slot id.generation code) insert.taken insert.held in
               let times : times_given given id.slot ≡ insert.taken.generation =
-              sym (agrees.generations id.slot) ∙ ap generation_or_zero insert.stood in
+              sym (agrees.generations id.slot) ∙ ap generation_or_zero insert.held in
               let more : times_given (loading ∷ given) id.slot ≡ suc (times_given given id.slot) = times-same loading given id.slot refl in
               let next : id.generation ≡ times_given (loading ∷ given) id.slot = omega (arith, more, times, insert.next) in
               subst (λ (n : ℕ). generation_at new n ≡ times_given (loading ∷ given) n) (sym same) (ap generation_or_zero here ∙ next)
@@ -205,15 +205,15 @@ module _ (shape : Shape) (store : List (Slot (List Instr))) (given live : List L
   pub store-removed : (new : List (Slot (List Instr))) (id : Id) (code : List Instr) → Removes store new id code
       → StoreAgrees shape new given (without_code live id)
   store-removed new id code remove =
-      let stands = slot_of_live store id code remove.was in
+      let slot_there = slot_of_live store id code remove.was in
       record {
         sized = Removes-length store new id code remove ∙ agrees.sized;
         generations = λ slot. elim (cases_eq slot id.slot) [
           | inl same ↦
               let here : slice_get new id.slot ≡ Some (empty_slot id.generation) =
               ap (λ (slots : List (Slot (List Instr))). slice_get slots id.slot) remove.after
-              ∙ get-set_same store id.slot (empty_slot id.generation) (full_slot id.generation code) stands in
-              let was : generation_at store id.slot ≡ id.generation = ap generation_or_zero stands in
+              ∙ get-set_same store id.slot (empty_slot id.generation) (full_slot id.generation code) slot_there in
+              let was : generation_at store id.slot ≡ id.generation = ap generation_or_zero slot_there in
               subst (λ (n : ℕ). generation_at new n ≡ times_given given n) (sym same)
               (ap generation_or_zero here ∙ sym was ∙ agrees.generations id.slot)
           | inr apart ↦

@@ -77,7 +77,7 @@ module _ (shape : Shape) (store : List (Slot (List Instr))) (directory : Directo
       → Follows Old (Load code) (NotLoaded ProgramsFull code) Old
   load-full code free full = follows Old Old (Load code) (NotLoaded ProgramsFull code) (λ before sound agrees.
       let closed = below-fails before.shape.programs (is_open_slot before)
-      (full-closed before.shape store before.given before.live agrees.store before refl refl full) in
+      (full-closed before.shape store before.loaded before.live agrees.store before refl refl full) in
       let fault : load_fault before ≡ Some ProgramsFull =
       ap (λ b. cond b (Some Busy) (cond (not (any_below before.shape.programs (is_open_slot before))) (Some ProgramsFull) None))
       (busy-is before agrees true free)
@@ -87,16 +87,16 @@ module _ (shape : Shape) (store : List (Slot (List Instr))) (directory : Directo
   pub load-goes : (code : List Instr) (new : List (Slot (List Instr))) (id : Id) → list_all is_free_port ports ≡ true → IsAccepted code
       → Inserts store new id code → Follows Old (Load code) (Loaded id) (core_of shape new directory lines ports)
   load-goes code new id free accepted insert = follows Old _ (Load code) (Loaded id) (λ before sound agrees.
-      let open_slot = inserted-open before.shape store before.given before.live agrees.store before refl refl new id code insert in
-      let there = inserted-within before.shape store before.given before.live agrees.store new id code insert in
+      let open_slot = inserted-open before.shape store before.loaded before.live agrees.store before refl refl new id code insert in
+      let there = inserted-within before.shape store before.loaded before.live agrees.store new id code insert in
       let fault : load_fault before ≡ None =
       ap (λ b. cond b (Some Busy) (cond (not (any_below before.shape.programs (is_open_slot before))) (Some ProgramsFull) None))
       (busy-is before agrees true free)
       ∙ ap (λ b. cond (not b) (Some ProgramsFull) (let none : Option DeskFault = None in none))
       (below-passes before.shape.programs (is_open_slot before) id.slot there open_slot) in
       let loading : Loading = record { id = id; code = code } in
-      let stored = store-inserted before.shape store before.given before.live agrees.store new id code insert in
-      let after : World = record before { given = loading ∷ before.given; live = loading ∷ before.live } in (
+      let stored = store-inserted before.shape store before.loaded before.live agrees.store new id code insert in
+      let after : World = record before { loaded = loading ∷ before.loaded; live = loading ∷ before.live } in (
         after,
         step-taken before after (Load code) (Loaded id) (ap (option_map (λ f. NotLoaded f code)) fault) (record {
           accepted = accepted;
@@ -105,7 +105,7 @@ module _ (shape : Shape) (store : List (Slot (List Instr))) (directory : Directo
           open_slot = open_slot;
           id = id;
           here = refl;
-          next = inserted-next before.shape store before.given before.live agrees.store new id code insert;
+          next = inserted-next before.shape store before.loaded before.live agrees.store new id code insert;
           answer = refl;
           world = refl;
         }),
@@ -169,7 +169,7 @@ module _ (shape : Shape) (store : List (Slot (List Instr))) (directory : Directo
         }),
         record {
           shape = agrees.shape;
-          store = store-removed before.shape store before.given before.live agrees.store new id code remove;
+          store = store-removed before.shape store before.loaded before.live agrees.store new id code remove;
           seatings = agrees.seatings;
           lines = agrees.lines;
           ports = agrees.ports;

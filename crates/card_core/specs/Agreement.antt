@@ -20,7 +20,7 @@ use Rattle.card_core.specs.declared.reply.Reply.{Reply}
 use Rattle.card_core.specs.declared.step.Step.{Step}
 use Rattle.card_core.specs.Log.{Event, Run, Leads}
 use Rattle.card_core.specs.Steps.{WorldStep}
-use Rattle.card_core.specs.World.{World, Loading, Connection, PortState, code_in, times_given, connection_in, handed_cells, kept_cells}
+use Rattle.card_core.specs.World.{World, Loading, Connection, PortState, code_in, times_given, connection_in, returned_cells, kept_cells}
 
 -- The parts of a core that contracts see: its shape, the slots for programs, the directory, the lines, and the ports.
 pub record CoreView : Type 0 where
@@ -63,8 +63,8 @@ owner_of vc connection = record { vc = vc; incarnation = connection.incarnation 
 pub record Serves (line : LineView) (vc : Vc) (connection : Connection) (verdicts : List Verdict) : Type 0 where
   pub owner : line.owner ≡ Some (owner_of vc connection)
   pub contracts : line.contracts ≡ connection.contracts
-  pub entries : line.entries ≡ judged connection.contracts empty_buckets (handed_cells connection) (kept_cells connection)
-  pub start : IsStateAfter connection.contracts (handed_cells connection) line.start
+  pub entries : line.entries ≡ judged connection.contracts empty_buckets (returned_cells connection) (kept_cells connection)
+  pub start : IsStateAfter connection.contracts (returned_cells connection) line.start
   pub state : IsStateAfter connection.contracts connection.history line.state
   pub together : tallied line.start.counts line.entries ≡ tally_of verdicts
 
@@ -90,9 +90,9 @@ pub record LinesAgree (shape : Shape) (lines : List LineView) (connections : Lis
 -- The core agrees with the world in each part.
 pub record CoreAgrees (core : CoreView) (world : World) : Type 0 where
   pub shape : core.shape ≡ world.shape
-  pub store : StoreAgrees world.shape core.store world.given world.live
-  pub seatings : SeatingsAgree world.shape core.directory world.connections world.used
-  pub lines : LinesAgree world.shape core.lines world.connections world.judged
+  pub store : StoreAgrees world.shape core.store world.loaded world.live
+  pub seatings : SeatingsAgree world.shape core.directory world.connections world.incarnations
+  pub lines : LinesAgree world.shape core.lines world.connections world.verdicts
   pub ports : core.ports ≡ world.ports
 
 -- The event leads from the world before to a world that the new core agrees with, so the log with this event leads to

@@ -17,7 +17,7 @@ pub record IsStateIn (world : World) (vc : Vc) (read_state : ConnectionState) : 
   pub program : read_state.program ≡ connection.program
   pub contracts : read_state.contracts.items ≡ connection.contracts
   pub state : IsStateAfter connection.contracts connection.history read_state.state
-  pub counts : read_state.state.counts ≡ tally_of (world.judged connection.line)
+  pub counts : read_state.state.counts ≡ tally_of (world.verdicts connection.line)
   pub entries : read_state.entries ≡ length (kept_cells connection)
 
 -- There are levels for each contract, at most four of them, and the last moment is at most 2^62.

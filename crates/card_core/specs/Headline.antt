@@ -21,7 +21,7 @@ use Rattle.card_core.specs.declared.step.Step.{Step}
 use Rattle.card_core.specs.declared.step.Step.TheVariants.{Enter, Pick, Judge, Load, Retire, Setup, Reload, Release}
 use Rattle.upc_cell.specs.Header.{has_low_priority}
 use Rattle.upc_cell.specs.Connection.{vc_of}
-use Rattle.card_core.specs.Judged.{JudgedView, judgement_in}
+use Rattle.card_core.specs.Judged.{JudgedView, judged_in_answer}
 use Rattle.card_core.specs.Steps.{Gives, cell_after, named_cell, number_with}
 use Rattle.card_core.specs.Log.{Event, IsLog}
 use Rattle.card_core.specs.Returning.{ReturnsSafely}
@@ -85,13 +85,13 @@ abbrev pub program_after : Vc → Id → List Event → Id
 program_after vc first log = fold (λ program event. named_after vc program event.reply event.step) first log
 
 -- The judged cell of the reply, if it has one.
-abbrev pub judged_in : Reply → Option JudgedView
-judged_in (Answered answer) = judgement_in answer
-judged_in _ = None
+abbrev pub judged_in_reply : Reply → Option JudgedView
+judged_in_reply (Answered answer) = judged_in_answer answer
+judged_in_reply _ = None
 
 -- The judged cells of the log.
 abbrev pub judged_cells : List Event → List JudgedView
-judged_cells log = filter_map (λ event. judged_in event.reply) log
+judged_cells log = filter_map (λ event. judged_in_reply event.reply) log
 
 -- The verdicts on the judged cells of this line.
 abbrev pub verdicts_on : ℕ → List Event → List Verdict
@@ -156,12 +156,12 @@ pub record HasEntered (log : List Event) (port : ℕ) (cell : List ℕ) (moment 
 
 -- The virtual connection was set up with this request. These events followed, and none of them released it or set it up
 -- again.
-pub record StandsSince (log : List Event) (vc : Vc) (ask : Ask) (since : List Event) : Type 0 where
+pub record IsInForceSince (log : List Event) (vc : Vc) (ask : Ask) (since : List Event) : Type 0 where
   pub earlier : List Event
   pub incarnation : ℕ
   pub asked : ask.vc ≡ vc
   pub cut : log ≡ earlier ++ setting_up ask incarnation ∷ since
-  pub standing : Never (changes vc) since
+  pub unchanged : Never (changes vc) since
 
 -- The code was loaded under the id, and no code was loaded under it before or after.
 pub record IsLoadedOnce (log : List Event) (id : Id) (code : List Instr) : Type 0 where
@@ -199,7 +199,7 @@ pub record IsPromised (shape : Shape) (before : List Event) (port : ℕ) (judged
   pub left : judged.cell ≡ cell_after judged.verdict came
   -- The connection is that of the cell's header. Since the setup it was neither released nor set up again.
   pub own : ask.vc ≡ vc_of shape.side came
-  pub standing : Never (changes ask.vc) (until ++ picking port ∷ since)
+  pub unchanged : Never (changes ask.vc) (until ++ picking port ∷ since)
   -- The program is the one that the connection named when the cell was picked: one accepted code, live from then until
   -- the judgement. Its value on the cell is the one in the answer.
   pub named : judged.program ≡ program_after ask.vc ask.program until

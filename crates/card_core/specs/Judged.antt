@@ -17,8 +17,8 @@ pub record JudgedView : Type 0 where
   pub cell : List ℕ
 
 -- The judged cell of an answer, if the answer is Judged.
-abbrev pub judgement_in : Answer → Option JudgedView
-judgement_in (Judged line number moment value program verdict cell) = Some (record {
+abbrev pub judged_in_answer : Answer → Option JudgedView
+judged_in_answer (Judged line number moment value program verdict cell) = Some (record {
   line = line;
   number = number;
   moment = moment;
@@ -27,4 +27,4 @@ judgement_in (Judged line number moment value program verdict cell) = Some (reco
   verdict = verdict;
   cell = cell;
 })
-judgement_in _ = None
+judged_in_answer _ = None

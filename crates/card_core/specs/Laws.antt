@@ -22,7 +22,7 @@ use Rattle.card_core.specs.Steps.{WorldStep}
 use Rattle.card_core.specs.Log.{Event, Run, Leads, IsLog}
 use Rattle.card_core.specs.Stale.{is_stale}
 use Rattle.card_core.specs.Judged.{JudgedView}
-use Rattle.card_core.specs.Headline.{program_after, cells_judged_on, cells_on, StandsSince, IsPromised}
+use Rattle.card_core.specs.Headline.{program_after, cells_judged_on, cells_on, IsInForceSince, IsPromised}
 
 -- The program of each connection is live. So is the program of each picked cell, even if its connection has another
 -- program by now, or was released or set up again.
@@ -39,9 +39,9 @@ NamedProgramsAreLive = (shape : Shape) (log : List Event) (world : World) → Le
 -- No id was given twice, and each code that was loaded is accepted.
 pub record GivesEachIdOnce (world : World) : Type 0 where
   pub once : (place other : ℕ) (one another : Loading)
-      → slice_get world.given place ≡ Some one → slice_get world.given other ≡ Some another
+      → slice_get world.loaded place ≡ Some one → slice_get world.loaded other ≡ Some another
       → one.id ≡ another.id → place ≡ other
-  pub accepted : (place : ℕ) (loading : Loading) → slice_get world.given place ≡ Some loading
+  pub accepted : (place : ℕ) (loading : Loading) → slice_get world.loaded place ≡ Some loading
       → IsAccepted loading.code
 
 -- This holds in every world that a log leads to.
@@ -52,7 +52,7 @@ IdsAreGivenOnce = (shape : Shape) (log : List Event) (world : World) → Leads s
 abbrev pub IdsNameOneCode : Type 0
 IdsNameOneCode = (shape : Shape) (log further : List Event) (world later : World)
     → Leads shape log world → Run world further later
-    → (id : Id) (code : List Instr) → code_in world.given id ≡ Some code → code_in later.given id ≡ Some code
+    → (id : Id) (code : List Instr) → code_in world.loaded id ≡ Some code → code_in later.loaded id ≡ Some code
 
 -- No two connections have the same line or the same incarnation.
 pub record KeepsConnectionsApart (world : World) : Type 0 where
@@ -118,8 +118,8 @@ SomeAnswersNeverCome = (shape : Shape) (before after : List Event) (event : Even
 pub record IsConnectionOfLog (shape : Shape) (log : List Event) (vc : Vc) (connection : Connection) : Type 0 where
   pub ask : Ask
   pub since : List Event
-  pub stands : StandsSince log vc ask since
-  pub incarnation : connection.incarnation ≡ stands.incarnation
+  pub in_force : IsInForceSince log vc ask since
+  pub incarnation : connection.incarnation ≡ in_force.incarnation
   pub contracts : connection.contracts ≡ ask.contracts.items
   pub program : connection.program ≡ program_after vc ask.program since
   pub cells : connection.history ≡ cells_judged_on shape vc since
@@ -130,7 +130,7 @@ pub record IsConnectionOfLog (shape : Shape) (log : List Event) (vc : Vc) (conne
 pub record HasConnectionsOfLog (shape : Shape) (log : List Event) (world : World) : Type 0 where
   pub connections : (vc : Vc) (connection : Connection) → connection_in world.connections vc ≡ Some connection
       → IsConnectionOfLog shape log vc connection
-  pub there : (vc : Vc) (ask : Ask) (since : List Event) → StandsSince log vc ask since
+  pub there : (vc : Vc) (ask : Ask) (since : List Event) → IsInForceSince log vc ask since
       → IsSome (connection_in world.connections vc)
 
 -- This holds in every world that a log leads to.
@@ -142,7 +142,7 @@ ConnectionsFollowFromTheLog = (shape : Shape) (log : List Event) (world : World)
 -- contracts passed or tagged.
 abbrev pub LogsBoundBursts : Type 0
 LogsBoundBursts = (shape : Shape) (log : List Event) → IsLog shape log
-    → (vc : Vc) (ask : Ask) (since : List Event) → StandsSince log vc ask since
+    → (vc : Vc) (ask : Ask) (since : List Event) → IsInForceSince log vc ask since
     → (number : ℕ) (contract : Contract) → numbered ask.contracts.items number ≡ Some contract
     → (first span : ℕ)
     → IsBounded first span (peak_charges number (judged ask.contracts.items empty_buckets [] (cells_judged_on shape vc since))) (peak_of contract)

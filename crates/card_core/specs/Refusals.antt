@@ -41,7 +41,7 @@ cell_refusal world connection moment =
     if nat_lt (2 ^ 62) moment then Some MomentTooLate
     else if nat_lt moment (last_moment 0 connection.history) then Some (MomentBack (last_moment 0 connection.history))
     else if nat_le world.shape.journal (length (kept_cells connection)) then Some JournalFull
-    else if nat_le (2 ^ 62) (length (world.judged connection.line)) then Some JournalFull
+    else if nat_le (2 ^ 62) (length (world.verdicts connection.line)) then Some JournalFull
     else None
 
 -- A picked cell is refused if its virtual connection no longer has a connection of the picked incarnation; else if that
@@ -84,7 +84,7 @@ setup_fault world ask =
     else if is_some (connection_in world.connections ask.vc) then Some Taken
     else if length ask.contracts.items == 0 then Some BadContracts
     else if not (any_below world.shape.lines (is_open_line world)) then Some NoLine
-    else if nat_le (2 ^ 62) world.used then Some Exhausted
+    else if nat_le (2 ^ 62) world.incarnations then Some Exhausted
     else None
 
 -- Reload is refused if the program isn't live; else if there is no such connection.

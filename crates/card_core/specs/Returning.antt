@@ -1,7 +1,7 @@
 -- What an accepted program does on a cell, in the terms of the machine (McCanne and Jacobson 1993).
 use Rattle.std.specs.Prelude.{◌≡◌, ℕ, zero, suc, ◌<◌, ◌≤◌, List, [], length, IsSome}
 use Rattle.bpf_code.specs.declared.instr.Instr.{Instr}
-use Rattle.bpf_code.specs.Flow.{StandsAt}
+use Rattle.bpf_code.specs.Flow.{IsInstrAt}
 use Rattle.bpf_code.specs.Scratch.{ReadsWord}
 use Rattle.bpf_interp.specs.ScratchMemory.{word_in}
 use Rattle.bpf_interp.specs.State.{State, At}
@@ -26,7 +26,7 @@ pub record ReturnsSafely (code : List Instr) (cell : List ℕ) : Type 0 where
   pub inside : (taken pc a x : ℕ) (m : List (ℕ × ℕ)) → ComesTo code cell taken (At pc a x m) → pc < length code
   -- It never reads an unwritten scratch word: each word that the instruction there reads has a value.
   pub written : (taken pc a x word : ℕ) (m : List (ℕ × ℕ)) (i : Instr) → ComesTo code cell taken (At pc a x m)
-      → StandsAt code pc i → ReadsWord i word → IsSome (word_in m word)
+      → IsInstrAt code pc i → ReadsWord i word → IsSome (word_in m word)
   -- It never gets stuck: each such state has a next one.
   pub goes_on : (taken pc a x : ℕ) (m : List (ℕ × ℕ)) → ComesTo code cell taken (At pc a x m)
       → (next : State) × Step code cell (At pc a x m) next

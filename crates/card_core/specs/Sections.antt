@@ -25,7 +25,7 @@ use Rattle.card_core.specs.declared.ask.Ask.{Ask}
 use Rattle.card_core.specs.declared.fault.DeskFault.{DeskFault}
 use Rattle.card_core.specs.declared.fault.DeskFault.TheVariants.{NoProgram, Taken, BadContracts, NoLine, Exhausted, Stale, NoMemory as DeskNoMemory}
 use Rattle.card_core.specs.Steps.{Gives, cell_after, named_cell}
-pub use Rattle.card_core.specs.Judged.{JudgedView, judgement_in}
+pub use Rattle.card_core.specs.Judged.{JudgedView, judged_in_answer}
 
 -- The value that a program gave for a cell: the program, the cell and the value.
 pub record NamedView : Type 0 where
@@ -83,7 +83,7 @@ abbrev pub unjudged_answer : Unjudged → Answer
 unjudged_answer unjudged.NoConnection = NoConnection
 unjudged_answer unjudged.Released = Released
 unjudged_answer unjudged.Stale = StaleAnswer
-unjudged_answer (unjudged.Refused fault) = answer_for fault
+unjudged_answer (unjudged.LineFault fault) = answer_for fault
 
 -- The answer to a cell with this result: either it was judged and leaves as its verdict requires, or it wasn't, for
 -- this reason.
@@ -102,7 +102,7 @@ pub record Admits (store : List (Slot (List Instr))) (directory : DirectoryView)
   pub free : IsOpenLine directory line
   pub unworn : directory.used < 2 ^ 62
 
--- The conditions of a setup, in the order in which they are tried. Each of these definitions has those before it.
+-- The conditions of a setup, in the order in which they are tried. Each of these definitions includes those before it.
 
 -- The program is live.
 abbrev pub HasProgram : List (Slot (List Instr)) → Ask → Type 0

@@ -24,7 +24,7 @@ use Rattle.card_core.specs.declared.step.Step.TheVariants.{Enter, Pick, Judge, L
 use Rattle.upc_cell.specs.Connection.{vc_of}
 use Rattle.upc_cell.specs.Header.{has_low_priority}
 use Rattle.line_record.specs.Tally.{tally_of}
-use Rattle.card_core.specs.World.{World, Connection, Picking, PortState, outside, entered, picked, code_in, without_code, times_given, handed_cells, kept_cells, connection_in, without_connection, with_connection, with_port, with_verdict, is_open_slot, is_open_line}
+use Rattle.card_core.specs.World.{World, Connection, Picking, PortState, outside, entered, picked, code_in, without_code, times_given, returned_cells, kept_cells, connection_in, without_connection, with_connection, with_port, with_verdict, is_open_slot, is_open_line}
 use Rattle.card_core.specs.Refusals.{refusal}
 
 -- The code gives this value for the cell, after at most as many steps as it has instructions.
@@ -82,7 +82,7 @@ pub record Picks (before : World) (port : ℕ) (reply : Reply) (after : World) :
   pub connection : Connection
   pub found : connection_in before.connections (vc_of before.shape.side cell) ≡ Some connection
   pub code : List Instr
-  pub named : code_in before.given connection.program ≡ Some code
+  pub named : code_in before.loaded connection.program ≡ Some code
   pub value : ℕ
   pub gives : Gives code cell value
   pub answer : reply ≡ Picked
@@ -97,7 +97,7 @@ with_cell connection cell = record connection { history = connection.history ++ 
 abbrev pub judged_world : World → ℕ → Picking → Connection → World
 judged_world before port picking connection = record before {
   connections = with_connection before.connections picking.vc (with_cell connection (cell_of_picking picking));
-  judged = with_verdict before.judged connection.line (verdict_on connection (cell_of_picking picking));
+  verdicts = with_verdict before.verdicts connection.line (verdict_on connection (cell_of_picking picking));
   ports = slice_set before.ports port outside;
 }
 
@@ -106,10 +106,10 @@ abbrev pub number_with : List Verdict → Verdict → ℕ
 number_with verdicts verdict = count_of (tally_of verdicts) verdict + 1
 
 -- The answer to a picked cell that is judged on its connection.
-abbrev pub judgement_of : World → Picking → Connection → Answer
-judgement_of before picking connection =
+abbrev pub judged_answer : World → Picking → Connection → Answer
+judged_answer before picking connection =
     let verdict = verdict_on connection (cell_of_picking picking) in
-    Judged connection.line (number_with (before.judged connection.line) verdict)
+    Judged connection.line (number_with (before.verdicts connection.line) verdict)
     picking.moment picking.value picking.program verdict (cell_after verdict picking.cell)
 
 -- Judge: the picked cell is judged on its connection.
@@ -118,7 +118,7 @@ pub record Judges (before : World) (port : ℕ) (reply : Reply) (after : World) 
   pub had : slice_get before.ports port ≡ Some (picked picking)
   pub connection : Connection
   pub found : connection_in before.connections picking.vc ≡ Some connection
-  pub answer : reply ≡ Answered (judgement_of before picking connection)
+  pub answer : reply ≡ Answered (judged_answer before picking connection)
   pub world : after ≡ judged_world before port picking connection
 
 -- Load: some open slot is given once more, and the code, which is accepted, is live under the new id.
@@ -129,10 +129,10 @@ pub record Loads (before : World) (code : List Instr) (reply : Reply) (after : W
   pub open_slot : IsTrue (is_open_slot before slot)
   pub id : Id
   pub here : id.slot ≡ slot
-  pub next : id.generation ≡ times_given before.given slot + 1
+  pub next : id.generation ≡ times_given before.loaded slot + 1
   pub answer : reply ≡ Loaded id
   pub world : after ≡ record before {
-    given = record { id = id; code = code } ∷ before.given;
+    loaded = record { id = id; code = code } ∷ before.loaded;
     live = record { id = id; code = code } ∷ before.live;
   }
 
@@ -151,7 +151,7 @@ new_connection ask line incarnation = record {
   program = ask.program;
   contracts = ask.contracts.items;
   history = [];
-  handed = 0;
+  returned = 0;
 }
 
 -- Setup: the connection exists, without a cell, on some open line, under the next incarnation.
@@ -159,10 +159,10 @@ pub record SetsUp (before : World) (ask : Ask) (reply : Reply) (after : World) :
   pub line : ℕ
   pub within : line < before.shape.lines
   pub open_line : IsTrue (is_open_line before line)
-  pub answer : reply ≡ SetUp (record { vc = ask.vc; incarnation = before.used + 1 })
+  pub answer : reply ≡ SetUp (record { vc = ask.vc; incarnation = before.incarnations + 1 })
   pub world : after ≡ record before {
-    connections = with_connection before.connections ask.vc (new_connection ask line (before.used + 1));
-    used = before.used + 1;
+    connections = with_connection before.connections ask.vc (new_connection ask line (before.incarnations + 1));
+    incarnations = before.incarnations + 1;
   }
 
 -- Reload: the connection names the new program, the reply has the old one, and nothing else changes.
@@ -180,11 +180,11 @@ pub record Reloads (before : World) (vc : Vc) (program : Id) (reply : Reply) (af
 pub record IsPieceOf (world : World) (vc : Vc) (connection : Connection) (piece : PieceView) : Type 0 where
   pub owner : piece.owner ≡ record { vc = vc; incarnation = connection.incarnation }
   pub contracts : piece.contracts ≡ connection.contracts
-  pub entries : piece.entries ≡ judged connection.contracts empty_buckets (handed_cells connection) (kept_cells connection)
-  pub start : IsStateAfter connection.contracts (handed_cells connection) piece.start
+  pub entries : piece.entries ≡ judged connection.contracts empty_buckets (returned_cells connection) (kept_cells connection)
+  pub start : IsStateAfter connection.contracts (returned_cells connection) piece.start
   pub end : IsStateAfter connection.contracts connection.history piece.end
-  pub counts : piece.end.counts ≡ tally_of (world.judged connection.line)
-  pub together : tallied piece.start.counts piece.entries ≡ tally_of (world.judged connection.line)
+  pub counts : piece.end.counts ≡ tally_of (world.verdicts connection.line)
+  pub together : tallied piece.start.counts piece.entries ≡ tally_of (world.verdicts connection.line)
 
 -- Release: the connection is gone, and the reply has its last piece. The line's verdicts are unchanged.
 pub record Releases (before : World) (vc : Vc) (reply : Reply) (after : World) : Type 0 where
@@ -203,7 +203,7 @@ pub record Cuts (before : World) (vc : Vc) (reply : Reply) (after : World) : Typ
   pub next : IsPieceOf before vc connection piece
   pub answer : reply ≡ CutOff piece
   pub world : after ≡ record before {
-    connections = with_connection before.connections vc (record connection { handed = length connection.history });
+    connections = with_connection before.connections vc (record connection { returned = length connection.history });
   }
 
 -- The effect of a step that succeeds.

@@ -37,22 +37,22 @@ times_given (loading ∷ later) slot =
     if loading.id.slot == slot then suc (times_given later slot) else times_given later slot
 
 -- A connection since it was set up: its incarnation, its line, the program that names the contracts for its cells, the
--- contracts, its judged cells, and the number of these that cuts have returned.
+-- contracts, its judged cells, and how many of these cuts have returned.
 pub record Connection : Type 0 where
   pub incarnation : ℕ
   pub line : ℕ
   pub program : Id
   pub contracts : List Contract
   pub history : List NamedCell
-  pub handed : ℕ
+  pub returned : ℕ
 
 -- The cells that cuts returned.
-abbrev pub handed_cells : Connection → List NamedCell
-handed_cells connection = take connection.handed connection.history
+abbrev pub returned_cells : Connection → List NamedCell
+returned_cells connection = take connection.returned connection.history
 
 -- The cells that no cut has returned.
 abbrev pub kept_cells : Connection → List NamedCell
-kept_cells connection = drop connection.handed connection.history
+kept_cells connection = drop connection.returned connection.history
 
 -- The connection of this virtual connection in the list, if there is one.
 abbrev pub connection_in : List (Vc × Connection) → Vc → Option Connection
@@ -93,26 +93,26 @@ is_outside (entered cell moment) = false
 is_outside (picked picking) = false
 
 -- The state of a card of this shape: the codes that were ever loaded, the latest first, and those of them that weren't
--- retired; the connections; the number of incarnations given; for each line number the list of all verdicts ever given
--- on it, the earliest first; and the ports, by number from 0.
+-- retired; the connections; how many incarnations were given to them; for each line number the list of all verdicts
+-- ever given on it, the earliest first; and the ports, by number from 0.
 pub record World : Type 0 where
   pub shape : Shape
-  pub given : List Loading
+  pub loaded : List Loading
   pub live : List Loading
   pub connections : List (Vc × Connection)
-  pub used : ℕ
-  pub judged : ℕ → List Verdict
+  pub incarnations : ℕ
+  pub verdicts : ℕ → List Verdict
   pub ports : List PortState
 
 -- Initially no program was loaded, there is no connection, no cell was judged, and no port has a cell.
 abbrev pub opening_world : Shape → World
 opening_world shape = record {
   shape = shape;
-  given = [];
+  loaded = [];
   live = [];
   connections = [];
-  used = 0;
-  judged = λ line. [];
+  incarnations = 0;
+  verdicts = λ line. [];
   ports = replicate shape.ports outside;
 }
 
@@ -122,8 +122,8 @@ with_port world port state = record world { ports = slice_set world.ports port s
 
 -- These verdicts, by line, with one more on this line.
 abbrev pub with_verdict : (ℕ → List Verdict) → ℕ → Verdict → ℕ → List Verdict
-with_verdict judged line verdict other =
-    if other == line then judged other ++ verdict ∷ [] else judged other
+with_verdict verdicts line verdict other =
+    if other == line then verdicts other ++ verdict ∷ [] else verdicts other
 
 -- Whether some port has a cell.
 abbrev pub is_busy : World → Bool
@@ -138,7 +138,7 @@ any_below (suc number) test = test number || any_below number test
 abbrev pub is_open_slot : World → ℕ → Bool
 is_open_slot world slot =
     not (list_any (λ loading. loading.id.slot == slot) world.live)
-    && nat_lt (times_given world.given slot) greatest_generation
+    && nat_lt (times_given world.loaded slot) greatest_generation
 
 -- Whether no connection has the line.
 abbrev pub is_open_line : World → ℕ → Bool

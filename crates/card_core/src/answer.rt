@@ -1,7 +1,8 @@
 //! The answers to a cell that arrived.
 
-ghost use Rattle.std.specs.Prelude.{◌≡◌};
-ghost use Rattle.card_core.specs.Sections.{answer_for, unjudged_answer};
+ghost use Rattle.std.specs.Prelude.{◌≡◌, Ok};
+ghost use Rattle.card_core.specs.Sections.{answer_for, answer_to, unjudged_answer};
+ghost use Rattle.card_core.specs.Steps.{cell_after};
 
 use gen_arena::Id;
 use leaky::Verdict;
@@ -71,8 +72,35 @@ pub enum Unjudged {
     Released,
     /// The picked program isn't live. The core never returns this.
     Stale,
-    /// The line refuses the cell.
-    Refused(LineFault),
+    /// The line can't judge the cell, for this reason.
+    LineFault(LineFault),
+}
+
+impl Judgement {
+    /// Returns the answer to this cell, with the cell as it leaves.
+    pub fn answer(self, cell: &Cell) -> Answer
+        ensures { result ≡ answer_to cell.now (Ok self) }
+    {
+        Answer::Judged {
+            line: self.line,
+            number: self.number,
+            moment: self.moment,
+            value: self.value,
+            program: self.program,
+            verdict: self.verdict,
+            cell: leaving(self.verdict, cell),
+        }
+    }
+}
+
+/// Returns the cell as it leaves: tagged if the verdict is Tag, otherwise unchanged.
+fn leaving(verdict: Verdict, cell: &Cell) -> Cell
+    ensures { result ≡ cell_after verdict cell.now }
+{
+    match verdict {
+        Verdict::Tag => cell.tagged(),
+        Verdict::Pass | Verdict::Discard | Verdict::Refuse => *cell,
+    }
 }
 
 impl Unjudged {
@@ -84,7 +112,7 @@ impl Unjudged {
             Unjudged::NoConnection => Answer::NoConnection,
             Unjudged::Released => Answer::Released,
             Unjudged::Stale => Answer::Stale,
-            Unjudged::Refused(fault) => refusal_of(fault),
+            Unjudged::LineFault(fault) => refusal_of(fault),
         }
     }
 }

@@ -1,93 +1,57 @@
 //! The judgement of a cell whose program named a contract, on the line that the caller passes.
 
-ghost use Rattle.std.specs.Prelude.{◌≡◌, ◌≢◌, ◌+◌, ◌↔◌, IsTrue, IfSome, IfNone, IfOk, IfErr, OnErr, MatchOption, Some, None, Err};
+ghost use Rattle.std.specs.Prelude.{◌≡◌, ◌≢◌, ◌+◌, ◌↔◌, IsTrue, IfOk, OnErr, MatchOption, Some};
 ghost use Rattle.line_record.specs.History.{IsNoNumber};
 ghost use Rattle.line_record.specs.Line.{IsLine};
 ghost use Rattle.line_record.specs.Tally.{counted, count_of};
-ghost use Rattle.card_core.specs.Steps.{cell_after};
-ghost use Rattle.card_core.specs.Sections.{holder, is_owned_by, answer_to, judging_refusal, JudgesAt, judgement_in};
+ghost use Rattle.card_core.specs.Sections.{holder, is_owned_by, answer_to, judging_refusal, JudgesAt};
 
 use crate::answer::{Answer, Judgement, Unjudged};
 use crate::picking::Named;
 use leaky::Verdict;
 use line_record::{Line, Seating};
-use upc_cell::{Cell, Vc, same_vc};
+use upc_cell::{Vc, same_vc};
 
-/// Judges a cell on the line of its connection, by the contract that its program named. Doesn't allocate.
+/// Judges a cell on the line of its connection, by the contract that its program named. Doesn't allocate, and copies no
+/// cell: [`Judgement::answer`] adds the leaving cell.
 ///
-/// Returns `Released` if the line doesn't serve the picked connection; otherwise the error of [`Line::judge`] as
-/// `MomentTooLate`, `MomentBack` or `JournalFull`. Then nothing changes.
-pub fn judge_at(line: &mut Line, vc: Vc, seating: &Seating, named: &Named, moment: u64) -> Answer
-    // It is judged if and only if there is no reason to refuse it.
-    ensures judged { MatchOption (judging_refusal line.old vc seating.now moment)
-        (JudgesAt line.old seating.now named.now moment result line.new)
-        (λ refused. (result ≡ refused) × (line.new ≡ line.old)) }
-
-    // The answer to a judged cell.
-    ensures line { IfSome (judgement_in result) (λ judged. judged.line ≡ seating.now.line) }
-    ensures number { IfSome (judgement_in result) (λ judged.
-        judged.number ≡ count_of line.old.state.counts judged.verdict + 1) }
-    ensures moment { IfSome (judgement_in result) (λ judged. judged.moment ≡ moment) }
-    ensures value { IfSome (judgement_in result) (λ judged. judged.value ≡ named.now.value) }
-    ensures program { IfSome (judgement_in result) (λ judged. judged.program ≡ named.now.program) }
-    ensures cell { IfSome (judgement_in result) (λ judged. judged.cell ≡ cell_after judged.verdict named.now.cell) }
-
-    // A connection has at most four contracts.
-    ensures unnamed { IfSome (judgement_in result) (λ judged.
-        IsNoNumber judged.value → judged.verdict ≡ Verdict.Refuse) }
-
-    // The line's invariant holds before. Its owner is unchanged, and it counts the cell exactly if the cell was judged.
-    ensures kept { IsLine line.old }
-    ensures owner { line.new.owner ≡ line.old.owner }
-    ensures counts { IfSome (judgement_in result) (λ judged.
-        line.new.state.counts ≡ counted line.old.state.counts judged.verdict) }
-    ensures unchanged { IfNone (judgement_in result) (line.new ≡ line.old) }
-
-    // The answer is never NoMemory and never Stale: nothing is allocated, and no program is looked up.
-    ensures memory { result ≢ Answer.NoMemory }
-    ensures program_live { result ≢ Answer.Stale }
-    ensures connection { result ≢ Answer.NoConnection }
-{
-    let cell = named.cell();
-    match judge_without_cell(line, vc, seating, named, moment) {
-        Ok(judged) => Answer::Judged {
-            line: judged.line,
-            number: judged.number,
-            moment: judged.moment,
-            value: judged.value,
-            program: judged.program,
-            verdict: judged.verdict,
-            cell: leaving(judged.verdict, &cell),
-        },
-        Err(reason) => reason.answer(),
-    }
-}
-
-/// Judges a cell as [`judge_at`] does, and returns the judgement without the leaving cell, so that no cell is copied.
+/// # Errors
+///
+/// `Released` if the line doesn't serve the picked connection; otherwise the error of [`Line::judge`]. Then nothing
+/// changes.
 #[inline(always)]
-pub(crate) fn judge_without_cell(
+pub fn judge_at(
     line: &mut Line,
     vc: Vc,
     seating: &Seating,
     named: &Named,
     moment: u64,
 ) -> Result<Judgement, Unjudged>
+    // It is judged if and only if there is no reason to refuse it.
     ensures judged { MatchOption (judging_refusal line.old vc seating.now moment)
         (JudgesAt line.old seating.now named.now moment (answer_to named.now.cell result) line.new)
         (λ refused. (answer_to named.now.cell result ≡ refused) × (line.new ≡ line.old)) }
+
+    // The judgement.
     ensures line { IfOk result (λ judged. judged.line ≡ seating.now.line) }
     ensures number { IfOk result (λ judged.
         judged.number ≡ count_of line.old.state.counts judged.verdict + 1) }
     ensures moment { IfOk result (λ judged. judged.moment ≡ moment) }
     ensures value { IfOk result (λ judged. judged.value ≡ named.now.value) }
     ensures program { IfOk result (λ judged. judged.program ≡ named.now.program) }
+
+    // A connection has at most four contracts.
     ensures unnamed { IfOk result (λ judged.
         IsNoNumber judged.value → judged.verdict ≡ Verdict.Refuse) }
+
+    // The line's invariant holds before. Its owner is unchanged, and it counts the cell exactly if the cell was judged.
     ensures kept { IsLine line.old }
     ensures owner { line.new.owner ≡ line.old.owner }
     ensures counts { IfOk result (λ judged.
         line.new.state.counts ≡ counted line.old.state.counts judged.verdict) }
     ensures unchanged { OnErr result (line.new ≡ line.old) }
+
+    // The answer is never NoMemory, Stale or NoConnection: nothing is allocated, and nothing is looked up.
     ensures memory { answer_to named.now.cell result ≢ Answer.NoMemory }
     ensures program_live { answer_to named.now.cell result ≢ Answer.Stale }
     ensures connection { answer_to named.now.cell result ≢ Answer.NoConnection }
@@ -104,7 +68,7 @@ pub(crate) fn judge_without_cell(
             program: entry.program,
             verdict: entry.verdict,
         }),
-        Err(fault) => Err(Unjudged::Refused(fault)),
+        Err(fault) => Err(Unjudged::LineFault(fault)),
     }
 }
 
@@ -117,15 +81,5 @@ pub(crate) fn serves(line: &Line, vc: Vc, seating: &Seating) -> bool
     match line.owner() {
         Some(owner) => same_vc(owner.vc, vc) && owner.incarnation == seating.incarnation,
         None => false,
-    }
-}
-
-/// Returns the cell as it leaves: tagged if the verdict is Tag, otherwise unchanged.
-fn leaving(verdict: Verdict, cell: &Cell) -> Cell
-    ensures { result ≡ cell_after verdict cell.now }
-{
-    match verdict {
-        Verdict::Tag => cell.tagged(),
-        Verdict::Pass | Verdict::Discard | Verdict::Refuse => *cell,
     }
 }

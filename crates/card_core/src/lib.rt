@@ -24,7 +24,7 @@ pub use connection_state::ConnectionState;
 pub use desk::{admit, cut, load, release, reload, retire, setup};
 pub use fault::{CardFault, DeskFault};
 pub use judging::judge_at;
-pub use picking::{Named, Store, name, pick};
+pub use picking::{Named, Store, find_seating, name_contract};
 pub use reply::{PortReply, Reply};
 pub use serial::Core;
 pub use shape::{MOST_LINES, MOST_PORTS, MOST_PROGRAMS, Shape};

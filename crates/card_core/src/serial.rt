@@ -6,8 +6,8 @@ use crate::answer::{Answer, Judgement, Unjudged};
 use crate::ask::Ask;
 use crate::desk;
 use crate::fault::{CardFault, DeskFault};
-use crate::judging::{judge_at, judge_without_cell};
-use crate::picking::{Store, name, pick};
+use crate::judging::judge_at;
+use crate::picking::{Store, find_seating, name_contract};
 use crate::port::{
     Came, Found, Port, are_outside, entered_at, is_idle_at, move_port, outside_ports, picked_at,
 };
@@ -187,7 +187,7 @@ impl Core {
             return PortReply::NotNow;
         };
         let side = self.shape.side;
-        match find_and_name(&self.store, &self.directory, side, &came.cell, came.moment) {
+        match find_contract(&self.store, &self.directory, side, &came.cell, came.moment) {
             Ok(found) => {
                 move_port(&mut self.ports, port, Port::Picked(found));
                 PortReply::Picked
@@ -237,7 +237,7 @@ impl Core {
         }
         // The port has no cell before and afterwards, and nothing reads it in between.
         let side = self.shape.side;
-        let picked = find_and_name(&self.store, &self.directory, side, cell, moment);
+        let picked = find_contract(&self.store, &self.directory, side, cell, moment);
         match picked {
             Ok(found) => Some(judge_line_without_cell(&mut self.lines, &found)),
             Err(reason) => Some(Err(reason)),
@@ -333,7 +333,7 @@ impl Core {
         ensures unchanged { RefusalKeeps (release_reply result) (Release vc) self.old self.new }
         ensures rest { self.new ≡ record self.old { directory = self.new.directory; lines = self.new.lines } }
     {
-        let Some(seating) = pick(&self.directory, vc) else {
+        let Some(seating) = find_seating(&self.directory, vc) else {
             return Err(DeskFault::NoConnection);
         };
         release_line(&mut self.directory, &mut self.lines, vc, &seating)
@@ -349,7 +349,7 @@ impl Core {
         ensures unchanged { RefusalKeeps (cut_reply result) (Cut vc) self.old self.new }
         ensures rest { self.new ≡ record self.old { lines = self.new.lines } }
     {
-        let Some(seating) = pick(&self.directory, vc) else {
+        let Some(seating) = find_seating(&self.directory, vc) else {
             return Err(DeskFault::NoConnection);
         };
         cut_line(&mut self.lines, vc, &seating)
@@ -385,7 +385,7 @@ fn free_lines(alloc: Global, many: usize, journal: u32) -> Option<Vec<Line>>
 /// Returns the seating of the cell's connection, and the value that its program gives for the cell. Every cell runs
 /// this function and the next. They are inlined, since a call would copy the cell.
 #[inline(always)]
-fn find_and_name(
+fn find_contract(
     store: &Store,
     directory: &Directory,
     side: Side,
@@ -398,10 +398,10 @@ fn find_and_name(
     ensures within { IfOk result (λ found. found.seating.line < directory.now.lines) }
 {
     let vc = cell.vc_at(side);
-    let Some(seating) = pick(directory, vc) else {
+    let Some(seating) = find_seating(directory, vc) else {
         return Err(Unjudged::NoConnection);
     };
-    let Some(named) = name(store, seating.program, cell) else {
+    let Some(named) = name_contract(store, seating.program, cell) else {
         return Err(Unjudged::Stale);
     };
     Ok(Found {
@@ -422,7 +422,7 @@ fn judge_line_without_cell(lines: &mut Vec<Line>, found: &Found) -> Result<Judge
     ensures memory { answer_to found.now.named.cell result ≢ Answer.NoMemory }
 {
     let line = &mut lines[usize::from(found.seating.line)];
-    judge_without_cell(line, found.vc, &found.seating, &found.named, found.moment)
+    judge_at(line, found.vc, &found.seating, &found.named, found.moment)
 }
 
 /// Judges a picked cell on its line.
@@ -432,8 +432,10 @@ fn judge_line(lines: &mut Vec<Line>, found: &Found) -> Answer
         (JudgesOrRefuses found.now result) lines.new.items }
     ensures memory { result ≢ Answer.NoMemory }
 {
-    let line = &mut lines[usize::from(found.seating.line)];
-    judge_at(line, found.vc, &found.seating, &found.named, found.moment)
+    match judge_line_without_cell(lines, found) {
+        Ok(judged) => judged.answer(&found.named.cell()),
+        Err(reason) => reason.answer(),
+    }
 }
 
 /// Sets up a connection on the line of this number.

@@ -18,11 +18,11 @@ use Rattle.card_isolation.proofs.Forgotten.{seen_entries}
 
 -- A connection that is set up: its contracts, the code of its program, the judged cells, and the number of these that
 -- cuts have returned.
-pub record Standing : Type 0 where
+pub record OwnConnection : Type 0 where
   pub contracts : List Contract
   pub code : Option (List Instr)
   pub history : List NamedCell
-  pub handed : ℕ
+  pub returned : ℕ
 
 -- The connection's part of a port: nothing, a cell that entered at a moment, or one that was looked up, with the value
 -- and the code that gave it, and whether the connection is still the one that was looked up.
@@ -32,7 +32,7 @@ pub data Place : Type 0 where
   looked : List ℕ → ℕ → ℕ → Option (List Instr) → Bool → Place
 
 pub record Alone : Type 0 where
-  pub connection : Option Standing
+  pub connection : Option OwnConnection
   pub places : ℕ → Place
 
 -- A port's part after the connection was released.
@@ -47,65 +47,65 @@ cell_alone cell moment value = named_cell cell moment (record { slot = 0; genera
 
 -- The reason why a cell isn't judged.
 
-abbrev pub moment_refusal : ℕ → Standing → ℕ → Option Answer
-moment_refusal journal standing moment =
+abbrev pub moment_refusal : ℕ → OwnConnection → ℕ → Option Answer
+moment_refusal journal own_connection moment =
     if nat_lt (2 ^ 62) moment then Some MomentTooLate
-    else if nat_lt moment (last_moment 0 standing.history) then Some (MomentBack (last_moment 0 standing.history))
-    else if nat_le journal (length (drop standing.handed standing.history)) then Some JournalFull
+    else if nat_lt moment (last_moment 0 own_connection.history) then Some (MomentBack (last_moment 0 own_connection.history))
+    else if nat_le journal (length (drop own_connection.returned own_connection.history)) then Some JournalFull
     else None
 
-abbrev pub refusal_alone : ℕ → Option Standing → ℕ → Bool → Option Answer
+abbrev pub refusal_alone : ℕ → Option OwnConnection → ℕ → Bool → Option Answer
 refusal_alone journal None moment current = Some Released
-refusal_alone journal (Some standing) moment current = if current then moment_refusal journal standing moment else Some Released
+refusal_alone journal (Some own_connection) moment current = if current then moment_refusal journal own_connection moment else Some Released
 
 -- The outcome of a cell that is judged, or isn't.
 
-abbrev pub judged_alone : Option Standing → List ℕ → ℕ → ℕ → Option (List Instr) → Outcome
+abbrev pub judged_alone : Option OwnConnection → List ℕ → ℕ → ℕ → Option (List Instr) → Outcome
 judged_alone None cell moment value code = done
-judged_alone (Some standing) cell moment value code =
-    let verdict = verdict_after standing.contracts empty_buckets standing.history (cell_alone cell moment value) in
+judged_alone (Some own_connection) cell moment value code =
+    let verdict = verdict_after own_connection.contracts empty_buckets own_connection.history (cell_alone cell moment value) in
     was_judged moment value code verdict (cell_after verdict cell)
 
 abbrev pub answered_alone : Option Answer → Outcome → Outcome
 answered_alone None outcome = outcome
 answered_alone (Some answer) outcome = was_not_judged answer
 
-abbrev pub outcome_at : ℕ → Option Standing → Place → Outcome
+abbrev pub outcome_at : ℕ → Option OwnConnection → Place → Outcome
 outcome_at journal connection idle = done
 outcome_at journal connection (came cell moment) = done
 outcome_at journal connection (looked cell moment value code current) =
     answered_alone (refusal_alone journal connection moment current) (judged_alone connection cell moment value code)
 
-abbrev pub with_judged : Option Standing → NamedCell → Option Standing
+abbrev pub with_judged : Option OwnConnection → NamedCell → Option OwnConnection
 with_judged None cell = None
-with_judged (Some standing) cell = Some (record standing { history = standing.history ++ cell ∷ [] })
+with_judged (Some own_connection) cell = Some (record own_connection { history = own_connection.history ++ cell ∷ [] })
 
-abbrev pub kept_alone : Option Answer → Option Standing → Option Standing → Option Standing
+abbrev pub kept_alone : Option Answer → Option OwnConnection → Option OwnConnection → Option OwnConnection
 kept_alone None connection longer = longer
 kept_alone (Some answer) connection longer = connection
 
-abbrev pub judged_at : ℕ → Option Standing → Place → Option Standing
+abbrev pub judged_at : ℕ → Option OwnConnection → Place → Option OwnConnection
 judged_at journal connection idle = connection
 judged_at journal connection (came cell moment) = connection
 judged_at journal connection (looked cell moment value code current) =
     kept_alone (refusal_alone journal connection moment current) connection (with_judged connection (cell_alone cell moment value))
 
-abbrev pub piece_alone : Option Standing → Outcome
+abbrev pub piece_alone : Option OwnConnection → Outcome
 piece_alone None = done
-piece_alone (Some standing) =
-    handed_out standing.contracts
-    (seen_entries standing.contracts (take standing.handed standing.history) (drop standing.handed standing.history))
+piece_alone (Some own_connection) =
+    handed_out own_connection.contracts
+    (seen_entries own_connection.contracts (take own_connection.returned own_connection.history) (drop own_connection.returned own_connection.history))
 
-abbrev pub code_alone : Option Standing → Option (List Instr)
+abbrev pub code_alone : Option OwnConnection → Option (List Instr)
 code_alone None = None
-code_alone (Some standing) = standing.code
+code_alone (Some own_connection) = own_connection.code
 
-abbrev pub named_outcome : Option Standing → Outcome
+abbrev pub named_outcome : Option OwnConnection → Outcome
 named_outcome connection = named_before (code_alone connection)
 
-abbrev pub found_alone : Option Standing → Outcome
+abbrev pub found_alone : Option OwnConnection → Outcome
 found_alone None = was_not_judged NoConnection
-found_alone (Some standing) = done
+found_alone (Some own_connection) = done
 
 -- The outcome of an act.
 abbrev pub outcome_alone : ℕ → Alone → Act → Outcome
@@ -118,29 +118,29 @@ outcome_alone journal alone (looks_up port) = found_alone alone.connection
 outcome_alone journal alone (judges port) = outcome_at journal alone.connection (alone.places port)
 
 -- The connection's program gives a value for the cell.
-pub record IsNamed (standing : Standing) (cell : List ℕ) (moment : ℕ) (after : Place) : Type 0 where
+pub record IsNamed (own_connection : OwnConnection) (cell : List ℕ) (moment : ℕ) (after : Place) : Type 0 where
   pub code : List Instr
-  pub named : standing.code ≡ Some code
+  pub named : own_connection.code ≡ Some code
   pub value : ℕ
   pub gives : Gives code cell value
-  pub is : after ≡ looked cell moment value standing.code true
+  pub is : after ≡ looked cell moment value own_connection.code true
 
-abbrev pub LooksUp : Option Standing → Place → Place → Type 0
+abbrev pub LooksUp : Option OwnConnection → Place → Place → Type 0
 LooksUp None before after = after ≡ idle
-LooksUp (Some standing) idle after = after ≡ idle
-LooksUp (Some standing) (came cell moment) after = IsNamed standing cell moment after
-LooksUp (Some standing) (looked cell moment value code current) after = after ≡ idle
+LooksUp (Some own_connection) idle after = after ≡ idle
+LooksUp (Some own_connection) (came cell moment) after = IsNamed own_connection cell moment after
+LooksUp (Some own_connection) (looked cell moment value code current) after = after ≡ idle
 
-abbrev pub reloaded : Option Standing → Option (List Instr) → Option Standing
+abbrev pub reloaded : Option OwnConnection → Option (List Instr) → Option OwnConnection
 reloaded None code = None
-reloaded (Some standing) code = Some (record standing { code = code })
+reloaded (Some own_connection) code = Some (record own_connection { code = code })
 
-abbrev pub cut_off : Option Standing → Option Standing
+abbrev pub cut_off : Option OwnConnection → Option OwnConnection
 cut_off None = None
-cut_off (Some standing) = Some (record standing { handed = length standing.history })
+cut_off (Some own_connection) = Some (record own_connection { returned = length own_connection.history })
 
-abbrev pub set_up : List Contract → Option (List Instr) → Standing
-set_up contracts code = record { contracts = contracts; code = code; history = []; handed = 0 }
+abbrev pub set_up : List Contract → Option (List Instr) → OwnConnection
+set_up contracts code = record { contracts = contracts; code = code; history = []; returned = 0 }
 
 -- The effect of an act on the connection and on its part of the ports.
 abbrev pub Next : ℕ → Alone → Act → Alone → Type 0
@@ -180,21 +180,21 @@ Plays journal before (event ∷ later) = (after : Alone) × Does journal before 
 
 -- An act leads to at most one state.
 
-one-named : (standing : Standing) (cell : List ℕ) (moment : ℕ) (one other : Place) → IsNamed standing cell moment one
-    → IsNamed standing cell moment other → one ≡ other
-one-named standing cell moment one other p q =
+one-named : (own_connection : OwnConnection) (cell : List ℕ) (moment : ℕ) (one other : Place) → IsNamed own_connection cell moment one
+    → IsNamed own_connection cell moment other → one ≡ other
+one-named own_connection cell moment one other p q =
     let same : p.code ≡ q.code = same_Some p.code q.code (sym p.named ∙ q.named) in
     let gives : Gives q.code cell p.value = subst (λ (code : List Instr). Gives code cell p.value) same p.gives in
     p.is
-    ∙ ap (λ value. looked cell moment value standing.code true)
+    ∙ ap (λ value. looked cell moment value own_connection.code true)
     (Value-unique q.code cell p.value q.value gives.0 q.gives.0 gives.1 q.gives.1).0
     ∙ sym q.is
 
-one-place : (connection : Option Standing) (before one other : Place) → LooksUp connection before one → LooksUp connection before other → one ≡ other
+one-place : (connection : Option OwnConnection) (before one other : Place) → LooksUp connection before one → LooksUp connection before other → one ≡ other
 one-place None before one other p q = p ∙ sym q
-one-place (Some standing) idle one other p q = p ∙ sym q
-one-place (Some standing) (came cell moment) one other p q = one-named standing cell moment one other p q
-one-place (Some standing) (looked cell moment value code current) one other p q = p ∙ sym q
+one-place (Some own_connection) idle one other p q = p ∙ sym q
+one-place (Some own_connection) (came cell moment) one other p q = one-named own_connection cell moment one other p q
+one-place (Some own_connection) (looked cell moment value code current) one other p q = p ∙ sym q
 
 pub one-next : (journal : ℕ) (before : Alone) (act : Act) (one other : Alone) → Next journal before act one → Next journal before act other
     → one ≡ other

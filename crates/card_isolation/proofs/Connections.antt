@@ -50,15 +50,15 @@ found-same connections vc other found e at =
 
 -- A live program keeps its code after a load under a new id.
 pub code-stays : (world : World) (id program : Id) (code : List Instr) → WorldInvariant world
-    → id.generation ≡ times_given world.given id.slot + 1 → IsSome (code_in world.live program)
-    → code_in (record { id = id; code = code } ∷ world.given) program ≡ code_in world.given program
+    → id.generation ≡ times_given world.loaded id.slot + 1 → IsSome (code_in world.live program)
+    → code_in (record { id = id; code = code } ∷ world.loaded) program ≡ code_in world.loaded program
 code-stays world id program code sound next live =
     let there = there_is (code_in world.live program) live in
     let given = sound.programs.live_given program there.0 there.1 in
     let choice : (b : Bool) → is_same_id program id ≡ b
-    → cond b (Some code) (code_in world.given program) ≡ code_in world.given program = elim [
+    → cond b (Some code) (code_in world.loaded program) ≡ code_in world.loaded program = elim [
       | true ↦ λ e.
-          let old = subst (λ (i : Id). code_in world.given i ≡ Some there.0) (id_same program id e) given in
+          let old = subst (λ (i : Id). code_in world.loaded i ≡ Some there.0) (id_same program id e) given in
           absurd (omega (arith, sound.programs.once id there.0 old, next))
       | false ↦ λ e. refl
     ] in

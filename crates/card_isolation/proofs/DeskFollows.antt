@@ -58,9 +58,9 @@ module _ {kept : Vc → Bool} {world shadow : World} (beside : AreBeside kept wo
   follows-loads code reply after allowed w =
       let one = passed_on (is_busy world) _ _ (unmapped _ (load_fault world) allowed) in
       let two = passed_on (not (any_below world.shape.programs (is_open_slot world))) _ _ one.1 in
-      let open_by : List Loading → List Loading → ℕ → Bool = λ given live slot. is_open_slot (record world { given = given; live = live }) slot in
+      let open_by : List Loading → List Loading → ℕ → Bool = λ given live slot. is_open_slot (record world { loaded = given; live = live }) slot in
       let opens : (slot : ℕ) → is_open_slot shadow slot ≡ is_open_slot world slot = λ slot.
-      ap (λ (l : List Loading). open_by l shadow.live slot) beside.shadows.given ∙ ap (λ (l : List Loading). open_by world.given l slot) beside.shadows.live in
+      ap (λ (l : List Loading). open_by l shadow.live slot) beside.shadows.loaded ∙ ap (λ (l : List Loading). open_by world.loaded l slot) beside.shadows.live in
       let some : not (any_below shadow.shape.programs (is_open_slot shadow)) ≡ false =
       ap (λ (shape : Shape). not (any_below shape.programs (is_open_slot shadow))) beside.shadows.shape
       ∙ ap (λ (test : ℕ → Bool). not (any_below world.shape.programs test)) (λ i slot. opens slot i)
@@ -70,7 +70,7 @@ module _ {kept : Vc → Bool} {world shadow : World} (beside : AreBeside kept wo
       (passes (is_busy shadow) Busy _ (idle-shadow one.0)
       (passes (not (any_below shadow.shape.programs (is_open_slot shadow))) ProgramsFull None some refl)) in
       let later : World = record shadow {
-        given = record { id = w.id; code = code } ∷ shadow.given;
+        loaded = record { id = w.id; code = code } ∷ shadow.loaded;
         live = record { id = w.id; code = code } ∷ shadow.live;
       } in
       let loads : Loads shadow code (Loaded w.id) later = record {
@@ -80,16 +80,16 @@ module _ {kept : Vc → Bool} {world shadow : World} (beside : AreBeside kept wo
         open_slot = opens w.slot ∙ w.open_slot;
         id = w.id;
         here = w.here;
-        next = w.next ∙ ap (λ (l : List Loading). times_given l w.slot + 1) (sym beside.shadows.given);
+        next = w.next ∙ ap (λ (l : List Loading). times_given l w.slot + 1) (sym beside.shadows.loaded);
         answer = refl;
         world = refl;
       } in
       goes-beside beside (Load code) reply (Loaded w.id) after later (leads-on world (Load code) reply after allowed w)
       (leads-on shadow (Load code) (Loaded w.id) later allowed_too loads) refl
       (λ vc. ap (λ (r : Reply). own_event world.shape.side vc (notes_in vc world) r (Load code)) w.answer) (λ vc. refl)
-      (ap (λ (l : List Loading). record { id = w.id; code = code } ∷ l) beside.shadows.given ∙ sym (ap (λ (v : World). v.given) w.world))
+      (ap (λ (l : List Loading). record { id = w.id; code = code } ∷ l) beside.shadows.loaded ∙ sym (ap (λ (v : World). v.loaded) w.world))
       (ap (λ (l : List Loading). record { id = w.id; code = code } ∷ l) beside.shadows.live ∙ sym (ap (λ (v : World). v.live) w.world))
-      (ap (λ (v : World). v.connections) w.world) refl (ap (λ (v : World). v.used) w.world) refl refl
+      (ap (λ (v : World). v.connections) w.world) refl (ap (λ (v : World). v.incarnations) w.world) refl refl
 
   -- If no connection of the world names a program, none of the shadow does.
   unnamed : (id : Id) → is_named world id ≡ false → is_named shadow id ≡ false
@@ -122,9 +122,9 @@ module _ {kept : Vc → Bool} {world shadow : World} (beside : AreBeside kept wo
       goes-beside beside (Retire id) reply (Retired w.code) after later (leads-on world (Retire id) reply after allowed w)
       (leads-on shadow (Retire id) (Retired w.code) later allowed_too retires) refl
       (λ vc. ap (λ (r : Reply). own_event world.shape.side vc (notes_in vc world) r (Retire id)) w.answer) (λ vc. refl)
-      (beside.shadows.given ∙ sym (ap (λ (v : World). v.given) w.world))
+      (beside.shadows.loaded ∙ sym (ap (λ (v : World). v.loaded) w.world))
       (ap (λ (l : List Loading). without_code l id) beside.shadows.live ∙ sym (ap (λ (v : World). v.live) w.world))
-      (ap (λ (v : World). v.connections) w.world) refl (ap (λ (v : World). v.used) w.world) refl refl
+      (ap (λ (v : World). v.connections) w.world) refl (ap (λ (v : World). v.incarnations) w.world) refl refl
 
   -- Steps of the desk for one connection.
 
@@ -137,27 +137,27 @@ module _ {kept : Vc → Bool} {world shadow : World} (beside : AreBeside kept wo
       let two = passed_on (is_some (connection_in world.connections ask.vc)) _ _ one.1 in
       let three = passed_on (length ask.contracts.items == 0) _ _ two.1 in
       let four = passed_on (not (any_below world.shape.lines (is_open_line world))) _ _ three.1 in
-      let five = passed_on (nat_le (2 ^ 62) world.used) _ _ four.1 in
+      let five = passed_on (nat_le (2 ^ 62) world.incarnations) _ _ four.1 in
       let choice : (b : Bool) → kept ask.vc ≡ b → Follows kept world step reply after shadow = elim [
         | true ↦ λ is.
             let opens : is_open_line shadow w.line ≡ true = opens-too w.line w.open_line in
             let within : w.line < shadow.shape.lines = subst (λ (shape : Shape). w.line < shape.lines) (sym beside.shadows.shape) w.within in
             let some : not (any_below shadow.shape.lines (is_open_line shadow)) ≡ false =
             ap not (below-one shadow.shape.lines (is_open_line shadow) w.line within opens) in
-            let less : world.used < 2 ^ 62 = leb-false (2 ^ 62) world.used five.0 in
-            let unspent : nat_le (2 ^ 62) shadow.used ≡ false = grind (arith, less, beside.shadows.used) in
+            let less : world.incarnations < 2 ^ 62 = leb-false (2 ^ 62) world.incarnations five.0 in
+            let unspent : nat_le (2 ^ 62) shadow.incarnations ≡ false = grind (arith, less, beside.shadows.incarnations) in
             let allowed_too : refusal shadow step ≡ None =
             ap (option_map _)
             (passes (is_none (code_in shadow.live ask.program)) NoProgram _ (ap (λ (l : List Loading). is_none (code_in l ask.program)) beside.shadows.live ∙ one.0)
             (passes (is_some (connection_in shadow.connections ask.vc)) Taken _ (found-too ask.vc world shadow (beside.shadows.holding ask.vc is) ∙ two.0)
             (passes (length ask.contracts.items == 0) BadContracts _ three.0
             (passes (not (any_below shadow.shape.lines (is_open_line shadow))) NoLine _ some
-            (passes (nat_le (2 ^ 62) shadow.used) Exhausted None unspent refl))))) in
+            (passes (nat_le (2 ^ 62) shadow.incarnations) Exhausted None unspent refl))))) in
             -- The shadow may choose any open line, and takes that of the world.
-            let answered : Reply = SetUp (record { vc = ask.vc; incarnation = shadow.used + 1 }) in
+            let answered : Reply = SetUp (record { vc = ask.vc; incarnation = shadow.incarnations + 1 }) in
             let later : World = record shadow {
-              connections = with_connection shadow.connections ask.vc (new_connection ask w.line (shadow.used + 1));
-              used = shadow.used + 1;
+              connections = with_connection shadow.connections ask.vc (new_connection ask w.line (shadow.incarnations + 1));
+              incarnations = shadow.incarnations + 1;
             } in
             let sets_up_too : SetsUp shadow ask answered later = record {
               line = w.line;
@@ -166,12 +166,12 @@ module _ {kept : Vc → Bool} {world shadow : World} (beside : AreBeside kept wo
               answer = refl;
               world = refl;
             } in
-            goes-own beside ask.vc is step reply answered after later (sets_up ask.contracts.items (code_in world.given ask.program))
-            (sets_up ask.contracts.items (code_in shadow.given ask.program)) (new_holding w.line ask.program) 1 ws
+            goes-own beside ask.vc is step reply answered after later (sets_up ask.contracts.items (code_in world.loaded ask.program))
+            (sets_up ask.contracts.items (code_in shadow.loaded ask.program)) (new_holding w.line ask.program) 1 ws
             (leads-on shadow step answered later allowed_too sets_up_too) is
             (own-sets_up ask.vc world ask reply after (vc_itself ask.vc) w)
             (own-sets_up ask.vc shadow ask answered later (vc_itself ask.vc) sets_up_too)
-            (ap (λ (l : List Loading). sets_up ask.contracts.items (code_in l ask.program)) beside.shadows.given)
+            (ap (λ (l : List Loading). sets_up ask.contracts.items (code_in l ask.program)) beside.shadows.loaded)
         | false ↦ λ isnt. stays-shadow beside step reply after ws (unseen-sets_up kept world ask reply after isnt w)
       ] in
       choice (kept ask.vc) refl
@@ -197,10 +197,10 @@ module _ {kept : Vc → Bool} {world shadow : World} (beside : AreBeside kept wo
             (passes (is_none (code_in shadow.live program)) NoProgram _ (ap (λ (l : List Loading). is_none (code_in l program)) beside.shadows.live ∙ one.0)
             (passes (is_none (connection_in shadow.connections other)) NoConnection None (there-too other is two.0) refl)) in
             let too = granted beside step tt allowed_too in
-            goes-own beside other is step reply too.0 after too.1 (reloads (code_in world.given program)) (reloads (code_in shadow.given program))
+            goes-own beside other is step reply too.0 after too.1 (reloads (code_in world.loaded program)) (reloads (code_in shadow.loaded program))
             (new_program program) 0 ws too.3 is (own-reloads other world other program reply after (vc_itself other) w)
             (own-reloads other shadow other program too.0 too.1 (vc_itself other) too.2)
-            (ap (λ (l : List Loading). reloads (code_in l program)) beside.shadows.given)
+            (ap (λ (l : List Loading). reloads (code_in l program)) beside.shadows.loaded)
         | false ↦ λ isnt. stays-shadow beside step reply after ws (unseen-reloads kept world other program reply after isnt w)
       ] in
       choice (kept other) refl

@@ -83,11 +83,11 @@ module _ {kept : Vc → Bool} {world shadow : World} (beside : AreBeside kept wo
       (step-effect vc world step reply after beside.sound beside.few w).own in
       stays unseen.none (record {
         shape = beside.shadows.shape ∙ sym (step-effect (any_vc world) world step reply after beside.sound beside.few w).shape;
-        given = beside.shadows.given ∙ sym unseen.given;
+        loaded = beside.shadows.loaded ∙ sym unseen.loaded;
         live = beside.shadows.live ∙ sym unseen.live;
         alone = λ vc is. beside.shadows.alone vc is ∙ sym (same vc is);
         holding = λ vc is. beside.shadows.holding vc is ∙ sym (unseen.holding vc is);
-        used = omega (arith, beside.shadows.used, unseen.used);
+        incarnations = omega (arith, beside.shadows.incarnations, unseen.incarnations);
         others = beside.shadows.others;
         ports = beside.shadows.ports;
       })
@@ -124,11 +124,11 @@ module _ {kept : Vc → Bool} {world shadow : World} (beside : AreBeside kept wo
       choice (is_same_vc another vc) refl in
       goes_too answered later w_too own_step (λ another is. (one another is).event) (record {
         shape = (effect_too vc).shape ∙ beside.shadows.shape ∙ sym (effect vc).shape;
-        given = own_too.given ∙ beside.shadows.given ∙ sym own.given;
+        loaded = own_too.loaded ∙ beside.shadows.loaded ∙ sym own.loaded;
         live = own_too.live ∙ beside.shadows.live ∙ sym own.live;
         alone = λ another is. (one another is).alone;
         holding = held_alike;
-        used = omega (arith, own_too.used, own.used, beside.shadows.used);
+        incarnations = omega (arith, own_too.incarnations, own.incarnations, beside.shadows.incarnations);
         others = λ another isnt. own_too.others another (are-apart kept another vc false isnt is_kept) ∙ beside.shadows.others another isnt;
         ports = subst (λ (shape : Shape). HasOnlyKept shape.side kept later.ports) (sym (effect_too vc).shape) (own_too.ports kept is_kept beside.shadows.ports);
       })
@@ -138,9 +138,9 @@ module _ {kept : Vc → Bool} {world shadow : World} (beside : AreBeside kept wo
       → is_for_no_other_than world.shape.side kept step ≡ true
       → ((vc : Vc) → own_event world.shape.side vc (notes_in vc world) reply step ≡ None)
       → ((vc : Vc) → own_event shadow.shape.side vc (notes_in vc shadow) answered step ≡ None)
-      → later.given ≡ after.given → later.live ≡ after.live
+      → later.loaded ≡ after.loaded → later.live ≡ after.live
       → after.connections ≡ world.connections → later.connections ≡ shadow.connections
-      → after.used ≡ world.used → later.used ≡ shadow.used → later.ports ≡ shadow.ports
+      → after.incarnations ≡ world.incarnations → later.incarnations ≡ shadow.incarnations → later.ports ≡ shadow.ports
       → Follows kept world step reply after shadow
   goes-beside step reply answered after later w w_too own_step none none_too given live connections connections_too used used_too ports =
       let effect : (vc : Vc) → StepEffect vc world step reply after = λ vc. step-effect vc world step reply after beside.sound beside.few w in
@@ -150,11 +150,11 @@ module _ {kept : Vc → Bool} {world shadow : World} (beside : AreBeside kept wo
       let holding_at : Vc → List (Vc × Connection) → Option Holding = λ vc connections. option_map held (connection_in connections vc) in
       goes_too answered later w_too own_step (λ vc is. (one vc is).event) (record {
         shape = (effect_too (any_vc world)).shape ∙ beside.shadows.shape ∙ sym (effect (any_vc world)).shape;
-        given = given;
+        loaded = given;
         live = live;
         alone = λ vc is. (one vc is).alone;
         holding = λ vc is. ap (holding_at vc) connections_too ∙ beside.shadows.holding vc is ∙ sym (ap (holding_at vc) connections);
-        used = omega (arith, used, used_too, beside.shadows.used);
+        incarnations = omega (arith, used, used_too, beside.shadows.incarnations);
         others = λ vc isnt. ap (λ (l : List (Vc × Connection)). connection_in l vc) connections_too ∙ beside.shadows.others vc isnt;
         ports = subst (λ (shape : Shape). HasOnlyKept shape.side kept later.ports) (sym (effect_too (any_vc world)).shape)
             (subst (λ (l : List PortState). HasOnlyKept shadow.shape.side kept l) (sym ports) beside.shadows.ports);

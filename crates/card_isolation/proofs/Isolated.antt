@@ -6,7 +6,7 @@ use Rattle.card_core.specs.declared.shape.Shape.{Shape}
 use Rattle.card_core.specs.World.{World, outside, opening_world}
 use Rattle.card_core.specs.Log.{Event, Run, Leads}
 use Rattle.card_core.proofs.Public.{worlds-sound, log-goes_on}
-use Rattle.card_isolation.specs.OwnEvents.{OwnEvent, Notes, opening_notes, notes_after, own_event, behind, own_events_after, own_events}
+use Rattle.card_isolation.specs.OwnEvents.{OwnEvent, Notes, opening_notes, notes_after, own_event, with_event, own_events_after, own_events}
 use Rattle.card_isolation.specs.Isolation.{account_of, ConnectionsAreIsolated}
 use Rattle.card_isolation.specs.ByArrival.{opening_arrivals}
 use Rattle.card_isolation.proofs.Renumbered.{Matches, plays-numbered}
@@ -16,15 +16,15 @@ use Rattle.card_isolation.proofs.Views.{place_of, has_own_in, alone_in, notes_in
 use Rattle.card_isolation.proofs.Steps.{HasJudgedFew, step-effect}
 
 -- One event and the later ones.
-plays-behind : (journal : ℕ) (event : Option OwnEvent) (before after : Alone) (later : List OwnEvent)
-    → Goes journal event before after → Plays journal after later → Plays journal before (behind event later)
-plays-behind journal None before after later same plays = subst (λ (a : Alone). Plays journal a later) same plays
-plays-behind journal (Some event) before after later does plays = (after, does, plays)
+plays-after : (journal : ℕ) (event : Option OwnEvent) (before after : Alone) (later : List OwnEvent)
+    → Goes journal event before after → Plays journal after later → Plays journal before (with_event event later)
+plays-after journal None before after later same plays = subst (λ (a : Alone). Plays journal a later) same plays
+plays-after journal (Some event) before after later does plays = (after, does, plays)
 
 -- The events of a log.
 module _ (vc : Vc) (shape : Shape) where
   plays-later : (so_far log : List Event) (before after : World) → Leads shape so_far before → Run before log after
-      → before.shape ≡ shape → (taken : ℕ) → ((line : ℕ) → length (before.judged line) ≤ taken) → taken + length log ≤ 2 ^ 62
+      → before.shape ≡ shape → (taken : ℕ) → ((line : ℕ) → length (before.verdicts line) ≤ taken) → taken + length log ≤ 2 ^ 62
       → Plays shape.journal (alone_in vc before) (own_events_after shape.side vc (notes_in vc before) log)
   plays-later so_far [] before after leads run is taken counted within = tt
   plays-later so_far (event ∷ log) before after leads run is taken counted within =
@@ -41,7 +41,7 @@ module _ (vc : Vc) (shape : Shape) where
       plays-later (so_far ++ event ∷ []) log next after
       (log-goes_on (opening_world shape) before next so_far event.step event.reply leads run.1) run.2 (effect.shape ∙ is) (suc taken)
       (λ line. omega (arith, effect.counts line, counted line)) (omega (arith, within)) in
-      plays-behind shape.journal (own_event shape.side vc (notes_in vc before) event.reply event.step) (alone_in vc before) (alone_in vc next)
+      plays-after shape.journal (own_event shape.side vc (notes_in vc before) event.reply event.step) (alone_in vc before) (alone_in vc next)
       (own_events_after shape.side vc (notes_after shape.side vc (notes_in vc before) event) log) goes
       (subst (λ (n : Notes). Plays shape.journal (alone_in vc next) (own_events_after shape.side vc n log)) (sym notes) later)
 

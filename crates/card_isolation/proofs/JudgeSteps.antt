@@ -17,7 +17,7 @@ use Rattle.card_core.specs.declared.step.Step.{Step}
 use Rattle.card_core.specs.declared.step.Step.TheVariants.{Judge, Pick}
 use Rattle.card_core.specs.World.{World, Loading, Connection, Picking, PortState, outside, entered, picked, code_in, kept_cells, connection_in, with_connection, with_port, with_verdict}
 use Rattle.card_core.specs.Refusals.{refusal, pick_refusal, judge_refusal, picking_refusal, cell_refusal}
-use Rattle.card_core.specs.Steps.{Judges, cell_after, cell_of_picking, with_cell, verdict_on, judged_world, judgement_of, left_by_pick, left_by_judge}
+use Rattle.card_core.specs.Steps.{Judges, cell_after, cell_of_picking, with_cell, verdict_on, judged_world, judged_answer, left_by_pick, left_by_judge}
 use Rattle.card_isolation.specs.Act.{looks_up, judges}
 use Rattle.card_isolation.specs.Outcome.{Outcome, was_judged, was_not_judged, outcome_of}
 use Rattle.card_isolation.specs.OwnEvents.{own_where, notes_after}
@@ -25,8 +25,8 @@ use Rattle.card_core.proofs.LookUps.{unmapped, mapped}
 use Rattle.card_isolation.proofs.Basics.{pointwise, with_at, with_at-same, seen-set}
 use Rattle.card_isolation.proofs.Forgotten.{forgotten, last-forgotten, verdict-forgotten}
 use Rattle.card_isolation.proofs.Connections.{with-here, with-others, found-same}
-use Rattle.card_isolation.proofs.Alone.{Standing, Place, idle, came, looked, Alone, LooksUp, found_alone, cell_alone, moment_refusal, refusal_alone, judged_alone, answered_alone, outcome_at, with_judged, kept_alone, judged_at, is_idle}
-use Rattle.card_isolation.proofs.Views.{event_of, standing_of, is_current, place_of, has_own_in, alone_of, alone_in, notes_in, Goes, StepEffect, no-more, same-notes, same-alone, goes-by, effect-at}
+use Rattle.card_isolation.proofs.Alone.{OwnConnection, Place, idle, came, looked, Alone, LooksUp, found_alone, cell_alone, moment_refusal, refusal_alone, judged_alone, answered_alone, outcome_at, with_judged, kept_alone, judged_at, is_idle}
+use Rattle.card_isolation.proofs.Views.{event_of, own_connection_of, is_current, place_of, has_own_in, alone_of, alone_in, notes_in, Goes, StepEffect, no-more, same-notes, same-alone, goes-by, effect-at}
 use Rattle.card_isolation.proofs.PortSteps.{places-set, noted-set}
 
 -- A cell is refused on the card exactly if the connection on its own refuses it, while no line is full.
@@ -35,13 +35,13 @@ few : (journal : ℕ) (judged : List Verdict) → length judged < 2 ^ 62 → nat
 few journal judged less = grind (arith)
 
 kept-forgotten : (given : List Loading) (connection : Connection)
-    → length (drop (standing_of given connection).handed (standing_of given connection).history) ≡ length (kept_cells connection)
+    → length (drop (own_connection_of given connection).returned (own_connection_of given connection).history) ≡ length (kept_cells connection)
 kept-forgotten given connection =
-    ap (λ (l : List NamedCell). length l) (drop-map forgotten connection.handed connection.history)
+    ap (λ (l : List NamedCell). length l) (drop-map forgotten connection.returned connection.history)
     ∙ length-map (kept_cells connection) forgotten
 
-cell-alike : (world : World) (connection : Connection) (moment : ℕ) → length (world.judged connection.line) < 2 ^ 62
-    → cell_refusal world connection moment ≡ moment_refusal world.shape.journal (standing_of world.given connection) moment
+cell-alike : (world : World) (connection : Connection) (moment : ℕ) → length (world.verdicts connection.line) < 2 ^ 62
+    → cell_refusal world connection moment ≡ moment_refusal world.shape.journal (own_connection_of world.loaded connection) moment
 cell-alike world connection moment less =
     let refusal_at : ℕ → ℕ → Bool → Option Answer = λ last kept full.
     if nat_lt (2 ^ 62) moment then Some MomentTooLate
@@ -50,13 +50,13 @@ cell-alike world connection moment less =
     else if full then Some JournalFull
     else None in
     ap (refusal_at (last_moment 0 connection.history) (length (kept_cells connection)))
-    (few world.shape.journal (world.judged connection.line) less)
+    (few world.shape.journal (world.verdicts connection.line) less)
     ∙ ap (λ last. refusal_at last (length (kept_cells connection)) false) (sym (last-forgotten 0 connection.history))
-    ∙ ap (λ kept. refusal_at (last_moment 0 (map forgotten connection.history)) kept false) (sym (kept-forgotten world.given connection))
+    ∙ ap (λ kept. refusal_at (last_moment 0 (map forgotten connection.history)) kept false) (sym (kept-forgotten world.loaded connection))
 
-picking-alike : (world : World) (picking : Picking) (found : Option Connection) → ((line : ℕ) → length (world.judged line) < 2 ^ 62)
+picking-alike : (world : World) (picking : Picking) (found : Option Connection) → ((line : ℕ) → length (world.verdicts line) < 2 ^ 62)
     → picking_refusal world picking found
-    ≡ refusal_alone world.shape.journal (option_map (standing_of world.given) found) picking.moment (is_current found picking)
+    ≡ refusal_alone world.shape.journal (option_map (own_connection_of world.loaded) found) picking.moment (is_current found picking)
 picking-alike world picking None less = refl
 picking-alike world picking (Some connection) less =
     ap (λ (o : Option Answer). if connection.incarnation == picking.incarnation then o else Some PickReleased)
@@ -79,7 +79,7 @@ cell-plain world connection moment =
     plain (nat_lt (2 ^ 62) moment) MomentTooLate _ (λ codes. refl)
     (plain (nat_lt moment (last_moment 0 connection.history)) (MomentBack (last_moment 0 connection.history)) _ (λ codes. refl)
     (plain (nat_le world.shape.journal (length (kept_cells connection))) JournalFull _ (λ codes. refl)
-    (plain (nat_le (2 ^ 62) (length (world.judged connection.line))) JournalFull None (λ codes. refl)
+    (plain (nat_le (2 ^ 62) (length (world.verdicts connection.line))) JournalFull None (λ codes. refl)
     (λ answer e. absurd (cc)))))
 
 pub picking-plain : (world : World) (picking : Picking) (found : Option Connection) (answer : Answer)
@@ -109,7 +109,7 @@ one-more judged line verdict other =
     ] in
     choice (other == line)
 
-module _ (vc : Vc) (before : World) (less : (line : ℕ) → length (before.judged line) < 2 ^ 62) (port : ℕ) (picking : Picking) (had : slice_get before.ports port ≡ Some (picked picking)) where
+module _ (vc : Vc) (before : World) (less : (line : ℕ) → length (before.verdicts line) < 2 ^ 62) (port : ℕ) (picking : Picking) (had : slice_get before.ports port ≡ Some (picked picking)) where
   abbrev side_is : Side
   side_is = before.shape.side
 
@@ -123,7 +123,7 @@ module _ (vc : Vc) (before : World) (less : (line : ℕ) → length (before.judg
   own = is_same_vc vc picking.vc
 
   abbrev code_is : Option (List Instr)
-  code_is = code_in before.given picking.program
+  code_is = code_in before.loaded picking.program
 
   abbrev looked_is : Place
   looked_is = looked picking.cell picking.moment picking.value code_is (is_current here picking)
@@ -132,7 +132,7 @@ module _ (vc : Vc) (before : World) (less : (line : ℕ) → length (before.judg
   own_here = ap (has_own_in side_is vc) had
 
   place_here : (alone_in vc before).places port ≡ cond own looked_is idle
-  place_here = ap (place_of side_is vc before.given here) had
+  place_here = ap (place_of side_is vc before.loaded here) had
 
   place_own : own ≡ true → (alone_in vc before).places port ≡ looked_is
   place_own e = place_here ∙ ap (λ b. cond b looked_is idle) e
@@ -154,7 +154,7 @@ module _ (vc : Vc) (before : World) (less : (line : ℕ) → length (before.judg
   effect-unjudged answer is =
       let alone : Alone = alone_in vc before in
       let later : World = with_port before port outside in
-      let outcome : Outcome = outcome_of before.given answer in
+      let outcome : Outcome = outcome_of before.loaded answer in
       let next : Alone = record alone { places = with_at alone.places port idle } in
       let choice : (b : Bool) → own ≡ b → Goes journal_is (own_where b (judges port) outcome) alone next = elim [
         | true ↦ λ e.
@@ -167,8 +167,8 @@ module _ (vc : Vc) (before : World) (less : (line : ℕ) → length (before.judg
             ∙ ap (λ (o : Option Answer). kept_alone o alone.connection (with_judged alone.connection (cell_alone picking.cell picking.moment picking.value))) refused in
             record {
               fits = ap is_idle (place_own e);
-              outcome = picking-plain before picking (connection_in before.connections picking.vc) answer is before.given ∙ sym answered;
-              next = ap (λ (c : Option Standing). record next { connection = c }) (sym kept);
+              outcome = picking-plain before picking (connection_in before.connections picking.vc) answer is before.loaded ∙ sym answered;
+              next = ap (λ (c : Option OwnConnection). record next { connection = c }) (sym kept);
             }
         | false ↦ λ e. ap (λ (p : ℕ → Place). record alone { places = p }) (with_at-same alone.places port idle (place_none e))
       ] in
@@ -180,7 +180,7 @@ module _ (vc : Vc) (before : World) (less : (line : ℕ) → length (before.judg
             (own_where own (judges port) outcome) alone next (alone_in vc later)
             (ap (λ b. own_where b (judges port) outcome) own_here)
             (places-set vc before port (picked picking) outside had) (choice own refl);
-        counts = λ line. no-more (before.judged line);
+        counts = λ line. no-more (before.verdicts line);
       }
 
   -- The cell is judged on the connection that was found.
@@ -188,8 +188,8 @@ module _ (vc : Vc) (before : World) (less : (line : ℕ) → length (before.judg
     abbrev verdict_is : Verdict
     verdict_is = verdict_on connection (cell_of_picking picking)
 
-    abbrev standing_is : Standing
-    standing_is = standing_of before.given connection
+    abbrev own_connection_is : OwnConnection
+    own_connection_is = own_connection_of before.loaded connection
 
     abbrev cell_is : NamedCell
     cell_is = cell_alone picking.cell picking.moment picking.value
@@ -200,11 +200,11 @@ module _ (vc : Vc) (before : World) (less : (line : ℕ) → length (before.judg
     abbrev outcome_is : Outcome
     outcome_is = was_judged picking.moment picking.value code_is verdict_is (cell_after verdict_is picking.cell)
 
-    standing_own : own ≡ true → (alone_in vc before).connection ≡ Some standing_is
-    standing_own e =
-        ap (option_map (standing_of before.given)) (found-same before.connections vc picking.vc (Some connection) e found)
+    connection_own : own ≡ true → (alone_in vc before).connection ≡ Some own_connection_is
+    connection_own e =
+        ap (option_map (own_connection_of before.loaded)) (found-same before.connections vc picking.vc (Some connection) e found)
 
-    judged_alike : judged_alone (Some standing_is) picking.cell picking.moment picking.value code_is ≡ outcome_is
+    judged_alike : judged_alone (Some own_connection_is) picking.cell picking.moment picking.value code_is ≡ outcome_is
     judged_alike =
         ap (λ verdict. was_judged picking.moment picking.value code_is verdict (cell_after verdict picking.cell))
         (verdict-forgotten connection.contracts connection.history (cell_of_picking picking))
@@ -214,21 +214,21 @@ module _ (vc : Vc) (before : World) (less : (line : ℕ) → length (before.judg
         ap (outcome_at journal_is (alone_in vc before).connection) (place_own e)
         ∙ ap (λ (o : Option Answer). answered_alone o (judged_alone (alone_in vc before).connection picking.cell picking.moment picking.value code_is))
         (refusal_own None e allowed)
-        ∙ ap (λ (c : Option Standing). judged_alone c picking.cell picking.moment picking.value code_is) (standing_own e)
+        ∙ ap (λ (c : Option OwnConnection). judged_alone c picking.cell picking.moment picking.value code_is) (connection_own e)
         ∙ judged_alike
         )
 
-    longer_own : own ≡ true → Some (standing_of before.given longer) ≡ judged_at journal_is (alone_in vc before).connection ((alone_in vc before).places port)
+    longer_own : own ≡ true → Some (own_connection_of before.loaded longer) ≡ judged_at journal_is (alone_in vc before).connection ((alone_in vc before).places port)
     longer_own e = sym (
         ap (judged_at journal_is (alone_in vc before).connection) (place_own e)
         ∙ ap (λ (o : Option Answer). kept_alone o (alone_in vc before).connection (with_judged (alone_in vc before).connection cell_is))
         (refusal_own None e allowed)
-        ∙ ap (λ (c : Option Standing). with_judged c cell_is) (standing_own e)
-        ∙ ap (λ (h : List NamedCell). Some (record standing_is { history = h })) (sym (map-append forgotten connection.history (cell_of_picking picking ∷ [])))
+        ∙ ap (λ (c : Option OwnConnection). with_judged c cell_is) (connection_own e)
+        ∙ ap (λ (h : List NamedCell). Some (record own_connection_is { history = h })) (sym (map-append forgotten connection.history (cell_of_picking picking ∷ [])))
         )
 
     -- The connection's part of the ports doesn't depend on its history.
-    place_longer : (o : Option PortState) → place_of side_is vc before.given (Some longer) o ≡ place_of side_is vc before.given (Some connection) o
+    place_longer : (o : Option PortState) → place_of side_is vc before.loaded (Some longer) o ≡ place_of side_is vc before.loaded (Some connection) o
     place_longer None = refl
     place_longer (Some outside) = refl
     place_longer (Some (entered cell moment)) = refl
@@ -244,27 +244,27 @@ module _ (vc : Vc) (before : World) (less : (line : ℕ) → length (before.judg
         let now : connection_in conns vc ≡ Some longer = with-here before.connections picking.vc vc longer e in
         let was : here ≡ Some connection = found-same before.connections vc picking.vc (Some connection) e found in
         let ports : List PortState = set before.ports port outside in
-        ap (λ (o : Option Connection). alone_of side_is vc before.given o ports) now
-        ∙ same-alone (alone_of side_is vc before.given (Some longer) ports)
+        ap (λ (o : Option Connection). alone_of side_is vc before.loaded o ports) now
+        ∙ same-alone (alone_of side_is vc before.loaded (Some longer) ports)
         (record {
           connection = judged_at journal_is (alone_in vc before).connection ((alone_in vc before).places port);
           places = with_at (alone_in vc before).places port idle;
         })
         (longer_own e)
-        (pointwise (alone_of side_is vc before.given (Some longer) ports).places (alone_of side_is vc before.given (Some connection) ports).places
+        (pointwise (alone_of side_is vc before.loaded (Some longer) ports).places (alone_of side_is vc before.loaded (Some connection) ports).places
         (λ other. place_longer (slice_get ports other))
-        ∙ ap (λ (o : Option Connection). (alone_of side_is vc before.given o ports).places) (sym was)
-        ∙ seen-set (place_of side_is vc before.given here) before.ports port outside (picked picking) had)
+        ∙ ap (λ (o : Option Connection). (alone_of side_is vc before.loaded o ports).places) (sym was)
+        ∙ seen-set (place_of side_is vc before.loaded here) before.ports port outside (picked picking) had)
 
     after_other : own ≡ false → alone_in vc (judged_world before port picking connection) ≡ alone_in vc before
     after_other e =
         let ports : List PortState = set before.ports port outside in
-        ap (λ (o : Option Connection). alone_of side_is vc before.given o ports)
+        ap (λ (o : Option Connection). alone_of side_is vc before.loaded o ports)
         (with-others before.connections picking.vc vc longer e)
         ∙ places-set vc before port (picked picking) outside had
         ∙ ap (λ (p : ℕ → Place). record (alone_in vc before) { places = p }) (with_at-same (alone_in vc before).places port idle (place_none e))
 
-    effect-judged : StepEffect vc before (Judge port) (Answered (judgement_of before picking connection)) (judged_world before port picking connection)
+    effect-judged : StepEffect vc before (Judge port) (Answered (judged_answer before picking connection)) (judged_world before port picking connection)
     effect-judged =
         let alone : Alone = alone_in vc before in
         let later : World = judged_world before port picking connection in
@@ -274,22 +274,22 @@ module _ (vc : Vc) (before : World) (less : (line : ℕ) → length (before.judg
         ] in
         record {
           shape = refl;
-          notes = same-notes (notes_after side_is vc (notes_in vc before) (event_of (Judge port) (Answered (judgement_of before picking connection)))) (notes_in vc later) refl
+          notes = same-notes (notes_after side_is vc (notes_in vc before) (event_of (Judge port) (Answered (judged_answer before picking connection)))) (notes_in vc later) refl
               (λ other. ap (λ (has : ℕ → Bool). has other) (noted-answered vc before port (picked picking) had));
           own = goes-by journal_is (own_where (has_own_in side_is vc (slice_get before.ports port)) (judges port) outcome_is)
               (own_where own (judges port) outcome_is) alone (alone_in vc later) (alone_in vc later)
               (ap (λ b. own_where b (judges port) outcome_is) own_here) refl (choice own refl);
-          counts = λ line. one-more before.judged connection.line verdict_is line;
+          counts = λ line. one-more before.verdicts connection.line verdict_is line;
         }
 
 -- A Judge that succeeds.
-pub effect-judges : (vc : Vc) (before : World) → ((line : ℕ) → length (before.judged line) < 2 ^ 62) → (port : ℕ) (reply : Reply) (after : World)
+pub effect-judges : (vc : Vc) (before : World) → ((line : ℕ) → length (before.verdicts line) < 2 ^ 62) → (port : ℕ) (reply : Reply) (after : World)
     → refusal before (Judge port) ≡ None → Judges before port reply after → StepEffect vc before (Judge port) reply after
 effect-judges vc before less port reply after allowed w =
     let none : picking_refusal before w.picking (connection_in before.connections w.picking.vc) ≡ None =
     unmapped Answered (picking_refusal before w.picking (connection_in before.connections w.picking.vc))
     (subst (λ (o : Option PortState). judge_refusal before o ≡ None) w.had allowed) in
-    effect-at vc before (Judge port) reply (Answered (judgement_of before w.picking w.connection)) after
+    effect-at vc before (Judge port) reply (Answered (judged_answer before w.picking w.connection)) after
     (judged_world before port w.picking w.connection) w.answer w.world
     (effect-judged vc before less port w.picking w.had w.connection w.found none)
 
@@ -300,10 +300,10 @@ effect-not_now vc before step refused e =
       shape = refl;
       notes = refl;
       own = refl;
-      counts = λ line. no-more (before.judged line);
+      counts = λ line. no-more (before.verdicts line);
     })
 
-pub effect-judge_refused : (vc : Vc) (before : World) → ((line : ℕ) → length (before.judged line) < 2 ^ 62) → (port : ℕ) (refused : Reply)
+pub effect-judge_refused : (vc : Vc) (before : World) → ((line : ℕ) → length (before.verdicts line) < 2 ^ 62) → (port : ℕ) (refused : Reply)
     → (o : Option PortState) → slice_get before.ports port ≡ o → judge_refusal before o ≡ Some refused
     → StepEffect vc before (Judge port) refused (left_by_judge before port o)
 effect-judge_refused vc before less port refused None at e = effect-not_now vc before (Judge port) refused e
@@ -332,15 +332,15 @@ effect-unknown vc before port cell moment had none =
     let outcome : Outcome = was_not_judged UnknownCell in
     let next : Alone = record alone { places = with_at alone.places port idle } in
     let own_here : has_own_in side vc (slice_get before.ports port) ≡ own = ap (has_own_in side vc) had in
-    let at : alone.places port ≡ cond own (came cell moment) idle = ap (place_of side vc before.given (connection_in before.connections vc)) had in
+    let at : alone.places port ≡ cond own (came cell moment) idle = ap (place_of side vc before.loaded (connection_in before.connections vc)) had in
     let choice : (b : Bool) → own ≡ b → Goes before.shape.journal (own_where b (looks_up port) outcome) alone next = elim [
       | true ↦ λ e.
-          let standing : alone.connection ≡ None =
-          ap (option_map (standing_of before.given)) (found-same before.connections vc (vc_of side cell) None e none) in
+          let own_connection : alone.connection ≡ None =
+          ap (option_map (own_connection_of before.loaded)) (found-same before.connections vc (vc_of side cell) None e none) in
           record {
             fits = ap is_idle (at ∙ ap (λ b. cond b (came cell moment) idle) e);
-            outcome = sym (ap found_alone standing);
-            next = (idle, subst (λ (c : Option Standing). LooksUp c (alone.places port) idle) (sym standing) refl, refl);
+            outcome = sym (ap found_alone own_connection);
+            next = (idle, subst (λ (c : Option OwnConnection). LooksUp c (alone.places port) idle) (sym own_connection) refl, refl);
           }
       | false ↦ λ e.
           ap (λ (p : ℕ → Place). record alone { places = p })
@@ -354,7 +354,7 @@ effect-unknown vc before port cell moment had none =
           (own_where own (looks_up port) outcome) alone next (alone_in vc later)
           (ap (λ b. own_where b (looks_up port) outcome) own_here)
           (places-set vc before port (entered cell moment) outside had) (choice own refl);
-      counts = λ line. no-more (before.judged line);
+      counts = λ line. no-more (before.verdicts line);
     }
 
 pub effect-pick_refused : (vc : Vc) (before : World) (port : ℕ) (refused : Reply) → (o : Option PortState) → slice_get before.ports port ≡ o

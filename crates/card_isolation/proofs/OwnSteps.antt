@@ -34,10 +34,10 @@ pub record OwnStep (vc : Vc) (before : World) (step : Step) (reply : Reply) (aft
   pub outcome : Outcome
   pub event : own_event before.shape.side vc (notes_in vc before) reply step ≡ Some (event_with act outcome)
   pub apart : (other : Vc) → is_same_vc other vc ≡ false → own_event before.shape.side other (notes_in other before) reply step ≡ None
-  pub given : after.given ≡ before.given
+  pub loaded : after.loaded ≡ before.loaded
   pub live : after.live ≡ before.live
   pub holding : holding_of vc after ≡ holds (holding_of vc before)
-  pub used : after.used ≡ before.used + more
+  pub incarnations : after.incarnations ≡ before.incarnations + more
   pub others : (other : Vc) → is_same_vc other vc ≡ false
       → connection_in after.connections other ≡ connection_in before.connections other
   pub ports : (kept : Vc → Bool) → kept vc ≡ true → HasOnlyKept before.shape.side kept before.ports
@@ -79,10 +79,10 @@ own-enters vc before port cell moment reply after own was w =
       event = ap (λ b. own_where b (enters port cell moment) done) own;
       apart = λ other apart.
           ap (λ b. own_where b (enters port cell moment) done) (away vc (vc_of before.shape.side cell) other own apart);
-      given = refl;
+      loaded = refl;
       live = refl;
       holding = refl;
-      used = omega (arith);
+      incarnations = omega (arith);
       others = λ other apart. refl;
       ports = λ kept is.
           only-kept-set before.shape.side kept before.ports port outside (entered cell moment) was
@@ -91,43 +91,43 @@ own-enters vc before port cell moment reply after own was w =
 
 pub own-sets_up : (vc : Vc) (before : World) (ask : Ask) (reply : Reply) (after : World) → is_same_vc vc ask.vc ≡ true
     → (w : SetsUp before ask reply after)
-    → OwnStep vc before (Setup ask) reply after (sets_up ask.contracts.items (code_in before.given ask.program)) (new_holding w.line ask.program) 1
+    → OwnStep vc before (Setup ask) reply after (sets_up ask.contracts.items (code_in before.loaded ask.program)) (new_holding w.line ask.program) 1
 own-sets_up vc before ask reply after own w =
-    let new : Connection = new_connection ask w.line (before.used + 1) in
-    let act : Act = sets_up ask.contracts.items (code_in before.given ask.program) in
-    own-at vc before (Setup ask) reply (SetUp (record { vc = ask.vc; incarnation = before.used + 1 })) after
-    (record before { connections = with_connection before.connections ask.vc new; used = before.used + 1 }) act (new_holding w.line ask.program) 1
+    let new : Connection = new_connection ask w.line (before.incarnations + 1) in
+    let act : Act = sets_up ask.contracts.items (code_in before.loaded ask.program) in
+    own-at vc before (Setup ask) reply (SetUp (record { vc = ask.vc; incarnation = before.incarnations + 1 })) after
+    (record before { connections = with_connection before.connections ask.vc new; incarnations = before.incarnations + 1 }) act (new_holding w.line ask.program) 1
     w.answer w.world (record {
       outcome = done;
       event = ap (λ b. own_where b act done) own;
       apart = λ other apart. ap (λ b. own_where b act done) (away vc ask.vc other own apart);
-      given = refl;
+      loaded = refl;
       live = refl;
       holding = ap (option_map held) (with-here before.connections ask.vc vc new own);
-      used = refl;
+      incarnations = refl;
       others = λ other apart. with-others before.connections ask.vc other new (away vc ask.vc other own apart);
       ports = λ kept is only. only;
     })
 
 pub own-reloads : (vc : Vc) (before : World) (other : Vc) (program : Id) (reply : Reply) (after : World) → is_same_vc vc other ≡ true
     → Reloads before other program reply after
-    → OwnStep vc before (Reload other program) reply after (reloads (code_in before.given program)) (new_program program) 0
+    → OwnStep vc before (Reload other program) reply after (reloads (code_in before.loaded program)) (new_program program) 0
 own-reloads vc before other program reply after own w =
     let new : Connection = record w.connection { program = program } in
-    let act : Act = reloads (code_in before.given program) in
+    let act : Act = reloads (code_in before.loaded program) in
     own-at vc before (Reload other program) reply (Reloaded w.connection.program) after
     (record before { connections = with_connection before.connections other new }) act (new_program program) 0
     w.answer w.world (record {
-      outcome = named_before (code_in before.given w.connection.program);
-      event = ap (λ b. own_where b act (named_before (code_in before.given w.connection.program))) own;
+      outcome = named_before (code_in before.loaded w.connection.program);
+      event = ap (λ b. own_where b act (named_before (code_in before.loaded w.connection.program))) own;
       apart = λ another apart.
-          ap (λ b. own_where b act (named_before (code_in before.given w.connection.program))) (away vc other another own apart);
-      given = refl;
+          ap (λ b. own_where b act (named_before (code_in before.loaded w.connection.program))) (away vc other another own apart);
+      loaded = refl;
       live = refl;
       holding = ap (option_map held) (with-here before.connections other vc new own)
           ∙ sym (ap (λ (o : Option Connection). new_program program (option_map held o))
           (found-same before.connections vc other (Some w.connection) own w.found));
-      used = omega (arith);
+      incarnations = omega (arith);
       others = λ another apart. with-others before.connections other another new (away vc other another own apart);
       ports = λ kept is only. only;
     })
@@ -135,18 +135,18 @@ own-reloads vc before other program reply after own w =
 pub own-cuts : (vc : Vc) (before : World) (other : Vc) (reply : Reply) (after : World) → is_same_vc vc other ≡ true
     → Cuts before other reply after → OwnStep vc before (Cut other) reply after cuts same_holding 0
 own-cuts vc before other reply after own w =
-    let new : Connection = record w.connection { handed = length w.connection.history } in
+    let new : Connection = record w.connection { returned = length w.connection.history } in
     own-at vc before (Cut other) reply (CutOff w.piece) after
     (record before { connections = with_connection before.connections other new }) cuts same_holding 0
     w.answer w.world (record {
       outcome = outcome_of_piece w.piece;
       event = ap (λ b. own_where b cuts (outcome_of_piece w.piece)) own;
       apart = λ another apart. ap (λ b. own_where b cuts (outcome_of_piece w.piece)) (away vc other another own apart);
-      given = refl;
+      loaded = refl;
       live = refl;
       holding = ap (option_map held) (with-here before.connections other vc new own)
           ∙ sym (ap (option_map held) (found-same before.connections vc other (Some w.connection) own w.found));
-      used = omega (arith);
+      incarnations = omega (arith);
       others = λ another apart. with-others before.connections other another new (away vc other another own apart);
       ports = λ kept is only. only;
     })
@@ -160,11 +160,11 @@ own-releases vc before other reply after own w =
       outcome = outcome_of_piece w.piece;
       event = ap (λ b. own_where b releases (outcome_of_piece w.piece)) own;
       apart = λ another apart. ap (λ b. own_where b releases (outcome_of_piece w.piece)) (away vc other another own apart);
-      given = refl;
+      loaded = refl;
       live = refl;
       holding = ap (option_map held)
           (found-same (without_connection before.connections other) vc other None own (without-here before.connections other));
-      used = omega (arith);
+      incarnations = omega (arith);
       others = λ another apart. without-others before.connections other another (away vc other another own apart);
       ports = λ kept is only. only;
     })
@@ -185,10 +185,10 @@ own-picks vc before port reply after here w =
       outcome = outcome;
       event = event ∙ ap (λ b. own_where b (looks_up port) outcome) had_own;
       apart = λ other apart. none-picked side other (notes_in other before) port (not_theirs other apart) answered;
-      given = refl;
+      loaded = refl;
       live = refl;
       holding = refl;
-      used = omega (arith);
+      incarnations = omega (arith);
       others = λ other apart. refl;
       ports = λ kept is. only-kept-set side kept before.ports port (entered here.cell here.moment) state here.had (fits kept is);
     } in
@@ -212,7 +212,7 @@ own-picks vc before port reply after here w =
           let none = no-connection (connection_in before.connections (vc_of side here.cell)) refused at in
           own-at vc before (Pick port) reply (Answered UnknownCell) after (with_port before port outside) (looks_up port) same_holding 0
           (w.answer ∙ none.1) (w.world ∙ ap (left_by_pick before port) here.had)
-          (moved outside (Answered UnknownCell) (outcome_of before.given UnknownCell) refl (λ kept is none. refl))
+          (moved outside (Answered UnknownCell) (outcome_of before.loaded UnknownCell) refl (λ kept is none. refl))
     ] in
     choice (refusal before (Pick port)) refl w
 
@@ -225,18 +225,18 @@ own-judges vc before port reply after here w =
     let had_own : has_own_in side vc (slice_get before.ports port) ≡ true = ap (has_own_in side vc) here.had ∙ here.own in
     let not_theirs : (other : Vc) → is_same_vc other vc ≡ false → has_own_in side other (slice_get before.ports port) ≡ false = λ other apart.
     ap (has_own_in side other) here.had ∙ away vc here.picking.vc other here.own apart in
-    let answered : (answer : Answer) (later : World) → later.given ≡ before.given → later.live ≡ before.live
-    → holding_of vc later ≡ holding_of vc before → later.used ≡ before.used
+    let answered : (answer : Answer) (later : World) → later.loaded ≡ before.loaded → later.live ≡ before.live
+    → holding_of vc later ≡ holding_of vc before → later.incarnations ≡ before.incarnations
     → ((other : Vc) → is_same_vc other vc ≡ false → connection_in later.connections other ≡ connection_in before.connections other)
     → later.ports ≡ set before.ports port outside
     → OwnStep vc before (Judge port) (Answered answer) later (judges port) same_holding 0 = λ answer later given live holding used others ports. record {
-      outcome = outcome_of before.given answer;
-      event = ap (λ b. own_where b (judges port) (outcome_of before.given answer)) had_own;
+      outcome = outcome_of before.loaded answer;
+      event = ap (λ b. own_where b (judges port) (outcome_of before.loaded answer)) had_own;
       apart = λ other apart. none-judged side other (notes_in other before) port (not_theirs other apart) (Answered answer);
-      given = given;
+      loaded = given;
       live = live;
       holding = holding;
-      used = omega (arith, used);
+      incarnations = omega (arith, used);
       others = others;
       ports = λ kept is only.
           subst (λ (l : List PortState). HasOnlyKept side kept l) (sym ports)

@@ -6,7 +6,7 @@ use Rattle.card_isolation.specs.Outcome.{Outcome}
 use Rattle.card_isolation.specs.OwnEvents.{OwnEvent}
 use Rattle.card_isolation.specs.ByArrival.{Arrivals, arrivals_after, with_number, by_arrival_after}
 use Rattle.card_isolation.proofs.Basics.{with_at}
-use Rattle.card_isolation.proofs.Alone.{Standing, Place, idle, came, looked, Alone, ended, outcome_at, judged_at, piece_alone, found_alone, named_outcome, set_up, reloaded, cut_off, LooksUp, is_idle, Does, Plays}
+use Rattle.card_isolation.proofs.Alone.{OwnConnection, Place, idle, came, looked, Alone, ended, outcome_at, judged_at, piece_alone, found_alone, named_outcome, set_up, reloaded, cut_off, LooksUp, is_idle, Does, Plays}
 
 -- A function at the number that was written, and at another.
 
@@ -25,7 +25,7 @@ pub record Matches (arrivals : Arrivals) (ports numbers : Alone) : Type 0 where
       → arrivals.latest one ≡ arrivals.latest other → one ≡ other
 
 -- The connection changed, and no port did.
-with-connection : (arrivals : Arrivals) (ports numbers : Alone) (one other : Option Standing) → other ≡ one → Matches arrivals ports numbers
+with-connection : (arrivals : Arrivals) (ports numbers : Alone) (one other : Option OwnConnection) → other ≡ one → Matches arrivals ports numbers
     → Matches arrivals (record ports { connection = one }) (record numbers { connection = other })
 with-connection arrivals ports numbers one other same m = record {
   connection = same;
@@ -35,7 +35,7 @@ with-connection arrivals ports numbers one other same m = record {
 }
 
 -- The cell of a port changed, and so did that of its number.
-with-place : (arrivals : Arrivals) (ports numbers : Alone) (one other : Option Standing) (port : ℕ) (place : Place) → other ≡ one
+with-place : (arrivals : Arrivals) (ports numbers : Alone) (one other : Option OwnConnection) (port : ℕ) (place : Place) → other ≡ one
     → is_idle (ports.places port) ≡ false → Matches arrivals ports numbers
     → Matches arrivals (record { connection = one; places = with_at ports.places port place })
     (record { connection = other; places = with_at numbers.places (arrivals.latest port) place })
@@ -141,10 +141,10 @@ does-too journal arrivals ports numbers (sets_up contracts code) outcome after m
 }
 does-too journal arrivals ports numbers (reloads code) outcome after m does = record {
   next = record numbers { connection = reloaded numbers.connection code };
-  does = record { fits = tt; outcome = does.outcome ∙ sym (ap (λ (c : Option Standing). named_outcome c) m.connection); next = refl };
+  does = record { fits = tt; outcome = does.outcome ∙ sym (ap (λ (c : Option OwnConnection). named_outcome c) m.connection); next = refl };
   matching = subst (λ (a : Alone). Matches arrivals a (record numbers { connection = reloaded numbers.connection code })) (sym does.next)
       (with-connection arrivals ports numbers (reloaded ports.connection code) (reloaded numbers.connection code)
-      (ap (λ (c : Option Standing). reloaded c code) m.connection) m);
+      (ap (λ (c : Option OwnConnection). reloaded c code) m.connection) m);
 }
 does-too journal arrivals ports numbers releases outcome after m does = record {
   next = record { connection = None; places = λ number. ended (numbers.places number) };
@@ -168,7 +168,7 @@ does-too journal arrivals ports numbers (looks_up port) outcome after m does =
     let place : Place = does.next.0 in
     let at : numbers.places (arrivals.latest port) ≡ ports.places port = m.places port does.fits in
     let looks : LooksUp numbers.connection (numbers.places (arrivals.latest port)) place =
-    subst (λ (c : Option Standing). LooksUp c (numbers.places (arrivals.latest port)) place) (sym m.connection)
+    subst (λ (c : Option OwnConnection). LooksUp c (numbers.places (arrivals.latest port)) place) (sym m.connection)
     (subst (λ (p : Place). LooksUp ports.connection p place) (sym at) does.next.1) in
     let next : Alone = record numbers { places = with_at numbers.places (arrivals.latest port) place } in
     record {
@@ -184,7 +184,7 @@ does-too journal arrivals ports numbers (looks_up port) outcome after m does =
 does-too journal arrivals ports numbers (judges port) outcome after m does =
     let at : numbers.places (arrivals.latest port) ≡ ports.places port = m.places port does.fits in
     let longer : judged_at journal numbers.connection (numbers.places (arrivals.latest port)) ≡ judged_at journal ports.connection (ports.places port) =
-    ap (λ (c : Option Standing). judged_at journal c (numbers.places (arrivals.latest port))) m.connection
+    ap (λ (c : Option OwnConnection). judged_at journal c (numbers.places (arrivals.latest port))) m.connection
     ∙ ap (judged_at journal ports.connection) at in
     let next : Alone = record {
       connection = judged_at journal numbers.connection (numbers.places (arrivals.latest port));
@@ -195,7 +195,7 @@ does-too journal arrivals ports numbers (judges port) outcome after m does =
       does = record {
         fits = ap is_idle at ∙ does.fits;
         outcome = does.outcome
-            ∙ sym (ap (λ (c : Option Standing). outcome_at journal c (numbers.places (arrivals.latest port))) m.connection
+            ∙ sym (ap (λ (c : Option OwnConnection). outcome_at journal c (numbers.places (arrivals.latest port))) m.connection
             ∙ ap (outcome_at journal ports.connection) at);
         next = refl;
       };

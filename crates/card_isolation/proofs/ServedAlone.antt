@@ -10,7 +10,7 @@ use Rattle.card_core.specs.declared.shape.Shape.{Shape}
 use Rattle.card_core.specs.World.{World, PortState, outside, opening_world}
 use Rattle.card_core.specs.Log.{Event, Run, Leads}
 use Rattle.card_core.proofs.Public.{worlds-sound, log-goes_on}
-use Rattle.card_isolation.specs.OwnEvents.{OwnEvent, Notes, notes_after, own_event, behind, own_events_after, opening_notes}
+use Rattle.card_isolation.specs.OwnEvents.{OwnEvent, Notes, notes_after, own_event, with_event, own_events_after, opening_notes}
 use Rattle.card_isolation.specs.Restriction.{is_for_no_other_than, LeavesOutSteps, AreServedAlike, KeptConnectionsAreServedAlike, EachIsServedAsAlone}
 use Rattle.card_isolation.proofs.Views.{event_of, notes_in, StepEffect, same-notes}
 use Rattle.card_isolation.proofs.Steps.{HasJudgedFew, step-effect}
@@ -37,15 +37,15 @@ left-out event log (first ∷ later) leaves = inr leaves
 -- The own events of a log are that of its first event, if it is one, and those of the rest.
 first-own : (side : Side) (vc : Vc) (notes after : Notes) (event : Event) (later : List Event) (own : Option OwnEvent)
     → own_event side vc notes event.reply event.step ≡ own → notes_after side vc notes event ≡ after
-    → own_events_after side vc notes (event ∷ later) ≡ behind own (own_events_after side vc after later)
+    → own_events_after side vc notes (event ∷ later) ≡ with_event own (own_events_after side vc after later)
 first-own side vc notes after event later own is noted =
-    ap (λ (o : Option OwnEvent). behind o (own_events_after side vc (notes_after side vc notes event) later)) is
-    ∙ ap (λ (n : Notes). behind own (own_events_after side vc n later)) noted
+    ap (λ (o : Option OwnEvent). with_event o (own_events_after side vc (notes_after side vc notes event) later)) is
+    ∙ ap (λ (n : Notes). with_event own (own_events_after side vc n later)) noted
 
 module _ (kept : Vc → Bool) (shape : Shape) where
   goes-alone : (so_far own_so_far log : List Event) (world shadow end : World) → Leads shape so_far world → Leads shape own_so_far shadow
       → Run world log end → Shadows kept world shadow → world.shape ≡ shape → (taken : ℕ)
-      → ((line : ℕ) → length (world.judged line) ≤ taken) → ((line : ℕ) → length (shadow.judged line) ≤ taken)
+      → ((line : ℕ) → length (world.verdicts line) ≤ taken) → ((line : ℕ) → length (shadow.verdicts line) ≤ taken)
       → taken + length log ≤ 2 ^ 62 → GoesAlone shape kept world shadow log
   goes-alone so_far own_so_far [] world shadow end leads leads_too run s is taken counted counted_too within = record {
     restricted = [];
@@ -64,7 +64,7 @@ module _ (kept : Vc → Bool) (shape : Shape) where
       let effect : (vc : Vc) → StepEffect vc world event.step event.reply next = λ vc. step-effect vc world event.step event.reply next sound few run.1 in
       let leads_next : Leads shape (so_far ++ event ∷ []) next =
       log-goes_on (opening_world shape) world next so_far event.step event.reply leads run.1 in
-      let counted_next : (line : ℕ) → length (next.judged line) ≤ suc taken = λ line. omega (arith, (effect (any_vc world)).counts line, counted line) in
+      let counted_next : (line : ℕ) → length (next.verdicts line) ≤ suc taken = λ line. omega (arith, (effect (any_vc world)).counts line, counted line) in
       let is_next : next.shape ≡ shape = (effect (any_vc world)).shape ∙ is in
       let noted : (vc : Vc) → notes_after shape.side vc (notes_in vc world) event ≡ notes_in vc next = λ vc.
       subst (λ (x : Shape). notes_after x.side vc (notes_in vc world) event ≡ notes_in vc next) is (effect vc).notes in
@@ -118,7 +118,7 @@ module _ (kept : Vc → Bool) (shape : Shape) where
                   (subst (λ (x : Shape). is_for_no_other_than x.side kept event.step ≡ true) is only_kept) rest.only_kept;
               same = λ vc is_kept.
                   first-own shape.side vc (notes_in vc shadow) (notes_in vc later) event_too rest.restricted (own vc) (one_here vc is_kept) (noted_too vc)
-                  ∙ ap (behind (own vc)) (rest.same vc is_kept)
+                  ∙ ap (with_event (own vc)) (rest.same vc is_kept)
                   ∙ sym (first-own shape.side vc (notes_in vc world) (notes_in vc next) event log (own vc) refl (noted vc));
             }
       ]
@@ -131,11 +131,11 @@ all-outside (suc ports) (suc port) state e = all-outside ports port state e
 opening-shadows : (kept : Vc → Bool) (shape : Shape) → Shadows kept (opening_world shape) (opening_world shape)
 opening-shadows kept shape = record {
   shape = refl;
-  given = refl;
+  loaded = refl;
   live = refl;
   alone = λ vc is. refl;
   holding = λ vc is. refl;
-  used = omega (arith);
+  incarnations = omega (arith);
   others = λ vc isnt. refl;
   ports = λ port state at none. all-outside shape.ports port state at;
 }

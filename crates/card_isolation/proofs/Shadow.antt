@@ -55,11 +55,11 @@ HasOnlyKept side kept ports = (port : ℕ) (state : PortState) → slice_get por
 
 pub record Shadows (kept : Vc → Bool) (world shadow : World) : Type 0 where
   pub shape : shadow.shape ≡ world.shape
-  pub given : shadow.given ≡ world.given
+  pub loaded : shadow.loaded ≡ world.loaded
   pub live : shadow.live ≡ world.live
   pub alone : (vc : Vc) → kept vc ≡ true → alone_in vc shadow ≡ alone_in vc world
   pub holding : (vc : Vc) → kept vc ≡ true → holding_of vc shadow ≡ holding_of vc world
-  pub used : shadow.used ≤ world.used
+  pub incarnations : shadow.incarnations ≤ world.incarnations
   pub others : (vc : Vc) → kept vc ≡ false → connection_in shadow.connections vc ≡ None
   pub ports : HasOnlyKept shadow.shape.side kept shadow.ports
 
@@ -138,9 +138,9 @@ own-place side vc given found (Some (picked picking)) =
 same-own : (vc : Vc) (world shadow : World) → alone_in vc shadow ≡ alone_in vc world → (port : ℕ)
     → has_own_in shadow.shape.side vc (slice_get shadow.ports port) ≡ has_own_in world.shape.side vc (slice_get world.ports port)
 same-own vc world shadow alone port =
-    own-place shadow.shape.side vc shadow.given (connection_in shadow.connections vc) (slice_get shadow.ports port)
+    own-place shadow.shape.side vc shadow.loaded (connection_in shadow.connections vc) (slice_get shadow.ports port)
     ∙ ap (λ (a : Alone). not (is_idle (a.places port))) alone
-    ∙ sym (own-place world.shape.side vc world.given (connection_in world.connections vc) (slice_get world.ports port))
+    ∙ sym (own-place world.shape.side vc world.loaded (connection_in world.connections vc) (slice_get world.ports port))
 
 -- If a port of the world has no cell of a kept connection, the shadow's port has no cell.
 pub none-too : (kept : Vc → Bool) (world shadow : World) → Shadows kept world shadow → (port : ℕ)
@@ -179,7 +179,7 @@ pub record HasPicked (vc : Vc) (world : World) (port : ℕ) : Type 0 where
   pub own : is_same_vc vc picking.vc ≡ true
 
 came-entered : (vc : Vc) (world : World) (port : ℕ) → (o : Option PortState) → slice_get world.ports port ≡ o
-    → is_came (place_of world.shape.side vc world.given (connection_in world.connections vc) o) ≡ true → HasEntered vc world port
+    → is_came (place_of world.shape.side vc world.loaded (connection_in world.connections vc) o) ≡ true → HasEntered vc world port
 came-entered vc world port None at e = absurd (cc)
 came-entered vc world port (Some outside) at e = absurd (cc)
 came-entered vc world port (Some (entered cell moment)) at e =
@@ -202,7 +202,7 @@ is_looked (came cell moment) = false
 is_looked (looked cell moment value code current) = true
 
 looked-picked : (vc : Vc) (world : World) (port : ℕ) → (o : Option PortState) → slice_get world.ports port ≡ o
-    → is_looked (place_of world.shape.side vc world.given (connection_in world.connections vc) o) ≡ true → HasPicked vc world port
+    → is_looked (place_of world.shape.side vc world.loaded (connection_in world.connections vc) o) ≡ true → HasPicked vc world port
 looked-picked vc world port None at e = absurd (cc)
 looked-picked vc world port (Some outside) at e = absurd (cc)
 looked-picked vc world port (Some (entered cell moment)) at e =
@@ -223,15 +223,15 @@ looked-picked vc world port (Some (picked picking)) at e =
 pub entered-too : (vc : Vc) (world shadow : World) → alone_in vc shadow ≡ alone_in vc world → (port : ℕ) → HasEntered vc world port → HasEntered vc shadow port
 entered-too vc world shadow alone port here =
     let place : is_came ((alone_in vc world).places port) ≡ true =
-    ap (λ (o : Option PortState). is_came (place_of world.shape.side vc world.given (connection_in world.connections vc) o)) here.had
+    ap (λ (o : Option PortState). is_came (place_of world.shape.side vc world.loaded (connection_in world.connections vc) o)) here.had
     ∙ ap (λ b. is_came (cond b (came here.cell here.moment) idle)) here.own in
     came-entered vc shadow port (slice_get shadow.ports port) refl (ap (λ (a : Alone). is_came (a.places port)) alone ∙ place)
 
 pub picked-too : (vc : Vc) (world shadow : World) → alone_in vc shadow ≡ alone_in vc world → (port : ℕ) → HasPicked vc world port → HasPicked vc shadow port
 picked-too vc world shadow alone port here =
     let place : is_looked ((alone_in vc world).places port) ≡ true =
-    ap (λ (o : Option PortState). is_looked (place_of world.shape.side vc world.given (connection_in world.connections vc) o)) here.had
-    ∙ ap (λ b. is_looked (cond b (looked here.picking.cell here.picking.moment here.picking.value (code_in world.given here.picking.program)
+    ap (λ (o : Option PortState). is_looked (place_of world.shape.side vc world.loaded (connection_in world.connections vc) o)) here.had
+    ∙ ap (λ b. is_looked (cond b (looked here.picking.cell here.picking.moment here.picking.value (code_in world.loaded here.picking.program)
     (is_current (connection_in world.connections vc) here.picking)) idle)) here.own in
     looked-picked vc shadow port (slice_get shadow.ports port) refl (ap (λ (a : Alone). is_looked (a.places port)) alone ∙ place)
 

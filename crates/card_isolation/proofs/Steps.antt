@@ -20,7 +20,7 @@ use Rattle.card_isolation.proofs.DeskSteps.{effect-loads, effect-retires, effect
 
 -- No line is full of judged cells.
 abbrev pub HasJudgedFew : World → Type 0
-HasJudgedFew world = (line : ℕ) → length (world.judged line) < 2 ^ 62
+HasJudgedFew world = (line : ℕ) → length (world.verdicts line) < 2 ^ 62
 
 succeeded : (vc : Vc) (before : World) (step : Step) (reply : Reply) (after : World) → WorldInvariant before → HasJudgedFew before
     → refusal before step ≡ None → Succeeds before step reply after → StepEffect vc before step reply after
@@ -41,7 +41,7 @@ refused-effect vc before step fault = record {
   shape = refl;
   notes = refl;
   own = refl;
-  counts = λ line. no-more (before.judged line);
+  counts = λ line. no-more (before.verdicts line);
 }
 
 desk-refused : (vc : Vc) (before : World) (step : Step) (fault : Option DeskFault) (refused : Reply)
@@ -64,7 +64,7 @@ rejected vc before (Enter port cell moment) refused reply after few e w =
       shape = refl;
       notes = refl;
       own = refl;
-      counts = λ line. no-more (before.judged line);
+      counts = λ line. no-more (before.verdicts line);
     })
 rejected vc before (Pick port) refused reply after few e w =
     effect-at vc before (Pick port) reply refused after _ w.answer w.world
@@ -78,7 +78,7 @@ rejected vc before (Load code) refused reply after few e w =
       shape = refl;
       notes = refl;
       own = refl;
-      counts = λ line. no-more (before.judged line);
+      counts = λ line. no-more (before.verdicts line);
     })
 rejected vc before (Retire id) refused reply after few e w =
     effect-at vc before (Retire id) reply refused after before w.answer w.world
@@ -89,7 +89,7 @@ rejected vc before (Setup ask) refused reply after few e w =
       shape = refl;
       notes = refl;
       own = refl;
-      counts = λ line. no-more (before.judged line);
+      counts = λ line. no-more (before.verdicts line);
     })
 rejected vc before (Reload other program) refused reply after few e w =
     effect-at vc before (Reload other program) reply refused after before w.answer w.world
@@ -109,7 +109,7 @@ starved vc before (Setup ask) reply after w =
       shape = refl;
       notes = refl;
       own = refl;
-      counts = λ line. no-more (before.judged line);
+      counts = λ line. no-more (before.verdicts line);
     })
 starved vc before (Cut other) reply after w =
     effect-at vc before (Cut other) reply (Refused NoMemory) after before (sym (same_Some (Refused NoMemory) reply w.answer)) w.world

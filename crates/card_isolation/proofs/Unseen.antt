@@ -22,10 +22,10 @@ use Rattle.card_isolation.proofs.Shadow.{held, holding_of, has_kept_in, none-kep
 -- The step is no event of a kept connection, and changes neither the programs nor what kept connections hold.
 pub record IsUnseen (kept : Vc → Bool) (before : World) (step : Step) (reply : Reply) (after : World) : Type 0 where
   pub none : (vc : Vc) → kept vc ≡ true → own_event before.shape.side vc (notes_in vc before) reply step ≡ None
-  pub given : after.given ≡ before.given
+  pub loaded : after.loaded ≡ before.loaded
   pub live : after.live ≡ before.live
   pub holding : (vc : Vc) → kept vc ≡ true → holding_of vc after ≡ holding_of vc before
-  pub used : before.used ≤ after.used
+  pub incarnations : before.incarnations ≤ after.incarnations
 
 -- The reply and the world after a step, replaced by equal ones.
 pub unseen-at : (kept : Vc → Bool) (before : World) (step : Step) (one other : Reply) (after later : World)
@@ -42,24 +42,24 @@ module _ (kept : Vc → Bool) (before : World) where
   unseen-enters port cell moment reply after other w =
       unseen-at kept before (Enter port cell moment) reply Entered after (with_port before port (entered cell moment)) w.answer w.world (record {
         none = λ vc is. ap (λ b. own_where b (enters port cell moment) done) (are-apart kept vc (vc_of before.shape.side cell) true is other);
-        given = refl;
+        loaded = refl;
         live = refl;
         holding = λ vc is. refl;
-        used = omega (arith);
+        incarnations = omega (arith);
       })
 
   pub unseen-sets_up : (ask : Ask) (reply : Reply) (after : World) → kept ask.vc ≡ false → SetsUp before ask reply after
       → IsUnseen kept before (Setup ask) reply after
   unseen-sets_up ask reply after other w =
-      let new : Connection = new_connection ask w.line (before.used + 1) in
-      unseen-at kept before (Setup ask) reply (SetUp (record { vc = ask.vc; incarnation = before.used + 1 })) after
-      (record before { connections = with_connection before.connections ask.vc new; used = before.used + 1 }) w.answer w.world (record {
+      let new : Connection = new_connection ask w.line (before.incarnations + 1) in
+      unseen-at kept before (Setup ask) reply (SetUp (record { vc = ask.vc; incarnation = before.incarnations + 1 })) after
+      (record before { connections = with_connection before.connections ask.vc new; incarnations = before.incarnations + 1 }) w.answer w.world (record {
         none = λ vc is.
-            ap (λ b. own_where b (sets_up ask.contracts.items (code_in before.given ask.program)) done) (are-apart kept vc ask.vc true is other);
-        given = refl;
+            ap (λ b. own_where b (sets_up ask.contracts.items (code_in before.loaded ask.program)) done) (are-apart kept vc ask.vc true is other);
+        loaded = refl;
         live = refl;
         holding = λ vc is. ap (option_map held) (with-others before.connections ask.vc vc new (are-apart kept vc ask.vc true is other));
-        used = omega (arith);
+        incarnations = omega (arith);
       })
 
   pub unseen-reloads : (other : Vc) (program : Id) (reply : Reply) (after : World) → kept other ≡ false
@@ -69,25 +69,25 @@ module _ (kept : Vc → Bool) (before : World) where
       unseen-at kept before (Reload other program) reply (Reloaded w.connection.program) after
       (record before { connections = with_connection before.connections other new }) w.answer w.world (record {
         none = λ vc is.
-            ap (λ b. own_where b (reloads (code_in before.given program)) (named_before (code_in before.given w.connection.program)))
+            ap (λ b. own_where b (reloads (code_in before.loaded program)) (named_before (code_in before.loaded w.connection.program)))
             (are-apart kept vc other true is isnt);
-        given = refl;
+        loaded = refl;
         live = refl;
         holding = λ vc is. ap (option_map held) (with-others before.connections other vc new (are-apart kept vc other true is isnt));
-        used = omega (arith);
+        incarnations = omega (arith);
       })
 
   pub unseen-cuts : (other : Vc) (reply : Reply) (after : World) → kept other ≡ false
       → Cuts before other reply after → IsUnseen kept before (Cut other) reply after
   unseen-cuts other reply after isnt w =
-      let new : Connection = record w.connection { handed = length w.connection.history } in
+      let new : Connection = record w.connection { returned = length w.connection.history } in
       unseen-at kept before (Cut other) reply (CutOff w.piece) after
       (record before { connections = with_connection before.connections other new }) w.answer w.world (record {
         none = λ vc is. ap (λ b. own_where b cuts (outcome_of_piece w.piece)) (are-apart kept vc other true is isnt);
-        given = refl;
+        loaded = refl;
         live = refl;
         holding = λ vc is. ap (option_map held) (with-others before.connections other vc new (are-apart kept vc other true is isnt));
-        used = omega (arith);
+        incarnations = omega (arith);
       })
 
   pub unseen-releases : (other : Vc) (reply : Reply) (after : World) → kept other ≡ false
@@ -96,10 +96,10 @@ module _ (kept : Vc → Bool) (before : World) where
       unseen-at kept before (Release other) reply (Released w.piece) after
       (record before { connections = without_connection before.connections other }) w.answer w.world (record {
         none = λ vc is. ap (λ b. own_where b releases (outcome_of_piece w.piece)) (are-apart kept vc other true is isnt);
-        given = refl;
+        loaded = refl;
         live = refl;
         holding = λ vc is. ap (option_map held) (without-others before.connections other vc (are-apart kept vc other true is isnt));
-        used = omega (arith);
+        incarnations = omega (arith);
       })
 
 -- Any answer at a port without a cell of the connection.
@@ -120,7 +120,7 @@ abbrev pub unseen-here : (kept : Vc → Bool) (before : World) (step : Step) (re
     → ((vc : Vc) → kept vc ≡ true → own_event before.shape.side vc (notes_in vc before) reply step ≡ None)
     → IsUnseen kept before step reply (record before { ports = ports })
 unseen-here kept before step reply ports none =
-    record { none = none; given = refl; live = refl; holding = λ vc is. refl; used = omega (arith) }
+    record { none = none; loaded = refl; live = refl; holding = λ vc is. refl; incarnations = omega (arith) }
 
 unseen-left_by_pick : (kept : Vc → Bool) (before : World) (port : ℕ) (reply : Reply)
     → ((vc : Vc) → kept vc ≡ true → own_event before.shape.side vc (notes_in vc before) reply (Pick port) ≡ None) → (o : Option PortState)
@@ -171,13 +171,13 @@ unseen-judges kept before port reply after none w =
             let isnt : kept success.picking.vc ≡ false = ap (has_kept_in before.shape.side kept) (sym success.had) ∙ none in
             unseen-at kept before (Judge port) reply reply after _ refl success.world (record {
               none = no_event reply;
-              given = refl;
+              loaded = refl;
               live = refl;
               holding = λ vc is.
                   ap (option_map held)
                   (with-others before.connections success.picking.vc vc (with_cell success.connection (cell_of_picking success.picking))
                   (are-apart kept vc success.picking.vc true is isnt));
-              used = omega (arith);
+              incarnations = omega (arith);
             })
         | inr memory ↦ let no = memory.answer in absurd (cc)
       ]

@@ -11,18 +11,18 @@ use Rattle.card_core.specs.Log.{Event}
 use Rattle.card_isolation.specs.OwnEvents.{OwnEvent, Notes, notes_after, own_event}
 use Rattle.card_isolation.proofs.Basics.{pointwise}
 use Rattle.card_isolation.proofs.Forgotten.{forgotten}
-use Rattle.card_isolation.proofs.Alone.{Standing, Place, idle, came, looked, Alone, Does}
+use Rattle.card_isolation.proofs.Alone.{OwnConnection, Place, idle, came, looked, Alone, Does}
 
 abbrev pub event_of : Step → Reply → Event
 event_of step reply = record { step = step; reply = reply }
 
 -- The connection without the values that it shares with others.
-abbrev pub standing_of : List Loading → Connection → Standing
-standing_of given connection = record {
+abbrev pub own_connection_of : List Loading → Connection → OwnConnection
+own_connection_of given connection = record {
   contracts = connection.contracts;
   code = code_in given connection.program;
   history = map forgotten connection.history;
-  handed = connection.handed;
+  returned = connection.returned;
 }
 
 -- The connection is the one that was looked up.
@@ -48,18 +48,18 @@ has_own_in side vc (Some (picked picking)) = is_same_vc vc picking.vc
 
 abbrev pub alone_of : Side → Vc → List Loading → Option Connection → List PortState → Alone
 alone_of side vc given found ports = record {
-  connection = option_map (standing_of given) found;
+  connection = option_map (own_connection_of given) found;
   places = λ port. place_of side vc given found (slice_get ports port);
 }
 
 -- The connection's part of the world.
 abbrev pub alone_in : Vc → World → Alone
-alone_in vc world = alone_of world.shape.side vc world.given (connection_in world.connections vc) world.ports
+alone_in vc world = alone_of world.shape.side vc world.loaded (connection_in world.connections vc) world.ports
 
 -- The reader's state after a log that leads to the world.
 abbrev pub notes_in : Vc → World → Notes
 notes_in vc world = record {
-  codes = world.given;
+  codes = world.loaded;
   has_own = λ port. has_own_in world.shape.side vc (slice_get world.ports port);
 }
 
@@ -73,7 +73,7 @@ pub record StepEffect (vc : Vc) (before : World) (step : Step) (reply : Reply) (
   pub shape : after.shape ≡ before.shape
   pub notes : notes_after before.shape.side vc (notes_in vc before) (event_of step reply) ≡ notes_in vc after
   pub own : Goes before.shape.journal (own_event before.shape.side vc (notes_in vc before) reply step) (alone_in vc before) (alone_in vc after)
-  pub counts : (line : ℕ) → length (after.judged line) ≤ suc (length (before.judged line))
+  pub counts : (line : ℕ) → length (after.verdicts line) ≤ suc (length (before.verdicts line))
 
 pub no-more : (given : List Verdict) → length given ≤ suc (length given)
 no-more given = omega arith
@@ -94,7 +94,7 @@ same-notes one other codes ports =
 -- States of the connection with equal parts are equal.
 pub same-alone : (one other : Alone) → one.connection ≡ other.connection → one.places ≡ other.places → one ≡ other
 same-alone one other connection places =
-    ap (λ (c : Option Standing). record one { connection = c }) connection
+    ap (λ (c : Option OwnConnection). record one { connection = c }) connection
     ∙ ap (λ (p : ℕ → Place). record other { places = p }) places
 
 -- The event isn't the connection's own, and its part of the world is unchanged.

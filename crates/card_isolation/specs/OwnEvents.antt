@@ -68,15 +68,15 @@ own_event side vc notes (Answered answer) (Judge port) = own_where (notes.has_ow
 own_event side vc notes _ _ = None
 
 -- This event, if there is one, followed by these.
-abbrev pub behind : Option OwnEvent → List OwnEvent → List OwnEvent
-behind None later = later
-behind (Some event) later = event ∷ later
+abbrev pub with_event : Option OwnEvent → List OwnEvent → List OwnEvent
+with_event None later = later
+with_event (Some event) later = event ∷ later
 
 -- The connection's own events among these, from this state of the reader.
 abbrev pub own_events_after : Side → Vc → Notes → List Event → List OwnEvent
 own_events_after side vc notes [] = []
 own_events_after side vc notes (event ∷ later) =
-    behind (own_event side vc notes event.reply event.step) (own_events_after side vc (notes_after side vc notes event) later)
+    with_event (own_event side vc notes event.reply event.step) (own_events_after side vc (notes_after side vc notes event) later)
 
 -- The connection's own events in a whole log.
 abbrev pub own_events : Side → Vc → List Event → List OwnEvent

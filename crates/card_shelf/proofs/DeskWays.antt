@@ -16,7 +16,7 @@ use Rattle.card_isolation.specs.Act.{Act, sets_up, reloads, releases, cuts}
 use Rattle.card_isolation.specs.ByArrival.{Arrivals, opening_arrivals, with_number, by_arrival_after}
 use Rattle.card_isolation.specs.Isolation.{account_of}
 use Rattle.card_isolation.specs.Outcome.{Outcome, done, named_before}
-use Rattle.card_isolation.specs.OwnEvents.{OwnEvent, Notes, opening_notes, own_event, own_where, behind, own_events_after, codes_after}
+use Rattle.card_isolation.specs.OwnEvents.{OwnEvent, Notes, opening_notes, own_event, own_where, with_event, own_events_after, codes_after}
 use Rattle.card_shelf.specs.OneCard.{codes_in}
 use Rattle.card_shelf.specs.Calls.{Service, set_up, reload, release, cut, Grants}
 use Rattle.card_shelf.proofs.Ways.{notes_of, arrivals_of, own-append, notes-codes, numbered-append}
@@ -86,11 +86,11 @@ module _ (side : Side) (vc : Vc) (log : List Event) (event : Event) where
   -- An account goes on by the own event, if it is one.
   goes-on : (own : Option OwnEvent) → own_event side vc Notes_now event.reply event.step ≡ own
       → account_of side vc (log ++ event ∷ [])
-      ≡ account_of side vc log ++ by_arrival_after (arrivals_of opening_arrivals (own_events_after side vc opening_notes log)) (behind own [])
+      ≡ account_of side vc log ++ by_arrival_after (arrivals_of opening_arrivals (own_events_after side vc opening_notes log)) (with_event own [])
   goes-on own is =
       let events = own_events_after side vc opening_notes log in
-      ap (by_arrival_after opening_arrivals) (own-append side vc opening_notes log (event ∷ []) ∙ ap (λ (o : Option OwnEvent). events ++ behind o []) is)
-      ∙ numbered-append opening_arrivals events (behind own [])
+      ap (by_arrival_after opening_arrivals) (own-append side vc opening_notes log (event ∷ []) ∙ ap (λ (o : Option OwnEvent). events ++ with_event o []) is)
+      ∙ numbered-append opening_arrivals events (with_event own [])
 
   -- An event that is no connection's own leaves the account.
   pub not-own : own_event side vc Notes_now event.reply event.step ≡ None → account_of side vc (log ++ event ∷ []) ≡ account_of side vc log

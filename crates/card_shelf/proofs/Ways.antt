@@ -16,7 +16,7 @@ use Rattle.card_isolation.specs.Act.{Act, sets_up, reloads, releases, cuts, ente
 use Rattle.card_isolation.specs.ByArrival.{Arrivals, opening_arrivals, arrivals_after, with_number, by_arrival_after}
 use Rattle.card_isolation.specs.Isolation.{account_of}
 use Rattle.card_isolation.specs.Outcome.{Outcome, done, outcome_of}
-use Rattle.card_isolation.specs.OwnEvents.{OwnEvent, Notes, opening_notes, notes_after, own_event, own_where, behind, own_events_after, codes_after}
+use Rattle.card_isolation.specs.OwnEvents.{OwnEvent, Notes, opening_notes, notes_after, own_event, own_where, with_event, own_events_after, codes_after}
 use Rattle.card_shelf.specs.OneCard.{codes_in}
 
 -- The two ways of a cell.
@@ -35,9 +35,9 @@ abbrev pub arrivals_of : Arrivals → List OwnEvent → Arrivals
 arrivals_of arrivals [] = arrivals
 arrivals_of arrivals (event ∷ later) = arrivals_of (arrivals_after arrivals event.act) later
 
-behind-append : (event : Option OwnEvent) (xs ys : List OwnEvent) → behind event (xs ++ ys) ≡ behind event xs ++ ys
-behind-append None xs ys = refl
-behind-append (Some event) xs ys = refl
+with_event-append : (event : Option OwnEvent) (xs ys : List OwnEvent) → with_event event (xs ++ ys) ≡ with_event event xs ++ ys
+with_event-append None xs ys = refl
+with_event-append (Some event) xs ys = refl
 
 pub own-append : (side : Side) (vc : Vc) (notes : Notes) (log further : List Event)
     → own_events_after side vc notes (log ++ further)
@@ -46,8 +46,8 @@ own-append side vc notes [] further = refl
 own-append side vc notes (event ∷ later) further =
     let own = own_event side vc notes event.reply event.step in
     let next = notes_after side vc notes event in
-    ap (behind own) (own-append side vc next later further)
-    ∙ behind-append own (own_events_after side vc next later) (own_events_after side vc (notes_of side vc next later) further)
+    ap (with_event own) (own-append side vc next later further)
+    ∙ with_event-append own (own_events_after side vc next later) (own_events_after side vc (notes_of side vc next later) further)
 
 pub notes-codes : (side : Side) (vc : Vc) (notes : Notes) (log : List Event)
     → (notes_of side vc notes log).codes ≡ fold (λ (codes : List Loading) (event : Event). codes_after codes event.reply event.step) notes.codes log
@@ -99,13 +99,13 @@ three number cell moment outcome =
     ∷ record { act = judges number; outcome = outcome } ∷ []
 
 where-two : (b : Bool) (one other : Act) (first second : Outcome)
-    → behind (own_where b one first) (behind (own_where b other second) [])
+    → with_event (own_where b one first) (with_event (own_where b other second) [])
     ≡ cond b (record { act = one; outcome = first } ∷ record { act = other; outcome = second } ∷ []) []
 where-two true one other first second = refl
 where-two false one other first second = refl
 
 where-three : (b : Bool) (one other another : Act) (first second third : Outcome)
-    → behind (own_where b one first) (behind (own_where b other second) (behind (own_where b another third) []))
+    → with_event (own_where b one first) (with_event (own_where b other second) (with_event (own_where b another third) []))
     ≡ cond b (record { act = one; outcome = first } ∷ record { act = other; outcome = second } ∷ record { act = another; outcome = third } ∷ []) []
 where-three true one other another first second third = refl
 where-three false one other another first second third = refl

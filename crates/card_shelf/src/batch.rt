@@ -47,8 +47,8 @@ fn place_lists(alloc: Global, cards: usize, most: usize) -> Result<Vec<Vec<usize
     Ok(lists)
 }
 
-/// For each of the cards an empty list of answers, with room for this number of them.
-pub(crate) fn answer_lists(
+/// For each of the cards an empty list of decisions, with room for this number of them.
+pub(crate) fn empty_decision_lists(
     alloc: Global,
     cards: usize,
     most: usize,

@@ -3,7 +3,7 @@
 ghost use Rattle.std.specs.Prelude.{◌≡◌};
 
 use crate::arrival::{Arrival, Decision};
-use crate::batch::{Batch, answer_lists};
+use crate::batch::{Batch, empty_decision_lists};
 use crate::card::Card;
 use crate::running::police_lent;
 use std::alloc::{AllocError, Global};
@@ -49,7 +49,7 @@ impl Room {
         ensures most { IfOk result (λ room. room.most ≡ most) }
         ensures decisions { IfOk result (λ room. room.decisions ≡ []) }
     {
-        let decision_lists = answer_lists(alloc, cards, most)?;
+        let decision_lists = empty_decision_lists(alloc, cards, most)?;
         let batch = Batch::new(alloc, cards, most)?;
         Ok(Room {
             most,

@@ -254,7 +254,9 @@ impl Shelf {
         ensures shape { self.new.shape ≡ self.old.shape }
         ensures unchanged { OnErr result (self.new ≡ self.old) }
     {
-        self.police_cards(rt, alloc, arrivals, threads)
+        let side = self.shape.side;
+        let cards = self.cards.as_mut_slice();
+        police_all(rt, alloc, side, cards, arrivals, threads)
     }
 
     /// Polices arrivals as [`Shelf::police`] does, in room that the caller lends. The answers are in the room afterwards, in
@@ -283,26 +285,6 @@ impl Shelf {
         ensures cards { room.new.cards ≡ room.old.cards }
         ensures unchanged { OnErr result ((self.new ≡ self.old) × (room.new ≡ room.old)) }
     {
-        self.police_room(rt, room, arrivals, threads)
-    }
-
-    /// Polices arrivals in a room. [`Shelf::police_in`] adds that the answers are those of one card.
-    fn police_room<R: Threads + Sync>(
-        &mut self,
-        rt: &R,
-        room: &mut Room,
-        arrivals: &[Arrival],
-        threads: usize,
-    ) -> Result<(), NoRoom>
-        ensures fits { IsOk result ↔ ((length arrivals.now ≤ room.old.most) × (length self.old.cards ≤ room.old.cards)) }
-        ensures refused { IfErr result (IsNoRoom room.old (length arrivals.now) (length self.old.cards)) }
-        ensures batch { OnOk result
-            (PolicesBatch self.old.shape.side self.old.cards arrivals.now room.new.decisions self.new.cards) }
-        ensures shape { self.new.shape ≡ self.old.shape }
-        ensures most { room.new.most ≡ room.old.most }
-        ensures cards { room.new.cards ≡ room.old.cards }
-        ensures unchanged { OnErr result ((self.new ≡ self.old) × (room.new ≡ room.old)) }
-    {
         if arrivals.len() > room.most() {
             return Err(NoRoom::Arrivals);
         }
@@ -312,30 +294,6 @@ impl Shelf {
         let side = self.shape().side;
         room.police(rt, side, self.cards.as_mut_slice(), arrivals, threads);
         Ok(())
-    }
-
-    /// Polices arrivals. [`Shelf::police`] adds that the answers are those of one card, which follows from these clauses.
-    fn police_cards<R: Threads + Sync>(
-        &mut self,
-        rt: &R,
-        alloc: Global,
-        arrivals: &[Arrival],
-        threads: usize,
-    ) -> Result<Vec<Decision>, AllocError>
-        ensures batch { IfOk result (λ decisions.
-            PolicesBatch self.old.shape.side self.old.cards arrivals.now decisions.items self.new.cards) }
-        ensures shape { self.new.shape ≡ self.old.shape }
-        ensures unchanged { OnErr result (self.new ≡ self.old) }
-    {
-        let side = self.shape.side;
-        police_all(
-            rt,
-            alloc,
-            side,
-            self.cards.as_mut_slice(),
-            arrivals,
-            threads,
-        )
     }
 }
 

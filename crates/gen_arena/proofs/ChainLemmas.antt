@@ -82,8 +82,8 @@ module _ {T : Type 0} where
       let slots = map slot_of places in
       let old = slot_of (place_at places first) in
       let full = full_slot ((place_at places first).generation + 1) v in
-      let stands = slot_at places first start.there in
-      let within = slice_get_within slots first old stands in
+      let holds = slot_at places first start.there in
+      let within = slice_get_within slots first old holds in
       let after : map slot_of (set places first new) ≡ set slots first full = rw (map-set, filled) in
       record {
         lawful =
@@ -91,7 +91,7 @@ module _ {T : Type 0} where
             subst IsArena (sym after) (IsArena-set slots first full within sound.lawful (omega (arith, below)) (λ _. omega arith));
         chained = chain-set_before places (place_at places first).next first (count - 1) count new (omega (arith, some)) sound.chained start.later;
         count =
-            let moved = free_slots-set slots first old full stands in
+            let moved = free_slots-set slots first old full holds in
             let one : weight old ≡ 1 = ap one_if start.free in
             let before = sound.count in
             let now : free_slots (map slot_of (set places first new)) ≡ free_slots (set slots first full) = ap free_slots after in
@@ -107,25 +107,25 @@ module _ {T : Type 0} where
   taken_there : (places : List (Place T)) (k generation : ℕ) (v : T) → WasFull places k generation v → free_at places k ≡ false
   taken_there places k generation v was = ap is_free was.full
 
-  pub stood_there : (places : List (Place T)) (k generation : ℕ) (v : T) → WasFull places k generation v → slice_get (map slot_of places) k ≡ Some (full_slot generation v)
-  stood_there places k generation v was = slot_at places k was.there ∙ ap Some was.full
+  pub held_there : (places : List (Place T)) (k generation : ℕ) (v : T) → WasFull places k generation v → slice_get (map slot_of places) k ≡ Some (full_slot generation v)
+  held_there places k generation v was = slot_at places k was.there ∙ ap Some was.full
 
   pub room_for_one : (places : List (Place T)) (first count k generation : ℕ) (v : T) → IsSoundArena places first count → WasFull places k generation v → count < 65535
   room_for_one places first count k generation v sound was =
-      let fewer = not_all_free (map slot_of places) k generation v (stood_there places k generation v was) in
+      let fewer = not_all_free (map slot_of places) k generation v (held_there places k generation v was) in
       omega (arith, fewer, length-map places (slot_of {T = T}), sound.few, sound.count)
 
   emptied_lawful : (places : List (Place T)) (k generation : ℕ) (v : T) (new : Place T) → IsArena (map slot_of places) → WasFull places k generation v → slot_of new ≡ empty_slot generation → IsArena (map slot_of (set places k new))
   emptied_lawful places k generation v new lawful was emptied =
       let slots = map slot_of places in
-      let stands = stood_there places k generation v was in
+      let holds = held_there places k generation v was in
       let after : map slot_of (set places k new) ≡ set slots k (empty_slot generation) = rw (map-set, emptied) in
-      subst IsArena (sym after) (IsArena-set slots k (empty_slot generation) (slice_get_within slots k _ stands) lawful (lawful k _ stands).0 (λ has. absurd (cc)))
+      subst IsArena (sym after) (IsArena-set slots k (empty_slot generation) (slice_get_within slots k _ holds) lawful (lawful k _ holds).0 (λ has. absurd (cc)))
 
   emptied_count : (places : List (Place T)) (k generation : ℕ) (v : T) (new : Place T) → WasFull places k generation v → slot_of new ≡ empty_slot generation → free_slots (map slot_of (set places k new)) ≡ free_slots (map slot_of places) + weight (empty_slot {T = T} generation)
   emptied_count places k generation v new was emptied =
       let slots = map slot_of places in
-      let moved = free_slots-set slots k (full_slot generation v) (empty_slot generation) (stood_there places k generation v was) in
+      let moved = free_slots-set slots k (full_slot generation v) (empty_slot generation) (held_there places k generation v was) in
       let after : map slot_of (set places k new) ≡ set slots k (empty_slot generation) = rw (map-set, emptied) in
       let now : free_slots (map slot_of (set places k new)) ≡ free_slots (set slots k (empty_slot generation)) = ap free_slots after in
       omega (arith, moved, now)
@@ -179,16 +179,16 @@ module _ {T : Type 0} where
       )
 
   all_empty : (n used k : ℕ) (slot : Slot T) → slice_get (unused_slots {T = T} n used) k ≡ Some slot → slot ≡ empty_slot used
-  all_empty n used k slot stands =
-      let within = slice_get_within (unused_slots {T = T} n used) k slot stands in
+  all_empty n used k slot holds =
+      let within = slice_get_within (unused_slots {T = T} n used) k slot holds in
       let below : k < n = omega (arith, within, length-replicate n (empty_slot {T = T} used)) in
-      sym (get_or_from_slice_get (unused_slots {T = T} n used) k slot (empty_slot used) stands) ∙ get_or-replicate n k (empty_slot used) (empty_slot used) below
+      sym (get_or_from_slice_get (unused_slots {T = T} n used) k slot (empty_slot used) holds) ∙ get_or-replicate n k (empty_slot used) (empty_slot used) below
 
   fresh_lawful : (places : List (Place T)) (count used : ℕ) → used ≤ greatest_generation → AreFresh places count used → IsArena (map slot_of places)
   fresh_lawful places count used most fresh =
-      subst IsArena (sym (AreFresh-slots places count used fresh)) (λ k slot stands.
+      subst IsArena (sym (AreFresh-slots places count used fresh)) (λ k slot holds.
       let P : Slot T → Type 0 = λ s. (s.generation ≤ greatest_generation) × (IsSome s.value → 1 ≤ s.generation) in
-      subst P (sym (all_empty count used k slot stands)) (most, λ has. absurd (cc)))
+      subst P (sym (all_empty count used k slot holds)) (most, λ has. absurd (cc)))
 
   fresh_count : (places : List (Place T)) (count used : ℕ) → AreFresh places count used → free_slots (map slot_of places) ≡ count * weight {T = T} (empty_slot used)
   fresh_count places count used fresh =
@@ -224,7 +224,7 @@ module _ {T : Type 0} where
       let start = starts_at places id.slot count some sound.chained in
       record {
         taken = slot_of (place_at places id.slot);
-        stood = slot_at places id.slot start.there;
+        held = slot_at places id.slot start.there;
         was_free = start.free;
         next = next;
         after = rw (map-set, filled);
@@ -239,9 +239,9 @@ module _ {T : Type 0} where
   pub held_by : (places : List (Place T)) (id : Id) → IsLive (map slot_of places) id → IsHeld places id
   held_by places id live =
       let some = value_of_live (map slot_of places) id live in
-      let stands = slot_of_live (map slot_of places) id some.0 some.1 in
-      let there : id.slot < length places = omega (arith, slice_get_within (map slot_of places) id.slot _ stands, length-map places (slot_of {T = T})) in
-      let twice : Some (slot_of (place_at places id.slot)) ≡ Some (full_slot id.generation some.0) = sym (slot_at places id.slot there) ∙ stands in
+      let holds = slot_of_live (map slot_of places) id some.0 some.1 in
+      let there : id.slot < length places = omega (arith, slice_get_within (map slot_of places) id.slot _ holds, length-map places (slot_of {T = T})) in
+      let twice : Some (slot_of (place_at places id.slot)) ≡ Some (full_slot id.generation some.0) = sym (slot_at places id.slot there) ∙ holds in
       record { value = some.0; live = some.1; was = record { there = there; full = cc } }
 
   pub Removes-emptied : (places : List (Place T)) (id : Id) (new : Place T) (held : IsHeld places id) → slot_of new ≡ empty_slot id.generation → Removes (map slot_of places) (map slot_of (set places id.slot new)) id held.value

@@ -42,8 +42,8 @@ module _ {T : Type 0} where
   Inserts-keeps old new other w insert id v live =
       elim (cases_eq id.slot other.slot) [
         | inl same ↦
-            let stands = slot_of_live old id v live in
-            let twice : Some insert.taken ≡ Some (full_slot id.generation v) = sym insert.stood ∙ ap (slice_get old) (sym same) ∙ stands in
+            let holds = slot_of_live old id v live in
+            let twice : Some insert.taken ≡ Some (full_slot id.generation v) = sym insert.held ∙ ap (slice_get old) (sym same) ∙ holds in
             let is : insert.taken ≡ full_slot id.generation v = cc in
             let full : is_free insert.taken ≡ false = ap is_free is in
             let free = insert.was_free in
@@ -57,8 +57,8 @@ module _ {T : Type 0} where
   Removes-keeps old new other w remove id v given live =
       elim (cases_eq id.slot other.slot) [
         | inl same ↦
-            let stands = slot_of_live old id v live in
-            let twice : Some (full_slot id.generation v) ≡ Some (full_slot other.generation w) = sym stands ∙ ap (slice_get old) same ∙ slot_of_live old other w remove.was in
+            let holds = slot_of_live old id v live in
+            let twice : Some (full_slot id.generation v) ≡ Some (full_slot other.generation w) = sym holds ∙ ap (slice_get old) same ∙ slot_of_live old other w remove.was in
             let is : full_slot id.generation v ≡ full_slot other.generation w = cc in
             let generation : id.generation ≡ other.generation = ap (λ slot. slot.generation) is in
             let past = Removes-is_past old new other w remove (omega (arith, given, generation)) in
@@ -86,11 +86,11 @@ module _ {T : Type 0} where
 
   -- A write that doesn't lower the generation of one slot lowers none.
   generation_at-set : (slots : List (Slot T)) (k : ℕ) (old new : Slot T) (j : ℕ) → slice_get slots k ≡ Some old → old.generation ≤ new.generation → generation_at slots j ≤ generation_at (set slots k new) j
-  generation_at-set slots k old new j stands grows =
+  generation_at-set slots k old new j holds grows =
       elim (cases_eq j k) [
         | inl same ↦
-            let within = slice_get_within slots k old stands in
-            let before = generation_at-there slots k old stands in
+            let within = slice_get_within slots k old holds in
+            let before = generation_at-there slots k old holds in
             let after = generation_at-there (set slots k new) k new (slice_get-set_same slots k new within) in
             let left : generation_at slots j ≡ generation_at slots k = ap (generation_at slots) same in
             let right : generation_at (set slots k new) j ≡ generation_at (set slots k new) k = ap (generation_at (set slots k new)) same in
@@ -104,7 +104,7 @@ module _ {T : Type 0} where
   Makes-grows (inserted id v) old new made k =
       let P : List (Slot T) → Type 0 = λ slots. generation_at old k ≤ generation_at slots k in
       let next = made.next in
-      subst P (sym made.after) (generation_at-set old id.slot made.taken (full_slot id.generation v) k made.stood (omega arith))
+      subst P (sym made.after) (generation_at-set old id.slot made.taken (full_slot id.generation v) k made.held (omega arith))
   Makes-grows (removed id v) old new made k =
       let P : List (Slot T) → Type 0 = λ slots. generation_at old k ≤ generation_at slots k in
       subst P (sym made.after) (generation_at-set old id.slot (full_slot id.generation v) (empty_slot id.generation) k (slot_of_live old id v made.was) (omega arith))
@@ -114,7 +114,7 @@ module _ {T : Type 0} where
 
   Inserts-fresh : (old new : List (Slot T)) (id : Id) (v : T) → Inserts old new id v → generation_at old id.slot < id.generation
   Inserts-fresh old new id v insert =
-      let before = generation_at-there old id.slot insert.taken insert.stood in
+      let before = generation_at-there old id.slot insert.taken insert.held in
       let next = insert.next in
       omega (arith, before, next)
 
@@ -179,14 +179,14 @@ module _ {T : Type 0} where
 
   -- If the number of free slots is 0, no slot is free.
   pub none_from_zero : (slots : List (Slot T)) → IsArena slots → free_slots slots ≡ 0 → NoneIsFree slots
-  none_from_zero slots lawful counted k slot stands =
+  none_from_zero slots lawful counted k slot holds =
       elim (cases_Bool (is_free slot)) [
         | inl free ↦
             let weight : Slot T → ℕ = λ s. cond (is_free s) 1 0 in
-            let read : weight (get_or slots k slot) ≡ 1 = ap weight (get_or_from_slice_get slots k slot slot stands) ∙ ap (λ b. cond b 1 0) free in
-            let least = get_or-le-sum_by weight slots k slot (slice_get_within slots k slot stands) in
+            let read : weight (get_or slots k slot) ≡ 1 = ap weight (get_or_from_slice_get slots k slot slot holds) ∙ ap (λ b. cond b 1 0) free in
+            let least = get_or-le-sum_by weight slots k slot (slice_get_within slots k slot holds) in
             absurd (omega (arith, read, least, counted))
-        | inr full ↦ taken_or_worn slot (lawful k slot stands).0 full
+        | inr full ↦ taken_or_worn slot (lawful k slot holds).0 full
       ]
 
   pub zero_from_none : (slots : List (Slot T)) → NoneIsFree slots → free_slots slots ≡ 0
@@ -194,7 +194,7 @@ module _ {T : Type 0} where
   zero_from_none (slot ∷ rest) none =
       let weight : Slot T → ℕ = λ s. cond (is_free s) 1 0 in
       let head : weight slot ≡ 0 = ap (λ b. cond b 1 0) (not_free slot (none 0 slot refl)) in
-      let later = zero_from_none rest (λ k s stands. none (suc k) s stands) in
+      let later = zero_from_none rest (λ k s holds. none (suc k) s holds) in
       omega (arith, sum_by-cons weight slot rest, head, later)
 
   Makes-lawful : (change : Change T) (old new : List (Slot T)) → Makes change old new → IsArena old → IsArena new
@@ -205,9 +205,9 @@ module _ {T : Type 0} where
       let P : List (Slot T) → Type 0 = λ slots. IsArena slots in
       subst P (sym made.after) (IsArena-set old id.slot (full_slot id.generation v) within lawful (omega (arith, below, next)) (λ _. omega (arith, next)))
   Makes-lawful (removed id v) old new made lawful =
-      let stands = slot_of_live old id v made.was in
+      let holds = slot_of_live old id v made.was in
       let P : List (Slot T) → Type 0 = λ slots. IsArena slots in
-      subst P (sym made.after) (IsArena-set old id.slot (empty_slot id.generation) (slice_get_within old id.slot _ stands) lawful (lawful id.slot _ stands).0 (λ has. absurd (cc)))
+      subst P (sym made.after) (IsArena-set old id.slot (empty_slot id.generation) (slice_get_within old id.slot _ holds) lawful (lawful id.slot _ holds).0 (λ has. absurd (cc)))
   Makes-lawful nothing old new made lawful =
       let P : List (Slot T) → Type 0 = λ slots. IsArena slots in subst P (sym made) lawful
 

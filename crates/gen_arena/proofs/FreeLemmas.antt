@@ -19,16 +19,16 @@ module _ {T : Type 0} where
 
   -- How a write to one slot changes the number of free slots.
   pub free_slots-set : (slots : List (Slot T)) (k : ℕ) (old new : Slot T) → slice_get slots k ≡ Some old → free_slots (set slots k new) + weight old ≡ free_slots slots + weight new
-  free_slots-set slots k old new stands =
-      let moved = sum_by-set weight slots k new old (slice_get_within slots k old stands) in
-      let read : weight (get_or slots k old) ≡ weight old = ap weight (get_or_from_slice_get slots k old old stands) in
+  free_slots-set slots k old new holds =
+      let moved = sum_by-set weight slots k new old (slice_get_within slots k old holds) in
+      let read : weight (get_or slots k old) ≡ weight old = ap weight (get_or_from_slice_get slots k old old holds) in
       omega (arith, moved, read)
 
   -- If some slot has a value, not all slots are free.
   pub not_all_free : (slots : List (Slot T)) (k generation : ℕ) (v : T) → slice_get slots k ≡ Some (full_slot generation v) → free_slots slots < length slots
-  not_all_free slots k generation v stands =
+  not_all_free slots k generation v holds =
       let new = empty_slot {T = T} 0 in
-      let moved = free_slots-set slots k (full_slot generation v) new stands in
+      let moved = free_slots-set slots k (full_slot generation v) new holds in
       let most = count_by-le-length is_free (set slots k new) in
       let same = length-set slots k new in
       omega (arith, moved, most, same)

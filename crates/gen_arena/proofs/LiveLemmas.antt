@@ -27,7 +27,7 @@ module _ {T : Type 0} where
   -- Before an insert no id of its slot has a value.
   Inserts-before : (old new : List (Slot T)) (id : Id) (v : T) → Inserts old new id v → (other : Id) → other.slot ≡ id.slot → live_value old other ≡ None
   Inserts-before old new id v insert other same =
-      ap (value_under other.generation) (ap (slice_get old) same ∙ insert.stood) ∙ value_under-none insert.taken other (is_free-parts insert.taken insert.was_free).0
+      ap (value_under other.generation) (ap (slice_get old) same ∙ insert.held) ∙ value_under-none insert.taken other (is_free-parts insert.taken insert.was_free).0
 
   pub Inserts-new : (old new : List (Slot T)) (id : Id) (v : T) → Inserts old new id v → live_value old id ≡ None
   Inserts-new old new id v insert = Inserts-before old new id v insert id refl
@@ -57,8 +57,8 @@ module _ {T : Type 0} where
         | inl same ↦
             let within = Removes-within old new id v remove in
             let empty : Slot T = empty_slot id.generation in
-            let stood = slot_of_live old id v remove.was in
-            let before : live_value old other ≡ None = ap (value_under other.generation) (ap (slice_get old) same ∙ stood) ∙ value_under-other other.generation (full_slot id.generation v) (generations_differ id other apart same) in
+            let held = slot_of_live old id v remove.was in
+            let before : live_value old other ≡ None = ap (value_under other.generation) (ap (slice_get old) same ∙ held) ∙ value_under-other other.generation (full_slot id.generation v) (generations_differ id other apart same) in
             moved ∙ ap (value_under other.generation) (ap (slice_get (set old id.slot empty)) same ∙ slice_get-set_same old id.slot empty within) ∙ value_under-empty_slot other.generation id.generation ∙ sym before
         | inr differs ↦ moved ∙ ap (value_under other.generation) (slice_get-set_other old id.slot other.slot _ differs)
       ]

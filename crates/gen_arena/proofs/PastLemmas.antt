@@ -18,31 +18,31 @@ module _ {T : Type 0} where
   IsPast-set slots k slot id within leaves past =
       elim (cases_eq id.slot k) [
         | inl same ↦
-            let stands : slice_get (set slots k slot) id.slot ≡ Some slot = ap (slice_get (set slots k slot)) same ∙ slice_get-set_same slots k slot within in
+            let holds : slice_get (set slots k slot) id.slot ≡ Some slot = ap (slice_get (set slots k slot)) same ∙ slice_get-set_same slots k slot within in
             let parts = leaves same in
             record {
-              not_live = ap (value_under id.generation) stands ∙ parts.0;
+              not_live = ap (value_under id.generation) holds ∙ parts.0;
               given = past.given;
-              used = let at = generation_at-there (set slots k slot) id.slot slot stands in omega (arith, at, parts.1);
+              used = let at = generation_at-there (set slots k slot) id.slot slot holds in omega (arith, at, parts.1);
             }
         | inr differs ↦
-            let stands = slice_get-set_other slots k id.slot slot differs in
+            let holds = slice_get-set_other slots k id.slot slot differs in
             record {
-              not_live = ap (value_under id.generation) stands ∙ past.not_live;
+              not_live = ap (value_under id.generation) holds ∙ past.not_live;
               given = past.given;
-              used = let at : generation_at (set slots k slot) id.slot ≡ generation_at slots id.slot = ap generation_or_zero stands in omega (arith, at, past.used);
+              used = let at : generation_at (set slots k slot) id.slot ≡ generation_at slots id.slot = ap generation_or_zero holds in omega (arith, at, past.used);
             }
       ]
 
   -- The generation of a past id is at most that of its slot.
   past_below : (slots : List (Slot T)) (k : ℕ) (slot : Slot T) (id : Id) → slice_get slots k ≡ Some slot → IsPast slots id → id.slot ≡ k → id.generation ≤ slot.generation
-  past_below slots k slot id stands past same =
-      let at = generation_at-there slots k slot stands in
+  past_below slots k slot id holds past same =
+      let at = generation_at-there slots k slot holds in
       let moved : generation_at slots id.slot ≡ generation_at slots k = ap (generation_at slots) same in
       omega (arith, at, moved, past.used)
 
   pub Inserts-within : (old new : List (Slot T)) (id : Id) (v : T) → Inserts old new id v → id.slot < length old
-  Inserts-within old new id v insert = slice_get_within old id.slot insert.taken insert.stood
+  Inserts-within old new id v insert = slice_get_within old id.slot insert.taken insert.held
 
   -- An id that an insert gave is live.
   pub Inserts-live : (old new : List (Slot T)) (id : Id) (v : T) → Inserts old new id v → live_value new id ≡ Some v
@@ -57,7 +57,7 @@ module _ {T : Type 0} where
       let P : List (Slot T) → Type 0 = λ slots. IsPast slots other in
       subst P (sym insert.after) (IsPast-set old id.slot (full_slot id.generation v) other within
       (λ same.
-      let below = past_below old id.slot insert.taken other insert.stood past same in
+      let below = past_below old id.slot insert.taken other insert.held past same in
       let next = insert.next in
       let differs : id.generation ≢ other.generation = omega arith in
       (value_under-other other.generation (full_slot id.generation v) differs, omega arith))
@@ -79,9 +79,9 @@ module _ {T : Type 0} where
   pub Removes-is_past : (old new : List (Slot T)) (id : Id) (v : T) → Removes old new id v → 1 ≤ id.generation → IsPast new id
   Removes-is_past old new id v remove given =
       let within = Removes-within old new id v remove in
-      let stands : slice_get new id.slot ≡ Some (empty_slot id.generation) = ap (λ slots. slice_get slots id.slot) remove.after ∙ slice_get-set_same old id.slot _ within in
+      let holds : slice_get new id.slot ≡ Some (empty_slot id.generation) = ap (λ slots. slice_get slots id.slot) remove.after ∙ slice_get-set_same old id.slot _ within in
       record {
-        not_live = ap (value_under id.generation) stands ∙ value_under-empty_slot id.generation id.generation;
+        not_live = ap (value_under id.generation) holds ∙ value_under-empty_slot id.generation id.generation;
         given = given;
-        used = let at = generation_at-there new id.slot _ stands in omega (arith, at);
+        used = let at = generation_at-there new id.slot _ holds in omega (arith, at);
       }

@@ -50,8 +50,8 @@ module _ {T : Type 0} where
       ap (λ b. cond b (Some v) None) ((Decides-eqb generation generation).1 refl)
 
   pub live_of_slot : (slots : List (Slot T)) (id : Id) (v : T) → slice_get slots id.slot ≡ Some (full_slot id.generation v) → live_value slots id ≡ Some v
-  live_of_slot slots id v stands =
-      ap (value_under id.generation) stands ∙ value_under-full_slot id.generation v
+  live_of_slot slots id v holds =
+      ap (value_under id.generation) holds ∙ value_under-full_slot id.generation v
 
   -- A slot has no value under a generation other than its own.
   pub value_under-other : (generation : ℕ) (slot : Slot T) → slot.generation ≢ generation → value_under generation (Some slot) ≡ None
@@ -65,18 +65,18 @@ module _ {T : Type 0} where
       either false = refl
 
   pub generation_at-there : (slots : List (Slot T)) (k : ℕ) (slot : Slot T) → slice_get slots k ≡ Some slot → generation_at slots k ≡ slot.generation
-  generation_at-there slots k slot stands = ap generation_or_zero stands
+  generation_at-there slots k slot holds = ap generation_or_zero holds
 
   -- A write to one slot preserves the invariant of an arena.
   pub IsArena-set : (slots : List (Slot T)) (k : ℕ) (new : Slot T) → k < length slots → IsArena slots → new.generation ≤ greatest_generation → (IsSome new.value → 1 ≤ new.generation) → IsArena (set slots k new)
-  IsArena-set slots k new within lawful most least j slot stands =
+  IsArena-set slots k new within lawful most least j slot holds =
       elim (cases_eq j k) [
         | inl same ↦
-            let twice : Some new ≡ Some slot = sym (ap (slice_get (set slots k new)) same ∙ slice_get-set_same slots k new within) ∙ stands in
+            let twice : Some new ≡ Some slot = sym (ap (slice_get (set slots k new)) same ∙ slice_get-set_same slots k new within) ∙ holds in
             let is : new ≡ slot = cc in
             let P : Slot T → Type 0 = λ s. (s.generation ≤ greatest_generation) × (IsSome s.value → 1 ≤ s.generation) in
             subst P is (most, least)
-        | inr differs ↦ lawful j slot (sym (slice_get-set_other slots k j new differs) ∙ stands)
+        | inr differs ↦ lawful j slot (sym (slice_get-set_other slots k j new differs) ∙ holds)
       ]
 
   some_value : (o : Option T) → IsSome o → (v : T) × (o ≡ Some v)

@@ -8,7 +8,7 @@ use Rattle.gen_arena.specs.declared.id.Id.{Id}
 -- are unchanged.
 pub record Inserts {T : Type 0} (old new : List (Slot T)) (id : Id) (value : T) : Type 0 where
   pub taken : Slot T
-  pub stood : slice_get old id.slot ≡ Some taken
+  pub held : slice_get old id.slot ≡ Some taken
   pub was_free : IsTrue (is_free taken)
   pub next : id.generation ≡ taken.generation + 1
   pub after : new ≡ slice_set old id.slot (full_slot id.generation value)

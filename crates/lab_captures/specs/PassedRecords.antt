@@ -4,18 +4,18 @@ use Rattle.std.specs.Prelude.{replicate}
 use Rattle.captures.specs.declared.content.NoCell.{NoCell}
 use Rattle.captures.specs.declared.content.NoCell.TheVariants.{OtherType, Errored, CutShort}
 use Rattle.lab_captures.specs.declared.passed.PassedOver.{PassedOver}
-use Rattle.lab_captures.specs.declared.passed.Tally.{Tally}
+use Rattle.lab_captures.specs.declared.passed.PassedTally.{PassedTally}
 use Rattle.upc_words.specs.FaultLines.{line}
 
 -- One record more for this reason, with this number. The first record's number stays.
-abbrev pub one_more_record : Tally → ℕ → Tally
+abbrev pub one_more_record : PassedTally → ℕ → PassedTally
 one_more_record tally number = record {
   count = min (tally.count + 1) (2 ^ 64 - 1);
   first = if tally.count == 0 then number else tally.first;
 }
 
 -- No record yet.
-abbrev pub no_tally : Tally
+abbrev pub no_tally : PassedTally
 no_tally = record { count = 0; first = 0 }
 
 -- No record was passed over.
@@ -29,7 +29,7 @@ none_passed = record {
 }
 
 -- The tallies of the types, which have the numbers from 0 on, with one record more of this type, which has this number.
-abbrev pub with_other_type : List Tally → ℕ → ℕ → List Tally
+abbrev pub with_other_type : List PassedTally → ℕ → ℕ → List PassedTally
 with_other_type tallies kind number = slice_set tallies kind (one_more_record (slice_index_or tallies kind no_tally) number)
 
 -- One record more without a cell, with this number.
@@ -39,23 +39,23 @@ without_cell passed Errored number = record passed { errored = one_more_record p
 without_cell passed (CutShort octets) number = record passed { cut_short = one_more_record passed.cut_short number }
 
 -- The beginning of a comment: how many records were passed over.
-abbrev pub passed_count : Tally → List ℕ
+abbrev pub passed_count : PassedTally → List ℕ
 passed_count tally = codes "# " ++ decimal tally.count ++ codes " passed over: "
 
 -- Its end: the number of the first of them.
-abbrev pub first_passed : Tally → List ℕ
+abbrev pub first_passed : PassedTally → List ℕ
 first_passed tally = line (codes "; first record " ++ decimal tally.first)
 
 -- A comment about records that were passed over, if there are any.
-abbrev pub tally_line : Tally → List ℕ → List ℕ
+abbrev pub tally_line : PassedTally → List ℕ → List ℕ
 tally_line tally why = if tally.count == 0 then [] else passed_count tally ++ why ++ first_passed tally
 
 -- A comment about records of this type.
-abbrev pub other_type_line : ℕ → Tally → List ℕ
+abbrev pub other_type_line : ℕ → PassedTally → List ℕ
 other_type_line kind tally = tally_line tally (codes "type " ++ decimal kind ++ codes ", not ATM")
 
 -- A comment for each type of which records were passed over, in order, from the type with this number on.
-abbrev pub other_type_lines : ℕ → List Tally → List ℕ
+abbrev pub other_type_lines : ℕ → List PassedTally → List ℕ
 other_type_lines kind [] = []
 other_type_lines kind (tally ∷ tallies) = other_type_line kind tally ++ other_type_lines (kind + 1) tallies
 

@@ -9,12 +9,11 @@ ghost use Rattle.text_io.specs.Failures.{read_failures, write_failures};
 use crate::advance::{Going, add_early, answer_all};
 use crate::cell_follower::{CellFollower, answer_cells};
 use crate::counted::CountedCell;
-use crate::driver::give_answers;
 use crate::queue::Queue;
 use crate::reading_ahead::{Coming, ReadingAhead};
 use std::alloc::AllocError;
 use std::thread::{Threads, join_mut};
-use text_io::{Input, Output, RunFault};
+use text_io::{Input, Output, RunFault, give_answers};
 
 /// Reads more octets and the frames among them on one thread, and answers cells that were read before on another.
 fn read_beside<R: Threads, I: Input + Send, F: CellFollower + Send>(

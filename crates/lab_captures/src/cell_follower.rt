@@ -12,8 +12,8 @@ use std::alloc::AllocError;
 
 /// A program that gets one cell that counts after another and answers each.
 ///
-/// Its rules say which answers are allowed, as steps from world to world. As for a [`Follower`](crate::Follower), its state may stand
-/// for several worlds: it shows worlds, and its answer must be allowed from each of them.
+/// Its rules say which answers are allowed, as steps from world to world. As for a [`Follower`](crate::Follower), one state may
+/// show several worlds, and its answer must be allowed from each of them.
 pub trait CellFollower {
     ghost World: { Type 0 };
 
@@ -41,7 +41,7 @@ pub trait CellFollower {
     ghost is_total: { AnswersEachCell rules };
 }
 
-/// Does nothing. Its contract says of a follower that may be on another thread what the trait says of each.
+/// Does nothing at run time. Its contract repeats a fact of the trait, for callers that move the follower to another thread.
 pub(crate) fn answers_each_cell<F: CellFollower>(_: &F)
     ensures { AnswersEachCell F.rules }
 {}

@@ -15,23 +15,10 @@ use crate::follower::{Follower, Step, step_by};
 use crate::window::Window;
 use captures::{Fault, Reader};
 use std::alloc::Global;
-use text_io::{Done, Failed, Input, Output, RunFault, give_all, give_last};
+use text_io::{Done, Failed, Input, Output, RunFault, give_answers, give_last};
 
 /// Collected answers are written as soon as they have this many octets.
 const ENOUGH: usize = 65536;
-
-/// Writes the collected answers and clears them.
-pub(crate) fn give_answers<O: Output>(output: &mut O, answers: &mut Vec<u8>) -> Result<(), Failed>
-    ensures ok { O.is_known → OnOk result (O.held output.new ≡ O.held output.old ++ answers.old.items) }
-    ensures none { OnOk result (answers.new.items ≡ []) }
-    ensures front { O.is_known → IsPart (O.held output.old) (O.held output.new) answers.old.items }
-    ensures calm { OnOk result (O.failures output.new ≡ O.failures output.old) }
-    ensures failed { OnErr result (O.failures output.new ≡ one_more (O.failures output.old)) }
-{
-    give_all(output, answers)?;
-    answers.clear();
-    Ok(())
-}
 
 /// Writes the collected answers if there are enough of them.
 #[inline(always)]

@@ -29,5 +29,5 @@ pub use cells::cells_of_capture;
 pub use counted::CountedCell;
 pub use filter::{CellFilter, Filtered};
 pub use follower::Follower;
-pub use passed::{PassedOver, Tally};
+pub use passed::{PassedOver, PassedTally};
 pub use run_lines::{add_closing, add_several};

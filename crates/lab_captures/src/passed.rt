@@ -12,26 +12,26 @@ const TYPES: usize = 128;
 
 /// How many records were passed over for a reason.
 #[derive(Clone, Copy, PartialEq, Eq, Debug)]
-pub struct Tally {
+pub struct PassedTally {
     /// How many.
     pub count: u64,
     /// The number of the first of them, from 1, or 0 if there is none.
     pub first: u64,
 }
 
-impl Tally {
+impl PassedTally {
     /// Returns the tally of no record.
-    pub fn none() -> Tally
+    pub fn none() -> PassedTally
         ensures { result ≡ no_tally }
     {
-        Tally { count: 0, first: 0 }
+        PassedTally { count: 0, first: 0 }
     }
 
     /// Returns the tally with one record more, which has this number.
-    pub fn with(self, number: u64) -> Tally
+    pub fn with(self, number: u64) -> PassedTally
         ensures { result ≡ one_more_record self number }
     {
-        Tally {
+        PassedTally {
             count: self.count.saturating_add(1),
             first: if self.count == 0 { number } else { self.first },
         }
@@ -42,15 +42,15 @@ impl Tally {
 #[derive(Clone, Copy, PartialEq, Eq, Debug)]
 pub struct PassedOver {
     /// They are of a type that holds no cell: those of each type, at the place of its number.
-    pub other_types: [Tally; TYPES],
+    pub other_types: [PassedTally; TYPES],
     /// They were received or stored with an error.
-    pub errored: Tally,
+    pub errored: PassedTally,
     /// They have fewer than 52 octets of a cell.
-    pub cut_short: Tally,
+    pub cut_short: PassedTally,
     /// Their time is before that of an earlier cell, or of the first record.
-    pub back: Tally,
+    pub back: PassedTally,
     /// They are of another interface than the one that was asked for.
-    pub other_interface: Tally,
+    pub other_interface: PassedTally,
 }
 
 impl PassedOver {
@@ -58,7 +58,7 @@ impl PassedOver {
     pub(crate) fn none() -> PassedOver
         ensures { result ≡ none_passed }
     {
-        let none = Tally::none();
+        let none = PassedTally::none();
         PassedOver {
             other_types: [none; TYPES],
             errored: none,
@@ -92,7 +92,7 @@ impl PassedOver {
 
 /// Appends how many records were passed over.
 #[tactic(auto, using(std::proofs::lemmas::List::append_assoc))]
-fn add_count(answers: &mut Vec<u8>, tally: Tally) -> Result<(), AllocError>
+fn add_count(answers: &mut Vec<u8>, tally: PassedTally) -> Result<(), AllocError>
     ensures { OnOk result (answers.new.items ≡ answers.old.items ++ passed_count tally) }
 {
     add_text(answers, b"# ")?;
@@ -101,7 +101,7 @@ fn add_count(answers: &mut Vec<u8>, tally: Tally) -> Result<(), AllocError>
 }
 
 /// Appends which record is the first of those that were passed over.
-fn add_first(answers: &mut Vec<u8>, tally: Tally) -> Result<(), AllocError>
+fn add_first(answers: &mut Vec<u8>, tally: PassedTally) -> Result<(), AllocError>
     ensures { OnOk result (answers.new.items ≡ answers.old.items ++ first_passed tally) }
 {
     add_numbered(answers, b"; first record ", tally.first as usize)
@@ -109,7 +109,7 @@ fn add_first(answers: &mut Vec<u8>, tally: Tally) -> Result<(), AllocError>
 
 /// Appends a comment about records that were passed over, if there are any.
 #[tactic(auto, using(std::proofs::lemmas::List::append_assoc))]
-fn add_tally(answers: &mut Vec<u8>, tally: Tally, why: &[u8]) -> Result<(), AllocError>
+fn add_tally(answers: &mut Vec<u8>, tally: PassedTally, why: &[u8]) -> Result<(), AllocError>
     ensures { OnOk result (answers.new.items ≡ answers.old.items ++ tally_line tally why.now) }
 {
     if tally.count == 0 {
@@ -122,7 +122,7 @@ fn add_tally(answers: &mut Vec<u8>, tally: Tally, why: &[u8]) -> Result<(), Allo
 
 /// Appends a comment about records of this type, if they were passed over.
 #[tactic(auto, using(std::proofs::lemmas::List::append_assoc))]
-fn add_other_type(answers: &mut Vec<u8>, tally: Tally, kind: usize) -> Result<(), AllocError>
+fn add_other_type(answers: &mut Vec<u8>, tally: PassedTally, kind: usize) -> Result<(), AllocError>
     ensures { OnOk result (answers.new.items ≡ answers.old.items ++ other_type_line kind tally) }
 {
     if tally.count == 0 {
@@ -136,7 +136,7 @@ fn add_other_type(answers: &mut Vec<u8>, tally: Tally, kind: usize) -> Result<()
 }
 
 /// Appends a comment for each type of records that were passed over, in order.
-fn add_other_types(answers: &mut Vec<u8>, tallies: &[Tally]) -> Result<(), AllocError>
+fn add_other_types(answers: &mut Vec<u8>, tallies: &[PassedTally]) -> Result<(), AllocError>
     ensures { OnOk result (answers.new.items ≡ answers.old.items ++ other_type_lines 0 tallies.now) }
 {
     for (kind, tally) in tallies.iter().enumerate() {

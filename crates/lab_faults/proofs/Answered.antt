@@ -20,7 +20,7 @@ use Rattle.lab_scripts.proofs.Public.{some-script_text}
 use Rattle.lab_scripts.specs.ScriptText.{IsScriptExplained}
 use Rattle.std.specs.Option.{MatchOption}
 use Rattle.text_io.specs.Devices.{TakesEnough}
-use Rattle.text_io.specs.Gathered.{gathered, LeavesBehind}
+use Rattle.text_io.specs.Gathered.{gathered, LeavesAfter}
 use Rattle.text_io.specs.Limits.{most_ahead}
 use Rattle.text_io.specs.declared.ending.Done.{Done}
 use Rattle.text_io.specs.declared.ending.Done.TheVariants.{Whole, Ended}
@@ -74,8 +74,8 @@ faulty-code source code never =
 -- A source without a line means no code that is accepted.
 no_code : (lines : List SourceLine) (code : List Instr) → AreLines (source_lines []) lines → MeanFrom lines 0 (statements_of lines) code → code ≡ []
 unfolding source_lines statements_of
-no_code [] code line_content meant = meant
-no_code (line ∷ lines) code line_content meant = let no = line_content in cc
+no_code [] code content meant = meant
+no_code (line ∷ lines) code content meant = let no = content in cc
 
 never-accepted : (code : List Instr) → IsMeaning [] code → IsAccepted code → ⊥
 never-accepted code means accepted =
@@ -113,7 +113,7 @@ gathered-none octets sized = ap (λ n. if nat_lt most_source_octets n then None 
 
 -- The octets read are enough for the answer.
 pub enough : (octets left : List ℕ) (found : Option (List ℕ)) (text : List ℕ) (done : Done) → found ≡ gathered most_source_octets octets
-    → LeavesBehind most_source_octets found octets left → ExplainsWithin found text done
+    → LeavesAfter most_source_octets found octets left → ExplainsWithin found text done
     → TakesEnough (λ needed. (answered : List ℕ) × IsSourceText needed answered done) most_ahead octets left
 enough octets left None text done is later prints =
     let P : Option (List ℕ) → Type 0 = λ found. ExplainsWithin found text done in

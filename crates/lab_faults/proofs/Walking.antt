@@ -3,13 +3,13 @@ use Rattle.std.proofs.Common.{◌≡◌, ◌≢◌, inl, inr, ℕ, zero, suc, �
 use Rattle.std.proofs.lemmas.Bool.{cases_lt}
 use Rattle.std.proofs.lemmas.List.{reverse-append}
 use Rattle.std.proofs.lemmas.Option.{slice_get_within}
-use Rattle.bpf_code.specs.Flow.{IsSuccessor, LeadsTo, StandsAt}
+use Rattle.bpf_code.specs.Flow.{IsSuccessor, LeadsTo, IsInstrAt}
 use Rattle.bpf_code.specs.Scratch.{StoresWord}
 use Rattle.bpf_code.specs.declared.instr.Instr.{Instr}
 use Rattle.bpf_verify.specs.Paths.{IsPath, Stores}
 use Rattle.bpf_verify.specs.Faults.{IsUnwrittenAt}
 use Rattle.bpf_verify.proofs.Onward.{decide_same, successor_forward}
-use Rattle.bpf_verify.proofs.Places.{any_here, any_later, any_none, any_split, one_stands}
+use Rattle.bpf_verify.proofs.Places.{any_here, any_later, any_none, any_split, one_there}
 use Rattle.lab_faults.specs.CodePaths.{LeavesUnwritten}
 use Rattle.lab_faults.specs.inner.Leading.{IsMarked, LeadsOn, MarksFrom}
 
@@ -117,18 +117,18 @@ module _ (code : List Instr) (word at : ℕ) where
   path_none = (refl, λ any. any_none (Stores code word) any)
 
   -- The instruction at a place decides whether it stores and where it leads.
-  pub not_quiet : (place : ℕ) (i : Instr) (marks : List Bool) → StandsAt code place i → StoresWord i word → LeadsOn code word marks place → ⊥
-  not_quiet place i marks stands stores on = on.quiet (i, stands, stores)
+  pub not_quiet : (place : ℕ) (i : Instr) (marks : List Bool) → IsInstrAt code place i → StoresWord i word → LeadsOn code word marks place → ⊥
+  not_quiet place i marks instr_there stores on = on.quiet (i, instr_there, stores)
 
-  pub not_leading : (place : ℕ) (i : Instr) (marks : List Bool) → StandsAt code place i → ((next : ℕ) → LeadsTo place i next → IsMarked marks next → ⊥) → LeadsOn code word marks place → ⊥
-  not_leading place i marks stands none on =
-      let same = one_stands code place on.step.0 i on.step.1 stands in
+  pub not_leading : (place : ℕ) (i : Instr) (marks : List Bool) → IsInstrAt code place i → ((next : ℕ) → LeadsTo place i next → IsMarked marks next → ⊥) → LeadsOn code word marks place → ⊥
+  not_leading place i marks instr_there none on =
+      let same = one_there code place on.step.0 i on.step.1 instr_there in
       none on.next (subst (λ (j : Instr). LeadsTo place j on.next) same on.step.2) on.marked
 
-  pub leading : (place next : ℕ) (i : Instr) (marks : List Bool) → StandsAt code place i → (StoresWord i word → ⊥) → IsMarked marks next → LeadsTo place i next → LeadsOn code word marks place
-  leading place next i marks stands quiet marked leads = record {
-    quiet = λ s. quiet (subst (λ (j : Instr). StoresWord j word) (one_stands code place s.0 i s.1 stands) s.2);
+  pub leading : (place next : ℕ) (i : Instr) (marks : List Bool) → IsInstrAt code place i → (StoresWord i word → ⊥) → IsMarked marks next → LeadsTo place i next → LeadsOn code word marks place
+  leading place next i marks instr_there quiet marked leads = record {
+    quiet = λ s. quiet (subst (λ (j : Instr). StoresWord j word) (one_there code place s.0 i s.1 instr_there) s.2);
     next = next;
     marked = marked;
-    step = (i, stands, leads);
+    step = (i, instr_there, leads);
   }

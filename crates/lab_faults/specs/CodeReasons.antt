@@ -24,11 +24,11 @@ fault_place size (fault.Unwritten at word) = at
 
 -- The token of an instruction that the fault is about: its number, or its mnemonic.
 abbrev pub blamed_part : Fault → List ℕ → Option FoundToken
-blamed_part (fault.BadScratch at) line_content = first_number (without_comment line_content) (instruction_tokens line_content)
-blamed_part (fault.ZeroDivisor at) line_content = first_number (without_comment line_content) (instruction_tokens line_content)
-blamed_part (fault.BadShift at) line_content = first_number (without_comment line_content) (instruction_tokens line_content)
-blamed_part (fault.Unwritten at word) line_content = first_number (without_comment line_content) (instruction_tokens line_content)
-blamed_part _ line_content = slice_get (instruction_tokens line_content) 0
+blamed_part (fault.BadScratch at) content = first_number (without_comment content) (instruction_tokens content)
+blamed_part (fault.ZeroDivisor at) content = first_number (without_comment content) (instruction_tokens content)
+blamed_part (fault.BadShift at) content = first_number (without_comment content) (instruction_tokens content)
+blamed_part (fault.Unwritten at word) content = first_number (without_comment content) (instruction_tokens content)
+blamed_part _ content = slice_get (instruction_tokens content) 0
 
 -- The name of a scratch word.
 abbrev pub scratch_name : ℕ → List ℕ

@@ -31,8 +31,8 @@ OutsideEndsProgram =
 
 -- The token of such an instruction that is wrong: its offset, or the mnemonic of a load of a header's length.
 abbrev pub hinted_token : Instr → List ℕ → Option FoundToken
-hinted_token (LdxMsh k) line_content = slice_get (instruction_tokens line_content) 0
-hinted_token _ line_content = first_number (without_comment line_content) (instruction_tokens line_content)
+hinted_token (LdxMsh k) content = slice_get (instruction_tokens content) 0
+hinted_token _ content = first_number (without_comment content) (instruction_tokens content)
 
 -- The hint about such an instruction on a line of this number.
 abbrev pub outside_hint : List (List ℕ) → ℕ → Instr → List ℕ

@@ -43,14 +43,14 @@ failing_label lines fault text (first ∷ operands) =
 
 -- The token that a fault of this kind is about, if it is about one.
 abbrev pub blamed_token : List (List ℕ) → AsmFault → AsmKind → List ℕ → Option FoundToken
-blamed_token lines fault asm.BadLine line_content = wrong_token (without_comment line_content) (instruction_tokens line_content)
-blamed_token lines fault asm.BadNumber line_content = first_no_number (without_comment line_content) (tokens_of_line line_content)
-blamed_token lines fault asm.LabelTwice line_content = slice_get (tokens_of_line line_content) 0
-blamed_token lines fault asm.UnknownLabel line_content = failing_label lines fault (without_comment line_content) (instruction_tokens line_content)
-blamed_token lines fault asm.Backward line_content = failing_label lines fault (without_comment line_content) (instruction_tokens line_content)
-blamed_token lines fault asm.TooFar line_content = failing_label lines fault (without_comment line_content) (instruction_tokens line_content)
-blamed_token lines fault asm.DanglingLabel line_content = slice_get (tokens_of_line line_content) 0
-blamed_token lines fault asm.NoMemory line_content = None
+blamed_token lines fault asm.BadLine content = wrong_token (without_comment content) (instruction_tokens content)
+blamed_token lines fault asm.BadNumber content = first_no_number (without_comment content) (tokens_of_line content)
+blamed_token lines fault asm.LabelTwice content = slice_get (tokens_of_line content) 0
+blamed_token lines fault asm.UnknownLabel content = failing_label lines fault (without_comment content) (instruction_tokens content)
+blamed_token lines fault asm.Backward content = failing_label lines fault (without_comment content) (instruction_tokens content)
+blamed_token lines fault asm.TooFar content = failing_label lines fault (without_comment content) (instruction_tokens content)
+blamed_token lines fault asm.DanglingLabel content = slice_get (tokens_of_line content) 0
+blamed_token lines fault asm.NoMemory content = None
 
 -- The line that has a label, in words.
 abbrev pub label_words : List ℕ → Option ℕ → List ℕ
@@ -71,14 +71,14 @@ label_sentence _ label found = []
 
 -- The sentence about a fault, whose token has these octets.
 abbrev pub source_sentence : List (List ℕ) → AsmKind → List ℕ → List ℕ → List ℕ
-source_sentence lines asm.BadLine line_content blamed = bad_line_sentence (without_comment line_content) (instruction_tokens line_content)
-source_sentence lines asm.BadNumber line_content blamed = no_number_sentence blamed
-source_sentence lines kind line_content blamed = label_sentence kind blamed (label_line blamed 1 lines)
+source_sentence lines asm.BadLine content blamed = bad_line_sentence (without_comment content) (instruction_tokens content)
+source_sentence lines asm.BadNumber content blamed = no_number_sentence blamed
+source_sentence lines kind content blamed = label_sentence kind blamed (label_line blamed 1 lines)
 
--- The explanation of a fault on a line that says this: its line, the column of the token that is wrong, and a sentence.
+-- The explanation of a fault on a line with this content: its line, the column of the token that is wrong, and a sentence.
 abbrev pub line_explanation : List (List ℕ) → AsmFault → List ℕ → Option FoundToken → List ℕ
-line_explanation lines fault line_content blamed =
-    place_words fault.line (column_of blamed) ++ line (source_sentence lines fault.kind line_content (octets_of (without_comment line_content) blamed))
+line_explanation lines fault content blamed =
+    place_words fault.line (column_of blamed) ++ line (source_sentence lines fault.kind content (octets_of (without_comment content) blamed))
 
 -- The explanation of a fault of a source.
 abbrev pub source_explanation : List (List ℕ) → AsmFault → List ℕ

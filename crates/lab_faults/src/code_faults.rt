@@ -37,11 +37,11 @@ fn fault_place(size: usize, fault: Fault) -> usize
 fn blamed_part(
     alloc: Global,
     fault: Fault,
-    line_content: &[u8],
+    content: &[u8],
 ) -> Result<Option<FoundToken>, AllocError>
-    ensures { IfOk result (λ token. token ≡ blamed_part fault line_content.now) }
+    ensures { IfOk result (λ token. token ≡ blamed_part fault content.now) }
 {
-    let text = before_comment(line_content);
+    let text = before_comment(content);
     let tokens = tokens_of(alloc, text)?;
     let parts = after_label(text, &tokens);
     match fault {

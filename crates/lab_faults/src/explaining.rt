@@ -1,10 +1,9 @@
 //! `upc-lab explain`: the fault of a source, with its line and column and a sentence about it.
 
-ghost use Rattle.std.specs.Prelude.{◌≡◌, ◌++◌, codes, decimal, length, IfOk, OnOk, option_map};
+ghost use Rattle.std.specs.Prelude.{IfOk, option_map};
 ghost use Rattle.text_io.specs.Devices.{Adds};
 ghost use Rattle.text_io.specs.Serving.{IsServed};
 ghost use Rattle.lab_faults.specs.Explained.{ExplainsCode, ExplainsSource, ExplainsWithin, IsExplainText, IsSourceText};
-ghost use Rattle.upc_words.specs.FaultLines.{line};
 
 use crate::ahead::Ahead;
 use crate::code_faults::add_code_explanation;
@@ -17,22 +16,11 @@ use lab_scripts::explain_script;
 use std::alloc::{AllocError, Global};
 use text_io::{Done, Input, Output, RunFault, gather, give_last};
 use upc_codes::add_verify_fault;
-use upc_programs::add_asm_fault;
-use upc_words::{add_number, add_text, add_too_long};
+use upc_programs::{add_accepted, add_asm_fault};
+use upc_words::add_too_long;
 
 /// The maximum number of octets of a source.
 const MOST_SOURCE_OCTETS: u32 = 1048576;
-
-/// Appends that a code of this many instructions has no fault.
-#[tactic(auto, using(std::proofs::lemmas::List::append_assoc))]
-fn add_accepted(answers: &mut Vec<u8>, size: usize) -> Result<(), AllocError>
-    ensures { OnOk result (answers.new.items ≡ answers.old.items ++ line (codes "accepted " ++ decimal size)) }
-{
-    add_text(answers, b"accepted ")?;
-    add_number(answers, size as u64)?;
-    answers.push(b'\n')?;
-    Ok(())
-}
 
 /// Answers a code: that it has no fault, with hints, or its first one and an explanation.
 #[tactic(auto, using(std::proofs::lemmas::List::append_assoc))]

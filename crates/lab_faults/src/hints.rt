@@ -41,11 +41,11 @@ fn is_past_cell(instr: Instr) -> bool
 fn hinted_token(
     alloc: Global,
     instr: Instr,
-    line_content: &[u8],
+    content: &[u8],
 ) -> Result<Option<FoundToken>, AllocError>
-    ensures { IfOk result (λ token. token ≡ hinted_token instr line_content.now) }
+    ensures { IfOk result (λ token. token ≡ hinted_token instr content.now) }
 {
-    let text = before_comment(line_content);
+    let text = before_comment(content);
     let tokens = tokens_of(alloc, text)?;
     let parts = after_label(text, &tokens);
     match instr {

@@ -87,11 +87,11 @@ fn blamed_token(
     alloc: Global,
     source: &[u8],
     fault: AsmFault,
-    line_content: &[u8],
+    content: &[u8],
 ) -> Result<Option<FoundToken>, AllocError>
-    ensures { IfOk result (λ token. token ≡ blamed_token (source_lines source.now) fault fault.kind line_content.now) }
+    ensures { IfOk result (λ token. token ≡ blamed_token (source_lines source.now) fault fault.kind content.now) }
 {
-    let text = before_comment(line_content);
+    let text = before_comment(content);
     let tokens = tokens_of(alloc, text)?;
     match fault.kind {
         AsmKind::BadLine => Ok(wrong_token(text, after_label(text, &tokens))),
@@ -169,20 +169,20 @@ pub(crate) fn add_label_sentence(
     }
 }
 
-/// Appends the sentence about a fault on a line that says this.
+/// Appends the sentence about a fault on a line with this content.
 fn add_sentence(
     alloc: Global,
     answers: &mut Vec<u8>,
     source: &[u8],
     kind: AsmKind,
-    line_content: &[u8],
+    content: &[u8],
     blamed: &[u8],
 ) -> Result<(), AllocError>
-    ensures { OnOk result (answers.new.items ≡ answers.old.items ++ source_sentence (source_lines source.now) kind line_content.now blamed.now) }
+    ensures { OnOk result (answers.new.items ≡ answers.old.items ++ source_sentence (source_lines source.now) kind content.now blamed.now) }
 {
     match kind {
         AsmKind::BadLine => {
-            let text = before_comment(line_content);
+            let text = before_comment(content);
             let tokens = tokens_of(alloc, text)?;
             add_bad_line(answers, text, after_label(text, &tokens))
         }
@@ -201,11 +201,11 @@ pub(crate) fn add_source_explanation(
 ) -> Result<(), AllocError>
     ensures { OnOk result (answers.new.items ≡ answers.old.items ++ source_explanation (source_lines source.now) fault) }
 {
-    let line_content = line_numbered(source, fault.line);
-    let blamed = blamed_token(alloc, source, fault, line_content)?;
+    let content = line_numbered(source, fault.line);
+    let blamed = blamed_token(alloc, source, fault, content)?;
     add_place(answers, fault.line, column_of(blamed))?;
-    let octets = octets_of(before_comment(line_content), blamed);
-    add_sentence(alloc, answers, source, fault.kind, line_content, octets)?;
+    let octets = octets_of(before_comment(content), blamed);
+    add_sentence(alloc, answers, source, fault.kind, content, octets)?;
     answers.push(b'\n')?;
     Ok(())
 }

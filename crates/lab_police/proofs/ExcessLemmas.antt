@@ -73,8 +73,8 @@ pub left_is : (connection : Connection) (line : LineView) (value : ℕ) (verdict
     → found ≡ excess_left connection value verdict clp moment
 left_is connection line value verdict clp moment contract levels met found is late one two first second at =
     let buckets = buckets_after_cells connection.contracts empty_buckets connection.history value in
-    let agrees = is.state.stands.agrees value levels two in
-    let charged = is.state.stands.charged value levels two in
+    let agrees = is.state.holds.agrees value levels two in
+    let charged = is.state.holds.charged value levels two in
     at (met_after verdict buckets) (met_agrees verdict levels met buckets first second agrees)
     (met_charged verdict buckets moment (record { first = omega (arith, charged.first, late); second = omega (arith, charged.second, late) }))
     ∙ sym (by_contract connection line value verdict clp moment (Some contract) is one)

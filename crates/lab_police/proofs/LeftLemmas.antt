@@ -4,7 +4,7 @@ use Rattle.std.proofs.lemmas.Bool.Decides.{nat_tests}
 use Rattle.std.specs.Prelude.{is_none, slice_set}
 use Rattle.std.specs.Option.{MatchOption}
 use Rattle.card_core.specs.Refusals.{cell_refusal, enter_refusal, judge_refusal, missing_fault, pick_refusal, picking_refusal}
-use Rattle.card_core.specs.Steps.{Enters, FindsNoMemory, IsRefused, Judges, Picks, WorldStep, cell_of_picking, judgement_of, left_by_judge, left_by_pick, picking_of, with_cell}
+use Rattle.card_core.specs.Steps.{Enters, FindsNoMemory, IsRefused, Judges, Picks, WorldStep, cell_of_picking, judged_answer, left_by_judge, left_by_pick, picking_of, with_cell}
 use Rattle.card_core.specs.World.{Connection, Picking, PortState, World, connection_in, entered, kept_cells, outside, picked, with_connection, with_port}
 use Rattle.card_core.specs.declared.answer.Answer.{Answer}
 use Rattle.card_core.specs.declared.answer.Answer.TheVariants as answer
@@ -99,7 +99,7 @@ cell_silent world connection moment given =
     chained Silent (nat_lt (2 ^ 62) moment) answer.MomentTooLate _ given (λ one other vc clp. tt) (λ later.
     chained Silent (nat_lt moment (last_moment 0 connection.history)) (answer.MomentBack (last_moment 0 connection.history)) _ later (λ one other vc clp. tt) (λ third.
     chained Silent (nat_le world.shape.journal (length (kept_cells connection))) answer.JournalFull _ third (λ one other vc clp. tt) (λ fourth.
-    chained Silent (nat_le (2 ^ 62) (length (world.judged connection.line))) answer.JournalFull None fourth (λ one other vc clp. tt) (λ fifth no. cc))))
+    chained Silent (nat_le (2 ^ 62) (length (world.verdicts connection.line))) answer.JournalFull None fourth (λ one other vc clp. tt) (λ fifth no. cc))))
 
 refusal_silent : (world : World) (picking : Picking) (found : Option Connection) (given : Answer) → picking_refusal world picking found ≡ Some given → Silent given
 refusal_silent world picking None given e = last_reason Silent answer.Released given (λ one other vc clp. tt) e
@@ -150,13 +150,13 @@ judges_as before after picking given had step =
     by None e (inl goes) =
         let one : Some (picked picking) ≡ Some (picked goes.picking) = sym had ∙ goes.had in
         let same : picking ≡ goes.picking = cc in
-        let same_answer : Answered given ≡ Answered (judgement_of before goes.picking goes.connection) = goes.answer in
-        let is : given ≡ judgement_of before goes.picking goes.connection = cc in
+        let same_answer : Answered given ≡ Answered (judged_answer before goes.picking goes.connection) = goes.answer in
+        let is : given ≡ judged_answer before goes.picking goes.connection = cc in
         let free : picking_refusal before goes.picking (Some goes.connection) ≡ None =
         sym (ap (picking_refusal before goes.picking) goes.found)
         ∙ subst (λ (p : Picking). picking_refusal before p (connection_in before.connections p.vc) ≡ None) same e in
         let cell = cell_of_picking goes.picking in
-        let judged : LeavesConnection before.connections after.connections goes.picking.vc (has_low_priority goes.picking.cell) (judgement_of before goes.picking goes.connection) =
+        let judged : LeavesConnection before.connections after.connections goes.picking.vc (has_low_priority goes.picking.cell) (judged_answer before goes.picking goes.connection) =
         record {
           connection = goes.connection;
           found = goes.found;
@@ -174,7 +174,7 @@ judges_as before after picking given had step =
         let LeavesBy : Picking → Answer → Type 0 = λ p a. LeavesConnection before.connections after.connections p.vc (has_low_priority p.cell) a in
         inr (
           subst (λ (p : Picking). LeavesBy p given) (sym same) (subst (λ (a : Answer). LeavesBy goes.picking a) (sym is) judged),
-          λ full. let no : judgement_of before goes.picking goes.connection ≡ answer.JournalFull = sym is ∙ full in cc,
+          λ full. let no : judged_answer before goes.picking goes.connection ≡ answer.JournalFull = sym is ∙ full in cc,
         )
     by None e (inr lacks) = let no = lacks.answer in cc
     by (Some reason) e is =
@@ -256,7 +256,7 @@ cut_keeps before after vc reply =
     (λ s. (
       ap (λ (w : World). w.shape) s.world,
       λ next found.
-          let handed : Connection = record s.connection { handed = length s.connection.history } in
+          let handed : Connection = record s.connection { returned = length s.connection.history } in
           let here : Some handed ≡ Some next =
           sym (ap (λ (w : World). connection_in w.connections vc) s.world ∙ put_found before.connections vc handed) ∙ found in
           let same : next ≡ handed = cc in

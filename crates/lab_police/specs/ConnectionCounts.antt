@@ -24,7 +24,7 @@ counts_line vc tally =
 -- The line of a connection of this world, or nothing if it isn't set up.
 abbrev pub counts_if_any : World → Vc → Option Connection → List ℕ
 counts_if_any world vc None = []
-counts_if_any world vc (Some connection) = counts_line vc (tally_of (world.judged connection.line))
+counts_if_any world vc (Some connection) = counts_line vc (tally_of (world.verdicts connection.line))
 
 -- The line of this connection, if it is set up.
 abbrev pub connection_counts : World → Vc → List ℕ

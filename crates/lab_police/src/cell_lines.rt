@@ -75,10 +75,10 @@ fn columns_without(reason: Unjudged) -> &'static [u8]
         Unjudged::NoConnection => b"-\tNoConnection\t-\t-\n",
         Unjudged::Released => b"-\tReleased\t-\t-\n",
         Unjudged::Stale => b"-\tStale\t-\t-\n",
-        Unjudged::Refused(LineFault::Back(_)) => b"-\tMomentBack\t-\t-\n",
-        Unjudged::Refused(LineFault::TooLate) => b"-\tMomentTooLate\t-\t-\n",
-        Unjudged::Refused(LineFault::Full) => b"-\tJournalFull\t-\t-\n",
-        Unjudged::Refused(LineFault::NoMemory) => b"-\tNoMemory\t-\t-\n",
+        Unjudged::LineFault(LineFault::Back(_)) => b"-\tMomentBack\t-\t-\n",
+        Unjudged::LineFault(LineFault::TooLate) => b"-\tMomentTooLate\t-\t-\n",
+        Unjudged::LineFault(LineFault::Full) => b"-\tJournalFull\t-\t-\n",
+        Unjudged::LineFault(LineFault::NoMemory) => b"-\tNoMemory\t-\t-\n",
     }
 }
 

@@ -5,7 +5,7 @@ ghost use Rattle.card_core.specs.Sections.{answer_to, unjudged_answer};
 ghost use Rattle.lab_police.specs.NotJudgedCells.{all_judged, not_judged_after, not_judged_line, not_judged_lines};
 
 use card_core::{Judgement, Unjudged};
-use lab_captures::Tally;
+use lab_captures::PassedTally;
 use line_record::LineFault;
 use std::alloc::AllocError;
 use upc_words::{add_number, add_text};
@@ -14,13 +14,13 @@ use upc_words::{add_number, add_text};
 #[derive(Clone, Copy, PartialEq, Eq, Debug)]
 pub struct NotJudged {
     /// They belong to no connection.
-    pub no_connection: Tally,
+    pub no_connection: PassedTally,
     /// Their moment is before that of their connection's last judged cell.
-    pub back: Tally,
+    pub back: PassedTally,
     /// Their moment is above 2^62.
-    pub late: Tally,
+    pub late: PassedTally,
     /// The journal of their connection is full, even after a cut: 2^62 cells were judged on its line.
-    pub full: Tally,
+    pub full: PassedTally,
 }
 
 impl NotJudged {
@@ -28,7 +28,7 @@ impl NotJudged {
     pub(crate) fn none() -> NotJudged
         ensures { result ≡ all_judged }
     {
-        let none = Tally::none();
+        let none = PassedTally::none();
         NotJudged {
             no_connection: none,
             back: none,
@@ -52,17 +52,21 @@ impl NotJudged {
     {
         match reason {
             Unjudged::NoConnection => self.no_connection = self.no_connection.with(number),
-            Unjudged::Refused(LineFault::Back(_)) => self.back = self.back.with(number),
-            Unjudged::Refused(LineFault::TooLate) => self.late = self.late.with(number),
-            Unjudged::Refused(LineFault::Full) => self.full = self.full.with(number),
-            Unjudged::Released | Unjudged::Stale | Unjudged::Refused(LineFault::NoMemory) => {}
+            Unjudged::LineFault(LineFault::Back(_)) => self.back = self.back.with(number),
+            Unjudged::LineFault(LineFault::TooLate) => self.late = self.late.with(number),
+            Unjudged::LineFault(LineFault::Full) => self.full = self.full.with(number),
+            Unjudged::Released | Unjudged::Stale | Unjudged::LineFault(LineFault::NoMemory) => {}
         }
     }
 }
 
 /// Appends a comment about cells that were not judged, if there are any.
 #[tactic(auto, using(std::proofs::lemmas::List::append_assoc))]
-fn add_not_judged_line(answers: &mut Vec<u8>, tally: Tally, why: &[u8]) -> Result<(), AllocError>
+fn add_not_judged_line(
+    answers: &mut Vec<u8>,
+    tally: PassedTally,
+    why: &[u8],
+) -> Result<(), AllocError>
     ensures { OnOk result (answers.new.items ≡ answers.old.items ++ not_judged_line tally why.now) }
 {
     if tally.count == 0 {

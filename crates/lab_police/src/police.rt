@@ -65,7 +65,7 @@ fn is_full(answered: &Option<Result<Judgement, Unjudged>>) -> bool
     ensures { (cell : List ℕ) → result ≡ is_full (option_map (λ decision. answer_to cell decision) answered.now) }
 {
     match answered {
-        Some(Err(Unjudged::Refused(LineFault::Full))) => true,
+        Some(Err(Unjudged::LineFault(LineFault::Full))) => true,
         _ => false,
     }
 }

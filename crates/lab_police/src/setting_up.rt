@@ -7,7 +7,7 @@ ghost use Rattle.lab_police.specs.inner.SetUpCard.{LeadsScriptTo, IsSetUpAs, Run
 use card_core::Core;
 use lab_scripts::explain_script;
 use std::alloc::{AllocError, Global};
-use text_io::{Done, Giving, Taking, answer_lines};
+use text_io::{Done, ReaderInput, WriterOutput, answer_lines};
 use upc_run::Policing;
 
 /// What a setup script leads to.
@@ -24,8 +24,8 @@ fn faults_of(alloc: Global, script: &[u8]) -> Result<Option<Vec<u8>>, AllocError
     ensures faulty { IfOk result (λ found. IfSome found (λ text. IsScriptExplained script.now text.items Done.Ended)) }
     ensures faultless { IfOk result (λ found. IfNone found (RunsWhole script.now)) }
 {
-    let mut input = Taking::new(script);
-    let mut output = Giving::new(Vec::new(alloc));
+    let mut input = ReaderInput::new(script);
+    let mut output = WriterOutput::new(Vec::new(alloc));
     match explain_script(alloc, &mut input, &mut output) {
         Ok(Done::Ended) => Ok(Some(output.writer)),
         Ok(Done::Whole) => Ok(None),
@@ -38,8 +38,8 @@ fn card_of(alloc: Global, script: &[u8]) -> Result<Core, AllocError>
     requires { RunsWhole script.now }
     ensures { IfOk result (λ core. IsSetUpAs script.now core) }
 {
-    let mut input = Taking::new(script);
-    let mut output = Giving::new(Vec::new(alloc));
+    let mut input = ReaderInput::new(script);
+    let mut output = WriterOutput::new(Vec::new(alloc));
     let mut policing = Policing::new(alloc);
     match answer_lines(alloc, &mut input, &mut output, &mut policing) {
         Ok(Done::Whole) => match policing.into_core() {

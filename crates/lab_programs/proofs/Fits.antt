@@ -5,7 +5,7 @@ use Rattle.std.proofs.lemmas.Option.{same_Some}
 use Rattle.std.specs.Option.{IfSome}
 use Rattle.byteorder.specs.Numbers.{big_from-lt}
 use Rattle.bpf_code.specs.Fields.{jt_in, jf_in, k_in}
-use Rattle.bpf_code.specs.Flow.{StandsAt}
+use Rattle.bpf_code.specs.Flow.{IsInstrAt}
 use Rattle.bpf_code.specs.OctetSpelling.{Spells, SpellsCode}
 use Rattle.bpf_code.specs.Table.{jt_of, jf_of, k_of}
 use Rattle.bpf_code.specs.Widths.{FitsFields}
@@ -36,8 +36,8 @@ fits_one octets i h spells =
     }
 
 -- Each instruction of a code.
-pub fits_all : (octets : List ℕ) (code : List Instr) → IsBytes octets → SpellsCode octets code → (place : ℕ) (i : Instr) → StandsAt code place i → FitsFields i
-fits_all octets [] h spells place i stands = cc
-fits_all octets (j ∷ code) h spells zero i stands =
-    subst (λ (some : Instr). FitsFields some) (same_Some j i stands) (fits_one (take 8 octets) j (bytes_taken 8 octets h) spells.0)
-fits_all octets (j ∷ code) h spells (suc place) i stands = fits_all (drop 8 octets) code (bytes_left 8 octets h) spells.1 place i stands
+pub fits_all : (octets : List ℕ) (code : List Instr) → IsBytes octets → SpellsCode octets code → (place : ℕ) (i : Instr) → IsInstrAt code place i → FitsFields i
+fits_all octets [] h spells place i instr_there = cc
+fits_all octets (j ∷ code) h spells zero i instr_there =
+    subst (λ (some : Instr). FitsFields some) (same_Some j i instr_there) (fits_one (take 8 octets) j (bytes_taken 8 octets h) spells.0)
+fits_all octets (j ∷ code) h spells (suc place) i instr_there = fits_all (drop 8 octets) code (bytes_left 8 octets h) spells.1 place i instr_there

@@ -1,6 +1,5 @@
 pub mod Lists
-pub mod Rows
-pub mod OneState
+pub mod WordsRead
 pub mod TraceSteps
 pub mod TraceValue
 pub mod OneTrace

@@ -13,7 +13,7 @@ use Rattle.bpf_asm.specs.SourceLines.{source_lines}
 use Rattle.bpf_asm.specs.StatementSpelling.{label, spelling_octets, spelling_tokens, spellings}
 use Rattle.bpf_asm.specs.Tokens.{Token}
 use Rattle.bpf_code.specs.Encoding.{code_octets}
-use Rattle.bpf_code.specs.Flow.{StandsAt}
+use Rattle.bpf_code.specs.Flow.{IsInstrAt}
 use Rattle.bpf_code.specs.OctetSpelling.{SpellsCode}
 use Rattle.bpf_code.specs.Widths.{FitsFields}
 use Rattle.bpf_code.specs.declared.instr.Instr.{Instr}
@@ -106,8 +106,8 @@ commented_spelled listed place (i ∷ code) (line ∷ lines) h left spelled =
     subst P found (subst Q (sym (line_commented (listed_at place i) octets (octet_lines listed (place + 1) code) h.0)) (parsed, later))
 
 -- If each instruction of a code fits its fields and stays within the code, the listing with octets means the code.
-pub commented_means : (code : List Instr) → length code ≤ 2 ^ 64 → ((place : ℕ) (i : Instr) → StandsAt code place i → FitsFields i)
-    → ((place : ℕ) (i : Instr) → StandsAt code place i → StaysWithin (length code) place i) → IsMeaning (program_listing code) code
+pub commented_means : (code : List Instr) → length code ≤ 2 ^ 64 → ((place : ℕ) (i : Instr) → IsInstrAt code place i → FitsFields i)
+    → ((place : ℕ) (i : Instr) → IsInstrAt code place i → StaysWithin (length code) place i) → IsMeaning (program_listing code) code
 commented_means code h wide stays =
     let means = listing_means code h wide stays in
     let have = have_lines 0 code (omega arith) (λ k i e.
@@ -121,10 +121,10 @@ commented_means code h wide stays =
     }
 
 -- The listing of an accepted code with octets means the code.
-pub accepted_means : (code : List Instr) → IsAccepted code → ((place : ℕ) (i : Instr) → StandsAt code place i → FitsFields i) → IsMeaning (program_listing code) code
+pub accepted_means : (code : List Instr) → IsAccepted code → ((place : ℕ) (i : Instr) → IsInstrAt code place i → FitsFields i) → IsMeaning (program_listing code) code
 accepted_means code accepted wide =
     let sized = accepted.sized.most in
-    commented_means code (omega arith) wide (λ place i stands. (accepted.sound place i stands).targets)
+    commented_means code (omega arith) wide (λ place i instr_there. (accepted.sound place i instr_there).targets)
 
 ok-part : (d : Result (List ℕ) FromHexError) (xs : List ℕ) → result_ok d ≡ Some xs → d ≡ Ok xs
 ok-part (Ok ys) xs e = let same : ys ≡ xs = cc in ap Ok same

@@ -49,8 +49,8 @@ silent-same : (world : Bool) (words : List (List ℕ)) (text text' : List ℕ) (
 silent-same world words text text' next next' true p q = (p.0 ∙ sym q.0, p.1 ∙ sym q.1)
 silent-same world words text text' next next' false p q = words-same world words text text' next next' p q
 
-steps-same : (world : Bool) (line_content : List ℕ) (text text' : List ℕ) (next next' : Option Bool) → ListSteps world line_content text next → ListSteps world line_content text' next' → Same text text' next next'
-steps-same world line_content text text' next next' p q = silent-same world (words_of line_content) text text' next next' (is_silent (words_of line_content)) p q
+steps-same : (world : Bool) (content : List ℕ) (text text' : List ℕ) (next next' : Option Bool) → ListSteps world content text next → ListSteps world content text' next' → Same text text' next next'
+steps-same world content text text' next next' p q = silent-same world (words_of content) text text' next next' (is_silent (words_of content)) p q
 
 closes-same : (world : Bool) (text text' : List ℕ) (done done' : Done) → ListCloses world text done → ListCloses world text' done' → (text ≡ text') × (done ≡ done')
 closes-same false text text' done done' p q = (p.0 ∙ sym q.0, p.1 ∙ sym q.1)

@@ -3,9 +3,9 @@ use Rattle.std.proofs.Common.{◌≡◌, ℕ, ◌==◌, Bool, true, false, List,
 use Rattle.std.specs.Bool.{MatchBool}
 use Rattle.std.specs.Option.{MatchOption}
 use Rattle.bpf_code.specs.declared.instr.Instr.{Instr}
+use Rattle.bpf_interp.proofs.Public.{Step-unique}
 use Rattle.bpf_interp.specs.State.{State, At, Ended}
 use Rattle.bpf_interp.specs.Step.{Step}
-use Rattle.lab_programs.proofs.OneState.{step_once}
 use Rattle.lab_programs.specs.Trace.{GoesThrough, IsTraceText, ReadsOrTraces, PrintsTrace, TraceLine, TraceSteps, TracesOn, step_lines, trace_rules}
 use Rattle.lab_programs.specs.inner.TraceLaws.{trace-total}
 use Rattle.text_io.proofs.Public.{one-text, some-text}
@@ -32,7 +32,7 @@ through-once code packet here [] [] v w p q =
 through-once code packet here [] (t ∷ other) v w p q = absurd (has_ended code packet here t v p q.0)
 through-once code packet here (s ∷ some) [] v w p q = absurd (has_ended code packet here s w q p.0)
 through-once code packet here (s ∷ some) (t ∷ other) v w p q =
-    let same : s ≡ t = step_once code packet here s t p.0 q.0 in
+    let same : s ≡ t = Step-unique code packet here s t p.0 q.0 in
     let later = through-once code packet s some other v w p.1 (subst (λ (u : State). GoesThrough code packet u other w) (sym same) q.1) in
     (ap (λ (u : State). u ∷ some) same ∙ ap (λ (ls : List State). t ∷ ls) later.0, later.1)
 
@@ -97,8 +97,8 @@ silent-same : (world : EvalWorld) (words : List (List ℕ)) (text text' : List �
 silent-same world words text text' next next' true p q = (p.0 ∙ sym q.0, p.1 ∙ sym q.1)
 silent-same world words text text' next next' false p q = asks-same world words text text' next next' p q
 
-steps-same : (world : EvalWorld) (line_content : List ℕ) (text text' : List ℕ) (next next' : Option EvalWorld) → TraceSteps world line_content text next → TraceSteps world line_content text' next' → Same text text' next next'
-steps-same world line_content text text' next next' p q = silent-same world (words_of line_content) text text' next next' (is_silent (words_of line_content)) p q
+steps-same : (world : EvalWorld) (content : List ℕ) (text text' : List ℕ) (next next' : Option EvalWorld) → TraceSteps world content text next → TraceSteps world content text' next' → Same text text' next next'
+steps-same world content text text' next next' p q = silent-same world (words_of content) text text' next next' (is_silent (words_of content)) p q
 
 closes-same : (world : EvalWorld) (text text' : List ℕ) (done done' : Done) → EvalCloses world text done → EvalCloses world text' done' → (text ≡ text') × (done ≡ done')
 closes-same None text text' done done' p q = (p.0 ∙ sym q.0, p.1 ∙ sym q.1)

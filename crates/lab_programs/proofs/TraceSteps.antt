@@ -4,25 +4,26 @@ use Rattle.std.proofs.lemmas.List.{get_or-drop}
 use Rattle.std.proofs.lemmas.Option.{slice_get_within, slice_get-get_or, same_Some}
 use Rattle.std.specs.declared.ops.ControlFlow.TheVariants.{Continue}
 use Rattle.bpf_asm.specs.SourceLines.{source_lines}
-use Rattle.bpf_code.specs.Flow.{StandsAt}
+use Rattle.bpf_code.specs.Flow.{IsInstrAt}
 use Rattle.bpf_code.specs.Scratch.{ReadsWord}
 use Rattle.bpf_code.specs.declared.instr.Instr.{Instr}
-use Rattle.bpf_interp.proofs.Public.{Value-some}
+use Rattle.bpf_interp.proofs.Public.{Does-unique, Value-some}
+use Rattle.bpf_interp.specs.Registers.{HoldsScratch, IsCounted, LeadsFlow, memory_after, state_after}
 use Rattle.bpf_interp.specs.ScratchMemory.{word_in}
 use Rattle.bpf_interp.specs.State.{State, At, Ended}
 use Rattle.bpf_interp.specs.Step.{Does, Step}
 use Rattle.bpf_interp.specs.Value.{EndsIn}
+use Rattle.bpf_interp.specs.declared.registers.Registers.{Registers}
+use Rattle.bpf_verify.proofs.Onward.{successor_forward}
 use Rattle.bpf_verify.specs.Accepted.{IsAccepted}
 use Rattle.std.specs.Option.{IsSome}
 use Rattle.text_io.specs.Devices.{Adds}
 use Rattle.upc_words.specs.FaultLines.{line}
 use Rattle.lab_programs.proofs.Lists.{drop_further}
-use Rattle.lab_programs.proofs.OneState.{does_once, does_reads}
+use Rattle.lab_programs.proofs.WordsRead.{does_reads}
 use Rattle.lab_programs.specs.Comments.{commented, listed_lines}
 use Rattle.lab_programs.specs.Trace.{GoesThrough, PrintsTrace, instruction_line, result_text, step_line, step_lines}
-use Rattle.lab_programs.specs.inner.Registers.{HoldsWords, memory_after, state_after}
 use Rattle.lab_programs.specs.inner.SoFar.{IsTraced, Joins}
-use Rattle.lab_programs.specs.declared.registers.Registers.{Registers}
 
 -- A state from which the machine ends, and which hasn't ended, has a next one, from which the machine ends.
 goes_on : (code : List Instr) (packet : List ℕ) (pc a x : ℕ) (m : List (ℕ × ℕ)) (value left : ℕ) → EndsIn code packet (At pc a x m) value left
@@ -41,14 +42,14 @@ abbrev value_line : ℕ → ℕ → List ℕ
 value_line value steps = line (codes "value " ++ decimal value ++ codes " steps " ++ decimal steps)
 
 -- The instruction that is read at a place of the code.
-pub stands_read : (code shown : List Instr) (pc : ℕ) (d : Instr) → shown ≡ code → pc < length code → StandsAt code pc (get_or shown pc d)
-stands_read code shown pc d same within =
-    let P : List Instr → Type 0 = λ some. StandsAt code pc (get_or some pc d) in
+pub instr_read : (code shown : List Instr) (pc : ℕ) (d : Instr) → shown ≡ code → pc < length code → IsInstrAt code pc (get_or shown pc d)
+instr_read code shown pc d same within =
+    let P : List Instr → Type 0 = λ some. IsInstrAt code pc (get_or some pc d) in
     subst P (sym same) (slice_get-get_or code pc d within)
 
 module _ (code : List Instr) (packet before : List ℕ) where
   -- The invariant initially.
-  pub traced_first : IsAccepted code → (words lines : List ℕ) → source_lines lines ≡ listed_lines code → IsTraced code packet before before (record { pc = 0; a = 0; x = 0 }) words 0 lines
+  pub traced_first : IsAccepted code → (words lines : List ℕ) → source_lines lines ≡ listed_lines code → IsTraced code packet before before (record { pc = 0; a = 0; x = 0; skipped = 0 }) words 0 lines
   traced_first accepted words lines same =
       let value = Value-some code packet accepted in
       record {
@@ -56,6 +57,7 @@ module _ (code : List Instr) (packet before : List ℕ) where
         agrees = λ index value small there. absurd cc;
         ends = (value.0, value.1, value.2);
         within = accepted.sized.least;
+        skipped = omega arith;
         counted = omega arith;
         left = same;
         joins = λ later value goes. let same : length later ≡ 0 + length later = omega arith in (later, goes, same, refl);
@@ -69,10 +71,10 @@ module _ (code : List Instr) (packet before : List ℕ) where
     onward : (next : State) × Step code packet here next × ((value : ℕ) × (left : ℕ) × EndsIn code packet next value left)
     onward = goes_on code packet registers.pc registers.a registers.x traced.memory traced.ends.0 traced.ends.1 traced.ends.2
 
-    module _ (i : Instr) (stands : StandsAt code registers.pc i) where
+    module _ (i : Instr) (instr_there : IsInstrAt code registers.pc i) where
       begun : Does packet i registers.pc registers.a registers.x traced.memory onward.0
       begun =
-          let same : onward.1.0 ≡ i = same_Some onward.1.0 i (sym onward.1.1 ∙ stands) in
+          let same : onward.1.0 ≡ i = same_Some onward.1.0 i (sym onward.1.1 ∙ instr_there) in
           subst (λ (j : Instr). Does packet j registers.pc registers.a registers.x traced.memory onward.0) same onward.1.2
 
       -- The scratch memory has each word that the instruction reads.
@@ -82,11 +84,11 @@ module _ (code : List Instr) (packet before : List ℕ) where
       module _ (s : State) (does : Does packet i registers.pc registers.a registers.x traced.memory s) where
         ends_there : (value : ℕ) × (left : ℕ) × EndsIn code packet s value left
         ends_there =
-            let same = does_once packet i registers.pc registers.a registers.x traced.memory onward.0 s begun does in
+            let same = Does-unique packet i registers.pc registers.a registers.x traced.memory onward.0 s begun does in
             subst (λ (t : State). (value : ℕ) × (left : ℕ) × EndsIn code packet t value left) same onward.2
 
         stepped : Step code packet here s
-        stepped = (i, stands, does)
+        stepped = (i, instr_there, does)
 
         -- The line that was added is that of the step.
         line_same : (listed : List ℕ) → listed ≡ get_or (source_lines lines) 0 [] → commented listed (result_text i s) ≡ step_line code here s
@@ -97,7 +99,7 @@ module _ (code : List Instr) (packet before : List ℕ) where
             ∙ ap (λ (n : ℕ). get_or (listed_lines code) n []) zero_more in
             let printed : commented listed (result_text i s) ≡ commented (get_or (listed_lines code) registers.pc []) (result_text i s) =
             ap (λ (l : List ℕ). commented l (result_text i s)) found in
-            printed ∙ sym (ap (λ (o : Option Instr). instruction_line code registers.pc o s) stands)
+            printed ∙ sym (ap (λ (o : Option Instr). instruction_line code registers.pc o s) instr_there)
 
         -- The states from here on, with the line of the step.
         joined : (now : List ℕ) → now ≡ after ++ step_line code here s → (later : List State) (value : ℕ) → GoesThrough code packet s later value
@@ -115,18 +117,23 @@ module _ (code : List Instr) (packet before : List ℕ) where
           → Does packet i registers.pc registers.a registers.x traced.memory (state_after (Continue next) (memory_after i registers.a registers.x traced.memory))
           → listed ≡ get_or (source_lines lines) 0 []
           → now ≡ after ++ commented listed (result_text i (state_after (Continue next) (memory_after i registers.a registers.x traced.memory)))
-          → registers.pc < next.pc → source_lines left ≡ drop (next.pc - registers.pc) (source_lines lines)
-          → HoldsWords (memory_after i registers.a registers.x traced.memory) words'
+          → LeadsFlow registers.pc i (Continue next) → IsCounted registers (Continue next)
+          → source_lines left ≡ drop (next.pc - registers.pc) (source_lines lines)
+          → HoldsScratch (memory_after i registers.a registers.x traced.memory) words'
           → IsTraced code packet before now next words' (steps + 1) left
-      traced_on next listed now left words' does first added forward passed agrees =
+      traced_on next listed now left words' does first added leads one_on passed agrees =
           let s = state_after (Continue next) (memory_after i registers.a registers.x traced.memory) in
           let counted = traced.counted in
+          let skips = traced.skipped in
+          let forward : registers.pc < next.pc = successor_forward code registers.pc next.pc (i, instr_there, leads) in
+          let on : next.pc + registers.skipped ≡ registers.pc + 1 + next.skipped = one_on in
           let far : registers.pc + (next.pc - registers.pc) ≡ next.pc = omega arith in
           record {
             memory = memory_after i registers.a registers.x traced.memory;
             agrees = agrees;
             ends = ends_there s does;
             within = let ends = ends_there s does in place_within code packet next.pc next.a next.x (memory_after i registers.a registers.x traced.memory) ends.0 ends.1 ends.2;
+            skipped = omega arith;
             counted = omega arith;
             left = passed ∙ drop_further registers.pc (next.pc - registers.pc) (listed_lines code) (source_lines lines) traced.left
                 ∙ ap (λ (n : ℕ). drop n (listed_lines code)) far;

@@ -89,8 +89,8 @@ ReadsOrTraces (Some code) words text next = TraceLine code words text × (next �
 -- The answer to a line, and the next world (none if the line ends the run). A line without words and a comment have
 -- an empty answer.
 abbrev pub TraceSteps : EvalWorld → List ℕ → List ℕ → Option EvalWorld → Type 0
-TraceSteps world line_content text next =
-    MatchBool (is_silent (words_of line_content)) ((text ≡ []) × (next ≡ Some world)) (ReadsOrTraces world (words_of line_content) text next)
+TraceSteps world content text next =
+    MatchBool (is_silent (words_of content)) ((text ≡ []) × (next ≡ Some world)) (ReadsOrTraces world (words_of content) text next)
 
 -- The rules of `trace`. The world and the end of the input are those of `upc eval`.
 abbrev pub trace_rules : Rules EvalWorld

@@ -1,5 +1,4 @@
 -- Definitions that only private functions and proofs use.
-pub mod Registers
 pub mod SoFar
 pub mod TraceLaws
 pub mod ListLaws

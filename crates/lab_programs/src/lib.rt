@@ -2,13 +2,9 @@
 //! program on each cell.
 #![tactic(auto)]
 
-mod answer_texts;
-mod arithmetic;
 pub mod laws;
 mod listed_lines;
 mod listing;
-mod packet;
-mod registers;
 mod step_lines;
 mod tracing;
 

@@ -10,13 +10,13 @@ ghost use Rattle.lab_programs.specs.Comments.{commented};
 ghost use Rattle.lab_programs.specs.ListedProgram.{IsListText, ListedLine, list_rules, octets_text, program_listing};
 ghost use Rattle.lab_programs.specs.inner.TurnWorlds.{turn_world};
 
-use crate::answer_texts::add_no_program;
 use crate::listed_lines::{after_line, first_line};
 use bpf_asm::listing;
 use bpf_code::{Instr, encode};
 use std::alloc::{AllocError, Global};
 use text_io::{Done, Input, LineWords, Machine, Output, RunFault, Turn, answer_lines, line_words};
 use upc_codes::read_code;
+use upc_programs::add_no_program;
 use upc_words::{add_bad_hex, add_bad_line, add_too_long, octets_of_word};
 
 /// Appends the octets of an instruction, in lower case hexadecimal digits.

@@ -2,12 +2,12 @@
 //! function appends to the answers.
 
 ghost use Rattle.std.specs.Prelude.{◌≡◌, ◌++◌, ℕ, List, OnOk};
+ghost use Rattle.bpf_interp.specs.Registers.{memory_after, state_after};
 ghost use Rattle.lab_programs.specs.Comments.{commented};
 ghost use Rattle.lab_programs.specs.Trace.{end_text, registers_text, result_text, scratch_text, word_text, written_text};
-ghost use Rattle.lab_programs.specs.inner.Registers.{memory_after, state_after};
 
-use crate::registers::Registers;
 use bpf_code::Instr;
+use bpf_interp::Registers;
 use byteorder::{BigEndian, ByteOrder};
 use std::alloc::AllocError;
 use std::ops::ControlFlow::{self, Break, Continue};

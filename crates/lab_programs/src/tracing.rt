@@ -8,11 +8,10 @@ ghost use Rattle.text_io.specs.Serving.{IsServed};
 ghost use Rattle.lab_programs.specs.Trace.{IsTraceText, PrintsTrace, TraceLine, TraceSteps, trace_rules};
 ghost use Rattle.upc_programs.specs.Eval.{ProgramLine};
 
-use crate::answer_texts::{add_accepted, add_no_program, add_value};
 use crate::listed_lines::{first_line, lines_after};
-use crate::registers::Registers;
 use crate::step_lines::add_step;
 use bpf_asm::listing;
+use bpf_interp::Registers;
 use bpf_verify::Program;
 use std::alloc::{AllocError, Global};
 use std::marker::Model;
@@ -20,6 +19,7 @@ use std::ops::ControlFlow::{Break, Continue};
 use text_io::{Done, Input, LineWords, Machine, Output, RunFault, Turn, answer_lines, line_words};
 use upc_cell::Cell;
 use upc_codes::read_code;
+use upc_programs::{add_accepted, add_no_program, add_value};
 use upc_words::{
     CellWord, add_bad_hex, add_bad_line, add_too_long, add_wrong_length, cell_of_word,
     octets_of_word,

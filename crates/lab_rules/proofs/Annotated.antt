@@ -37,8 +37,8 @@ pub comments_more : (lines : List (List ℕ)) (numbers lengths : List ℕ) (left
     → new ++ comments_from lines numbers left (place + 1) (drop (place + 1) lengths) ≡ all
 comments_more lines numbers lengths left place old mid new all lt rest made e =
     let here = comment_at lines numbers left place (get_or lengths place 0) (next_length (drop (place + 1) lengths)) in
-    let behind = comments_from lines numbers left (place + 1) (drop (place + 1) lengths) in
-    ap (λ (t : List ℕ). t ++ behind) (e ∙ made) ∙ append_assoc old here behind
+    let after = comments_from lines numbers left (place + 1) (drop (place + 1) lengths) in
+    ap (λ (t : List ℕ). t ++ after) (e ∙ made) ∙ append_assoc old here after
     ∙ ap (λ (ns : List ℕ). old ++ comments_from lines numbers left place ns) (sym (drop_more lengths place 0 lt)) ∙ rest
 
 pub comments_last : (lines : List (List ℕ)) (numbers lengths : List ℕ) (left place : ℕ) (old new all : List ℕ) → length lengths ≤ place
@@ -52,11 +52,11 @@ comments_last lines numbers lengths left place old new all le rest made =
 pub lines_more : (put : ℕ → List ℕ) (place : ℕ) (left line rest old mid new all : List ℕ) → IsFirst left line rest → old ++ lines_with put place (lines_of left) ≡ all
     → mid ≡ old ++ put place → new ≡ mid ++ line → new ++ lines_with put (place + 1) (lines_of rest) ≡ all
 lines_more put place left line rest old mid new all first so e f =
-    let behind = lines_with put (place + 1) (lines_of rest) in
-    let cut : lines_with put place (lines_of left) ≡ put place ++ (line ++ behind) =
-    ap (lines_with put place) first.1 ∙ ap (λ (l : List ℕ). put place ++ (l ++ behind)) (sym first.2) in
-    ap (λ (t : List ℕ). t ++ behind) (f ∙ ap (λ (t : List ℕ). t ++ line) e ∙ append_assoc old (put place) line)
-    ∙ append_assoc old (put place ++ line) behind ∙ ap (λ (t : List ℕ). old ++ t) (append_assoc (put place) line behind)
+    let after = lines_with put (place + 1) (lines_of rest) in
+    let cut : lines_with put place (lines_of left) ≡ put place ++ (line ++ after) =
+    ap (lines_with put place) first.1 ∙ ap (λ (l : List ℕ). put place ++ (l ++ after)) (sym first.2) in
+    ap (λ (t : List ℕ). t ++ after) (f ∙ ap (λ (t : List ℕ). t ++ line) e ∙ append_assoc old (put place) line)
+    ∙ append_assoc old (put place ++ line) after ∙ ap (λ (t : List ℕ). old ++ t) (append_assoc (put place) line after)
     ∙ ap (λ (t : List ℕ). old ++ t) (sym cut) ∙ so
 
 pub lines_done : (put : ℕ → List ℕ) (place : ℕ) (left old all : List ℕ) → lines_of left ≡ [] → old ++ lines_with put place (lines_of left) ≡ all → old ≡ all

@@ -73,7 +73,7 @@ statements_same (line ∷ more) lines (inr h) = statement_more line more h.0 (st
 
 SplitAt : List SourceLine → List SourceLine → SourceLine → Type 0
 SplitAt more before here =
-    (before' : List SourceLine) × (behind' : List SourceLine) × (more ≡ before' ++ here ∷ behind') × (statements_of before' ≡ statements_of before)
+    (before' : List SourceLine) × (after' : List SourceLine) × (more ≡ before' ++ here ∷ after') × (statements_of before' ≡ statements_of before)
 
 split_blank : (line : SourceLine) (more before : List SourceLine) (here : SourceLine) → line ≡ blank → SplitAt more before here → SplitAt (line ∷ more) before here
 unfolding SplitAt
@@ -89,31 +89,31 @@ split_first : (line : SourceLine) (more : List SourceLine) → SplitAt (line ∷
 unfolding SplitAt
 split_first line more = ([], more, refl, refl)
 
-split_kept : (line : SourceLine) (more rest before : List SourceLine) (here : SourceLine) (behind : List SourceLine) → line ∷ rest ≡ before ++ here ∷ behind
-    → ((before' : List SourceLine) → rest ≡ before' ++ here ∷ behind → SplitAt more before' here) → SplitAt (line ∷ more) before here
-split_kept line more rest [] here behind e deep =
+split_kept : (line : SourceLine) (more rest before : List SourceLine) (here : SourceLine) (after : List SourceLine) → line ∷ rest ≡ before ++ here ∷ after
+    → ((before' : List SourceLine) → rest ≡ before' ++ here ∷ after → SplitAt more before' here) → SplitAt (line ∷ more) before here
+split_kept line more rest [] here after e deep =
     let same : line ≡ here = cc in
     subst (λ (l : SourceLine). SplitAt (line ∷ more) [] l) same (split_first line more)
-split_kept line more rest (first ∷ before) here behind e deep =
+split_kept line more rest (first ∷ before) here after e deep =
     let same : line ≡ first = cc in
-    let later : rest ≡ before ++ here ∷ behind = cc in
+    let later : rest ≡ before ++ here ∷ after = cc in
     subst (λ (l : SourceLine). SplitAt (line ∷ more) (l ∷ before) here) same (split_more line more before here (deep before later))
 
-no_lines : (before : List SourceLine) (here : SourceLine) (behind : List SourceLine) → [] ≡ before ++ here ∷ behind → ⊥
-no_lines [] here behind e = cc
-no_lines (first ∷ before) here behind e = cc
+no_lines : (before : List SourceLine) (here : SourceLine) (after : List SourceLine) → [] ≡ before ++ here ∷ after → ⊥
+no_lines [] here after e = cc
+no_lines (first ∷ before) here after e = cc
 
-split_at : (more lines before : List SourceLine) (here : SourceLine) (behind : List SourceLine) → AddsBlanks lines more → lines ≡ before ++ here ∷ behind → SplitAt more before here
-split_at [] lines before here behind e cut = absurd (no_lines before here behind (sym e ∙ cut))
-split_at (line ∷ more) lines before here behind (inl h) cut = split_blank line more before here h.0 (split_at more lines before here behind h.1 cut)
-split_at (line ∷ more) lines before here behind (inr h) cut =
-    split_kept line more h.0 before here behind (sym h.1 ∙ cut) (λ before' later. split_at more h.0 before' here behind h.2 later)
+split_at : (more lines before : List SourceLine) (here : SourceLine) (after : List SourceLine) → AddsBlanks lines more → lines ≡ before ++ here ∷ after → SplitAt more before here
+split_at [] lines before here after e cut = absurd (no_lines before here after (sym e ∙ cut))
+split_at (line ∷ more) lines before here after (inl h) cut = split_blank line more before here h.0 (split_at more lines before here after h.1 cut)
+split_at (line ∷ more) lines before here after (inr h) cut =
+    split_kept line more h.0 before here after (sym h.1 ∙ cut) (λ before' later. split_at more h.0 before' here after h.2 later)
 
 names_same : (more lines : List SourceLine) (label : List ℕ) (place : ℕ) → AddsBlanks lines more → NamesPlace lines label place → NamesPlace more label place
 unfolding SplitAt
 names_same more lines label place adds n =
-    let split = split_at more lines n.before n.here n.behind adds n.split in
-    record { before = split.0; here = n.here; behind = split.1; split = split.2; named = n.named; counted = n.counted ∙ ap length (sym split.3) }
+    let split = split_at more lines n.before n.here n.after adds n.split in
+    record { before = split.0; here = n.here; after = split.1; split = split.2; named = n.named; counted = n.counted ∙ ap length (sym split.3) }
 
 -- ---- no label twice
 
@@ -135,8 +135,8 @@ has_fewer (line ∷ more) lines (suc at) label (inr k) h =
     let deep = has_fewer more k.0 at label k.2 h in
     (suc deep.0, subst (λ (ls : List SourceLine). HasLabel ls (suc deep.0) label) (sym k.1) deep.1)
 
-once_behind : (line : SourceLine) (rest : List SourceLine) → EachLabelOnce (line ∷ rest) → EachLabelOnce rest
-once_behind line rest once one other label a b = let e = once (suc one) (suc other) label a b in omega (arith, e)
+once_after : (line : SourceLine) (rest : List SourceLine) → EachLabelOnce (line ∷ rest) → EachLabelOnce rest
+once_after line rest once one other label a b = let e = once (suc one) (suc other) label a b in omega (arith, e)
 
 once_same : (more lines : List SourceLine) → AddsBlanks lines more → EachLabelOnce lines → EachLabelOnce more
 once_same [] lines e once one other label a b = absurd (none_labelled one label a)
@@ -151,7 +151,7 @@ once_same (line ∷ more) lines (inr k) once (suc one) zero label a b =
     let there = has_fewer more k.0 one label k.2 a in
     let e = subst EachLabelOnce k.1 once (suc there.0) zero label there.1 b in absurd (omega (arith, e))
 once_same (line ∷ more) lines (inr k) once (suc one) (suc other) label a b =
-    ap suc (once_same more k.0 k.2 (once_behind line k.0 (subst EachLabelOnce k.1 once)) one other label a b)
+    ap suc (once_same more k.0 k.2 (once_after line k.0 (subst EachLabelOnce k.1 once)) one other label a b)
 
 -- ---- an instruction follows each label
 
@@ -171,7 +171,7 @@ dangling_same (line ∷ more) lines (suc at) (inr k) d =
 module _ (more lines : List SourceLine) (adds : AddsBlanks lines more) where
   offset_same : (place : ℕ) (operand : Operand) (offset : ℕ) → IsOffset lines place operand offset → IsOffset more place operand offset
   offset_same place operand offset is =
-      record { stands = names_same more lines operand.label (place + 1 + offset) adds is.stands; fits = is.fits }
+      record { holds = names_same more lines operand.label (place + 1 + offset) adds is.holds; fits = is.fits }
 
   side_same : (place : ℕ) (target : Option (List ℕ)) (offset : ℕ) → IsSide lines place target offset → IsSide more place target offset
   side_same place None offset is = is

@@ -1,5 +1,4 @@
-pub mod Answering
-pub mod AnsweringAsm
+pub mod WholeAnswers
 pub mod FaultLineText
 pub mod Public
 pub mod WhySteps

@@ -7,12 +7,12 @@ use Rattle.lab_rules.specs.RulesText.{MayBeRulesText}
 use Rattle.lab_rules.specs.WhyText.{IsWhyText, before_cells, why_rules}
 use Rattle.lab_rules.specs.inner.WhyLaws.{why-total}
 use Rattle.lab_rules.specs.AsmText.{MayBeAsmText}
-use Rattle.lab_rules.proofs.Answering as answering
-use Rattle.lab_rules.proofs.AnsweringAsm as sources
+use Rattle.lab_rules.proofs.WholeAnswers as answering
+use Rattle.lab_rules.specs.declared.answering.Printed.TheVariants.{Octets, Source}
 
 -- Every input has an answer of `rules`, or its code may be too long.
 pub some-rules_text : (octets : List ℕ) → (answer : List ℕ) × (done : Done) × MayBeRulesText octets answer done
-some-rules_text = answering.some-rules_text
+some-rules_text = answering.some-answer Octets
 
 -- Every input has an answer of `why`.
 pub some-why_text : (octets : List ℕ) → (answer : List ℕ) × (done : Done) × IsWhyText octets answer done
@@ -20,4 +20,4 @@ some-why_text octets = some-text why_rules why-total (lines_of octets) 0 (before
 
 -- Every input has an answer of `asm`, or its code may be too long.
 pub some-asm_text : (octets : List ℕ) → (answer : List ℕ) × (done : Done) × MayBeAsmText octets answer done
-some-asm_text = sources.some-asm_text
+some-asm_text = answering.some-answer Source

@@ -77,9 +77,9 @@ several_line line cut word other more same words = several_words (words_of cut) 
 
 -- The answer to a line before the cells, which says that cells follow or doesn't.
 abbrev StepsBy : Bool → List ℕ → List ℕ → List ℕ → Option WhyWorld → Type 0
-StepsBy is text line_content here next = MatchBool is
+StepsBy is text content here next = MatchBool is
     ((here ≡ fault_answer (numbered_in text)) × (next ≡ option_map among_cells (some_rules (numbered_in text))))
-    ((here ≡ []) × (next ≡ Some (before_cells (with_rules_line text line_content))))
+    ((here ≡ []) × (next ≡ Some (before_cells (with_rules_line text content))))
 
 taken_step : (is : Bool) (text line new : List ℕ) → is ≡ false → new ≡ with_rules_line text line → StepsBy is text line [] (Some (before_cells new))
 taken_step true text line new e made = cc

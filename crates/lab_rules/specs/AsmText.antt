@@ -1,23 +1,17 @@
 -- The output of `upc-lab asm`. The whole input is a text of rules. The answer is a source of assembly: the listing of the program that
 -- the rules are compiled to, and before the code of each line of rules a comment with that line.
-use Rattle.std.specs.Prelude.{◌≡◌, ◌⊎◌, ℕ, zero, suc, ◌+◌, ◌-◌, ◌==◌, ◌&&◌, not, if◌then◌else◌, List, [], ◌∷◌, ◌++◌, length, codes, decimal, slice_index, Option, MatchOption, Err}
+use Rattle.std.specs.Prelude.{◌≡◌, ◌⊎◌, ℕ, zero, suc, ◌+◌, ◌-◌, ◌==◌, ◌&&◌, not, if◌then◌else◌, List, [], ◌∷◌, ◌++◌, length, codes, decimal, slice_index}
 use Rattle.bpf_asm.specs.Listing.{listing_of}
 use Rattle.bpf_asm.specs.Meaning.{IsMeaning}
 use Rattle.bpf_asm.specs.SourceLines.{source_lines}
 use Rattle.bpf_verify.specs.Accepted.{IsAccepted}
 use Rattle.rules_text.specs.PlacesOfText.{IsNumberedCode}
-use Rattle.rules_text.specs.TextFaults.{IsTooLong}
-use Rattle.rules_text.specs.TextOfRules.{rules_in}
 use Rattle.rules_text.specs.ValuesRead.{FollowsText}
 use Rattle.rules_text.specs.declared.compiler.NumberedCode.{NumberedCode}
-use Rattle.rules_text.specs.declared.fault.RuleFault.{RuleFault}
-use Rattle.text_io.specs.Gathered.{gathered}
 use Rattle.text_io.specs.Lines.{Line, lines_of}
 use Rattle.text_io.specs.declared.ending.Done.{Done}
-use Rattle.text_io.specs.declared.ending.Done.TheVariants.{Whole, Ended}
-use Rattle.lab_rules.specs.RuleFaults.{rule_fault}
-use Rattle.lab_rules.specs.RulesText.{AreRules, PrintsLongCode, most_rules_octets}
-use Rattle.upc_words.specs.FaultLines.{too_long}
+use Rattle.text_io.specs.declared.ending.Done.TheVariants.{Whole}
+use Rattle.lab_rules.specs.RulesAnswers.{IsAnswerBy, MayBeAnswerBy, PrintsFault}
 
 -- The octets of a line, with its line feed if one ends it.
 abbrev pub whole_line : Line → List ℕ
@@ -75,21 +69,14 @@ pub record PrintsAsmCode (text answer : List ℕ) (made : NumberedCode) : Type 0
   pub answer_is : answer ≡ asm_text (source_lines text) made
   pub meaning : IsMeaning answer made.placed.code.items
 
--- The answer to a text of rules: the source of its program, or its fault, or the code of its rules is too long.
+-- The answer to a text of rules: the source of its program, or its fault.
 abbrev pub PrintsAsm : List ℕ → List ℕ → Done → Type 0
-PrintsAsm text answer done =
-    ((made : NumberedCode) × PrintsAsmCode text answer made × (done ≡ Whole))
-    ⊎ ((fault : RuleFault) × (rules_in text ≡ Err fault) × (answer ≡ rule_fault fault) × (done ≡ Ended))
-    ⊎ (IsTooLong text × PrintsLongCode answer done)
-
--- The answer to the text, or `too_long` if the input is over the limit.
-abbrev pub AnswersAsm : Option (List ℕ) → List ℕ → Done → Type 0
-AnswersAsm found answer done = MatchOption found ((answer ≡ too_long) × (done ≡ Ended)) (λ text. PrintsAsm text answer done)
+PrintsAsm text answer done = ((made : NumberedCode) × PrintsAsmCode text answer made × (done ≡ Whole)) ⊎ PrintsFault text answer done
 
 -- The output for a whole input, and how the run ends.
 abbrev pub IsAsmText : List ℕ → List ℕ → Done → Type 0
-IsAsmText octets answer done = AnswersAsm (gathered most_rules_octets octets) answer done
+IsAsmText = IsAnswerBy PrintsAsm
 
--- The same, but that the code of any rules may be reported as too long, as in `MayBeRulesText`.
+-- The same, but that the code of any rules may be reported as too long.
 abbrev pub MayBeAsmText : List ℕ → List ℕ → Done → Type 0
-MayBeAsmText octets answer done = IsAsmText octets answer done ⊎ (AreRules octets × PrintsLongCode answer done)
+MayBeAsmText = MayBeAnswerBy PrintsAsm

@@ -33,11 +33,11 @@ before_comment (octet ∷ octets) = if octet == 35 then [] else octet ∷ before
 
 -- The line says that cells follow.
 unfoldable pub is_cells_line : List ℕ → Bool
-is_cells_line line_content = are_cells (words_of (before_comment line_content))
+is_cells_line content = are_cells (words_of (before_comment content))
 
 -- The text with one more line. A carriage return goes before its line feed, so that the line keeps one of its own at its end.
 unfoldable pub with_rules_line : List ℕ → List ℕ → List ℕ
-with_rules_line text line_content = text ++ (line_content ++ codes "\r\n")
+with_rules_line text content = text ++ (content ++ codes "\r\n")
 
 -- The answer to a text of rules: nothing, or its fault.
 abbrev pub fault_answer : Result NumberedRead RuleFault → List ℕ
@@ -84,10 +84,10 @@ why_text numbered words = if is_silent words then [] else cell_text numbered wor
 
 -- The answer to a line, and the next state (none if the line ends the run).
 abbrev pub WhySteps : WhyWorld → List ℕ → List ℕ → Option WhyWorld → Type 0
-WhySteps (before_cells text) line_content here next = MatchBool (is_cells_line line_content)
+WhySteps (before_cells text) content here next = MatchBool (is_cells_line content)
     ((here ≡ fault_answer (numbered_in text)) × (next ≡ option_map among_cells (some_rules (numbered_in text))))
-    ((here ≡ []) × (next ≡ Some (before_cells (with_rules_line text line_content))))
-WhySteps (among_cells numbered) line_content here next = (here ≡ why_text numbered (words_of line_content)) × (next ≡ Some (among_cells numbered))
+    ((here ≡ []) × (next ≡ Some (before_cells (with_rules_line text content))))
+WhySteps (among_cells numbered) content here next = (here ≡ why_text numbered (words_of content)) × (next ≡ Some (among_cells numbered))
 
 -- How a run ends with the rules of a text.
 abbrev pub done_by : Option NumberedRead → Done

@@ -132,12 +132,12 @@ pub(crate) fn add_annotated(
 {
     let mut rest = listing;
     let mut place = 0usize;
-    while let Some((line, behind)) = whole_line(rest) {
+    while let Some((line, after)) = whole_line(rest) {
         let left = made.placed.code.len().saturating_sub(place);
         add_comments(answers, text, &made.numbers, &made.placed.lengths, left)?;
         answers.extend_from_slice(line)?;
         place += 1;
-        rest = behind;
+        rest = after;
     }
     Ok(())
 }

@@ -1,20 +1,19 @@
 //! `upc-lab asm`: compiles a text of rules to a source of assembly.
 
-ghost use Rattle.std.specs.Prelude.{◌≡◌, ◌++◌, IfOk, OnOk, option_map};
+ghost use Rattle.std.specs.Prelude.{◌≡◌, ◌++◌, IfOk, OnOk};
 ghost use Rattle.bpf_asm.specs.Meaning.{IsMeaning};
 ghost use Rattle.bpf_asm.specs.SourceLines.{source_lines};
 ghost use Rattle.text_io.specs.Devices.{Adds};
 ghost use Rattle.text_io.specs.Serving.{IsServed};
-ghost use Rattle.lab_rules.specs.AsmText.{AnswersAsm, IsAsmText, MayBeAsmText, PrintsAsm, asm_text};
+ghost use Rattle.lab_rules.specs.AsmText.{IsAsmText, MayBeAsmText, PrintsAsm, asm_text};
 
 use crate::annotating::add_annotated;
-use crate::compiling::MOST_RULES_OCTETS;
+use crate::answering::{Printed, answer_rules};
 use crate::fault_lines::add_rule_fault;
 use bpf_asm::listing;
 use rules_text::{NumberedCode, RuleFault, RuleKind, compile_numbered};
 use std::alloc::{AllocError, Global};
-use text_io::{Done, Input, Output, RunFault, gather, give_last};
-use upc_words::add_too_long;
+use text_io::{Done, Input, Output, RunFault};
 
 /// Appends the source of a code of rules. `JumpOutside` isn't met: an accepted code has no such jump.
 fn add_source(
@@ -33,7 +32,11 @@ fn add_source(
 }
 
 /// Answers a text: the source of the program of its rules, or its fault.
-fn answer_text(alloc: Global, text: &[u8], answers: &mut Vec<u8>) -> Result<Done, AllocError>
+pub(crate) fn answer_by_source(
+    alloc: Global,
+    text: &[u8],
+    answers: &mut Vec<u8>,
+) -> Result<Done, AllocError>
     ensures { IfOk result (λ done.
         Adds (λ answer. PrintsAsm text.now answer done) answers.old.items answers.new.items) }
 {
@@ -55,24 +58,6 @@ fn answer_text(alloc: Global, text: &[u8], answers: &mut Vec<u8>) -> Result<Done
     }
 }
 
-/// Answers the whole input, or an input over the limit.
-fn answer_gathered(
-    alloc: Global,
-    found: Option<Vec<u8>>,
-    answers: &mut Vec<u8>,
-) -> Result<Done, AllocError>
-    ensures { IfOk result (λ done. Adds (λ answer. AnswersAsm (option_map (λ text. text.items) found) answer done)
-        answers.old.items answers.new.items) }
-{
-    match found {
-        Some(text) => answer_text(alloc, &text, answers),
-        None => {
-            add_too_long(answers)?;
-            Ok(Done::Ended)
-        }
-    }
-}
-
 /// Answers a text of rules by a source of assembly: the listing of the program that they are compiled to, and before the code of each
 /// line of rules a comment with that line. A text with a fault is answered by the fault.
 ///
@@ -88,13 +73,5 @@ pub fn assemble_rules<I: Input, O: Output>(
     ensures printed { I.is_known → O.is_known → IfOk result (λ done.
         Adds (λ answer. IsAsmText (I.rest input.old) answer done) (O.held output.old) (O.held output.new)) }
 {
-    let found = match gather(alloc, input, MOST_RULES_OCTETS) {
-        Ok(found) => found,
-        Err(fault) => return Err(fault),
-    };
-    let mut answers = Vec::new(alloc);
-    match answer_gathered(alloc, found, &mut answers) {
-        Err(_) => Err(RunFault::NoMemory),
-        Ok(done) => give_last(output, &mut answers, done),
-    }
+    answer_rules(alloc, Printed::Source, input, output)
 }

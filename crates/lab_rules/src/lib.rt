@@ -2,6 +2,7 @@
 #![tactic(auto)]
 
 mod annotating;
+mod answering;
 mod assembling;
 mod compiling;
 mod deciding;

@@ -7,7 +7,7 @@ use Rattle.text_io.specs.Words.{words_of}
 use Rattle.upc_cell.specs.Side.{last_vpi}
 use Rattle.upc_cell.specs.declared.side.Side.{Side}
 use Rattle.upc_cell.specs.declared.vc.Vc.{Vc}
-use Rattle.upc_script.specs.ScriptCommands.{Command, cell, cell_of_words, command_of, contracts_of, cut, cut_of, load_of, only_vc, release, release_of, reload_of, reload_with, retire, retire_of, seat_of, setup_of, setup_with}
+use Rattle.upc_script.specs.ScriptCommands.{Command, cell, cell_of_words, command_of, contracts_of, cut, cut_of, load_of, only_vc, release, release_of, reload_of, reload_with, retire, retire_of, connection_and_program, setup_of, setup_with}
 use Rattle.upc_script.specs.ScriptWords.{connection_of, number_of_digits, number_up_to, program_of, vc_named, wanted_of, wanted_of_each, with_both}
 use Rattle.upc_script.specs.declared.script_words.Wanted.{Wanted}
 use Rattle.lab_scripts.proofs.WordsFound.{finds_words}
@@ -100,7 +100,7 @@ module _ (side : Side) where
   some_vc path channel = some_both connection_of (number_up_to (last_vpi side) path) (number_up_to 65535 channel)
 
   some_seat : (path channel name : List ℕ)
-      → is_some (seat_of side path channel name) ≡ (fits_script_slot side slot.Path path && (fits_script_slot side slot.Channel channel && fits_script_slot side slot.Program name))
+      → is_some (connection_and_program side path channel name) ≡ (fits_script_slot side slot.Path path && (fits_script_slot side slot.Channel channel && fits_script_slot side slot.Program name))
   some_seat path channel name =
       some_both (λ vc number. (vc, number)) (vc_named side path channel) (program_of name)
       ∙ ap (λ (b : Bool). b && is_some (program_of name)) (some_vc path channel)
@@ -138,7 +138,7 @@ module _ (side : Side) where
   reload_follows (path ∷ []) = refl
   reload_follows (path ∷ channel ∷ []) = refl
   reload_follows (path ∷ channel ∷ name ∷ []) =
-      some_mapped reload_with (seat_of side path channel name) ∙ some_seat path channel name
+      some_mapped reload_with (connection_and_program side path channel name) ∙ some_seat path channel name
       ∙ ap (λ (b : Bool). fits_script_slot side slot.Path path && (fits_script_slot side slot.Channel channel && b)) (and_true (fits_script_slot side slot.Program name))
   reload_follows (path ∷ channel ∷ name ∷ other ∷ words) =
       long (nat_le 3 (length (path ∷ channel ∷ name ∷ other ∷ words))) _
@@ -191,7 +191,7 @@ module _ (side : Side) where
       let two = fits_script_slot side slot.Channel channel in
       let three = fits_script_slot side slot.Program name in
       let all = all_fit side contract_slots contracts in
-      some_both setup_with (seat_of side path channel name) (contracts_of contracts)
+      some_both setup_with (connection_and_program side path channel name) (contracts_of contracts)
       ∙ ap (λ (b : Bool). b && is_some (contracts_of contracts)) (some_seat path channel name)
       ∙ ap (λ (b : Bool). (one && (two && three)) && b) (contracts_follow contracts)
       ∙ seat_and one two three (nat_le 1 (length contracts)) all

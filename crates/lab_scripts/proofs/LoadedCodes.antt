@@ -41,14 +41,14 @@ use Rattle.upc_script.specs.declared.script_words.Wanted.{Wanted}
 use Rattle.upc_words.specs.FaultLines.{bad_hex, bad_line, line, wrong_length}
 use Rattle.upc_words.specs.Hexadecimal.{cell_of_octets, octets_of_digits}
 use Rattle.lab_scripts.specs.LoadedPrograms.{codes_in_order, loaded_codes}
-use Rattle.lab_scripts.specs.inner.ProgramsKept.{CodesAfter, says_loaded, load_digits, loaded_digits}
+use Rattle.lab_scripts.specs.inner.ProgramsKept.{CodesAfter, is_loaded_answer, load_digits, loaded_digits}
 
 -- What was loaded.
 abbrev given_of : World → List Loading
-given_of world = world.given
+given_of world = world.loaded
 
 abbrev card_codes : Card → List (List Instr)
-card_codes card = codes_in_order card.world.given
+card_codes card = codes_in_order card.world.loaded
 
 -- The card has the same programs.
 abbrev KeepsCodes : Card → Card → Type 0
@@ -175,7 +175,7 @@ module _ (before after : Card) (text : List ℕ) where
 
 -- No fault line says that a program was loaded.
 abbrev IsOther : List ℕ → Type 0
-IsOther text = says_loaded text ≡ false
+IsOther text = is_loaded_answer text ≡ false
 
 verify_other : (found : Fault) → IsOther (verify_fault found)
 verify_other fault.Empty = refl
@@ -212,11 +212,11 @@ reading_spells octets code (inr faulty) = let no = faulty.3 in absurd cc
 -- A load.
 module _ (before after : Card) (text digits : List ℕ) where
   abbrev Follows : Type 0
-  Follows = CodesAfter (if says_loaded text then Some digits else None) (card_codes before) (card_codes after)
+  Follows = CodesAfter (if is_loaded_answer text then Some digits else None) (card_codes before) (card_codes after)
 
   load_refused : (fault : List ℕ) → IsOther fault → RefusesLine fault before text after → Follows
   load_refused fault other refused =
-      unloaded (says_loaded text) (Some digits) (card_codes before) (card_codes after) (subst IsOther (sym refused.0) other) (refused_keeps before after fault text refused)
+      unloaded (is_loaded_answer text) (Some digits) (card_codes before) (card_codes after) (subst IsOther (sym refused.0) other) (refused_keeps before after fault text refused)
 
   module _ (octets : List ℕ) (code : List Instr) (read : octets_of_digits digits ≡ Some octets) (spells : SpellsCode octets code) where
     load_replied : (found : Option DeskFault) (reply : Reply)
@@ -227,13 +227,13 @@ module _ (before after : Card) (text digits : List ℕ) where
         let e : Some (line (codes "loaded " ++ program_name (suc (length before.names)))) ≡ Some text =
         ap (reply_text (load digits) (length before.names)) (sym done.answer) ∙ says in
         let is : line (codes "loaded " ++ program_name (suc (length before.names))) ≡ text = cc in
-        loaded (says_loaded text) digits octets code (card_codes before) (card_codes after) (subst (λ (xs : List ℕ). says_loaded xs ≡ true) is refl) read spells
-        (ap (λ (world : World). codes_in_order world.given) done.world)
+        loaded (is_loaded_answer text) digits octets code (card_codes before) (card_codes after) (subst (λ (xs : List ℕ). is_loaded_answer xs ≡ true) is refl) read spells
+        (ap (λ (world : World). codes_in_order world.loaded) done.world)
     load_replied None reply (inr none) says = let no : None ≡ Some reply = none.answer in absurd cc
     load_replied (Some fault) reply refused says =
         let e : desk_fault fault ≡ Some text = ap (reply_text (load digits) (length before.names)) (sym refused.answer) ∙ says in
-        unloaded (says_loaded text) (Some digits) (card_codes before) (card_codes after) (named_other (desk_name fault) text e)
-        (ap (λ (world : World). codes_in_order world.given) refused.world)
+        unloaded (is_loaded_answer text) (Some digits) (card_codes before) (card_codes after) (named_other (desk_name fault) text e)
+        (ap (λ (world : World). codes_in_order world.loaded) refused.world)
 
   load_reading : (octets : List ℕ) → octets_of_digits digits ≡ Some octets → (reading : ProgramReading) → ReadsAs octets reading
       → TakesReading before digits reading text after → Follows
@@ -249,10 +249,10 @@ module _ (before after : Card) (text digits : List ℕ) where
 -- A command.
 module _ (before after : Card) (text : List ℕ) where
   abbrev CommandFollows : Option Command → Type 0
-  CommandFollows found = CodesAfter (if says_loaded text then load_digits found else None) (card_codes before) (card_codes after)
+  CommandFollows found = CodesAfter (if is_loaded_answer text then load_digits found else None) (card_codes before) (card_codes after)
 
-  no_load : KeepsCodes before after → CodesAfter (if says_loaded text then None else None) (card_codes before) (card_codes after)
-  no_load same = nothing (says_loaded text) (card_codes before) (card_codes after) same
+  no_load : KeepsCodes before after → CodesAfter (if is_loaded_answer text then None else None) (card_codes before) (card_codes after)
+  no_load same = nothing (is_loaded_answer text) (card_codes before) (card_codes after) same
 
   command_follows : (found : Option Command) → MatchOption found (RefusesLine bad_line before text after) (λ command. Obeys before command text after) → CommandFollows found
   command_follows None refused = no_load (refused_keeps before after bad_line text refused)
@@ -283,23 +283,23 @@ opened_codes : (text : List ℕ) (card : Card) (found : Option Shape)
 opened_codes text card None ends = let no = ends.1 in absurd cc
 opened_codes text card (Some shape) opens = new_codes shape text card (shape_fault shape) opens
 
-line_follows : (b : Bool) (world after : RunWorld) (line_content text : List ℕ)
-    → MatchBool b ((text ≡ []) × (Some after ≡ Some world)) (OpensOrObeys world (words_of line_content) text (Some after))
-    → CodesAfter (loaded_digits (run_side world) line_content text) (loaded_codes world) (loaded_codes after)
-line_follows true None after line_content text silent =
+line_follows : (b : Bool) (world after : RunWorld) (content text : List ℕ)
+    → MatchBool b ((text ≡ []) × (Some after ≡ Some world)) (OpensOrObeys world (words_of content) text (Some after))
+    → CodesAfter (loaded_digits (run_side world) content text) (loaded_codes world) (loaded_codes after)
+line_follows true None after content text silent =
     let same : after ≡ None = let e = silent.1 in cc in
     ap loaded_codes same
-line_follows true (Some card) after line_content text silent =
+line_follows true (Some card) after content text silent =
     let same : after ≡ Some card = let e = silent.1 in cc in
-    unloaded (says_loaded text) (load_digits (command_of card.world.shape.side (words_of line_content))) (card_codes card) (loaded_codes after) (ap says_loaded silent.0) (ap loaded_codes same)
-line_follows false None None line_content text opens = refl
-line_follows false None (Some card) line_content text opens = opened_codes text card (card_line_shape (words_of line_content)) opens
-line_follows false (Some before) after line_content text obeys =
+    unloaded (is_loaded_answer text) (load_digits (command_of card.world.shape.side (words_of content))) (card_codes card) (loaded_codes after) (ap is_loaded_answer silent.0) (ap loaded_codes same)
+line_follows false None None content text opens = refl
+line_follows false None (Some card) content text opens = opened_codes text card (card_line_shape (words_of content)) opens
+line_follows false (Some before) after content text obeys =
     let same : after ≡ Some obeys.0 = let e = obeys.2 in cc in
-    let Follows : RunWorld → Type 0 = λ world. CodesAfter (if says_loaded text then load_digits (command_of before.world.shape.side (words_of line_content)) else None) (card_codes before) (loaded_codes world) in
-    subst Follows (sym same) (command_follows before obeys.0 text (command_of before.world.shape.side (words_of line_content)) obeys.1)
+    let Follows : RunWorld → Type 0 = λ world. CodesAfter (if is_loaded_answer text then load_digits (command_of before.world.shape.side (words_of content)) else None) (card_codes before) (loaded_codes world) in
+    subst Follows (sym same) (command_follows before obeys.0 text (command_of before.world.shape.side (words_of content)) obeys.1)
 
 -- The programs after a line are those before it, and perhaps that of the line.
-pub codes_follow : (world after : RunWorld) (line_content text : List ℕ) → RunSteps world line_content text (Some after)
-    → CodesAfter (loaded_digits (run_side world) line_content text) (loaded_codes world) (loaded_codes after)
-codes_follow world after line_content text steps = line_follows (is_silent (words_of line_content)) world after line_content text steps
+pub codes_follow : (world after : RunWorld) (content text : List ℕ) → RunSteps world content text (Some after)
+    → CodesAfter (loaded_digits (run_side world) content text) (loaded_codes world) (loaded_codes after)
+codes_follow world after content text steps = line_follows (is_silent (words_of content)) world after content text steps

@@ -2,7 +2,7 @@
 use Rattle.std.proofs.Common.{◌≡◌, ℕ, zero, suc, ◌+◌, ◌-◌, ◌≤◌, ◌==◌, ◌&&◌, Bool, true, false, if◌then◌else◌, List, [], ◌∷◌, Option, Some, None, length, slice_get, nat_le, refl, sym, ap, subst, arith}
 use Rattle.std.proofs.lemmas.Bool.Decides.{nat_tests}
 use Rattle.std.proofs.lemmas.Option.{slice_get_past}
-use Rattle.bpf_code.specs.Flow.{StandsAt}
+use Rattle.bpf_code.specs.Flow.{IsInstrAt}
 use Rattle.bpf_code.specs.declared.instr.By.TheVariants as operand
 use Rattle.bpf_code.specs.declared.instr.Instr.{Instr}
 use Rattle.bpf_code.specs.declared.instr.Instr.TheVariants as instr
@@ -76,7 +76,7 @@ module _ (count : ℕ) (packet : List ℕ) where
   first_none true later is = let no : false ≡ true = is in absurd cc
   first_none false later is = (refl, is)
 
-  each_none : (code : List Instr) (place : ℕ) (i : Instr) → names_no_contract code count ≡ true → StandsAt code place i → may_name count i ≡ false
+  each_none : (code : List Instr) (place : ℕ) (i : Instr) → names_no_contract code count ≡ true → IsInstrAt code place i → may_name count i ≡ false
   each_none [] place i none there = let no = there in absurd cc
   each_none (first ∷ code) zero i none there =
       let same : first ≡ i = let e = there in cc in

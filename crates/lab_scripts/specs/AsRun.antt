@@ -11,7 +11,7 @@ pub record AnsweredLine : Type 0 where
   pub programs : List NamesNone
   pub side : Option Side
   pub number : ℕ
-  pub line_content : List ℕ
+  pub content : List ℕ
   pub answer : List ℕ
 
 -- The answers of `run` to these lines.
@@ -20,7 +20,7 @@ answers_of lines = flat_map (λ line. line.answer) lines
 
 -- What `explain` prints for these lines: for each fault line that line and its explanation, and for any other a hint or nothing.
 abbrev pub explained_of : List AnsweredLine → List ℕ
-explained_of lines = flat_map (λ line. explained line.programs line.side line.number line.line_content line.answer) lines
+explained_of lines = flat_map (λ line. explained line.programs line.side line.number line.content line.answer) lines
 
 -- Both texts come from the same answers of `run` to the same lines. After them `run` answers the end of the script, or a line over the
 -- limits, and `explain` prints the same and then perhaps a sentence.

@@ -14,7 +14,7 @@ codes_in_order (loading ∷ earlier) = codes_in_order earlier ++ loading.code �
 -- The codes of the programs that a run loaded.
 abbrev pub loaded_codes : RunWorld → List (List Instr)
 loaded_codes None = []
-loaded_codes (Some card) = codes_in_order card.world.given
+loaded_codes (Some card) = codes_in_order card.world.loaded
 
 -- Of each of them, which contracts it names.
 abbrev pub loaded_programs : RunWorld → List NamesNone

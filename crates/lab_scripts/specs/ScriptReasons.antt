@@ -24,46 +24,46 @@ has_bad_bucket (Some wanted) = is_some (first_wanted_fault (wanted ∷ []))
 
 -- The place of the first of these words that is a contract with a bad bucket, if the first of them has this place.
 abbrev pub bad_contract : List ℕ → ℕ → List FoundWord → ℕ
-bad_contract line_content place [] = place
-bad_contract line_content place (word ∷ words) =
-    if has_bad_bucket (wanted_of (word_octets line_content word)) then place else bad_contract line_content (place + 1) words
+bad_contract content place [] = place
+bad_contract content place (word ∷ words) =
+    if has_bad_bucket (wanted_of (word_octets content word)) then place else bad_contract content (place + 1) words
 
 -- The place of the word that names a program: the second of `retire`, and otherwise the fourth.
 abbrev pub program_place : List ℕ → List FoundWord → ℕ
-program_place line_content [] = 0
-program_place line_content (first ∷ words) = if bytes_eq (word_octets line_content first) (codes "retire") then 1 else 3
+program_place content [] = 0
+program_place content (first ∷ words) = if bytes_eq (word_octets content first) (codes "retire") then 1 else 3
 
 -- The place of the word that a fault is about, from 0. A fault that is about no other word is about the first.
 abbrev pub blamed_place : ScriptFault → List ℕ → List FoundWord → ℕ
-blamed_place fault.BadHex line_content words = length words - 1
-blamed_place fault.WrongLength line_content words = length words - 1
-blamed_place fault.ManyPrograms line_content words = 1
-blamed_place fault.ManyLines line_content words = 2
-blamed_place fault.ManyPorts line_content words = 3
-blamed_place fault.LongJournal line_content words = 4
-blamed_place fault.ZeroIncrement line_content words = bad_contract line_content 4 (drop 4 words)
-blamed_place fault.LargeRate line_content words = bad_contract line_content 4 (drop 4 words)
-blamed_place fault.Ragged line_content words = 1
-blamed_place fault.UnknownCode line_content words = 1
-blamed_place fault.NoInstruction line_content words = 1
-blamed_place fault.LongCode line_content words = 1
-blamed_place fault.BadScratch line_content words = 1
-blamed_place fault.ZeroDivisor line_content words = 1
-blamed_place fault.BadShift line_content words = 1
-blamed_place fault.JumpOutside line_content words = 1
-blamed_place fault.NoReturn line_content words = 1
-blamed_place fault.Unwritten line_content words = 1
-blamed_place fault.NoProgram line_content words = program_place line_content words
-blamed_place fault.NoConnection line_content words = 1
-blamed_place fault.Taken line_content words = 1
-blamed_place fault.InUse line_content words = 1
-blamed_place fault.Busy line_content words = 1
-blamed_place fault.CellUnknown line_content words = 2
-blamed_place fault.CellReleased line_content words = 2
-blamed_place fault.CellStale line_content words = 2
-blamed_place fault.MomentBack line_content words = 1
-blamed_place fault.MomentTooLate line_content words = 1
-blamed_place _ line_content words = 0
+blamed_place fault.BadHex content words = length words - 1
+blamed_place fault.WrongLength content words = length words - 1
+blamed_place fault.ManyPrograms content words = 1
+blamed_place fault.ManyLines content words = 2
+blamed_place fault.ManyPorts content words = 3
+blamed_place fault.LongJournal content words = 4
+blamed_place fault.ZeroIncrement content words = bad_contract content 4 (drop 4 words)
+blamed_place fault.LargeRate content words = bad_contract content 4 (drop 4 words)
+blamed_place fault.Ragged content words = 1
+blamed_place fault.UnknownCode content words = 1
+blamed_place fault.NoInstruction content words = 1
+blamed_place fault.LongCode content words = 1
+blamed_place fault.BadScratch content words = 1
+blamed_place fault.ZeroDivisor content words = 1
+blamed_place fault.BadShift content words = 1
+blamed_place fault.JumpOutside content words = 1
+blamed_place fault.NoReturn content words = 1
+blamed_place fault.Unwritten content words = 1
+blamed_place fault.NoProgram content words = program_place content words
+blamed_place fault.NoConnection content words = 1
+blamed_place fault.Taken content words = 1
+blamed_place fault.InUse content words = 1
+blamed_place fault.Busy content words = 1
+blamed_place fault.CellUnknown content words = 2
+blamed_place fault.CellReleased content words = 2
+blamed_place fault.CellStale content words = 2
+blamed_place fault.MomentBack content words = 1
+blamed_place fault.MomentTooLate content words = 1
+blamed_place _ content words = 0
 
 -- The sentence about a fault of the line's words. A line that is no command has another. The sentence about a bucket comes after the
 -- bucket's name.
@@ -141,13 +141,13 @@ bucket_name (Some (wanted.Vbr3 peak sustained)) = bad_of_two peak
 
 -- The contract that a word spells, if there is one.
 abbrev pub contract_at : List ℕ → Option FoundWord → Option Wanted
-contract_at line_content None = None
-contract_at line_content (Some word) = wanted_of (word_octets line_content word)
+contract_at content None = None
+contract_at content (Some word) = wanted_of (word_octets content word)
 
 -- The sentence about a fault by itself, on a line with these words.
 abbrev pub own_sentence : ScriptFault → List ℕ → List FoundWord → List ℕ
-own_sentence fault line_content words =
-    if is_of_bucket fault then bucket_name (contract_at line_content (slice_get words (blamed_place fault line_content words))) ++ word_fault_text fault
+own_sentence fault content words =
+    if is_of_bucket fault then bucket_name (contract_at content (slice_get words (blamed_place fault content words))) ++ word_fault_text fault
     else script_fault_text fault
 
 -- Whether the line is no command.
@@ -163,20 +163,20 @@ word_column (Some word) = Some word.column
 
 -- The word that a fault is about, if it is about one.
 abbrev pub blamed_word : Option Side → List ℕ → List FoundWord → Option ScriptFault → Option FoundWord
-blamed_word side line_content words None = None
-blamed_word side line_content words (Some fault) =
-    if is_no_command fault then wrong_word side line_content words else slice_get words (blamed_place fault line_content words)
+blamed_word side content words None = None
+blamed_word side content words (Some fault) =
+    if is_no_command fault then wrong_word side content words else slice_get words (blamed_place fault content words)
 
 -- The sentence about a fault.
 abbrev pub fault_sentence : Option Side → List ℕ → List FoundWord → Option ScriptFault → List ℕ
-fault_sentence side line_content words None = []
-fault_sentence side line_content words (Some fault) = if is_no_command fault then wrong_sentence side line_content words else own_sentence fault line_content words
+fault_sentence side content words None = []
+fault_sentence side content words (Some fault) = if is_no_command fault then wrong_sentence side content words else own_sentence fault content words
 
 -- The explanation of a fault: the number of its line, the column of the word that is wrong, and a sentence.
 abbrev pub fault_explanation : Option Side → ℕ → List ℕ → List FoundWord → Option ScriptFault → List ℕ
-fault_explanation side number line_content words found =
-    place_words number (word_column (blamed_word side line_content words found)) ++ line (fault_sentence side line_content words found)
+fault_explanation side number content words found =
+    place_words number (word_column (blamed_word side content words found)) ++ line (fault_sentence side content words found)
 
 -- The explanation of a fault line, on a card of this side or before there is one.
 abbrev pub script_explanation : Option Side → ℕ → List ℕ → List ℕ → List ℕ
-script_explanation side number line_content answer = fault_explanation side number line_content (found_words line_content) (explained_fault answer)
+script_explanation side number content answer = fault_explanation side number content (found_words content) (explained_fault answer)

@@ -29,8 +29,8 @@ one_line_more met = min (met + 1) 18446744073709551615
 -- The text for a line of this number with this answer of `run`, on a card of this side or before there is one, after these programs
 -- were loaded: the fault line and its explanation, or for an answer without a fault perhaps a hint.
 abbrev pub explained : List NamesNone → Option Side → ℕ → List ℕ → List ℕ → List ℕ
-explained programs side number line_content answer =
-    if is_fault_line answer then answer ++ script_explanation side number line_content answer else setup_hint programs number line_content
+explained programs side number content answer =
+    if is_fault_line answer then answer ++ script_explanation side number content answer else setup_hint programs number content
 
 -- The world after a line with this answer, if `run` goes on.
 abbrev pub after_answer : ScriptWorld → List ℕ → RunWorld → ScriptWorld
@@ -42,9 +42,9 @@ after_answer world answer next = record {
 
 -- The line has an answer of `run`, and this is the text for it.
 abbrev pub ExplainsLine : ScriptWorld → List ℕ → List ℕ → Option ScriptWorld → Type 0
-ExplainsLine world line_content text next =
-    (answer : List ℕ) × (after : Option RunWorld) × RunSteps world.run line_content answer after
-    × (text ≡ explained (loaded_programs world.run) (run_side world.run) (one_line_more world.met) line_content answer) × (next ≡ option_map (after_answer world answer) after)
+ExplainsLine world content text next =
+    (answer : List ℕ) × (after : Option RunWorld) × RunSteps world.run content answer after
+    × (text ≡ explained (loaded_programs world.run) (run_side world.run) (one_line_more world.met) content answer) × (next ≡ option_map (after_answer world answer) after)
 
 -- A number of lines, in words.
 abbrev pub lines_text : ℕ → List ℕ

@@ -36,13 +36,13 @@ program_hint number column count (Some none) = if names_none_of none count then 
 
 -- The hint about a word that names a program among these.
 abbrev pub word_hint : List NamesNone → ℕ → List ℕ → ℕ → Option FoundWord → List ℕ
-word_hint programs number line_content count None = []
-word_hint programs number line_content count (Some word) =
-    program_hint number word.column count (option_and_then (numbered programs) (program_of (word_octets line_content word)))
+word_hint programs number content count None = []
+word_hint programs number content count (Some word) =
+    program_hint number word.column count (option_and_then (numbered programs) (program_of (word_octets content word)))
 
 -- The hint about a setup with these words. The fourth names the program, and contracts follow.
 abbrev pub words_hint : List NamesNone → ℕ → List ℕ → List FoundWord → List ℕ
-words_hint programs number line_content words = word_hint programs number line_content (length words - 4) (slice_get words 3)
+words_hint programs number content words = word_hint programs number content (length words - 4) (slice_get words 3)
 
 -- Whether the words are those of a setup.
 abbrev pub is_setup : List (List ℕ) → Bool
@@ -51,4 +51,4 @@ is_setup (name ∷ words) = bytes_eq name (codes "setup")
 
 -- The hint about a line of this number, or nothing.
 abbrev pub setup_hint : List NamesNone → ℕ → List ℕ → List ℕ
-setup_hint programs number line_content = if is_setup (words_of line_content) then words_hint programs number line_content (found_words line_content) else []
+setup_hint programs number content = if is_setup (words_of content) then words_hint programs number content (found_words content) else []

@@ -7,7 +7,7 @@ ghost use Rattle.text_io.specs.Words.{words_of};
 ghost use Rattle.upc_script.specs.ScriptCommands.{command_of};
 ghost use Rattle.upc_words.specs.Hexadecimal.{octets_of_digits};
 ghost use Rattle.lab_scripts.specs.ContractNumbers.{names_none};
-ghost use Rattle.lab_scripts.specs.inner.ProgramsKept.{ProgramsAfter, says_loaded, load_digits, loaded_digits};
+ghost use Rattle.lab_scripts.specs.inner.ProgramsKept.{ProgramsAfter, is_loaded_answer, load_digits, loaded_digits};
 
 use crate::contract_numbers::{NamesNone, names_none};
 use crate::found_words::front;
@@ -18,8 +18,8 @@ use upc_script::{Command, read_command};
 use upc_words::octets_of_word;
 
 /// Returns whether an answer says that a program was loaded.
-fn says_loaded(answer: &[u8]) -> bool
-    ensures { result ≡ says_loaded answer.now }
+fn is_loaded_answer(answer: &[u8]) -> bool
+    ensures { result ≡ is_loaded_answer answer.now }
 {
     front(answer, 7) == b"loaded ".as_slice()
 }
@@ -41,7 +41,7 @@ fn loaded_digits<'a>(side: Option<Side>, line: &'a [u8], answer: &[u8]) -> Optio
     match side {
         None => None,
         Some(side) => {
-            if says_loaded(answer) {
+            if is_loaded_answer(answer) {
                 load_digits(side, line)
             } else {
                 None

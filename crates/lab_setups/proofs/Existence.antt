@@ -11,7 +11,8 @@ use Rattle.text_io.specs.declared.ending.Done.TheVariants.{Ended}
 use Rattle.lab_captures.specs.declared.cell_lines.CellLines.{CellLines}
 use Rattle.lab_police.proofs.Public.{some_police_text}
 use Rattle.lab_rules.specs.RuleFaults.{rule_fault}
-use Rattle.lab_rules.specs.RulesText.{AnswersRules, most_rules_octets}
+use Rattle.lab_rules.specs.RulesAnswers.{AnswersBy, most_rules_octets}
+use Rattle.lab_rules.specs.RulesText.{PrintsRules}
 use Rattle.upc_words.specs.FaultLines.{too_long}
 use Rattle.lab_rules.specs.AsmText.{whole_line}
 use Rattle.lab_setups.specs.FaultyRules.{HasFaultIn, rules_place}
@@ -28,12 +29,12 @@ read_faulty : (text : List ℕ) (read : Result RulesRead RuleFault) → gathered
     → (fault : List ℕ) × MayBeFaultOfRules text fault
 read_faulty text (Ok rules) found same = (rule_fault (placed_fault 0 0 TooLong), inr ((text, rules, found, same), (refl, refl)))
 read_faulty text (Err fault) found same =
-    (rule_fault fault, inl (subst (λ (found : Option (List ℕ)). AnswersRules found (rule_fault fault) Ended) (sym found) (inr (inl (fault, same, refl, refl)))))
+    (rule_fault fault, inl (subst (λ (found : Option (List ℕ)). AnswersBy PrintsRules found (rule_fault fault) Ended) (sym found) (inr (inl (fault, same, refl, refl)))))
 
 found_faulty : (text : List ℕ) (found : Option (List ℕ)) → gathered most_rules_octets text ≡ found → (found ≡ None) ⊎ (found ≡ Some text)
     → (fault : List ℕ) × MayBeFaultOfRules text fault
 found_faulty text found same (inl none) =
-    (too_long, inl (subst (λ (found : Option (List ℕ)). AnswersRules found too_long Ended) (sym (same ∙ none)) (refl, refl)))
+    (too_long, inl (subst (λ (found : Option (List ℕ)). AnswersBy PrintsRules found too_long Ended) (sym (same ∙ none)) (refl, refl)))
 found_faulty text found same (inr some) = read_faulty text (rules_in text) (same ∙ some) refl
 
 gathered_or : (text : List ℕ) (over : Bool) → ((if over then None else Some text) ≡ None) ⊎ ((if over then None else Some text) ≡ Some text)
@@ -74,7 +75,7 @@ polices lines tick interface setup texts octets (inr made) =
 pub polices_each : PolicesEachSetup
 polices_each lines tick interface setup texts octets = polices lines tick interface setup texts octets (leads_on (lines_of setup) 0 texts)
 
--- ---- what is reported of rules may be reported
+-- ---- a fault of rules that is reported is one that may be reported
 
 pub may_be_fault : (text fault : List ℕ) → IsFaultOfRules text fault → MayBeFaultOfRules text fault
 may_be_fault text fault is = inl is

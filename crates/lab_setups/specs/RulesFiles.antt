@@ -5,7 +5,8 @@ use Rattle.bpf_code.specs.OctetSpelling.{SpellsCode}
 use Rattle.bpf_code.specs.declared.instr.Instr.{Instr}
 use Rattle.bpf_verify.specs.Accepted.{IsAccepted}
 use Rattle.hex.specs.Hex.{encode_lower}
-use Rattle.lab_rules.specs.RulesText.{IsRulesText, MayBeRulesText, most_rules_octets}
+use Rattle.lab_rules.specs.RulesAnswers.{most_rules_octets}
+use Rattle.lab_rules.specs.RulesText.{IsRulesText, MayBeRulesText}
 use Rattle.rules_text.specs.ValuesRead.{FollowsText}
 use Rattle.text_io.specs.Gathered.{gathered}
 use Rattle.text_io.specs.declared.ending.Done.TheVariants.{Ended}

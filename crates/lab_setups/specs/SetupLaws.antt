@@ -20,7 +20,7 @@ abbrev pub PolicesEachSetup : Type 0
 PolicesEachSetup = (lines : CellLines) (tick : ℕ) (interface : Option ℕ) (setup : List ℕ) (texts : List (List ℕ)) (octets : List ℕ)
     → (text : List ℕ) × (done : Done) × MayBeSetupPoliced lines tick interface setup texts octets text done
 
--- The second lines are the first, one for one: each line `rules NAME` is replaced by one that says a command which loads a program of its
+-- The second lines are the first, one for one: each line `rules NAME` is replaced by one whose command loads a program of its
 -- text, and every other line is as it is.
 abbrev pub AreReplaced : List Line → List (List ℕ) → List Line → Type 0
 AreReplaced [] texts others = others ≡ []

@@ -6,7 +6,7 @@ ghost use Rattle.lab_setups.specs.inner.ScriptLine.{BeginsWithLine};
 
 use text_io::{before_return, first_feed};
 
-/// Returns what the first line of a text says, its octets with its line feed, and the rest.
+/// Returns the content of the first line of a text, the octets of the line with its line feed, and the rest.
 pub(crate) fn next_line(text: &[u8]) -> Option<(&[u8], &[u8], &[u8])>
     ensures lines { MatchOption result (lines_of text.now ≡ []) (λ found. BeginsWithLine text.now found.0.now found.1.now found.2.now) }
     ensures shorter { IfSome result (λ found. length found.2.now < length text.now) }

@@ -8,7 +8,7 @@ use Rattle.std.specs.Char.{digit_value}
 use Rattle.std.specs.Option.{option_and_then}
 use Rattle.std.specs.Str.Parse.{AllDigits, digits_value, digits_value_after}
 use Rattle.text_io.specs.Words.{is_digit}
-use Rattle.upc_script.specs.ScriptWords.{cut_at, most_number, number_of_digits, rate_of, rate_with, spelled_behind, two_rates, up_to, wanted_of, with_both}
+use Rattle.upc_script.specs.ScriptWords.{cut_at, most_number, number_of_digits, rate_of, rate_with, spelled_after, two_rates, up_to, wanted_of, with_both}
 use Rattle.upc_script.specs.declared.script_words.Rate.{Rate}
 use Rattle.upc_script.specs.declared.script_words.Wanted.{Wanted}
 use Rattle.upc_script.specs.declared.script_words.Wanted.TheVariants as asked
@@ -17,15 +17,15 @@ use Rattle.lab_sizes.specs.SizeText.{vbr_name}
 use Rattle.lab_sizes.specs.declared.figures.VbrKind.{VbrKind}
 use Rattle.lab_sizes.specs.declared.figures.VbrKind.TheVariants.{Vbr1, Vbr2, Vbr3}
 
-spelled-digits_after : (high : ℕ) (digits : List ℕ) → AllDigits 10 digits → spelled_behind high digits ≡ Some (digits_value_after 10 high digits)
-unfolding spelled_behind
+spelled-digits_after : (high : ℕ) (digits : List ℕ) → AllDigits 10 digits → spelled_after high digits ≡ Some (digits_value_after 10 high digits)
+unfolding spelled_after
 spelled-digits_after high [] all = refl
 spelled-digits_after high (octet ∷ octets) all =
     let range = digit_from_value octet all.0 in
     let test : is_digit octet ≡ true = grind (arith, nat_tests, range) in
     let value : octet - 48 ≡ digit_value octet = omega (arith, digit_value_digit octet range) in
-    ap (λ b. if b then spelled_behind (high * 10 + (octet - 48)) octets else None) test
-    ∙ ap (λ d. spelled_behind (high * 10 + d) octets) value ∙ spelled-digits_after (high * 10 + digit_value octet) octets all.1
+    ap (λ b. if b then spelled_after (high * 10 + (octet - 48)) octets else None) test
+    ∙ ap (λ d. spelled_after (high * 10 + d) octets) value ∙ spelled-digits_after (high * 10 + digit_value octet) octets all.1
 
 within-most : (number : ℕ) → number ≤ most_number → up_to most_number number ≡ Some number
 within-most number within =

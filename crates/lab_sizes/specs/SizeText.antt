@@ -97,7 +97,7 @@ SizeWorld = Unit {0}
 
 -- The answer to a line. None ends the run.
 abbrev pub SizeSteps : SizeWorld → List ℕ → List ℕ → Option SizeWorld → Type 0
-SizeSteps world line_content text next = (text ≡ size_answer (words_of line_content)) × (next ≡ Some world)
+SizeSteps world content text next = (text ≡ size_answer (words_of content)) × (next ≡ Some world)
 
 -- The end of the input has no answer.
 abbrev pub SizeCloses : SizeWorld → List ℕ → Done → Type 0

@@ -53,7 +53,7 @@ ContractsBoundBursts = (contract : Contract) (buckets : Buckets)
 
 -- A cell fills exactly the buckets that `charges_first` and `charges_second` name. It conforms to those, and leaves
 -- the others unchanged.
-pub record ChargesAsTold (contract : Contract) (buckets : Buckets) (clp : Bool) (moment : ℕ) (after : Buckets) : Type 0 where
+pub record ChargesByVerdict (contract : Contract) (buckets : Buckets) (clp : Bool) (moment : ℕ) (after : Buckets) : Type 0 where
   pub first : Fills (peak_of contract) buckets.first after.first moment
       (charges_first (verdict_of contract buckets clp moment))
   pub second : IfSome (second_of contract) (λ sustained. Fills sustained buckets.second after.second moment
@@ -63,7 +63,7 @@ pub record ChargesAsTold (contract : Contract) (buckets : Buckets) (clp : Bool) 
 -- This holds for every cell.
 abbrev pub ChargesAreFillings : Type 0
 ChargesAreFillings = (contract : Contract) (buckets : Buckets) (clp : Bool) (moment : ℕ)
-    → ChargesAsTold contract buckets clp moment (buckets_after contract buckets clp moment)
+    → ChargesByVerdict contract buckets clp moment (buckets_after contract buckets clp moment)
 
 -- A filled bucket differs from the bucket before.
 abbrev pub FillingsShow : Type 0

@@ -48,14 +48,14 @@ pub record Judges (contracts : List Contract) (before after : State) (cell : Nam
   pub none : numbered contracts cell.value ≡ None → given ≡ Refuse
 
 module _ (contracts : List Contract) (before after : State) (cell : NamedCell) (given : Verdict)
-    (judges : Judges contracts before after cell given) (opening : ℕ → Buckets) (stands : KeepsBuckets before opening) where
+    (judges : Judges contracts before after cell given) (opening : ℕ → Buckets) (holds : KeepsBuckets before opening) where
   verdict_is : (named : Option Contract) → numbered contracts cell.value ≡ named
       → given ≡ named_verdict named (buckets_under named (opening cell.value) []) cell
   verdict_is None is = judges.none is
   verdict_is (Some contract) is =
       let old = numbered-both contracts before.levels.items cell.value contract judges.one_each is in
-      let charged = charged_later (opening cell.value) before.last cell.moment judges.later (stands.charged cell.value old.0 old.1) in
-      judges.verdict contract old.0 (opening cell.value) is old.1 (stands.agrees cell.value old.0 old.1) charged
+      let charged = charged_later (opening cell.value) before.last cell.moment judges.later (holds.charged cell.value old.0 old.1) in
+      judges.verdict contract old.0 (opening cell.value) is old.1 (holds.agrees cell.value old.0 old.1) charged
 
   -- The verdict is that of the history.
   pub Judges-verdict : given ≡ verdict_after contracts opening [] cell
@@ -71,8 +71,8 @@ module _ (contracts : List Contract) (before after : State) (cell : NamedCell) (
       cc
   own_agrees new (Some contract) is at =
       let old = numbered-both contracts before.levels.items cell.value contract judges.one_each is in
-      let charged = charged_later (opening cell.value) before.last cell.moment judges.later (stands.charged cell.value old.0 old.1) in
-      let agrees = stands.agrees cell.value old.0 old.1 in (
+      let charged = charged_later (opening cell.value) before.last cell.moment judges.later (holds.charged cell.value old.0 old.1) in
+      let agrees = holds.agrees cell.value old.0 old.1 in (
         judges.levels contract old.0 new (opening cell.value) is old.1 at agrees charged,
         charges_keep_up contract (opening cell.value) cell.clp cell.moment charged,
       )
@@ -90,12 +90,12 @@ module _ (contracts : List Contract) (before after : State) (cell : NamedCell) (
         rw (arrivals_at-own cell, judges.last) left in
         subst Own (sym same) own at
     | inr apart ↦
-        let stood : numbered before.levels.items number ≡ Some new = sym (judges.others number apart) ∙ at in
-        let bounded = charged_later (opening number) before.last cell.moment judges.later (stands.charged number new stood) in
+        let was : numbered before.levels.items number ≡ Some new = sym (judges.others number apart) ∙ at in
+        let bounded = charged_later (opening number) before.last cell.moment judges.later (holds.charged number new was) in
         let kept : buckets_after_cells contracts opening (cell ∷ []) number ≡ opening number =
         ap (buckets_under (numbered contracts number) (opening number)) (arrivals_at-other cell number apart)
         ∙ buckets_under-nil (numbered contracts number) (opening number) in
-        rw (kept, judges.last) (stands.agrees number new stood, bounded)
+        rw (kept, judges.last) (holds.agrees number new was, bounded)
   ]
 
   -- The levels after the cell represent the buckets after it.

@@ -15,7 +15,7 @@ use Rattle.line_record.specs.Laws.{CountedCellsFill}
 use Rattle.line_record.proofs.HistoryLemmas.{arrivals_at-named, arrivals_at-skips, buckets_after-append}
 
 -- Each bucket is filled exactly if the cell is counted for it.
-record Told (contract : Contract) (before after : Buckets) (moment : ℕ) (charged charged_too : Bool) : Type 0 where
+record ChargesOnce (contract : Contract) (before after : Buckets) (moment : ℕ) (charged charged_too : Bool) : Type 0 where
   first : Fills (peak_of contract) before.first after.first moment charged
   second : IfSome (second_of contract) (λ sustained. Fills sustained before.second after.second moment charged_too)
 
@@ -45,46 +45,46 @@ module _ (contracts : List Contract) (opening : ℕ → Buckets) (history : List
       buckets_after-append contracts opening history (cell ∷ []) number
       ∙ ap (λ (named : Option Contract). buckets_under named before (arrivals_at number (cell ∷ []))) at
 
-  named-told : (cell.value == number) ≡ true
-      → Told contract before after cell.moment (charges_first verdict) (charges_second verdict contract cell.clp)
-  named-told same =
+  named-charges : (cell.value == number) ≡ true
+      → ChargesOnce contract before after cell.moment (charges_first verdict) (charges_second verdict contract cell.clp)
+  named-charges same =
       let numbers : cell.value ≡ number = (Decides-eqb cell.value number).0 same in
       let becomes : after ≡ after_cell contract before cell.clp cell.moment =
       after-is ∙ ap (buckets_left contract before) (arrivals_at-named number cell [] same) in
       let decided : verdict ≡ verdict_of contract before cell.clp cell.moment =
       ap (λ n. named_verdict (numbered contracts n) (buckets_after_cells contracts opening history n) cell) numbers
       ∙ ap (λ (named : Option Contract). named_verdict named before cell) at in
-      let told = charges_are_fillings contract before cell.clp cell.moment in
+      let charges = charges_are_fillings contract before cell.clp cell.moment in
       let Of : Buckets → Verdict → Type 0 = λ b v.
-      Told contract before b cell.moment (charges_first v) (charges_second v contract cell.clp) in
+      ChargesOnce contract before b cell.moment (charges_first v) (charges_second v contract cell.clp) in
       subst (λ b. Of b verdict) (sym becomes)
       (subst (Of (after_cell contract before cell.clp cell.moment)) (sym decided) (record {
-        first = told.first;
-        second = told.second;
+        first = charges.first;
+        second = charges.second;
       }))
 
-  other-told : (cell.value == number) ≡ false → Told contract before after cell.moment false false
-  other-told differs =
+  other-charges : (cell.value == number) ≡ false → ChargesOnce contract before after cell.moment false false
+  other-charges differs =
       let stays : after ≡ before =
       after-is ∙ ap (buckets_left contract before) (arrivals_at-skips number cell [] differs) in
-      subst (λ b. Told contract before b cell.moment false false) (sym stays) (record {
+      subst (λ b. ChargesOnce contract before b cell.moment false false) (sym stays) (record {
         first = leaves (peak_of contract) before.first cell.moment;
         second = leaves-if (second_of contract) before.second cell.moment;
       })
 
-  all-told : Told contract before after cell.moment
+  all-charges : ChargesOnce contract before after cell.moment
       ((cell.value == number) && charges_first verdict)
       ((cell.value == number) && charges_second verdict contract cell.clp)
-  all-told =
+  all-charges =
       let Of : Bool → Type 0 = λ b.
-      Told contract before after cell.moment (b && charges_first verdict) (b && charges_second verdict contract cell.clp) in
+      ChargesOnce contract before after cell.moment (b && charges_first verdict) (b && charges_second verdict contract cell.clp) in
       let choice : (b : Bool) → (cell.value == number) ≡ b → Of b = elim [
-        | true ↦ named-told
-        | false ↦ other-told
+        | true ↦ named-charges
+        | false ↦ other-charges
       ] in
       choice (cell.value == number) refl
 
 pub counted-fill : CountedCellsFill
 counted-fill contracts opening history cell number contract at =
-    let told = all-told contracts opening history cell number contract at in
-    record { first = told.first; second = told.second }
+    let charges = all-charges contracts opening history cell number contract at in
+    record { first = charges.first; second = charges.second }

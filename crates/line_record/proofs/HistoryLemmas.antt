@@ -130,7 +130,7 @@ cells_of-append xs ys = map-append named_cell_of xs ys
 -- A state that represents buckets represents equal ones.
 pub StandsFor-same : (state : State) (one other : ℕ → Buckets)
     → ((number : ℕ) → one number ≡ other number) → KeepsBuckets state one → KeepsBuckets state other
-StandsFor-same state one other same stands = record {
-  agrees = λ number levels at. subst (λ b. Agrees levels b) (same number) (stands.agrees number levels at);
-  charged = λ number levels at. subst (λ b. IsChargedBy b state.last) (same number) (stands.charged number levels at);
+StandsFor-same state one other same holds = record {
+  agrees = λ number levels at. subst (λ b. Agrees levels b) (same number) (holds.agrees number levels at);
+  charged = λ number levels at. subst (λ b. IsChargedBy b state.last) (same number) (holds.charged number levels at);
 }

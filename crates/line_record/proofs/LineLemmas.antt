@@ -78,7 +78,7 @@ IsStateAfter-opening contracts before state opening =
     λ number. buckets_under-nil (numbered contracts number) opening_buckets in
     record {
       one_each = opening.one_each;
-      stands = record {
+      holds = record {
         agrees = λ number levels at.
             let zero = numbered-All (λ (l : Levels). (l.first ≡ 0) × (l.second ≡ 0)) state.levels.items number levels opening.levels at in
             let agrees : Agrees levels opening_buckets = record { first = zero.0; second = zero.1 } in

@@ -17,10 +17,10 @@ IsRun-nil contracts state one_each = record {
   opens = one_each;
   closes = one_each;
   moments = tt;
-  verdicts = λ opening stands. refl;
-  levels = λ opening stands.
+  verdicts = λ opening holds. refl;
+  levels = λ opening holds.
       StandsFor-same state opening (buckets_after_cells contracts opening [])
-      (λ number. sym (buckets_under-nil (numbered contracts number) (opening number))) stands;
+      (λ number. sym (buckets_under-nil (numbered contracts number) (opening number))) holds;
   last = refl;
   counts = refl;
 }
@@ -37,22 +37,22 @@ IsRun-append contracts start middle end xs ys first second =
       opens = first.opens;
       closes = second.closes;
       moments = rw both (GoesOn-append start.last (named_cells_of xs) (named_cells_of ys) first.moments goes);
-      verdicts = λ opening stands.
+      verdicts = λ opening holds.
           let left = buckets_after_cells contracts opening (named_cells_of xs) in
           let later : ys ≡ judged contracts opening (named_cells_of xs) (named_cells_of ys) =
-          second.verdicts left (first.levels opening stands)
+          second.verdicts left (first.levels opening holds)
           ∙ judged-after contracts opening (named_cells_of xs) [] (named_cells_of ys)
           ∙ ap (λ whole. judged contracts opening whole (named_cells_of ys)) (append-nil (named_cells_of xs)) in
-          ap (λ entries. entries ++ ys) (first.verdicts opening stands)
+          ap (λ entries. entries ++ ys) (first.verdicts opening holds)
           ∙ ap (λ entries. judged contracts opening [] (named_cells_of xs) ++ entries) later
           ∙ sym (judged-append contracts opening [] (named_cells_of xs) (named_cells_of ys))
           ∙ ap (judged contracts opening []) (sym both);
-      levels = λ opening stands.
+      levels = λ opening holds.
           let left = buckets_after_cells contracts opening (named_cells_of xs) in
           StandsFor-same end (buckets_after_cells contracts left (named_cells_of ys)) (buckets_after_cells contracts opening (named_cells_of (xs ++ ys)))
           (λ number. sym (buckets_after-append contracts opening (named_cells_of xs) (named_cells_of ys) number)
           ∙ ap (λ cells. buckets_after_cells contracts opening cells number) (sym both))
-          (second.levels left (first.levels opening stands));
+          (second.levels left (first.levels opening holds));
       last = second.last ∙ ap (λ last. last_moment last (named_cells_of ys)) first.last
           ∙ sym (last_moment-append start.last (named_cells_of xs) (named_cells_of ys))
           ∙ ap (last_moment start.last) (sym both);
@@ -68,15 +68,15 @@ pub IsStateAfter-run : (contracts : List Contract) (history : List NamedCell) (s
     × IsStateAfter contracts (history ++ named_cells_of entries) end
 IsStateAfter-run contracts history start end entries after run =
     let left = buckets_after_cells contracts empty_buckets history in (
-      run.verdicts left after.stands
+      run.verdicts left after.holds
           ∙ judged-after contracts empty_buckets history [] (named_cells_of entries)
           ∙ ap (λ whole. judged contracts empty_buckets whole (named_cells_of entries)) (append-nil history),
       record {
         one_each = run.closes;
-        stands = StandsFor-same end (buckets_after_cells contracts left (named_cells_of entries))
+        holds = StandsFor-same end (buckets_after_cells contracts left (named_cells_of entries))
             (buckets_after_cells contracts empty_buckets (history ++ named_cells_of entries))
             (λ number. sym (buckets_after-append contracts empty_buckets history (named_cells_of entries) number))
-            (run.levels left after.stands);
+            (run.levels left after.holds);
         last = run.last ∙ ap (λ last. last_moment last (named_cells_of entries)) after.last
             ∙ sym (last_moment-append 0 history (named_cells_of entries));
       },

@@ -22,21 +22,21 @@ some_buckets : Option Levels → Buckets
 some_buckets None = opening_buckets
 some_buckets (Some levels) = (levels_stand_for_buckets levels).0
 
-stand-at : (found : Option Levels) (levels : Levels) (last : ℕ) → found ≡ Some levels
+holds-at : (found : Option Levels) (levels : Levels) (last : ℕ) → found ≡ Some levels
     → Agrees levels (some_buckets found) × IsChargedBy (some_buckets found) last
 unfolding some_buckets
-stand-at None levels last at = cc
-stand-at (Some found) levels last at =
-    let stands = levels_stand_for_buckets found in
-    let agrees = subst (λ (l : Levels). Agrees l stands.0) (same_Some found levels at) stands.1 in
-    (agrees, record { first = omega (arith, stands.2.first); second = omega (arith, stands.2.second) })
+holds-at None levels last at = cc
+holds-at (Some found) levels last at =
+    let holds = levels_stand_for_buckets found in
+    let agrees = subst (λ (l : Levels). Agrees l holds.0) (same_Some found levels at) holds.1 in
+    (agrees, record { first = omega (arith, holds.2.first); second = omega (arith, holds.2.second) })
 
 pub states-stand : StatesStandForBuckets
 states-stand state = (
   λ number. some_buckets (numbered state.levels.items number),
   record {
-    agrees = λ number levels at. (stand-at (numbered state.levels.items number) levels state.last at).0;
-    charged = λ number levels at. (stand-at (numbered state.levels.items number) levels state.last at).1;
+    agrees = λ number levels at. (holds-at (numbered state.levels.items number) levels state.last at).0;
+    charged = λ number levels at. (holds-at (numbered state.levels.items number) levels state.last at).1;
   },
 )
 
@@ -129,7 +129,7 @@ histories-have_states contracts history counts goes in_time =
       refl,
       record {
         one_each = built.1;
-        stands = record {
+        holds = record {
           agrees = λ number levels at. (both number levels at).0;
           charged = λ number levels at. (both number levels at).1;
         };

@@ -47,7 +47,7 @@ IsChain pieces = (place : ℕ) → GoesOnAt pieces place
 pub record BreaksAt (pieces : List PieceView) (place : ℕ) : Type 0 where
   pub earlier : PieceView
   pub later : PieceView
-  pub behind : 0 < place
+  pub after_first : 0 < place
   pub before : slice_get pieces (place - 1) ≡ Some earlier
   pub here : slice_get pieces place ≡ Some later
   pub breaks : ¬ GoesOnFrom earlier later

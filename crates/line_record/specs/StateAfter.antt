@@ -10,5 +10,5 @@ use Rattle.line_record.specs.JournalRun.{KeepsBuckets}
 -- line.
 pub record IsStateAfter (contracts : List Contract) (history : List NamedCell) (state : State) : Type 0 where
   pub one_each : length state.levels.items ≡ length contracts
-  pub stands : KeepsBuckets state (buckets_after_cells contracts empty_buckets history)
+  pub holds : KeepsBuckets state (buckets_after_cells contracts empty_buckets history)
   pub last : state.last ≡ last_moment 0 history

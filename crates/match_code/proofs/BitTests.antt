@@ -46,28 +46,28 @@ one_set low high unit mask k pos le most within (inl none) = grind (arith, nat_t
 one_set low high unit mask k pos le most within (inr more) = grind (arith, nat_tests)
 
 module _ (mask unit : ℕ) (span : Span) (n : ℕ) (test : BitTest) (kept : (bit_and n mask ≡ 0) ⊎ (unit ≤ bit_and n mask)) where
-  set_says : (b : Bool) → (nat_lt 0 span.low && (nat_le span.low unit && nat_le mask span.high)) ≡ b → (if b then Some (record { bits = mask; set = true }) else None) ≡ Some test
+  set_means : (b : Bool) → (nat_lt 0 span.low && (nat_le span.low unit && nat_le mask span.high)) ≡ b → (if b then Some (record { bits = mask; set = true }) else None) ≡ Some test
       → is_in span (bit_and n mask) ≡ is_met_by test n
-  set_says true e is =
+  set_means true e is =
       let first = and_parts _ _ e in
       let second = and_parts _ _ first.1 in
       one_set span.low span.high unit mask (bit_and n mask) (ltb-true 0 span.low first.0) (leb-true span.low unit second.0) (leb-true mask span.high second.1) (and_le_r n mask) kept
       ∙ ap (λ (t : BitTest). is_met_by t n) (same_Some (record { bits = mask; set = true }) test is)
-  set_says false e is = absurd cc
+  set_means false e is = absurd cc
 
-  in_says : (b : Bool) → ((span.low == 0) && nat_lt span.high unit) ≡ b
+  in_means : (b : Bool) → ((span.low == 0) && nat_lt span.high unit) ≡ b
       → (if b then Some (record { bits = mask; set = false }) else (if nat_lt 0 span.low && (nat_le span.low unit && nat_le mask span.high) then Some (record { bits = mask; set = true }) else None)) ≡ Some test
       → is_in span (bit_and n mask) ≡ is_met_by test n
-  in_says true e is =
+  in_means true e is =
       let parts = and_parts _ _ e in
       none_set span.low span.high unit (bit_and n mask) (eqb-true span.low 0 parts.0) (ltb-true span.high unit parts.1) kept
       ∙ ap (λ (t : BitTest). is_met_by t n) (same_Some (record { bits = mask; set = false }) test is)
-  in_says false e is = set_says _ refl is
+  in_means false e is = set_means _ refl is
 
-from_says : (b : Bool) (mask unit : ℕ) (span : Span) (n : ℕ) (test : BitTest) → (b ≡ true → (bit_and n mask ≡ 0) ⊎ (unit ≤ bit_and n mask)) → (if b then bits_in mask unit span else None) ≡ Some test
+from_means : (b : Bool) (mask unit : ℕ) (span : Span) (n : ℕ) (test : BitTest) → (b ≡ true → (bit_and n mask ≡ 0) ⊎ (unit ≤ bit_and n mask)) → (if b then bits_in mask unit span else None) ≡ Some test
     → is_in span (bit_and n mask) ≡ is_met_by test n
-from_says true mask unit span n test kept is = in_says mask unit span n test (kept refl) _ refl is
-from_says false mask unit span n test kept is = absurd cc
+from_means true mask unit span n test kept is = in_means mask unit span n test (kept refl) _ refl is
+from_means false mask unit span n test kept is = absurd cc
 
 kept_unit : (n mask : ℕ) → mask % above_unit mask ≡ 0 → (bit_and n mask ≡ 0) ⊎ (above_unit mask ≤ bit_and n mask)
 kept_unit n mask e =
@@ -80,7 +80,7 @@ bits_say None first others test is n = absurd cc
 bits_say (Some mask) first (second ∷ more) test is n = absurd cc
 bits_say (Some mask) first [] test is n =
     or_false (is_in first (bit_and n mask))
-    ∙ from_says (mask % above_unit mask == 0) mask (above_unit mask) first n test (λ e. kept_unit n mask (eqb-true (mask % above_unit mask) 0 e)) is
+    ∙ from_means (mask % above_unit mask == 0) mask (above_unit mask) first n test (λ e. kept_unit n mask (eqb-true (mask % above_unit mask) 0 e)) is
 
 -- ---- its code
 

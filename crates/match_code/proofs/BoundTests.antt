@@ -118,38 +118,38 @@ to_top : (low high mask k : ℕ) → 0 < low → mask ≤ high → k ≤ mask �
 to_top low high mask k pos top le = grind (arith, nat_tests)
 
 module _ (mask unit n : ℕ) (span : Span) (bound : BoundTest) (alike : (most : ℕ) → nat_le (bit_and n mask) most ≡ nat_le n (last_alike unit most)) where
-  lower_says : (b : Bool) → (nat_lt unit span.low && (nat_lt span.low mask && nat_le mask span.high)) ≡ b
+  lower_means : (b : Bool) → (nat_lt unit span.low && (nat_lt span.low mask && nat_le mask span.high)) ≡ b
       → (if b then Some (record { most = last_alike unit (span.low - 1); within = false }) else None) ≡ Some bound → is_in span (bit_and n mask) ≡ is_bounded bound n
-  lower_says true e is =
+  lower_means true e is =
       let first = and_parts (nat_lt unit span.low) (nat_lt span.low mask && nat_le mask span.high) e in
       let second = and_parts (nat_lt span.low mask) (nat_le mask span.high) first.1 in
       let above = ltb-true unit span.low first.0 in
       let pos : 0 < span.low = omega (arith, above) in
       to_top span.low span.high mask (bit_and n mask) pos (leb-true mask span.high second.1) (and_le_r n mask)
       ∙ (ap not (alike (span.low - 1)) ∙ ap (λ (t : BoundTest). is_bounded t n) (same_Some (record { most = last_alike unit (span.low - 1); within = false }) bound is))
-  lower_says false e is = absurd cc
+  lower_means false e is = absurd cc
 
-  bound_says : (b : Bool) → ((span.low == 0) && nat_le unit span.high) ≡ b
+  bound_means : (b : Bool) → ((span.low == 0) && nat_le unit span.high) ≡ b
       → (if b then Some (record { most = last_alike unit span.high; within = true }) else (
       if nat_lt unit span.low && (nat_lt span.low mask && nat_le mask span.high) then Some (record { most = last_alike unit (span.low - 1); within = false }) else None)) ≡ Some bound
       → is_in span (bit_and n mask) ≡ is_bounded bound n
-  bound_says true e is =
+  bound_means true e is =
       let parts = and_parts _ _ e in
       from_0 span.low span.high (bit_and n mask) (eqb-true span.low 0 parts.0)
       ∙ (alike span.high ∙ ap (λ (t : BoundTest). is_bounded t n) (same_Some (record { most = last_alike unit span.high; within = true }) bound is))
-  bound_says false e is = lower_says _ refl is
+  bound_means false e is = lower_means _ refl is
 
-upper_says : (b : Bool) (size : Size) (mask n : ℕ) (span : Span) (bound : BoundTest) → is_upper size mask ≡ b → n ≤ most_in size
+upper_means : (b : Bool) (size : Size) (mask n : ℕ) (span : Span) (bound : BoundTest) → is_upper size mask ≡ b → n ≤ most_in size
     → (if b then bound_in mask (above_unit mask) span else None) ≡ Some bound → is_in span (bit_and n mask) ≡ is_bounded bound n
-upper_says true size mask n span bound e within is = bound_says mask (above_unit mask) n span bound (mask_le size mask n e within) _ refl is
-upper_says false size mask n span bound e within is = absurd cc
+upper_means true size mask n span bound e within is = bound_means mask (above_unit mask) n span bound (mask_le size mask n e within) _ refl is
+upper_means false size mask n span bound e within is = absurd cc
 
 -- A comparison with one bound holds exactly if the octets are within it.
 bounds_say : (size : Size) (mask : Option ℕ) (first : Span) (others : List Span) (bound : BoundTest) → bound_of size mask first others ≡ Some bound → (n : ℕ) → n ≤ most_in size
     → is_among (first ∷ others) (kept_bits mask n) ≡ is_bounded bound n
 bounds_say size None first others bound is n within = absurd cc
 bounds_say size (Some mask) first (second ∷ more) bound is n within = absurd cc
-bounds_say size (Some mask) first [] bound is n within = or_false (is_in first (bit_and n mask)) ∙ upper_says (is_upper size mask) size mask n first bound refl within is
+bounds_say size (Some mask) first [] bound is n within = or_false (is_in first (bit_and n mask)) ∙ upper_means (is_upper size mask) size mask n first bound refl within is
 
 -- ---- the test that is made of it
 

@@ -5,7 +5,7 @@ use Rattle.std.specs.List.{slice_get}
 use Rattle.std.proofs.lemmas.Bool.{eq-eqb, ne_eqb}
 use Rattle.bpf_code.specs.declared.instr.Instr.{Instr}
 use Rattle.bpf_code.specs.declared.instr.Instr.TheVariants.{Jump, RetK}
-use Rattle.match_code.specs.LineCode.{Coded, left_after, line_code, lines_coded, begun, lines_code}
+use Rattle.match_code.specs.LineCode.{Coded, left_after, line_code, lines_coded, with_entry_jump, lines_code}
 use Rattle.match_code.specs.inner.Held.{held_at}
 use Rattle.match_code.specs.declared.lines.Line.{Line}
 use Rattle.match_code.specs.declared.part.Part.{Part}
@@ -64,24 +64,24 @@ unfolding lines_coded
 coded_first code after otherwise p q = λ i. record { code = p i; entry = 1; after = q i }
 
 -- The code from its first instruction on, where the lines begin there and where they don't.
-pub begun_same : (coded : Coded) (code : List Instr) → coded.entry ≡ length coded.code → code ≡ coded.code → code ≡ begun coded
+pub begun_same : (coded : Coded) (code : List Instr) → coded.entry ≡ length coded.code → code ≡ coded.code → code ≡ with_entry_jump coded
 begun_same coded code front is =
     let P : Bool → Type 0 = λ b. code ≡ (if b then coded.code else Jump (length coded.code - coded.entry) ∷ coded.code) in
     subst P (sym (eq-eqb coded.entry (length coded.code) front)) is
 
-pub begun_other : (coded : Coded) (code : List Instr) → (coded.entry ≡ length coded.code → ⊥) → code ≡ Jump (length coded.code - coded.entry) ∷ coded.code → code ≡ begun coded
+pub begun_other : (coded : Coded) (code : List Instr) → (coded.entry ≡ length coded.code → ⊥) → code ≡ Jump (length coded.code - coded.entry) ∷ coded.code → code ≡ with_entry_jump coded
 begun_other coded code apart is =
     let P : Bool → Type 0 = λ b. code ≡ (if b then coded.code else Jump (length coded.code - coded.entry) ∷ coded.code) in
     subst P (sym (ne_eqb coded.entry (length coded.code) apart)) is
 
-pub begun_lines : (lines : List Line) (otherwise : ℕ) (coded : Coded) (code : List Instr) → coded ≡ lines_coded lines None otherwise → code ≡ begun coded → code ≡ lines_code lines otherwise
+pub begun_lines : (lines : List Line) (otherwise : ℕ) (coded : Coded) (code : List Instr) → coded ≡ lines_coded lines None otherwise → code ≡ with_entry_jump coded → code ≡ lines_code lines otherwise
 unfolding lines_code
-begun_lines lines otherwise coded code p q = q ∙ ap begun p
+begun_lines lines otherwise coded code p q = q ∙ ap with_entry_jump p
 
 -- A line with what is known of A there.
-pub put_at : (lines : List Line) (helds : List (Option Part)) (i : ℕ) (d : Option Part) (line : Line) (held : Option Part) (before after : Coded) → slice_get helds i ≡ Some held
-    → after ≡ line_code line (get_or helds i d) before → after ≡ line_code line held before
-put_at lines helds i d line held before after at is = is ∙ ap (λ (h : Option Part). line_code line h before) (read_at helds i d held at)
+pub put_at : (lines : List Line) (parts : List (Option Part)) (i : ℕ) (d : Option Part) (line : Line) (held : Option Part) (before after : Coded) → slice_get parts i ≡ Some held
+    → after ≡ line_code line (get_or parts i d) before → after ≡ line_code line held before
+put_at lines parts i d line held before after at is = is ∙ ap (λ (h : Option Part). line_code line h before) (read_at parts i d held at)
 
 pub held_next : (lines : List Line) (first : Option Part) (at : ℕ) (line : Line) (held next : Option Part) → at < length lines → line ≡ get_or lines at line
     → held ≡ held_at lines first at → next ≡ left_after line held → next ≡ held_at lines first (at + 1)

@@ -8,7 +8,7 @@ use Rattle.match_code.specs.Labels.{Tested}
 use Rattle.match_code.specs.inner.Suffixes.{suffix_at}
 use Rattle.match_code.proofs.Suffixes.{Gives, suffix_kept}
 
--- The instruction is one that tests need, and its jumps lead into the code of this length behind it.
+-- The instruction is one that tests need, and its jumps lead into the code of this length after it.
 abbrev pub IsSoundBefore : Instr → ℕ → Type 0
 IsSoundBefore (LoadAbs size k) n = Unit {0}
 IsSoundBefore (Alu And (Imm k)) n = Unit {0}

@@ -214,7 +214,7 @@ and_swap true false = refl
 and_swap false true = refl
 and_swap false false = refl
 
--- What the two neighbours say, the one that they become says.
+-- The test that two neighbours become means what both mean.
 both_say : (high low : Single) (packet : List ℕ) → are_neighbours high low ≡ true
     → is_in_single (joined_by high low) (number_there high.part packet) ≡ (is_in_single high (number_there high.part packet) && is_in_single low (number_there low.part packet))
 both_say high low packet e =
@@ -235,15 +235,15 @@ chosen one other packet false true single p q e =
     ∙ (both_say other one packet q ∙ and_swap (is_in_single other (number_there other.part packet)) (is_in_single one (number_there one.part packet)))
 chosen one other packet false false single p q e = absurd cc
 
-joined_says : (one other : PlainTest) (packet : List ℕ) (a b : Option Single) (single : Single) → single_of one ≡ a → single_of other ≡ b → joined_singles a b ≡ Some single
+joined_means : (one other : PlainTest) (packet : List ℕ) (a b : Option Single) (single : Single) → single_of one ≡ a → single_of other ≡ b → joined_singles a b ≡ Some single
     → is_in_single single (number_there single.part packet) ≡ (holds one packet && holds other packet)
-joined_says one other packet None b single p q e = absurd cc
-joined_says one other packet (Some s) None single p q e = absurd cc
-joined_says one other packet (Some s) (Some t) single p q e =
+joined_means one other packet None b single p q e = absurd cc
+joined_means one other packet (Some s) None single p q e = absurd cc
+joined_means one other packet (Some s) (Some t) single p q e =
     chosen s t packet (are_neighbours s t) (are_neighbours t s) single refl refl e
     ∙ (ap (λ x. x && is_in_single t (number_there t.part packet)) (sym (single_holds one packet s p)) ∙ ap (λ x. holds one packet && x) (sym (single_holds other packet t q)))
 
--- A neighbour that is joined to a test says what both say.
+-- A test to which a neighbour is joined means what both mean.
 pub joined_holds : (one other test : PlainTest) (packet : List ℕ) (single : Single) → joined_single one other ≡ Some single → IsSingle single test → holds test packet ≡ (holds one packet && holds other packet)
 joined_holds one other test packet single e is =
-    made_holds single test packet is ∙ joined_says one other packet (single_of one) (single_of other) single refl refl e
+    made_holds single test packet is ∙ joined_means one other packet (single_of one) (single_of other) single refl refl e

@@ -24,9 +24,9 @@ lengths_put lines at left d held otherwise count coded more new lt e is counted 
     let cut = drop_more lines at d lt ∙ ap (λ n. line ∷ drop n lines) e in
     let known = ap (λ n. held_at lines held n) (sym e) ∙ held_step lines held at d lt in
     let here = counted ∙ ap (λ (c : Coded). length c.code) is ∙ ap (λ (ls : List Line). length (lines_coded ls (held_at lines held at) otherwise).code) cut in
-    let behind = rest ∙ ap (λ (h : Option Part). lengths_from (drop left lines) h otherwise) known in
+    let after = rest ∙ ap (λ (h : Option Part). lengths_from (drop left lines) h otherwise) known in
     made ∙ ap (λ (n : ℕ). n ∷ more) here
-    ∙ ap (λ (ns : List ℕ). length (lines_coded (line ∷ drop left lines) (held_at lines held at) otherwise).code ∷ ns) behind
+    ∙ ap (λ (ns : List ℕ). length (lines_coded (line ∷ drop left lines) (held_at lines held at) otherwise).code ∷ ns) after
     ∙ ap (λ (ls : List Line). lengths_from ls (held_at lines held at) otherwise) (sym cut)
 
 -- All lines.

@@ -1,7 +1,7 @@
 -- The code of lines is accepted.
 use Rattle.std.proofs.Common.{◌≡◌, ℕ, zero, suc, ◌+◌, ◌-◌, ◌≤◌, ◌<◌, List, [], ◌∷◌, length, inl, inr, subst, arith}
 use Rattle.std.proofs.lemmas.Option.{same_Some}
-use Rattle.bpf_code.specs.Flow.{StandsAt, IsReturn, JumpsTo}
+use Rattle.bpf_code.specs.Flow.{IsInstrAt, IsReturn, JumpsTo}
 use Rattle.bpf_code.specs.Operands.{DividesBy, ShiftsBy}
 use Rattle.bpf_code.specs.Scratch.{NamesWord}
 use Rattle.bpf_code.specs.declared.instr.By.TheVariants.{Imm}
@@ -14,7 +14,7 @@ use Rattle.match_code.specs.inner.Suffixes.{suffix_at}
 use Rattle.match_code.specs.declared.lines.Line.{Line}
 use Rattle.match_code.proofs.Growing.{AreSound, IsSoundBefore}
 use Rattle.match_code.proofs.LinesFit.{lines_whole}
-use Rattle.match_code.proofs.Suffixes.{stands_at_suffix}
+use Rattle.match_code.proofs.Suffixes.{instr_at_suffix}
 
 -- A sound instruction uses no scratch word.
 no_word : (i : Instr) (n word : ℕ) → IsSoundBefore i n → NamesWord i word → ⊥
@@ -55,8 +55,8 @@ stays (Branch test (Imm k) jt jf) n place size target s e (inr h) = let p = s.1 
 stays (RetK k) n place size target s e h = absurd h
 stays _ n place size target s e h = absurd s
 
--- The instruction at a place is sound, with the code after it behind it.
-sound_at : (code : List Instr) (place : ℕ) (i : Instr) → AreSound code → StandsAt code place i → (n : ℕ) × (place + 1 + n ≡ length code) × IsSoundBefore i n
+-- The instruction at a place is sound, followed by the code after it.
+sound_at : (code : List Instr) (place : ℕ) (i : Instr) → AreSound code → IsInstrAt code place i → (n : ℕ) × (place + 1 + n ≡ length code) × IsSoundBefore i n
 sound_at [] place i s at = absurd cc
 sound_at (j ∷ code) zero i s at =
     let same = same_Some j i at in
@@ -78,7 +78,7 @@ accepted code last sound ends returns some few = record {
         shift = λ count h. absurd (no_shift i here.0 count here.2 h);
         targets = λ target h. stays i here.0 place (length code) target here.2 here.1 h;
       };
-  ends = (last, stands_at_suffix code (length code - 1) last [] ends, returns);
+  ends = (last, instr_at_suffix code (length code - 1) last [] ends, returns);
   written = λ place word passed path reads.
       let here = sound_at code place reads.0 sound reads.1 in
       absurd (no_word reads.0 here.0 word here.2 (inl reads.2));

@@ -1,4 +1,4 @@
--- What the functions that put code in front return is what the definitions say.
+-- The functions that put code in front return what the definitions have.
 use Rattle.std.proofs.Common.{◌≡◌, ℕ, ◌+◌, ◌-◌, ◌<◌, Option, List, [], ◌∷◌, length, drop, get_or, refl, sym, ap, subst, ◌∙◌}
 use Rattle.std.proofs.lemmas.List.{drop_more}
 use Rattle.bpf_code.specs.declared.instr.By.TheVariants.{Imm}

@@ -1,7 +1,7 @@
 -- What the machine does from a suffix of a code, wherever in a code it is.
 use Rattle.std.proofs.Common.{◌≡◌, ℕ, zero, suc, ◌+◌, ◌-◌, ◌≤◌, if◌then◌else◌, List, [], ◌∷◌, length, drop, Some, refl, sym, ap, subst, ◌∙◌, arith}
 use Rattle.std.proofs.lemmas.List.{drop-drop}
-use Rattle.bpf_code.specs.Flow.{StandsAt}
+use Rattle.bpf_code.specs.Flow.{IsInstrAt}
 use Rattle.bpf_code.specs.declared.instr.By.TheVariants.{Imm}
 use Rattle.bpf_code.specs.declared.instr.Instr.{Instr}
 use Rattle.bpf_code.specs.declared.instr.Instr.TheVariants.{Jump, Branch, RetK}
@@ -17,11 +17,11 @@ pub record Gives (packet : List ℕ) (suffix : List Instr) (a value : ℕ) : Typ
   pub ends : (code : List Instr) (pc x : ℕ) (m : List (ℕ × ℕ)) → drop pc code ≡ suffix → (steps : ℕ) × EndsIn code packet (At pc a x m) value steps
 
 -- The first instruction of a suffix is the one at its place.
-pub stands_at_suffix : (code : List Instr) (pc : ℕ) (i : Instr) (rest : List Instr) → drop pc code ≡ i ∷ rest → StandsAt code pc i
-stands_at_suffix [] zero i rest e = absurd cc
-stands_at_suffix [] (suc pc) i rest e = absurd cc
-stands_at_suffix (j ∷ code) zero i rest e = let same : j ≡ i = cc in ap Some same
-stands_at_suffix (j ∷ code) (suc pc) i rest e = stands_at_suffix code pc i rest e
+pub instr_at_suffix : (code : List Instr) (pc : ℕ) (i : Instr) (rest : List Instr) → drop pc code ≡ i ∷ rest → IsInstrAt code pc i
+instr_at_suffix [] zero i rest e = absurd cc
+instr_at_suffix [] (suc pc) i rest e = absurd cc
+instr_at_suffix (j ∷ code) zero i rest e = let same : j ≡ i = cc in ap Some same
+instr_at_suffix (j ∷ code) (suc pc) i rest e = instr_at_suffix code pc i rest e
 
 -- The suffix that is so many instructions after the first.
 drop_on : (code : List Instr) (pc : ℕ) (i : Instr) (rest : List Instr) (k : ℕ) → drop pc code ≡ i ∷ rest → drop (pc + 1 + k) code ≡ drop k rest
@@ -40,7 +40,7 @@ module _ (packet : List ℕ) (i : Instr) (rest : List Instr) (a b value : ℕ) w
   gives_skip k does later = record {
     ends = λ code pc x m at.
         let more = later.ends code (pc + 1 + k) x m (drop_on code pc i rest k at) in
-        (suc more.0, (At (pc + 1 + k) b x m, (i, stands_at_suffix code pc i rest at, does pc x m), more.1));
+        (suc more.0, (At (pc + 1 + k) b x m, (i, instr_at_suffix code pc i rest at, does pc x m), more.1));
   }
 
   -- An instruction that goes on with the next.
@@ -48,13 +48,13 @@ module _ (packet : List ℕ) (i : Instr) (rest : List Instr) (a b value : ℕ) w
   gives_next does later = record {
     ends = λ code pc x m at.
         let more = later.ends code (pc + 1) x m (drop_next code pc i rest at) in
-        (suc more.0, (At (pc + 1) b x m, (i, stands_at_suffix code pc i rest at, does pc x m), more.1));
+        (suc more.0, (At (pc + 1) b x m, (i, instr_at_suffix code pc i rest at, does pc x m), more.1));
   }
 
 -- A return.
 pub gives_return : (packet : List ℕ) (rest : List Instr) (a value : ℕ) → Gives packet (RetK value ∷ rest) a value
 gives_return packet rest a value = record {
-  ends = λ code pc x m at. (1, (Ended value, (RetK value, stands_at_suffix code pc (RetK value) rest at, refl), refl));
+  ends = λ code pc x m at. (1, (Ended value, (RetK value, instr_at_suffix code pc (RetK value) rest at, refl), refl));
 }
 
 -- A jump.

@@ -49,9 +49,9 @@ lines_coded [] held otherwise = record { code = RetK otherwise ∷ []; entry = 1
 lines_coded (line ∷ lines) held otherwise = line_code line held (lines_coded lines (left_after line held) otherwise)
 
 -- The code from its first instruction on: a jump to the place where it begins is put in front, if that isn't its front.
-abbrev pub begun : Coded → List Instr
-begun coded = if coded.entry == length coded.code then coded.code else Jump (length coded.code - coded.entry) ∷ coded.code
+abbrev pub with_entry_jump : Coded → List Instr
+with_entry_jump coded = if coded.entry == length coded.code then coded.code else Jump (length coded.code - coded.entry) ∷ coded.code
 
 -- The code of lines.
 unfoldable pub lines_code : List Line → ℕ → List Instr
-lines_code lines otherwise = begun (lines_coded lines None otherwise)
+lines_code lines otherwise = with_entry_jump (lines_coded lines None otherwise)

@@ -1,7 +1,7 @@
 //! Lines, and their code.
 
 ghost use Rattle.std.specs.Prelude.{◌≡◌, ◌<◌, ◌≤◌, ℕ, [], ◌∷◌, length, Err, IfOk, OnOk, None, Some, slice_get};
-ghost use Rattle.match_code.specs.LineCode.{Coded, left_after, first_after, later_after, line_code, lines_coded, begun, lines_code};
+ghost use Rattle.match_code.specs.LineCode.{Coded, left_after, first_after, later_after, line_code, lines_coded, with_entry_jump, lines_code};
 ghost use Rattle.match_code.specs.LinePlaces.{lengths_from, line_lengths};
 ghost use Rattle.match_code.specs.inner.Held.{held_at};
 ghost use Rattle.match_code.specs.Promise.{Classifies};
@@ -116,17 +116,17 @@ fn put_line(coding: &mut Coding, line: &Line, held: Option<Part>) -> Result<(), 
 }
 
 /// What is known of A at each line.
-fn helds(alloc: Global, lines: &[Line]) -> Result<Vec<Option<Part>>, AllocError>
-    ensures count { IfOk result (λ helds. length helds.items ≡ length lines.now) }
-    ensures held { IfOk result (λ helds. (at : ℕ) → at < length lines.now → slice_get helds.items at ≡ Some (held_at lines.now None at)) }
+fn held_parts(alloc: Global, lines: &[Line]) -> Result<Vec<Option<Part>>, AllocError>
+    ensures count { IfOk result (λ parts. length parts.items ≡ length lines.now) }
+    ensures held { IfOk result (λ parts. (at : ℕ) → at < length lines.now → slice_get parts.items at ≡ Some (held_at lines.now None at)) }
 {
-    let mut helds = Vec::new(alloc);
+    let mut parts = Vec::new(alloc);
     let mut held = None;
     for line in lines {
-        helds.push(held)?;
+        parts.push(held)?;
         held = left_after(line, held);
     }
-    Ok(helds)
+    Ok(parts)
 }
 
 /// What is known of A at the line after this one, if it is reached from this one.
@@ -154,13 +154,13 @@ fn put_lines(alloc: Global, lines: &[Line], otherwise: u32) -> Result<PlacedCodi
     ensures code { IfOk result (λ coded. coded_of coded.coding ≡ lines_coded lines.now None otherwise) }
     ensures lengths { IfOk result (λ coded. coded.lengths.items ≡ line_lengths lines.now otherwise) }
 {
-    let helds = helds(alloc, lines)?;
+    let parts = held_parts(alloc, lines)?;
     let mut coding = first_coding(alloc, otherwise)?;
     let mut lengths = Vec::new(alloc);
     let mut left = lines.len();
     while left > 0 {
         left -= 1;
-        put_line(&mut coding, &lines[left], helds[left])?;
+        put_line(&mut coding, &lines[left], parts[left])?;
         lengths.push(coding.draft.len())?;
     }
     lengths.reverse();
@@ -186,7 +186,7 @@ fn whole_code(alloc: Global, lines: &[Line], otherwise: u32) -> Result<PlacedCod
     ensures lengths { IfOk result (λ placed. placed.lengths.items ≡ line_lengths lines.now otherwise) }
 {
     let placed = put_lines(alloc, lines, otherwise)?;
-    let code = begun(placed.coding)?;
+    let code = with_entry_jump(placed.coding)?;
     Ok(PlacedCode {
         code,
         lengths: placed.lengths,
@@ -194,8 +194,8 @@ fn whole_code(alloc: Global, lines: &[Line], otherwise: u32) -> Result<PlacedCod
 }
 
 /// The code from its first instruction on. If the lines don't begin there, puts `ja` in front.
-fn begun(coding: Coding) -> Result<Vec<Instr>, AllocError>
-    ensures { IfOk result (λ code. code.items ≡ begun (coded_of coding)) }
+fn with_entry_jump(coding: Coding) -> Result<Vec<Instr>, AllocError>
+    ensures { IfOk result (λ code. code.items ≡ with_entry_jump (coded_of coding)) }
 {
     let Coding {
         mut draft,

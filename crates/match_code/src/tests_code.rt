@@ -86,22 +86,22 @@ fn left_by_chain(on: bool, tests: &[PlainTest], held: Option<Part>) -> Left
 }
 
 /// What is known of A at each part of a chain.
-fn helds_before(
+fn held_parts_before(
     alloc: Global,
     on: bool,
     tests: &[PlainTest],
     held: Option<Part>,
 ) -> Result<Vec<Option<Part>>, AllocError>
-    ensures count { IfOk result (λ helds. length helds.items ≡ length tests.now) }
-    ensures held { IfOk result (λ helds. (at : ℕ) → at < length tests.now → slice_get helds.items at ≡ Some (held_before on tests.now held at)) }
+    ensures count { IfOk result (λ parts. length parts.items ≡ length tests.now) }
+    ensures held { IfOk result (λ parts. (at : ℕ) → at < length tests.now → slice_get parts.items at ≡ Some (held_before on tests.now held at)) }
 {
-    let mut helds = Vec::new(alloc);
+    let mut parts = Vec::new(alloc);
     let mut held = held;
     for test in tests {
-        helds.push(held)?;
+        parts.push(held)?;
         held = known_after_part(on, test, held).met;
     }
-    Ok(helds)
+    Ok(parts)
 }
 
 /// Puts a test in front, with the labels of its two sides.
@@ -193,7 +193,7 @@ fn put_chain(
 ) -> Result<Ways, AllocError>
     ensures { IfOk result (IsMade (chain_code on tests.now held draft.old next end) draft.new) }
 {
-    let helds = helds_before(draft.alloc(), on, tests, held)?;
+    let parts = held_parts_before(draft.alloc(), on, tests, held)?;
     let mut ways = Ways {
         entry: next,
         met: next,
@@ -202,7 +202,7 @@ fn put_chain(
     let mut left = tests.len();
     while left > 0 {
         left -= 1;
-        ways = put_part(draft, on, &tests[left], helds[left], ways)?;
+        ways = put_part(draft, on, &tests[left], parts[left], ways)?;
     }
     Ok(ways)
 }

@@ -5,7 +5,7 @@ use arrayvec::ArrayVec;
 use std::alloc::Global;
 use std::sync::Wait;
 use std::thread::Threads;
-use text_io::{Done, Giving, RunFault, Taking};
+use text_io::{Done, ReaderInput, RunFault, WriterOutput};
 use upc_ports::run_ports;
 use upc_programs::{check_source, eval_bytes};
 use upc_run::run_script;
@@ -72,8 +72,8 @@ impl Talking {
 
 impl Call for Talking {
     fn make(&mut self) -> Attempt {
-        let mut input = Taking::new(self.input());
-        let mut output = Giving::new(Answered::new());
+        let mut input = ReaderInput::new(self.input());
+        let mut output = WriterOutput::new(Answered::new());
         let ended = match self.dialogue {
             Dialogue::Eval => eval_bytes(self.alloc, &mut input, &mut output),
             Dialogue::Check => check_source(self.alloc, &mut input, &mut output),
@@ -122,8 +122,8 @@ const PORTS_ANSWERS: &[u8; 145] = b"ready\nloaded p1\nset 1/100\nset 1/101\n\
 
 /// Runs a script whose ports are threads.
 fn talk_at_ports<R: Threads + Wait + Sync>(rt: &R, alloc: Global) -> Attempt {
-    let mut input = Taking::new(PORTS_SCRIPT.as_slice());
-    let mut output = Giving::new(Answered::new());
+    let mut input = ReaderInput::new(PORTS_SCRIPT.as_slice());
+    let mut output = WriterOutput::new(Answered::new());
     let ended = run_ports(rt, alloc, &mut input, &mut output);
     outcome_of(ended, &output.writer, PORTS_ANSWERS)
 }

@@ -8,7 +8,7 @@ use crate::ledgers::Ledgers;
 use crate::marks::{LineMarks, SeatMarks};
 use crate::seat::PortSeat;
 use crate::seatings::Seatings;
-use card_core::{Answer, CardFault, Shape, Store, name};
+use card_core::{Answer, CardFault, Shape, Store, name_contract};
 use gen_arena::Arena;
 use line_record::{Line, MOST_ENTRIES, Seating};
 use std::alloc::Global;
@@ -45,7 +45,7 @@ impl<S: Ledgers> Model for Card<S> {
 impl<S: Ledgers> Card<S> {
     ghost use Rattle.std.specs.Prelude.{◌≡◌, ◌≢◌, ◌<◌, ◌≤◌, ◌⊎◌, length, None, Some, IfOk, IfSome, MatchResult};
     ghost use Rattle.card_core.specs.Shapes.{shape_fault};
-    ghost use Rattle.card_core.specs.Sections.{judgement_in};
+    ghost use Rattle.card_core.specs.Sections.{judged_in_answer};
     ghost use Rattle.port_card.specs.Names.{AreFor};
     ghost use Rattle.port_card.specs.Seats.{AreNewSeats, counts_after, seat_after, tally_of_seat};
     ghost use Rattle.gen_arena.specs.Live.{live_value};
@@ -130,11 +130,11 @@ impl<S: Ledgers> Card<S> {
         gate: &G,
     ) -> Answer
         // The seat counts the cell, on its line and by its verdict, exactly if the cell was judged.
-        ensures tallied { seat.new ≡ seat_after seat.old (judgement_in result) }
-        ensures total { tally_of_seat seat.new ≡ counts_after (tally_of_seat seat.old) (judgement_in result) }
-        ensures there { IfSome (judgement_in result) (λ judged. judged.line < self.now.lines) }
+        ensures tallied { seat.new ≡ seat_after seat.old (judged_in_answer result) }
+        ensures total { tally_of_seat seat.new ≡ counts_after (tally_of_seat seat.old) (judged_in_answer result) }
+        ensures there { IfSome (judged_in_answer result) (λ judged. judged.line < self.now.lines) }
 
-        ensures judged { IfSome (judgement_in result) (IsJudgedAnswer cell.now moment) }
+        ensures judged { IfSome (judged_in_answer result) (IsJudgedAnswer cell.now moment) }
         ensures blames { BlamesRightly moment result }
         ensures memory { result ≢ Answer.NoMemory }
     {
@@ -160,19 +160,19 @@ impl<S: Ledgers> Card<S> {
         requires { seating.now.line < self.now.lines }
 
         // The value is what the connection's program, as it was looked up, gives for the cell.
-        ensures program { IfSome (judgement_in result) (λ judged. judged.program ≡ seating.now.program) }
-        ensures given { IfSome (judgement_in result) (λ judged. IsGivenBy store.now judged.program cell.now judged.value) }
+        ensures program { IfSome (judged_in_answer result) (λ judged. judged.program ≡ seating.now.program) }
+        ensures given { IfSome (judged_in_answer result) (λ judged. IsGivenBy store.now judged.program cell.now judged.value) }
         ensures stale { live_value store.now seating.now.program ≡ None → result ≡ Answer.Stale }
 
         // As `arrive`.
-        ensures tallied { seat.new ≡ seat_after seat.old (judgement_in result) }
-        ensures total { tally_of_seat seat.new ≡ counts_after (tally_of_seat seat.old) (judgement_in result) }
-        ensures there { IfSome (judgement_in result) (λ judged. judged.line ≡ seating.now.line) }
-        ensures judged { IfSome (judgement_in result) (IsJudgedAnswer cell.now moment) }
+        ensures tallied { seat.new ≡ seat_after seat.old (judged_in_answer result) }
+        ensures total { tally_of_seat seat.new ≡ counts_after (tally_of_seat seat.old) (judged_in_answer result) }
+        ensures there { IfSome (judged_in_answer result) (λ judged. judged.line ≡ seating.now.line) }
+        ensures judged { IfSome (judged_in_answer result) (IsJudgedAnswer cell.now moment) }
         ensures blames { BlamesRightly moment result }
         ensures memory { result ≢ Answer.NoMemory }
     {
-        let Some(named) = name(store, seating.program, cell) else {
+        let Some(named) = name_contract(store, seating.program, cell) else {
             return Answer::Stale;
         };
         gate.between(seat.port());

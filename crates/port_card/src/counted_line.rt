@@ -1,7 +1,6 @@
 //! A line of the running card, with the marks of its counts.
 
-ghost use Rattle.std.specs.Prelude.{◌≡◌, option_map};
-ghost use Rattle.card_core.specs.Sections.{judgement_in};
+ghost use Rattle.std.specs.Prelude.{◌≡◌};
 
 use crate::books::Books;
 use crate::ledgers::Ledgers;
@@ -29,7 +28,7 @@ impl<S: Ledgers> CountedLine<S> {
     ghost use Rattle.line_record.specs.Line.{IsLine, OpensLine};
     ghost use Rattle.line_record.specs.Piece.{IsJournalOf, IsPiece};
     ghost use Rattle.line_record.specs.Tally.{nothing, HasRoom};
-    ghost use Rattle.card_core.specs.Sections.{holder, judging_refusal, IsUncut, IsUnready, MayBecomeReady, JudgesAt, judgement_in};
+    ghost use Rattle.card_core.specs.Sections.{holder, judging_refusal, IsUncut, IsUnready, MayBecomeReady, JudgesAt, judged_in_answer};
     ghost use Rattle.card_core.specs.Steps.{cell_after};
     ghost use Rattle.port_card.specs.Seats.{counts_after, seat_after, tally_of_seat};
     ghost use Rattle.port_card.specs.Answers.{BlamesRightly, IsOfSetup, IsOfRelease, IsOfCut};
@@ -71,29 +70,31 @@ impl<S: Ledgers> CountedLine<S> {
         ensures kept { HasRoom books.old → IsLine self.old.line }
 
         // The seat counts the cell exactly if it was judged.
-        ensures tallied { seat.new ≡ seat_after seat.old (judgement_in result) }
-        ensures total { tally_of_seat seat.new ≡ counts_after (tally_of_seat seat.old) (judgement_in result) }
+        ensures tallied { seat.new ≡ seat_after seat.old (judged_in_answer result) }
+        ensures total { tally_of_seat seat.new ≡ counts_after (tally_of_seat seat.old) (judged_in_answer result) }
 
         // The answer to a judged cell. The moment is the error only if it is too late or goes back.
-        ensures there { IfSome (judgement_in result) (λ judged. judged.line ≡ seating.now.line) }
-        ensures moment { IfSome (judgement_in result) (λ judged. judged.moment ≡ moment) }
-        ensures value { IfSome (judgement_in result) (λ judged. judged.value ≡ named.now.value) }
-        ensures program { IfSome (judgement_in result) (λ judged. judged.program ≡ named.now.program) }
-        ensures cell { IfSome (judgement_in result) (λ judged. judged.cell ≡ cell_after judged.verdict named.now.cell) }
-        ensures unnamed { IfSome (judgement_in result) (λ judged.
+        ensures there { IfSome (judged_in_answer result) (λ judged. judged.line ≡ seating.now.line) }
+        ensures moment { IfSome (judged_in_answer result) (λ judged. judged.moment ≡ moment) }
+        ensures value { IfSome (judged_in_answer result) (λ judged. judged.value ≡ named.now.value) }
+        ensures program { IfSome (judged_in_answer result) (λ judged. judged.program ≡ named.now.program) }
+        ensures cell { IfSome (judged_in_answer result) (λ judged. judged.cell ≡ cell_after judged.verdict named.now.cell) }
+        ensures unnamed { IfSome (judged_in_answer result) (λ judged.
             IsNoNumber judged.value → judged.verdict ≡ Verdict.Refuse) }
-        ensures in_time { IsSome (judgement_in result) → moment ≤ 2 ^ 62 }
+        ensures in_time { IsSome (judged_in_answer result) → moment ≤ 2 ^ 62 }
         ensures blames { BlamesRightly moment result }
         ensures memory { result ≢ Answer.NoMemory }
     {
         if !books.has_room() {
             return Answer::JournalFull;
         }
-        let answer = judge_at(&mut self.line, vc, seating, named, moment);
-        if let Some((line, verdict)) = judged_on(&answer) {
-            seat.count(books, &mut self.marks, line, verdict);
+        match judge_at(&mut self.line, vc, seating, named, moment) {
+            Ok(judged) => {
+                seat.count(books, &mut self.marks, judged.line, judged.verdict);
+                judged.answer(&named.cell())
+            }
+            Err(reason) => reason.answer(),
         }
-        answer
     }
 
     /// Sets up a connection on the line with this number.
@@ -167,22 +168,5 @@ impl<S: Ledgers> CountedLine<S> {
         ensures refused { IfErr result IsOfCut }
     {
         cut(&mut self.line, vc, seating)
-    }
-}
-
-/// The line's number and the verdict if the cell was judged, otherwise none.
-#[inline]
-fn judged_on(answer: &Answer) -> Option<(u16, Verdict)>
-    ensures { result ≡ option_map (λ judged. (judged.line, judged.verdict)) (judgement_in answer.now) }
-{
-    match *answer {
-        Answer::Judged { line, verdict, .. } => Some((line, verdict)),
-        Answer::NoConnection
-        | Answer::Released
-        | Answer::Stale
-        | Answer::MomentBack { .. }
-        | Answer::MomentTooLate
-        | Answer::JournalFull
-        | Answer::NoMemory => None,
     }
 }

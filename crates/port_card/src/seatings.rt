@@ -4,7 +4,7 @@ ghost use Rattle.std.specs.Prelude.{◌≡◌};
 
 use crate::ledgers::Ledgers;
 use bpf_verify::Program;
-use card_core::{Ask, DeskFault, Store, admit, pick, reload, retire};
+use card_core::{Ask, DeskFault, Store, admit, find_seating, reload, retire};
 use gen_arena::Id;
 use line_record::{Directory, Seating};
 use std::alloc::Global;
@@ -48,7 +48,7 @@ impl<S: Ledgers> Seatings<S> {
         ensures within { IfSome result (λ seating. seating.line < S.names.lines) }
         ensures directory { IsDirectory self.now.directory }
     {
-        pick(&self.directory, vc)
+        find_seating(&self.directory, vc)
     }
 
     /// Retires a program that no connection names.

@@ -3,7 +3,7 @@ use Rattle.std.proofs.Common.{◌≡◌, ℕ, suc, ◌+◌, ◌≤◌, ◌<◌, 
 use Rattle.std.proofs.lemmas.Bool.{le-ltb, lt-leb, lt-ltb}
 use Rattle.bpf_code.specs.declared.instr.Size.{Size}
 use Rattle.match_code.specs.declared.part.Span.{Span}
-use Rattle.rules_text.specs.LineGrammar.{Awaited, GroupRead, LineContext, Reading, StatementRead, SubjectRead, awaits_start, awaits_unit, awaits_operator, awaits_offset, awaits_relation, awaits_mask, awaits_sign, awaits_constant, awaits_dots, awaits_high, awaits_comma, awaits_low, awaits_value, awaits_end, both_of, group_after_or, group_test, group_with, no_group, nothing_read, read_awaited, read_comma, read_constant, read_dots, read_high, read_low, read_mask, read_offset, read_operator, read_relation, read_sign, read_start, read_token, read_unit, range_of_one, read_value, statement_at_end, says_line, subject_of, whole_test, with_block, with_close, with_head, with_list, with_open, with_range, with_unit}
+use Rattle.rules_text.specs.LineGrammar.{Awaited, GroupRead, LineContext, Reading, StatementRead, SubjectRead, awaits_start, awaits_unit, awaits_operator, awaits_offset, awaits_relation, awaits_mask, awaits_sign, awaits_constant, awaits_dots, awaits_high, awaits_comma, awaits_low, awaits_value, awaits_end, both_of, group_after_or, group_test, group_with, no_group, nothing_read, read_awaited, read_comma, read_constant, read_dots, read_high, read_low, read_mask, read_offset, read_operator, read_relation, read_sign, read_start, read_token, read_unit, range_of_one, read_value, statement_at_end, line_statement, subject_of, whole_test, with_block, with_close, with_head, with_list, with_open, with_range, with_unit}
 use Rattle.rules_text.specs.RuleGrammar.{FieldFits, HighFits, ListFits, MaskFits, PartFits, PartForm, RangeForm, SubjectFits, TestFits, TestForm, UnitFits, UnitForm, any_unit, oam_unit, user_unit, sign_unit, list_unit, not_unit, parenthesis_unit, one_unit, and_unit, one_part, or_part, field_tokens, high_tokens, list_tokens, mask_tokens, part_count, units_tokens, part_written, span_from, spans_written, subject_tokens, test_count, test_tokens, test_written, unit_count, unit_tokens, unit_written}
 use Rattle.rules_text.specs.RulesRead.{FieldRead, SignRead, TestRead, any_cell, oam_cell, user_cell, comparing, compared, listed, block_line, rule_line, gfc_field, vpi_field, vci_field, pti_field, clp_field, octets_field}
 use Rattle.rules_text.specs.RuleTokens.{RuleFound, RuleToken, any_word, oam_word, user_word, not_word, and_word, or_word, field_word, size_word, number_word, arrow_mark, open_brace, open_parenthesis, close_parenthesis, mask_mark, comma_mark, dots_mark, sign_mark}
@@ -90,11 +90,11 @@ user_step : (context : LineContext) (column : ℕ) (reading : Reading) → read_
 unfolding read_unit
 user_step context column reading = refl
 
-not_step : (context : LineContext) (column : ℕ) (reading : Reading) (begin : Awaited) (either both : Option TestRead) (denied : Bool) (comparisons : ℕ)
-    → read_unit context column (at_state reading begin (record { either = either; both = both; negated = denied }) [] comparisons) not_word
-    ≡ Ok (at_state reading awaits_unit (record { either = either; both = both; negated = not denied }) [] comparisons)
+not_step : (context : LineContext) (column : ℕ) (reading : Reading) (begin : Awaited) (either both : Option TestRead) (negated : Bool) (comparisons : ℕ)
+    → read_unit context column (at_state reading begin (record { either = either; both = both; negated = negated }) [] comparisons) not_word
+    ≡ Ok (at_state reading awaits_unit (record { either = either; both = both; negated = not negated }) [] comparisons)
 unfolding read_unit
-not_step context column reading begin either both denied comparisons = refl
+not_step context column reading begin either both negated comparisons = refl
 
 open_step : (context : LineContext) (column : ℕ) (reading : Reading) (begin : Awaited) (group : GroupRead) (comparisons : ℕ) → context.blocks + length reading.around < 64
     → read_unit context column (at_state reading begin group [] comparisons) open_parenthesis
@@ -393,18 +393,18 @@ word_reads context begin reading group comparisons total P token test begins fir
     )
 
 mutual
-  unit_reads : (context : LineContext) (unit : UnitForm) (begin : Awaited) (reading : Reading) (either both : Option TestRead) (denied : Bool) (comparisons total : ℕ) (P : Reading → Type 0)
+  unit_reads : (context : LineContext) (unit : UnitForm) (begin : Awaited) (reading : Reading) (either both : Option TestRead) (negated : Bool) (comparisons total : ℕ) (P : Reading → Type 0)
       → Begins context begin → UnitFits context (context.blocks + length reading.around) unit → total ≡ comparisons + unit_count unit → total ≤ 4096
-      → ((last : ℕ) (end : Reading) → Ended context end (after_unit reading (record { either = either; both = Some (both_of both (unit_written denied unit)); negated = false }) last total) → P end)
-      → Reads context (at_state reading begin (record { either = either; both = both; negated = denied }) [] comparisons) (unit_tokens unit) P
-  unit_reads context any_unit begin reading either both denied comparisons total P begins fits count bound h =
-      word_reads context begin reading (record { either = either; both = both; negated = denied }) comparisons total P any_word any_cell begins refl (any_step context) count bound h
-  unit_reads context oam_unit begin reading either both denied comparisons total P begins fits count bound h =
-      word_reads context begin reading (record { either = either; both = both; negated = denied }) comparisons total P oam_word oam_cell begins refl (oam_step context) count bound h
-  unit_reads context user_unit begin reading either both denied comparisons total P begins fits count bound h =
-      word_reads context begin reading (record { either = either; both = both; negated = denied }) comparisons total P user_word user_cell begins refl (user_step context) count bound h
-  unit_reads context (sign_unit subject sign k) begin reading either both denied comparisons total P begins fits count bound h =
-      let group : GroupRead = record { either = either; both = both; negated = denied } in
+      → ((last : ℕ) (end : Reading) → Ended context end (after_unit reading (record { either = either; both = Some (both_of both (unit_written negated unit)); negated = false }) last total) → P end)
+      → Reads context (at_state reading begin (record { either = either; both = both; negated = negated }) [] comparisons) (unit_tokens unit) P
+  unit_reads context any_unit begin reading either both negated comparisons total P begins fits count bound h =
+      word_reads context begin reading (record { either = either; both = both; negated = negated }) comparisons total P any_word any_cell begins refl (any_step context) count bound h
+  unit_reads context oam_unit begin reading either both negated comparisons total P begins fits count bound h =
+      word_reads context begin reading (record { either = either; both = both; negated = negated }) comparisons total P oam_word oam_cell begins refl (oam_step context) count bound h
+  unit_reads context user_unit begin reading either both negated comparisons total P begins fits count bound h =
+      word_reads context begin reading (record { either = either; both = both; negated = negated }) comparisons total P user_word user_cell begins refl (user_step context) count bound h
+  unit_reads context (sign_unit subject sign k) begin reading either both negated comparisons total P begins fits count bound h =
+      let group : GroupRead = record { either = either; both = both; negated = negated } in
       let room : comparisons < 4096 = omega arith in
       let done = group_with group (comparing subject.field subject.mask (compared sign k)) in
       reads_append context (subject_tokens subject) (sign_mark sign ∷ number_word k ∷ []) (at_state reading begin group [] comparisons) P
@@ -418,21 +418,21 @@ mutual
           h reading.outermost _ (after_moved context _ reading done reading.outermost (comparisons + 1) total (sym count) (λ column token is. refl)),
         ),
       )))
-  unit_reads context (list_unit subject ranges last) begin reading either both denied comparisons total P begins fits count bound h =
-      let group : GroupRead = record { either = either; both = both; negated = denied } in
+  unit_reads context (list_unit subject ranges last) begin reading either both negated comparisons total P begins fits count bound h =
+      let group : GroupRead = record { either = either; both = both; negated = negated } in
       reads_append context (subject_tokens subject) (list_tokens ranges last) (at_state reading begin group [] comparisons) P
       (subject_reads context begin reading group comparisons (λ next. Reads context next (list_tokens ranges last) P) subject begins fits.0 (λ next compares.
       list_reads context reading group subject P ranges last next [] (spans_written ranges last) comparisons total
       (λ column low fits. compares column (number_word low) refl ∙ first_low context column reading group comparisons subject low fits)
       fits.1 refl count bound (λ end ended. h reading.outermost end ended)))
-  unit_reads context (not_unit unit) begin reading either both denied comparisons total P begins fits count bound h =
+  unit_reads context (not_unit unit) begin reading either both negated comparisons total P begins fits count bound h =
       λ column. (
-        at_state reading awaits_unit (record { either = either; both = both; negated = not denied }) [] comparisons,
-        begins column (at_state reading begin (record { either = either; both = both; negated = denied }) [] comparisons) not_word refl ∙ not_step context column reading begin either both denied comparisons,
-        unit_reads context unit awaits_unit reading either both (not denied) comparisons total P (begins_unit context) fits count bound h,
+        at_state reading awaits_unit (record { either = either; both = both; negated = not negated }) [] comparisons,
+        begins column (at_state reading begin (record { either = either; both = both; negated = negated }) [] comparisons) not_word refl ∙ not_step context column reading begin either both negated comparisons,
+        unit_reads context unit awaits_unit reading either both (not negated) comparisons total P (begins_unit context) fits count bound h,
       )
-  unit_reads context (parenthesis_unit test) begin reading either both denied comparisons total P begins fits count bound h =
-      let group : GroupRead = record { either = either; both = both; negated = denied } in
+  unit_reads context (parenthesis_unit test) begin reading either both negated comparisons total P begins fits count bound h =
+      let group : GroupRead = record { either = either; both = both; negated = negated } in
       let deeper : context.blocks + length reading.around + 1 ≡ context.blocks + suc (length reading.around) = omega arith in
       λ column. (
         at_state (record reading { around = group ∷ reading.around; outermost = (if nat_lt 0 (length reading.around) then reading.outermost else column) }) awaits_unit no_group [] comparisons,
@@ -489,47 +489,47 @@ arrow_step context column group outermost comparisons test e = rw e refl
 
 value_step : (context : LineContext) (column : ℕ) (reading : Reading) (value : ℕ) → 0 < value
     → read_token context column (record reading { awaited = awaits_value }) (number_word value)
-    ≡ Ok (record reading { test = any_cell; statement = says_line (rule_line reading.test value); awaited = awaits_end })
+    ≡ Ok (record reading { test = any_cell; statement = line_statement (rule_line reading.test value); awaited = awaits_end })
 unfolding read_awaited read_value
 value_step context column reading value some = rw (lt-ltb 0 value some) refl
 
 block_step : (context : LineContext) (column : ℕ) (group : GroupRead) (outermost comparisons : ℕ) (test : TestRead) → group_test group ≡ Some test → context.blocks < 64
     → read_token context column (after_unit nothing_read group outermost comparisons) open_brace
-    ≡ Ok (record (after_unit nothing_read group outermost comparisons) { statement = says_line (block_line test); group = no_group; awaited = awaits_end })
+    ≡ Ok (record (after_unit nothing_read group outermost comparisons) { statement = line_statement (block_line test); group = no_group; awaited = awaits_end })
 unfolding read_awaited read_operator with_block whole_test
 block_step context column group outermost comparisons test e h = rw (e, lt-leb 64 context.blocks h) refl
 
 -- After this statement, reading ends.
-abbrev Says : StatementRead → Reading → Type 0
-Says statement reading = statement_at_end reading.awaited reading.statement ≡ Ok statement
+abbrev EndsWith : StatementRead → Reading → Type 0
+EndsWith statement reading = statement_at_end reading.awaited reading.statement ≡ Ok statement
 
 statement_read : (context : LineContext) (number : ℕ) (found : List RuleFound) (reading : Reading) (column : ℕ) (statement : StatementRead)
-    → Reads context reading (map (λ it. it.token) found) (Says statement) → statement_from context number reading column found ≡ Ok statement
+    → Reads context reading (map (λ it. it.token) found) (EndsWith statement) → statement_from context number reading column found ≡ Ok statement
 statement_read context number [] reading column statement h = statement_end context number column reading statement h
 statement_read context number (first ∷ rest) reading column statement h =
     statement_more context number column reading (h first.column).0 first rest (h first.column).1 ∙ statement_read context number rest (h first.column).0 first.after statement (h first.column).2
 
--- A line that begins with the tokens of a test says what it says after the test.
+-- The statement of a line that begins with the tokens of a test depends on the tokens after them.
 line_begins : (context : LineContext) (number : ℕ) (found : List RuleFound) (test : TestForm) (rest : List RuleToken) (statement : StatementRead)
     → TestFits context context.blocks test → test_count test ≤ 4096 → map (λ it. it.token) found ≡ test_tokens test ++ rest
-    → ((last : ℕ) (end : Reading) → Ended context end (after_unit nothing_read (group_written test) last (test_count test)) → Reads context end rest (Says statement))
+    → ((last : ℕ) (end : Reading) → Ended context end (after_unit nothing_read (group_written test) last (test_count test)) → Reads context end rest (EndsWith statement))
     → statement_from context number nothing_read 1 found ≡ Ok statement
 line_begins context number found test rest statement fits bound same h =
     let none : context.blocks ≡ context.blocks + length nothing_read.around = omega arith in
     let count : test_count test ≡ 0 + test_count test = omega arith in
     statement_read context number found nothing_read 1 statement
-    (subst (λ (tokens : List RuleToken). Reads context nothing_read tokens (Says statement)) (sym same)
-    (reads_append context (test_tokens test) rest nothing_read (Says statement)
-    (test_reads context test awaits_start nothing_read 0 (test_count test) (λ next. Reads context next rest (Says statement)) (begins_start context)
+    (subst (λ (tokens : List RuleToken). Reads context nothing_read tokens (EndsWith statement)) (sym same)
+    (reads_append context (test_tokens test) rest nothing_read (EndsWith statement)
+    (test_reads context test awaits_start nothing_read 0 (test_count test) (λ next. Reads context next rest (EndsWith statement)) (begins_start context)
     (subst (λ (k : ℕ). TestFits context k test) none fits) count bound h)))
 
 -- A rule.
 pub rule_is_read : (context : LineContext) (number : ℕ) (found : List RuleFound) (test : TestForm) (value : ℕ)
     → TestFits context context.blocks test → test_count test ≤ 4096 → 0 < value
     → map (λ it. it.token) found ≡ test_tokens test ++ (arrow_mark ∷ number_word value ∷ [])
-    → statement_from context number nothing_read 1 found ≡ Ok (says_line (rule_line (test_written test) value))
+    → statement_from context number nothing_read 1 found ≡ Ok (line_statement (rule_line (test_written test) value))
 rule_is_read context number found test value fits bound some same =
-    line_begins context number found test (arrow_mark ∷ number_word value ∷ []) (says_line (rule_line (test_written test) value)) fits bound same (λ last end ended.
+    line_begins context number found test (arrow_mark ∷ number_word value ∷ []) (line_statement (rule_line (test_written test) value)) fits bound same (λ last end ended.
     λ column. (
       _,
       ended column arrow_mark refl ∙ arrow_step context column (group_written test) last (test_count test) (test_written test) (written_test test),
@@ -540,7 +540,7 @@ rule_is_read context number found test value fits bound some same =
 pub head_is_read : (context : LineContext) (number : ℕ) (found : List RuleFound) (test : TestForm)
     → TestFits context context.blocks test → test_count test ≤ 4096 → context.blocks < 64
     → map (λ it. it.token) found ≡ test_tokens test ++ (open_brace ∷ [])
-    → statement_from context number nothing_read 1 found ≡ Ok (says_line (block_line (test_written test)))
+    → statement_from context number nothing_read 1 found ≡ Ok (line_statement (block_line (test_written test)))
 head_is_read context number found test fits bound room same =
-    line_begins context number found test (open_brace ∷ []) (says_line (block_line (test_written test))) fits bound same (λ last end ended.
+    line_begins context number found test (open_brace ∷ []) (line_statement (block_line (test_written test))) fits bound same (λ last end ended.
     λ column. (_, ended column open_brace refl ∙ block_step context column (group_written test) last (test_count test) (test_written test) (written_test test) room, refl))

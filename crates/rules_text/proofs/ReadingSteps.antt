@@ -66,12 +66,12 @@ pub line_closed : (text : TextReading) (number : ℕ) (line : List ℕ) (first :
 unfolding text_with_line
 line_closed text number line first rest e closed = rw (e, closed) refl
 
--- A line that says something.
-pub line_statement : (text : TextReading) (number : ℕ) (line : List ℕ) (first : RuleFound) (rest : List RuleFound) (statement : StatementRead)
+-- A line with a statement.
+pub line_with_statement : (text : TextReading) (number : ℕ) (line : List ℕ) (first : RuleFound) (rest : List RuleFound) (statement : StatementRead)
     → rule_tokens line ≡ first ∷ rest → text.closed ≡ false → statement_from (context_of text) number nothing_read 1 (rule_tokens line) ≡ Ok statement
     → text_with_line text number line ≡ Ok (text_with text number first.column statement)
 unfolding text_with_line
-line_statement text number line first rest statement e closed s =
+line_with_statement text number line first rest statement e closed s =
     let t : statement_from (context_of text) number nothing_read 1 (first ∷ rest) ≡ Ok statement = ap (statement_from (context_of text) number nothing_read 1) (sym e) ∙ s in
     rw (e, closed, t) refl
 

@@ -1,9 +1,9 @@
--- The number of a line of rules is that of the source line that says it.
+-- The number of a line of rules is that of the source line that it was read from.
 use Rattle.std.proofs.Common.{◌≡◌, ℕ, ◌+◌, Bool, true, false, if◌then◌else◌, nat_lt, List, [], ◌∷◌, ◌++◌, length, Result, Ok, Err, refl, sym, ap, subst, ◌∙◌, arith, append_assoc}
 use Rattle.std.proofs.lemmas.List.{length_push}
 use Rattle.bpf_asm.specs.SourceLines.{source_lines}
-use Rattle.rules_text.specs.Laws.{AreStatementsAt, IsStatementAt, NumbersAreThoseOfTheLines}
-use Rattle.rules_text.specs.LineGrammar.{LineContext, StatementRead, says_nothing, says_side, says_line, says_otherwise, nothing_read}
+use Rattle.rules_text.specs.Laws.{AreLinesReadAt, IsLineReadAt, NumbersAreThoseOfTheLines}
+use Rattle.rules_text.specs.LineGrammar.{LineContext, StatementRead, blank_statement, side_statement, line_statement, otherwise_statement, nothing_read}
 use Rattle.rules_text.specs.RulesRead.{LineRead, rule_line, block_line, end_line}
 use Rattle.rules_text.specs.RuleTokens.{RuleFound, rule_tokens}
 use Rattle.rules_text.specs.TextOfRules.{NumberedRead, TextReading, context_of, no_text_read, numbered_from, placed_fault, read_then, statement_from, text_with, text_with_line, text_with_tokens}
@@ -12,31 +12,31 @@ use Rattle.rules_text.specs.declared.fault.RuleKind.TheVariants.{AfterOtherwise,
 use Rattle.rules_text.proofs.ReadingSteps.{rules_begun, without_numbers}
 
 module _ (octets : List ℕ) where
-  statement_more : (numbers : List ℕ) (lines : List LineRead) (number : ℕ) (statement : LineRead) → AreStatementsAt octets numbers lines → IsStatementAt octets number statement
-      → AreStatementsAt octets (numbers ++ number ∷ []) (lines ++ statement ∷ [])
+  statement_more : (numbers : List ℕ) (lines : List LineRead) (number : ℕ) (statement : LineRead) → AreLinesReadAt octets numbers lines → IsLineReadAt octets number statement
+      → AreLinesReadAt octets (numbers ++ number ∷ []) (lines ++ statement ∷ [])
   statement_more [] [] number statement are is = (is, tt)
   statement_more (n ∷ numbers) (l ∷ lines) number statement are is = (are.0, statement_more numbers lines number statement are.1 is)
   statement_more [] (l ∷ lines) number statement are is = absurd are
   statement_more (n ∷ numbers) [] number statement are is = absurd are
 
   abbrev Holds : TextReading → Type 0
-  Holds text = AreStatementsAt octets text.numbers text.lines
+  Holds text = AreLinesReadAt octets text.numbers text.lines
 
   by_statement : (text next : TextReading) (number column : ℕ) (statement : StatementRead) → text_with text number column statement ≡ next → Holds text
-      → ((l : LineRead) → statement ≡ says_line l → IsStatementAt octets number l) → Holds next
-  by_statement text next number column says_nothing e held is = subst Holds e held
-  by_statement text next number column (says_side side) e held is = subst Holds e held
-  by_statement text next number column (says_otherwise value) e held is = subst Holds e held
-  by_statement text next number column (says_line (rule_line test value)) e held is =
+      → ((l : LineRead) → statement ≡ line_statement l → IsLineReadAt octets number l) → Holds next
+  by_statement text next number column blank_statement e held is = subst Holds e held
+  by_statement text next number column (side_statement side) e held is = subst Holds e held
+  by_statement text next number column (otherwise_statement value) e held is = subst Holds e held
+  by_statement text next number column (line_statement (rule_line test value)) e held is =
       subst Holds e (statement_more text.numbers text.lines number (rule_line test value) held (is (rule_line test value) refl))
-  by_statement text next number column (says_line (block_line test)) e held is =
+  by_statement text next number column (line_statement (block_line test)) e held is =
       subst Holds e (statement_more text.numbers text.lines number (block_line test) held (is (block_line test) refl))
-  by_statement text next number column (says_line end_line) e held is =
+  by_statement text next number column (line_statement end_line) e held is =
       subst Holds e (statement_more text.numbers text.lines number end_line held (is end_line refl))
 
   by_found : (text next : TextReading) (number column : ℕ) (found : Result StatementRead RuleFault)
       → read_then found (λ fault. fault) (λ statement. Ok (text_with text number column statement)) ≡ Ok next → Holds text
-      → ((l : LineRead) → found ≡ Ok (says_line l) → IsStatementAt octets number l) → Holds next
+      → ((l : LineRead) → found ≡ Ok (line_statement l) → IsLineReadAt octets number l) → Holds next
   by_found text next number column (Ok statement) e held is =
       let same : text_with text number column statement ≡ next = cc in
       by_statement text next number column statement same held (λ l f. is l (ap (λ (s : StatementRead). Ok s) f))
@@ -45,32 +45,32 @@ module _ (octets : List ℕ) where
   by_closed : (closed : Bool) (text next : TextReading) (number : ℕ) (first : RuleFound) (rest : List RuleFound)
       → (if closed then Err (placed_fault number first.column AfterOtherwise) else (
       read_then (statement_from (context_of text) number nothing_read 1 (first ∷ rest)) (λ fault. fault) (λ statement. Ok (text_with text number first.column statement)))) ≡ Ok next
-      → Holds text → ((context : LineContext) (l : LineRead) → statement_from context number nothing_read 1 (first ∷ rest) ≡ Ok (says_line l) → IsStatementAt octets number l) → Holds next
+      → Holds text → ((context : LineContext) (l : LineRead) → statement_from context number nothing_read 1 (first ∷ rest) ≡ Ok (line_statement l) → IsLineReadAt octets number l) → Holds next
   by_closed true text next number first rest e held is = cc
   by_closed false text next number first rest e held is =
       by_found text next number first.column (statement_from (context_of text) number nothing_read 1 (first ∷ rest)) e held (is (context_of text))
 
   by_tokens : (text next : TextReading) (number : ℕ) (tokens : List RuleFound) → text_with_tokens text number tokens ≡ Ok next → Holds text
-      → ((context : LineContext) (l : LineRead) → statement_from context number nothing_read 1 tokens ≡ Ok (says_line l) → IsStatementAt octets number l) → Holds next
+      → ((context : LineContext) (l : LineRead) → statement_from context number nothing_read 1 tokens ≡ Ok (line_statement l) → IsLineReadAt octets number l) → Holds next
   by_tokens text next number [] e held is = let same : text ≡ next = cc in subst Holds same held
   by_tokens text next number (first ∷ rest) e held is = by_closed text.closed text next number first rest e held is
 
   by_line : (text next : TextReading) (number : ℕ) (line : List ℕ) → text_with_line text number line ≡ Ok next → Holds text
-      → ((context : LineContext) (l : LineRead) → statement_from context number nothing_read 1 (rule_tokens line) ≡ Ok (says_line l) → IsStatementAt octets number l) → Holds next
+      → ((context : LineContext) (l : LineRead) → statement_from context number nothing_read 1 (rule_tokens line) ≡ Ok (line_statement l) → IsLineReadAt octets number l) → Holds next
   unfolding text_with_line
   by_line text next number line e held is = by_tokens text next number (rule_tokens line) e held is
 
   at_end : (closed : Bool) (text : TextReading) (numbered : NumberedRead)
       → (if closed then Err (placed_fault text.head_line text.head_column Unbalanced) else
       Ok (record { rules = record { side = text.side; lines = text.lines; otherwise = text.otherwise }; numbers = text.numbers })) ≡ Ok numbered
-      → Holds text → AreStatementsAt octets numbered.numbers numbered.rules.lines
+      → Holds text → AreLinesReadAt octets numbered.numbers numbered.rules.lines
   at_end true text numbered e held = cc
   at_end false text numbered e held =
       let same : ◌≡◌ {A = NumberedRead} (record { rules = record { side = text.side; lines = text.lines; otherwise = text.otherwise }; numbers = text.numbers }) numbered = cc in
-      subst (λ (n : NumberedRead). AreStatementsAt octets n.numbers n.rules.lines) same held
+      subst (λ (n : NumberedRead). AreLinesReadAt octets n.numbers n.rules.lines) same held
 
   whole : (before rest : List (List ℕ)) (text : TextReading) (number : ℕ) (numbered : NumberedRead) → source_lines octets ≡ before ++ rest → number ≡ length before + 1
-      → Holds text → numbered_from text number rest ≡ Ok numbered → AreStatementsAt octets numbered.numbers numbered.rules.lines
+      → Holds text → numbered_from text number rest ≡ Ok numbered → AreLinesReadAt octets numbered.numbers numbered.rules.lines
   unfolding numbered_from
   whole before [] text number numbered parts counted held e = at_end (nat_lt 0 text.blocks) text numbered e held
   whole before (line ∷ rest) text number numbered parts counted held e =
@@ -81,8 +81,8 @@ module _ (octets : List ℕ) where
     where
       onward : (found : Result TextReading RuleFault) → text_with_line text number line ≡ found
           → read_then found (λ fault. fault) (λ next. numbered_from next (number + 1) rest) ≡ Ok numbered
-          → ((next : TextReading) → Holds next → numbered_from next (number + 1) rest ≡ Ok numbered → AreStatementsAt octets numbered.numbers numbered.rules.lines)
-          → AreStatementsAt octets numbered.numbers numbered.rules.lines
+          → ((next : TextReading) → Holds next → numbered_from next (number + 1) rest ≡ Ok numbered → AreLinesReadAt octets numbered.numbers numbered.rules.lines)
+          → AreLinesReadAt octets numbered.numbers numbered.rules.lines
       onward (Ok next) is read deep =
           deep next (by_line text next number line is held (λ context l statement. (before, line, rest, context, parts, counted, statement))) read
       onward (Err fault) is read deep = cc

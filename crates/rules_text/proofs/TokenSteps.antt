@@ -51,12 +51,12 @@ pub token_more : (line : List ℕ) (start : ℕ) (cut : TokenCut) → start < le
 token_more line start cut h b c e s w =
     let split = at_drop_more (λ (xs : List ℕ). xs) line start 0 h in
     let column : start + 1 + cut.size ≡ start + cut.size + 1 = omega arith in
-    let behind : drop cut.size (get_or line start 0 ∷ drop (start + 1) line) ≡ drop (start + cut.size) line = ap (drop cut.size) (sym split) ∙ drop-drop cut.size start line in
+    let later : drop cut.size (get_or line start 0 ∷ drop (start + 1) line) ≡ drop (start + cut.size) line = ap (drop cut.size) (sym split) ∙ drop-drop cut.size start line in
     let within : cut.size ≤ length (drop (start + 1) line) + 1 = omega (arith, ap length split) in
     ap (tokens_from (start + 1) 0) split
     ∙ token_first (start + 1) (get_or line start 0) (drop (start + 1) line) cut b c (e ∙ ap first_cut split) s within
     ∙ ap (λ (k : ℕ). found_to cut (start + 1) k ∷ tokens_from k 0 (drop cut.size (get_or line start 0 ∷ drop (start + 1) line))) column
-    ∙ ap (λ (xs : List ℕ). found_to cut (start + 1) (start + cut.size + 1) ∷ tokens_from (start + cut.size + 1) 0 xs) behind
+    ∙ ap (λ (xs : List ℕ). found_to cut (start + 1) (start + cut.size + 1) ∷ tokens_from (start + cut.size + 1) 0 xs) later
 
 -- A line without more octets has no token.
 pub tokens_none : (column : ℕ) (text : List ℕ) → length text ≡ 0 → tokens_from column 0 text ≡ []

@@ -6,7 +6,7 @@ use Rattle.bpf_interp.specs.Value.{Value}
 use Rattle.cell_rules.specs.Fields.{IsCell}
 use Rattle.cell_rules.specs.declared.deciding.Decision.{Decision}
 use Rattle.rules_text.specs.DecisionsRead.{rules_decide}
-use Rattle.rules_text.specs.LineGrammar.{LineContext, nothing_read, says_line}
+use Rattle.rules_text.specs.LineGrammar.{LineContext, nothing_read, line_statement}
 use Rattle.rules_text.specs.RuleGrammar.{TestFits, TestForm, test_count, test_tokens, test_written}
 use Rattle.rules_text.specs.RulesRead.{LineRead, block_line, rule_line}
 use Rattle.rules_text.specs.RuleTokens.{RuleFound, arrow_mark, number_word, open_brace, rule_tokens}
@@ -20,7 +20,7 @@ RulesAreReadAsTheyAreWritten =
     (context : LineContext) (number : ℕ) (found : List RuleFound) (test : TestForm) (value : ℕ)
     → TestFits context context.blocks test → test_count test ≤ 4096 → 0 < value
     → map (λ it. it.token) found ≡ test_tokens test ++ (arrow_mark ∷ number_word value ∷ [])
-    → statement_from context number nothing_read 1 found ≡ Ok (says_line (rule_line (test_written test) value))
+    → statement_from context number nothing_read 1 found ≡ Ok (line_statement (rule_line (test_written test) value))
 
 -- A line that has the tokens of a test of the grammar and `{` is the head of a block with this test, with the same limits
 -- and fewer than 64 open blocks.
@@ -29,26 +29,26 @@ HeadsAreReadAsTheyAreWritten =
     (context : LineContext) (number : ℕ) (found : List RuleFound) (test : TestForm)
     → TestFits context context.blocks test → test_count test ≤ 4096 → context.blocks < 64
     → map (λ it. it.token) found ≡ test_tokens test ++ (open_brace ∷ [])
-    → statement_from context number nothing_read 1 found ≡ Ok (says_line (block_line (test_written test)))
+    → statement_from context number nothing_read 1 found ≡ Ok (line_statement (block_line (test_written test)))
 
--- The source line of this number, counted from 1, says this line of rules.
-abbrev pub IsStatementAt : List ℕ → ℕ → LineRead → Type 0
-IsStatementAt octets number statement =
+-- The source line of this number, counted from 1, is read as this line of rules.
+abbrev pub IsLineReadAt : List ℕ → ℕ → LineRead → Type 0
+IsLineReadAt octets number read =
     (before : List (List ℕ)) × (line : List ℕ) × (after : List (List ℕ)) × (context : LineContext)
     × (source_lines octets ≡ before ++ line ∷ after) × (number ≡ length before + 1)
-    × (statement_from context number nothing_read 1 (rule_tokens line) ≡ Ok (says_line statement))
+    × (statement_from context number nothing_read 1 (rule_tokens line) ≡ Ok (line_statement read))
 
--- The source lines of these numbers say these lines of rules: as many, in order.
-abbrev pub AreStatementsAt : List ℕ → List ℕ → List LineRead → Type 0
-AreStatementsAt octets [] [] = Unit {0}
-AreStatementsAt octets (number ∷ numbers) (statement ∷ lines) = IsStatementAt octets number statement × AreStatementsAt octets numbers lines
-AreStatementsAt octets [] (statement ∷ lines) = ⊥
-AreStatementsAt octets (number ∷ numbers) [] = ⊥
+-- The source lines of these numbers are read as these lines of rules: as many, in order.
+abbrev pub AreLinesReadAt : List ℕ → List ℕ → List LineRead → Type 0
+AreLinesReadAt octets [] [] = Unit {0}
+AreLinesReadAt octets (number ∷ numbers) (read ∷ lines) = IsLineReadAt octets number read × AreLinesReadAt octets numbers lines
+AreLinesReadAt octets [] (read ∷ lines) = ⊥
+AreLinesReadAt octets (number ∷ numbers) [] = ⊥
 
--- What is read with numbers are the rules of the text, each with the number of the source line that says it.
+-- What is read with numbers are the rules of the text, each with the number of the source line that it is read from.
 pub record AreNumbered (octets : List ℕ) (numbered : NumberedRead) : Type 0 where
   pub rules : rules_in octets ≡ Ok numbered.rules
-  pub numbers : AreStatementsAt octets numbered.numbers numbered.rules.lines
+  pub numbers : AreLinesReadAt octets numbered.numbers numbered.rules.lines
 
 -- For every text.
 abbrev pub NumbersAreThoseOfTheLines : Type 0

@@ -20,12 +20,12 @@ pub record LineContext : Type 0 where
   -- whether a line with tokens was read
   pub begun : Bool
 
--- What a line says.
+-- The statement of a line.
 pub data StatementRead : Type 0 where
-  says_nothing : StatementRead
-  says_side : Side → StatementRead
-  says_line : LineRead → StatementRead
-  says_otherwise : ℕ → StatementRead
+  blank_statement : StatementRead
+  side_statement : Side → StatementRead
+  line_statement : LineRead → StatementRead
+  otherwise_statement : ℕ → StatementRead
 
 -- A field with a mask, if there is one.
 pub record SubjectRead : Type 0 where
@@ -92,7 +92,7 @@ pub record Reading : Type 0 where
   pub comparisons : ℕ
   -- the whole test, once `->` came
   pub test : TestRead
-  -- what the line says
+  -- the statement of the line
   pub statement : StatementRead
 
 -- Reading goes on, or there is a fault.
@@ -118,7 +118,7 @@ nothing_read = record {
   spans = [];
   comparisons = 0;
   test = any_cell;
-  statement = says_nothing;
+  statement = blank_statement;
 }
 
 -- The test, denied if a `not` applies to it.
@@ -196,14 +196,14 @@ some_test (Some test) = Ok test
 unfoldable pub whole_test : Reading → Result TestRead RuleKind
 whole_test reading = if nat_lt 0 (length reading.around) then Err Unbalanced else some_test (group_test reading.group)
 
--- The line says this, and nothing comes after it.
+-- The statement of the line is this, and nothing comes after it.
 abbrev pub with_statement : Reading → StatementRead → Reading
 with_statement reading statement = record reading { statement = statement; group = no_group; awaited = awaits_end }
 
 -- `{` after a test.
 unfoldable pub with_block : LineContext → Reading → LineStep
 with_block context reading = found_then (whole_test reading) (λ test.
-    if nat_le 64 context.blocks then Err TooDeep else Ok (with_statement reading (says_line (block_line test))))
+    if nat_le 64 context.blocks then Err TooDeep else Ok (with_statement reading (line_statement (block_line test))))
 
 -- `->` after a test.
 unfoldable pub with_head : Reading → LineStep
@@ -242,7 +242,7 @@ read_start context column reading otherwise_word =
 read_start context column reading side_word =
     if context.begun then Err BadLine else Ok (record reading { awaited = awaits_side })
 read_start context column reading close_brace =
-    if nat_lt 0 context.blocks then Ok (record reading { statement = says_line end_line; awaited = awaits_end }) else Err Unbalanced
+    if nat_lt 0 context.blocks then Ok (record reading { statement = line_statement end_line; awaited = awaits_end }) else Err Unbalanced
 read_start context column reading token = read_unit context column reading token
 
 -- The offset of octets.
@@ -312,17 +312,17 @@ read_arrow reading _ = Err BadLine
 -- The value of a rule.
 unfoldable pub read_value : Reading → RuleToken → LineStep
 read_value reading token = found_then (value_read token) (λ value.
-    Ok (record reading { test = any_cell; statement = says_line (rule_line reading.test value); awaited = awaits_end }))
+    Ok (record reading { test = any_cell; statement = line_statement (rule_line reading.test value); awaited = awaits_end }))
 
 -- The value after `otherwise ->`.
 unfoldable pub read_rest : Reading → RuleToken → LineStep
 read_rest reading token =
-    found_then (value_read token) (λ value. Ok (record reading { statement = says_otherwise value; awaited = awaits_end }))
+    found_then (value_read token) (λ value. Ok (record reading { statement = otherwise_statement value; awaited = awaits_end }))
 
 -- The name of the side.
 unfoldable pub read_side : Reading → RuleToken → LineStep
-read_side reading uni_word = Ok (record reading { statement = says_side side_of.Uni; awaited = awaits_end })
-read_side reading nni_word = Ok (record reading { statement = says_side side_of.Nni; awaited = awaits_end })
+read_side reading uni_word = Ok (record reading { statement = side_statement side_of.Uni; awaited = awaits_end })
+read_side reading nni_word = Ok (record reading { statement = side_statement side_of.Nni; awaited = awaits_end })
 read_side reading _ = Err BadLine
 
 -- A token at this column, where this is awaited.
@@ -349,7 +349,7 @@ read_awaited awaits_end context column reading token = Err BadLine
 abbrev pub read_token : LineContext → ℕ → Reading → RuleToken → LineStep
 read_token context column reading token = read_awaited reading.awaited context column reading token
 
--- What the line says where its tokens end, if it may end there.
+-- The statement of the line where its tokens end, if it may end there.
 abbrev pub statement_at_end : Awaited → StatementRead → Result StatementRead RuleKind
 statement_at_end awaits_start statement = Ok statement
 statement_at_end awaits_end statement = Ok statement

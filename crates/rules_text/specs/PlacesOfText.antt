@@ -8,7 +8,7 @@ use Rattle.rules_text.specs.NumberedText.{HasNumbered}
 use Rattle.rules_text.specs.declared.compiler.NumberedCode.{NumberedCode}
 use Rattle.rules_text.specs.declared.reader.NumberedRules.{NumberedRules}
 
--- The code is that of the text's rules, the lengths are those of their lines, and the numbers are those of the source lines that say
+-- The code is that of the text's rules, the lengths are those of their lines, and the numbers are those of the source lines that have
 -- them.
 pub record IsNumberedCode (octets : List ℕ) (made : NumberedCode) : Type 0 where
   pub numbered : NumberedRules

@@ -1,4 +1,4 @@
--- Rules as they are written: what a text of rules says, without where it is in memory.
+-- Rules as they are written, without their places in memory.
 use Rattle.std.specs.Prelude.{ℕ, List, [], ◌∷◌, ◌++◌, map, Option}
 use Rattle.bpf_code.specs.declared.instr.Size.{Size}
 use Rattle.cell_rules.specs.declared.field.Field.{Field}

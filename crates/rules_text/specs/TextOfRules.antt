@@ -1,11 +1,11 @@
--- What a text of rules says, or its first fault.
+-- The rules of a text, or its first fault.
 use Rattle.std.specs.Prelude.{ℕ, ◌+◌, ◌-◌, Bool, true, false, nat_lt, if◌then◌else◌, List, [], ◌∷◌, ◌++◌, length, Result, Ok, Err}
 use Rattle.bpf_asm.specs.SourceLines.{source_lines}
 use Rattle.upc_cell.specs.declared.side.Side.{Side}
 use Rattle.upc_cell.specs.declared.side.Side.TheVariants.{Uni}
 use Rattle.rules_text.specs.RulesRead.{LineRead, RulesRead, rule_line, block_line, end_line}
 use Rattle.rules_text.specs.RuleTokens.{RuleFound, rule_tokens}
-use Rattle.rules_text.specs.LineGrammar.{LineContext, Reading, StatementRead, says_nothing, says_side, says_line, says_otherwise, nothing_read, read_token, statement_at_end}
+use Rattle.rules_text.specs.LineGrammar.{LineContext, Reading, StatementRead, blank_statement, side_statement, line_statement, otherwise_statement, nothing_read, read_token, statement_at_end}
 use Rattle.rules_text.specs.declared.fault.RuleFault.{RuleFault}
 use Rattle.rules_text.specs.declared.fault.RuleKind.{RuleKind}
 use Rattle.rules_text.specs.declared.fault.RuleKind.TheVariants.{AfterOtherwise, Unbalanced}
@@ -24,7 +24,7 @@ fault_column reading _ column = column
 abbrev pub placed_fault : ℕ → ℕ → RuleKind → RuleFault
 placed_fault line column kind = record { line = line; column = column; kind = kind }
 
--- What the tokens say, read on from here. The column is the one after the last token. Lines and columns count from 1.
+-- The statement of the tokens, read on from here. The column is the one after the last token. Lines and columns count from 1.
 unfoldable pub statement_from : LineContext → ℕ → Reading → ℕ → List RuleFound → Result StatementRead RuleFault
 statement_from context number reading column [] =
     read_then (statement_at_end reading.awaited reading.statement) (λ kind. placed_fault number column kind) (λ statement. Ok statement)
@@ -86,12 +86,12 @@ with_line text end_line line column = record text {
   begun = true;
 }
 
--- What was read, with what a line says that begins at this place.
+-- What was read, with the statement of a line that begins at this place.
 abbrev pub text_with : TextReading → ℕ → ℕ → StatementRead → TextReading
-text_with text line column says_nothing = text
-text_with text line column (says_side side) = record text { side = side; begun = true }
-text_with text line column (says_otherwise value) = record text { otherwise = value; closed = true; begun = true }
-text_with text line column (says_line statement) = with_line text statement line column
+text_with text line column blank_statement = text
+text_with text line column (side_statement side) = record text { side = side; begun = true }
+text_with text line column (otherwise_statement value) = record text { otherwise = value; closed = true; begun = true }
+text_with text line column (line_statement statement) = with_line text statement line column
 
 -- What a line must know of the text before it.
 abbrev pub context_of : TextReading → LineContext
@@ -120,7 +120,7 @@ numbered_at_end text =
     if nat_lt 0 text.blocks then Err (placed_fault text.head_line text.head_column Unbalanced) else
     Ok (record { rules = record { side = text.side; lines = text.lines; otherwise = text.otherwise }; numbers = text.numbers })
 
--- What the lines say, read on from here. The first of them has this number.
+-- The rules of the lines, read on from here. The first of them has this number.
 unfoldable pub numbered_from : TextReading → ℕ → List (List ℕ) → Result NumberedRead RuleFault
 numbered_from text number [] = numbered_at_end text
 numbered_from text number (line ∷ rest) =

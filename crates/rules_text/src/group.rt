@@ -98,7 +98,7 @@ fn one_more(tests: Vec<Test>, test: Test) -> Result<Vec<Test>, AllocError>
     Ok(tests)
 }
 
-/// The test that each of these tests holds, and one more.
+/// The test that each of these tests holds, and one more holds too.
 fn one_more_of_all(alloc: Global, tests: Vec<Test>, test: Test) -> Result<Test, AllocError>
     ensures { IfOk result (λ both. test_read both ≡ conjunction (test_read (AllOf tests)) (test_read test)) }
 {
@@ -108,7 +108,7 @@ fn one_more_of_all(alloc: Global, tests: Vec<Test>, test: Test) -> Result<Test, 
     Ok(Test::AllOf(one_more(tests, test)?))
 }
 
-/// The test that one of these tests holds, or one more.
+/// The test that one of these tests holds, or one more does.
 fn one_more_of_any(alloc: Global, tests: Vec<Test>, test: Test) -> Result<Test, AllocError>
     ensures { IfOk result (λ either. test_read either ≡ disjunction (test_read (AnyOf tests)) (test_read test)) }
 {

@@ -12,7 +12,7 @@ pub fn heads_are_read_as_they_are_written()
     ensures { HeadsAreReadAsTheyAreWritten }
 {}
 
-/// The number of a line of rules is that of the source line that says it.
+/// The number of a line of rules is that of the source line that it was read from.
 pub fn numbers_are_those_of_the_lines()
     ensures { NumbersAreThoseOfTheLines }
 {}

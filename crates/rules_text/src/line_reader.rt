@@ -6,7 +6,7 @@ ghost use Rattle.rules_text.specs.RulesRead.{comparing, field_read, relation_rea
 ghost use Rattle.rules_text.specs.TextOfRules.{fault_column};
 ghost use Rattle.rules_text.specs.declared.fault.RuleKind.TheVariants.{BadLine, NoMemory, Unbalanced};
 ghost use Rattle.rules_text.specs.inner.Seen.{sign_seen, rule_token_seen};
-ghost use Rattle.rules_text.specs.inner.SeenReading.{context_seen, group_seen, reading_seen, statement_found, rule_statement_seen, subject_seen, wants_seen};
+ghost use Rattle.rules_text.specs.inner.SeenReading.{context_seen, group_seen, reading_seen, statement_found, line_statement_seen, subject_seen, wants_seen};
 
 use crate::fault::RuleKind;
 use crate::group::Group;
@@ -17,13 +17,13 @@ use cell_rules::{Field, Relation, RuleLine, Span, Test};
 use std::alloc::Global;
 use upc_cell::Side;
 
-/// The most comparisons of a test.
+/// The maximum number of comparisons of a test.
 const MOST_COMPARISONS: usize = 4096;
 
-/// How deep blocks and parentheses may be nested.
+/// The maximum depth of nested blocks and parentheses.
 const MOST_DEEP: usize = 64;
 
-/// What comes next in a line.
+/// What may come next in a line.
 #[derive(Clone, Copy)]
 pub(crate) enum Wants {
     /// The first token.
@@ -103,7 +103,7 @@ pub(crate) struct LineReader {
     pub comparisons: usize,
     /// The whole test, once it was read.
     pub test: Test,
-    /// What the line is.
+    /// The statement of the line, once it was read.
     pub statement: Statement,
 }
 
@@ -159,7 +159,7 @@ impl LineReader {
 
     /// What the line is, once its last token was read.
     pub(crate) fn finish(self) -> Result<Statement, RuleKind>
-        ensures statement { statement_found result ≡ statement_at_end (wants_seen self.wants) (rule_statement_seen self.statement) }
+        ensures statement { statement_found result ≡ statement_at_end (wants_seen self.wants) (line_statement_seen self.statement) }
         ensures early { IfErr result (λ kind. kind ≡ BadLine) }
     {
         match self.wants {

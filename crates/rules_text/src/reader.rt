@@ -8,7 +8,7 @@ ghost use Rattle.rules_text.specs.NumberedText.{HasNumbered, numbered_read};
 ghost use Rattle.rules_text.specs.TextFaults.{IsFaultOf, HasRules};
 ghost use Rattle.rules_text.specs.TextOfRules.{numbered_at_end, numbered_in, placed_fault, rules_in, statement_from, text_with, text_with_line, with_line};
 ghost use Rattle.rules_text.specs.declared.fault.RuleKind.TheVariants.{NoMemory};
-ghost use Rattle.rules_text.specs.inner.SeenReading.{context_seen, rule_statement_seen, text_seen};
+ghost use Rattle.rules_text.specs.inner.SeenReading.{context_seen, line_statement_seen, text_seen};
 
 use crate::fault::{RuleFault, RuleKind, fault_at};
 use crate::lexer::next_token;
@@ -51,14 +51,14 @@ struct TextReader {
     closed: bool,
 }
 
-/// Reads what a line says.
+/// Reads the statement of a line.
 fn statement_in(
     alloc: Global,
     context: Context,
     number: usize,
     line: &[u8],
 ) -> Result<Statement, RuleFault>
-    ensures ok { IfOk result (λ statement. statement_from (context_seen context) number nothing_read 1 (rule_tokens line.now) ≡ Ok (rule_statement_seen statement)) }
+    ensures ok { IfOk result (λ statement. statement_from (context_seen context) number nothing_read 1 (rule_tokens line.now) ≡ Ok (line_statement_seen statement)) }
     ensures err { IfErr result (IsFaultOf (statement_from (context_seen context) number nothing_read 1 (rule_tokens line.now))) }
 {
     let mut reader = LineReader::new(alloc);
@@ -104,10 +104,10 @@ impl TextReader {
         Ok(())
     }
 
-    /// Takes what a line says, which begins at a place.
+    /// Takes the statement of a line, which begins at a place.
     fn take(&mut self, statement: Statement, place: Place) -> Result<(), RuleKind>
         requires { self.old.blocks < 2 ^ 63 }
-        ensures ok { IfOk result (λ _. text_with (text_seen self.old) place.line place.column (rule_statement_seen statement) ≡ text_seen self.new) }
+        ensures ok { IfOk result (λ _. text_with (text_seen self.old) place.line place.column (line_statement_seen statement) ≡ text_seen self.new) }
         ensures blocks { self.new.blocks ≤ self.old.blocks + 1 }
         ensures err { IfErr result (λ kind. kind ≡ NoMemory) }
     {

@@ -25,13 +25,13 @@ one-text_alike {World = World} rules AreAlike keeps (first ∷ lines) met one ot
     Later = (v w : World) (more more' : List ℕ) → AreAlike (met + 1) v w → Prints rules (met + 1) v lines more done
         → Prints rules (met + 1) w lines more' done' → (more ≡ more') × (done ≡ done')
 
-    behind : Later → (next next' : Option World) (more more' : List ℕ) → LeadAlike (AreAlike (met + 1)) next next'
+    after : Later → (next next' : Option World) (more more' : List ℕ) → LeadAlike (AreAlike (met + 1)) next next'
         → MatchOption next ((more ≡ []) × (done ≡ Ended)) (λ v. Prints rules (met + 1) v lines more done)
         → MatchOption next' ((more' ≡ []) × (done' ≡ Ended)) (λ v. Prints rules (met + 1) v lines more' done') → (more ≡ more') × (done ≡ done')
-    behind later None None more more' is a b = (a.0 ∙ sym b.0, a.1 ∙ sym b.1)
-    behind later None (Some w) more more' is a b = absurd is
-    behind later (Some v) None more more' is a b = absurd is
-    behind later (Some v) (Some w) more more' is a b = later v w more more' is a b
+    after later None None more more' is a b = (a.0 ∙ sym b.0, a.1 ∙ sym b.1)
+    after later None (Some w) more more' is a b = absurd is
+    after later (Some v) None more more' is a b = absurd is
+    after later (Some v) (Some w) more more' is a b = later v w more more' is a b
 
     here : Later → (over : Bool) → is_over met first ≡ over
         → MatchBool over ((text ≡ rules.too_long) × (done ≡ Ended)) ((begun : List ℕ) × (more : List ℕ) × (next : Option World) × (text ≡ begun ++ more) × rules.steps one (line_content first) begun next
@@ -42,7 +42,7 @@ one-text_alike {World = World} rules AreAlike keeps (first ∷ lines) met one ot
     here later true e a b = (a.0 ∙ sym b.0, a.1 ∙ sym b.1)
     here later false e a b =
         let same = keeps.step met one other (line_content first) a.0 b.0 a.2 b.2 (within met first e) alike a.4 b.4 in
-        let rest = behind later a.2 b.2 a.1 b.1 same.1 a.5 b.5 in
+        let rest = after later a.2 b.2 a.1 b.1 same.1 a.5 b.5 in
         (a.3 ∙ ap (λ xs. xs ++ a.1) same.0 ∙ ap (λ xs. b.0 ++ xs) rest.0 ∙ sym b.3, rest.1)
 
 -- With functional rules, each world is alike to itself only.

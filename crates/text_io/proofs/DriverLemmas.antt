@@ -76,23 +76,23 @@ begin rules shown Known Held whole before = record {
   printed = [];
   came = λ _. refl;
   gave = λ _. ([], sym (append-nil before), refl);
-  reaches = λ start sound is_shown. record { present = start; sound = sound; is_shown = is_shown; leads = λ behind more done prints. prints; reaches = λ behind more last leads. leads };
+  reaches = λ start sound is_shown. record { present = start; sound = sound; is_shown = is_shown; leads = λ later more done prints. prints; reaches = λ later more last leads. leads };
 }
 
 -- A line and the octets after it, associated to the left.
-line-front : (answered line behind : List ℕ) → answered ++ (line ++ 10 ∷ behind) ≡ (answered ++ (line ++ 10 ∷ [])) ++ behind
-line-front answered line behind =
-    ap (λ xs. answered ++ xs) (sym (append_assoc line (10 ∷ []) behind)) ∙ sym (append_assoc answered (line ++ 10 ∷ []) behind)
+line-front : (answered line later : List ℕ) → answered ++ (line ++ 10 ∷ later) ≡ (answered ++ (line ++ 10 ∷ [])) ++ later
+line-front answered line later =
+    ap (λ xs. answered ++ xs) (sym (append_assoc line (10 ∷ []) later)) ∙ sym (append_assoc answered (line ++ 10 ∷ []) later)
 
 -- The invariant after a line that doesn't end the run.
 pub progress-line : {World : Type 0} (rules : Rules World) (shown now now' : World → Type 0) (Known Held : Type 0)
-    (whole left line behind before held old new : List ℕ) (met : ℕ)
-    → NoFeed line → left ≡ line ++ 10 ∷ behind → Passes rules met now (record { octets = line; ended = true }) GoesOn now' old new
-    → Progress rules shown now Known Held whole left before held old met → Progress rules shown now' Known Held whole behind before held new (met + 1)
-progress-line {World = World} rules shown now now' Known Held whole left line behind before held old new met none cut passes p = record {
+    (whole left line later before held old new : List ℕ) (met : ℕ)
+    → NoFeed line → left ≡ line ++ 10 ∷ later → Passes rules met now (record { octets = line; ended = true }) GoesOn now' old new
+    → Progress rules shown now Known Held whole left before held old met → Progress rules shown now' Known Held whole later before held new (met + 1)
+progress-line {World = World} rules shown now now' Known Held whole left line later before held old new met none cut passes p = record {
   answered = p.answered ++ (line ++ 10 ∷ []);
   printed = p.printed ++ passes.0;
-  came = λ known. p.came known ∙ ap (λ xs. p.answered ++ xs) cut ∙ line-front p.answered line behind;
+  came = λ known. p.came known ∙ ap (λ xs. p.answered ++ xs) cut ∙ line-front p.answered line later;
   gave = λ is_held.
       let gave = p.gave is_held in
       (gave.0, gave.1, ap (λ xs. xs ++ passes.0) gave.2 ∙ append_assoc gave.0 old passes.0 ∙ ap (λ xs. gave.0 ++ xs) (sym passes.1));
@@ -249,12 +249,12 @@ enough rules shown now Known Held whole left near ahead rest before held old her
     )
 
 -- A line that ends the run, whatever follows.
-pub line-ends : {World : Type 0} (rules : Rules World) (now now' : World → Type 0) (line behind old new : List ℕ) (met : ℕ)
+pub line-ends : {World : Type 0} (rules : Rules World) (now now' : World → Type 0) (line later old new : List ℕ) (met : ℕ)
     → NoFeed line → (passes : Passes rules met now (record { octets = line; ended = true }) Ends now' old new)
-    → OfEach rules now (λ present. Prints rules met present (lines_of (line ++ 10 ∷ behind)) passes.0 Ended)
-line-ends {World = World} rules now now' line behind old new met none passes = λ present sound is_shown.
+    → OfEach rules now (λ present. Prints rules met present (lines_of (line ++ 10 ∷ later)) passes.0 Ended)
+line-ends {World = World} rules now now' line later old new met none passes = λ present sound is_shown.
     let Q : List Line → Type 0 = λ lines. Prints {World = World} rules met present lines passes.0 Ended in
-    subst Q (sym (lines-at_feed line behind none)) (passes.2 present sound is_shown (lines_of behind))
+    subst Q (sym (lines-at_feed line later none)) (passes.2 present sound is_shown (lines_of later))
 
 -- Octets without a line feed that are already over the limits.
 long-text : {World : Type 0} (rules : Rules World) (met : ℕ) (before : World) (octets rest : List ℕ)

@@ -8,8 +8,8 @@ abbrev pub NoFeed : List ℕ → Type 0
 NoFeed octets = (k : ℕ) → k < length octets → get_or octets k 0 ≢ 10
 
 -- The octets after the first have none either.
-pub no-feed-behind : (octet : ℕ) (octets : List ℕ) → NoFeed (octet ∷ octets) → NoFeed octets
-no-feed-behind octet octets none k below = none (suc k) (omega arith)
+pub no-feed-after : (octet : ℕ) (octets : List ℕ) → NoFeed (octet ∷ octets) → NoFeed octets
+no-feed-after octet octets none k below = none (suc k) (omega arith)
 
 pub first-no-feed : (octet : ℕ) (octets : List ℕ) → NoFeed (octet ∷ octets) → nat_eq octet 10 ≡ false
 first-no-feed octet octets none = ne_eqb octet 10 (none 0 (omega arith))
@@ -19,7 +19,7 @@ pub lines-at_feed : (line rest : List ℕ) → NoFeed line → lines_of (line ++
 lines-at_feed [] rest none = refl
 lines-at_feed (c ∷ cs) rest none =
     ap (λ b. if b then (record { octets = []; ended = true }) ∷ lines_of (cs ++ 10 ∷ rest) else begun_with c (lines_of (cs ++ 10 ∷ rest))) (first-no-feed c cs none)
-    ∙ ap (λ lines. begun_with c lines) (lines-at_feed cs rest (no-feed-behind c cs none))
+    ∙ ap (λ lines. begun_with c lines) (lines-at_feed cs rest (no-feed-after c cs none))
 
 -- Octets without a line feed are the last line.
 pub lines-of_last : (c : ℕ) (cs : List ℕ) → NoFeed (c ∷ cs) → lines_of (c ∷ cs) ≡ (record { octets = c ∷ cs; ended = false }) ∷ []
@@ -27,7 +27,7 @@ lines-of_last c [] none =
     ap (λ b. if b then (record { octets = []; ended = true }) ∷ [] else begun_with c []) (first-no-feed c [] none)
 lines-of_last c (d ∷ ds) none =
     ap (λ b. if b then (record { octets = []; ended = true }) ∷ lines_of (d ∷ ds) else begun_with c (lines_of (d ∷ ds))) (first-no-feed c (d ∷ ds) none)
-    ∙ ap (λ lines. begun_with c lines) (lines-of_last d ds (no-feed-behind c (d ∷ ds) none))
+    ∙ ap (λ lines. begun_with c lines) (lines-of_last d ds (no-feed-after c (d ∷ ds) none))
 
 -- The first line is at least as long as the prefix without a line feed.
 pub record FirstLine (octets : List ℕ) (all : List ℕ) : Type 0 where
@@ -55,8 +55,8 @@ lines-first c [] rest none =
       long = here.3;
     }
 lines-first c (d ∷ ds) rest none =
-    let behind = lines-first d ds rest (no-feed-behind c (d ∷ ds) none) in
-    let here = begins-longer c (d ∷ ds) (lines_of ((d ∷ ds) ++ rest)) behind.line behind.lines behind.cut behind.long in
+    let after = lines-first d ds rest (no-feed-after c (d ∷ ds) none) in
+    let here = begins-longer c (d ∷ ds) (lines_of ((d ∷ ds) ++ rest)) after.line after.lines after.cut after.long in
     record {
       line = here.0;
       lines = here.1;

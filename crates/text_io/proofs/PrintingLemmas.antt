@@ -25,15 +25,15 @@ prints-here rules met world line lines text done over answered = rw over answere
 ends-here : {World : Type 0} (rules : Rules World) (met : ℕ) (world next last : World) (line : Line) (lines : List Line) (here more : List ℕ)
     → is_over met line ≡ false → rules.steps world (line_content line) here (Some next) → EndsAt rules (met + 1) next lines more last
     → EndsAt rules met world (line ∷ lines) (here ++ more) last
-ends-here rules met world next last line lines here more over step behind = (over, (here, more, next, refl, step, behind))
+ends-here rules met world next last line lines here more over step from_next = (over, (here, more, next, refl, step, from_next))
 
 -- Lines that lead to a world have that text.
 pub ends-print : {World : Type 0} (rules : Rules World) (met : ℕ) (world last : World) (lines : List Line) (text : List ℕ)
     → EndsAt rules met world lines text last → Prints rules met world lines text Whole
 ends-print rules met world last [] text leads = leads.1
-ends-print rules met world last (line ∷ lines) text (over, (here, more, next, is, step, behind)) =
+ends-print rules met world last (line ∷ lines) text (over, (here, more, next, is, step, from_next)) =
     prints-here rules met world line lines text Whole over
-    (here, more, Some next, is, step, ends-print rules (met + 1) next last lines more behind)
+    (here, more, Some next, is, step, ends-print rules (met + 1) next last lines more from_next)
 
 -- A text of lines that aren't ended early leads to a world.
 next-ends : {World : Type 0} (rules : Rules World) (met : ℕ) (world : World) (line : Line) (lines : List Line) (text here more : List ℕ)
@@ -41,9 +41,9 @@ next-ends : {World : Type 0} (rules : Rules World) (met : ℕ) (world : World) (
     → (next : Option World) → is_over met line ≡ false → text ≡ here ++ more → rules.steps world (line_content line) here next
     → MatchOption next ((more ≡ []) × (Whole ≡ Ended)) (λ v. Prints rules (met + 1) v lines more Whole)
     → (last : World) × EndsAt rules met world (line ∷ lines) text last
-next-ends rules met world line lines text here more behind None over is step rest = let no : Whole ≡ Ended = rest.1 in cc
-next-ends rules met world line lines text here more behind (Some next) over is step rest =
-    let later = behind next more rest in (later.0, (over, (here, more, next, is, step, later.1)))
+next-ends rules met world line lines text here more from_next None over is step rest = let no : Whole ≡ Ended = rest.1 in cc
+next-ends rules met world line lines text here more from_next (Some next) over is step rest =
+    let later = from_next next more rest in (later.0, (over, (here, more, next, is, step, later.1)))
 
 line-ends-at : {World : Type 0} (rules : Rules World) (met : ℕ) (world : World) (line : Line) (lines : List Line) (text : List ℕ)
     → ((v : World) (left : List ℕ) → Prints rules (met + 1) v lines left Whole → (last : World) × EndsAt rules (met + 1) v lines left last)
@@ -52,9 +52,9 @@ line-ends-at : {World : Type 0} (rules : Rules World) (met : ℕ) (world : World
     ((here : List ℕ) × (more : List ℕ) × (next : Option World) × (text ≡ here ++ more) × rules.steps world (line_content line) here next
     × MatchOption next ((more ≡ []) × (Whole ≡ Ended)) (λ v. Prints rules (met + 1) v lines more Whole))
     → (last : World) × EndsAt rules met world (line ∷ lines) text last
-line-ends-at rules met world line lines text behind true over printed = let no : Whole ≡ Ended = printed.1 in cc
-line-ends-at rules met world line lines text behind false over (here, more, next, is, step, rest) =
-    next-ends rules met world line lines text here more behind next over is step rest
+line-ends-at rules met world line lines text from_next true over printed = let no : Whole ≡ Ended = printed.1 in cc
+line-ends-at rules met world line lines text from_next false over (here, more, next, is, step, rest) =
+    next-ends rules met world line lines text here more from_next next over is step rest
 
 pub prints-end : {World : Type 0} (rules : Rules World) (met : ℕ) (world : World) (lines : List Line) (text : List ℕ)
     → Prints rules met world lines text Whole → (last : World) × EndsAt rules met world lines text last
@@ -74,19 +74,19 @@ some-text rules total [] met world sound = total.close world sound
 some-text {World = World} rules total (line ∷ lines) met world sound =
     go (λ v is. some-text rules total lines (met + 1) v is) (is_over met line) refl
   where
-    Behind : Type 0
-    Behind = (v : World) → rules.is_sound v → (more : List ℕ) × (done : Done) × Prints rules (met + 1) v lines more done
+    FromNext : Type 0
+    FromNext = (v : World) → rules.is_sound v → (more : List ℕ) × (done : Done) × Prints rules (met + 1) v lines more done
 
-    after : Behind → (here : List ℕ) (next : Option World) → rules.steps world (line_content line) here next
+    after : FromNext → (here : List ℕ) (next : Option World) → rules.steps world (line_content line) here next
         → (more : List ℕ) × (done : Done) × MatchOption next ((more ≡ []) × (done ≡ Ended)) (λ v. Prints rules (met + 1) v lines more done)
-    after behind here None step = ([], Ended, (refl, refl))
-    after behind here (Some v) step = behind v (total.keeps world (line_content line) here v sound step)
+    after from_next here None step = ([], Ended, (refl, refl))
+    after from_next here (Some v) step = from_next v (total.keeps world (line_content line) here v sound step)
 
-    go : Behind → (over : Bool) → is_over met line ≡ over → (text : List ℕ) × (done : Done) × Prints rules met world (line ∷ lines) text done
-    go behind true e = (rules.too_long, Ended, prints-over rules met world line lines e)
-    go behind false e =
+    go : FromNext → (over : Bool) → is_over met line ≡ over → (text : List ℕ) × (done : Done) × Prints rules met world (line ∷ lines) text done
+    go from_next true e = (rules.too_long, Ended, prints-over rules met world line lines e)
+    go from_next false e =
         let now = total.step world (line_content line) sound in
-        let then = after behind now.0 now.1 now.2 in
+        let then = after from_next now.0 now.1 now.2 in
         (now.0 ++ then.0, then.1, prints-here rules met world line lines (now.0 ++ then.0) then.1 e (now.0, then.0, now.1, refl, now.2, then.2))
 
 -- One line from one world.
@@ -117,13 +117,13 @@ pub passes-over : {World : Type 0} (rules : Rules World) (met : ℕ) (shown show
 passes-over rules met shown shown' line old over = (rules.too_long, refl, λ before sound is_shown lines. prints-over rules met before line lines over)
 
 -- The answer to octets without a line feed and to the end of the input.
-abbrev pub EndsBehind : {World : Type 0} → Rules World → ℕ → (World → Type 0) → (World → Type 0) → List ℕ → Done → List ℕ → List ℕ → Type 0
-EndsBehind rules met shown shown' octets done old new =
+abbrev pub EndsAfter : {World : Type 0} → Rules World → ℕ → (World → Type 0) → (World → Type 0) → List ℕ → Done → List ℕ → List ℕ → Type 0
+EndsAfter rules met shown shown' octets done old new =
     (here : List ℕ) × (new ≡ old ++ here) × OfEach rules shown (λ before. Concludes rules met shown' octets before here done)
 
 pub end-over : {World : Type 0} (rules : Rules World) (met : ℕ) (shown shown' : World → Type 0) (octets old new : List ℕ)
     → 0 < length octets → NoFeed octets → is_over met (record { octets = octets; ended = false }) ≡ true
-    → new ≡ old ++ rules.too_long → EndsBehind rules met shown shown' octets Ended old new
+    → new ≡ old ++ rules.too_long → EndsAfter rules met shown shown' octets Ended old new
 end-over rules met shown shown' octets old new some none over grown = (
   rules.too_long,
   grown,
@@ -135,7 +135,7 @@ end-over rules met shown shown' octets old new some none over grown = (
 
 -- Nothing is left before the end of the input.
 pub end-closes : {World : Type 0} (rules : Rules World) (met : ℕ) (shown : World → Type 0) (octets old new : List ℕ) (done : Done)
-    → octets ≡ [] → AnswersEnd rules shown done old new → EndsBehind rules met shown shown octets done old new
+    → octets ≡ [] → AnswersEnd rules shown done old new → EndsAfter rules met shown shown octets done old new
 end-closes rules met shown octets old new done none end = (
   end.0,
   end.1,
@@ -147,7 +147,7 @@ end-closes rules met shown octets old new done none end = (
 
 pub end-ends : {World : Type 0} (rules : Rules World) (met : ℕ) (shown shown' : World → Type 0) (octets old new : List ℕ)
     → 0 < length octets → NoFeed octets → is_over met (record { octets = octets; ended = false }) ≡ false
-    → Answers rules shown octets Ends shown' old new → EndsBehind rules met shown shown' octets Ended old new
+    → Answers rules shown octets Ends shown' old new → EndsAfter rules met shown shown' octets Ended old new
 end-ends rules met shown shown' octets old new some none over answers = (
   answers.0,
   answers.1,
@@ -160,7 +160,7 @@ end-ends rules met shown shown' octets old new some none over answers = (
 
 pub end-goes : {World : Type 0} (rules : Rules World) → IsTotal rules → (met : ℕ) (shown shown' : World → Type 0) (octets old mid new : List ℕ) (done : Done)
     → 0 < length octets → NoFeed octets → is_over met (record { octets = octets; ended = false }) ≡ false
-    → Answers rules shown octets GoesOn shown' old mid → AnswersEnd rules shown' done mid new → EndsBehind rules met shown shown' octets done old new
+    → Answers rules shown octets GoesOn shown' old mid → AnswersEnd rules shown' done mid new → EndsAfter rules met shown shown' octets done old new
 end-goes rules total met shown shown' octets old mid new done some none over answers end = (
   answers.0 ++ end.0,
   end.1 ∙ ap (λ xs. xs ++ end.0) answers.1 ∙ append_assoc old answers.0 end.0,

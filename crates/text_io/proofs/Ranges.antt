@@ -14,9 +14,9 @@ range-skip xs s count e within =
     ∙ ap (λ n. drop count (take n (drop s xs))) (sym parts)
 
 -- Octets read into a room after the first n.
-pub taken-behind : (front room post before after : List ℕ) (n count : ℕ) → length front ≡ n → count ≤ length room
+pub taken-after : (front room post before after : List ℕ) (n count : ℕ) → length front ≡ n → count ≤ length room
     → before ≡ take count room ++ after → front ++ before ≡ take (n + count) (front ++ (room ++ post)) ++ after
-taken-behind front room post before after n count sized fits came =
+taken-after front room post before after n count sized fits came =
     let so_many : n ≡ length front = sym sized in
     rw so_many (rw (take-append-add front (room ++ post) count, take-append-le count room post fits, came) (sym (append_assoc front (take count room) after)))
 

@@ -12,20 +12,20 @@ pub false-of : (b : Bool) → (b ≡ true → ⊥) → b ≡ false
 false-of true h = absurd (h refl)
 false-of false h = refl
 
-behind : (c : ℕ) (cs : List ℕ) → NoBlank (c ∷ cs) → NoBlank cs
-behind c cs none k below = none (suc k) (omega arith)
+after : (c : ℕ) (cs : List ℕ) → NoBlank (c ∷ cs) → NoBlank cs
+after c cs none k below = none (suc k) (omega arith)
 
 parts-at_blank : (word rest : List ℕ) (b : ℕ) → NoBlank word → is_blank b ≡ true → parts_of (word ++ b ∷ rest) ≡ word ∷ parts_of rest
 parts-at_blank [] rest b none blank = ap (λ t. if t then [] ∷ parts_of rest else part_begun_with b (parts_of rest)) blank
 parts-at_blank (c ∷ cs) rest b none blank =
     ap (λ t. if t then [] ∷ parts_of (cs ++ b ∷ rest) else part_begun_with c (parts_of (cs ++ b ∷ rest))) (none 0 (omega arith))
-    ∙ ap (λ parts. part_begun_with c parts) (parts-at_blank cs rest b (behind c cs none) blank)
+    ∙ ap (λ parts. part_begun_with c parts) (parts-at_blank cs rest b (after c cs none) blank)
 
 parts-of_word : (word : List ℕ) → NoBlank word → parts_of word ≡ word ∷ []
 parts-of_word [] none = refl
 parts-of_word (c ∷ cs) none =
     ap (λ t. if t then [] ∷ parts_of cs else part_begun_with c (parts_of cs)) (none 0 (omega arith))
-    ∙ ap (λ parts. part_begun_with c parts) (parts-of_word cs (behind c cs none))
+    ∙ ap (λ parts. part_begun_with c parts) (parts-of_word cs (after c cs none))
 
 filled-first : (word : List ℕ) (parts : List (List ℕ)) → 0 < length word → filter is_filled (word ∷ parts) ≡ word ∷ filter is_filled parts
 filled-first [] parts some = absurd (omega arith)

@@ -6,6 +6,6 @@ abbrev pub gathered : ℕ → List ℕ → Option (List ℕ)
 gathered most octets = if nat_lt most (length octets) then None else Some octets
 
 -- If the input was within the limit, nothing is left of it. Otherwise `most` + 1 octets were read.
-abbrev pub LeavesBehind : ℕ → Option (List ℕ) → List ℕ → List ℕ → Type 0
-LeavesBehind most found before after =
+abbrev pub LeavesAfter : ℕ → Option (List ℕ) → List ℕ → List ℕ → Type 0
+LeavesAfter most found before after =
     MatchOption found ((taken : List ℕ) × (before ≡ taken ++ after) × (length taken ≡ most + 1)) (λ octets. after ≡ [])

@@ -1,16 +1,17 @@
-//! Reading from an input into a buffer.
+//! Reading from an input into a buffer, after octets that wait there.
 
-ghost use Rattle.std.specs.Prelude.{◌≡◌, ◌+◌, ◌<◌, ◌≤◌, ◌++◌, [], length, take, IfOk, OnOk, OnErr, Ok};
+ghost use Rattle.std.specs.Prelude.{◌≡◌, ◌+◌, ◌<◌, ◌≤◌, ◌++◌, ◌-◌, [], length, take, drop, slice_range, vec_len, IfOk, OnOk, OnErr, Ok};
 ghost use Rattle.text_io.specs.Devices.{one_more};
 
 use crate::device::{Failed, Input};
+use std::mem;
 
 /// Reads octets into the room from place `end` on, and returns their number. It is 0 only at the end of the input.
 ///
 /// # Errors
 ///
 /// `Failed` if the input failed; the octets before `end` are kept.
-pub fn take_behind<I: Input>(input: &mut I, room: &mut [u8], end: usize) -> Result<usize, Failed>
+pub fn read_after<I: Input>(input: &mut I, room: &mut [u8], end: usize) -> Result<usize, Failed>
     requires { end < length room.old }
     ensures within { IfOk result (λ count. end + count ≤ length room.new) }
     ensures octets { I.is_known → IfOk result (λ count.
@@ -23,4 +24,25 @@ pub fn take_behind<I: Input>(input: &mut I, room: &mut [u8], end: usize) -> Resu
 {
     let count = input.take(&mut room[end..])?;
     Ok(count)
+}
+
+/// Copies the range from `start` to `end` to the front of the spare buffer, and swaps the two buffers.
+pub fn bring_forward(buffer: &mut Vec<u8>, spare: &mut Vec<u8>, start: usize, end: usize)
+    requires ordered { start ≤ end }
+    requires within { end ≤ vec_len buffer.old }
+    requires alike { vec_len spare.old ≡ vec_len buffer.old }
+    ensures front { slice_range buffer.new.items 0 (end - start) ≡ slice_range buffer.old.items start end }
+    ensures room { length buffer.new.items ≡ length buffer.old.items }
+    ensures spare_room { length spare.new.items ≡ length spare.old.items }
+{
+    put_in_front(spare, &buffer[start..end]);
+    mem::swap(buffer, spare);
+}
+
+/// Writes the octets over the first ones of the room.
+fn put_in_front(room: &mut [u8], octets: &[u8])
+    requires { length octets.now ≤ length room.old }
+    ensures { room.new ≡ octets.now ++ drop (length octets.now) room.old }
+{
+    room[..octets.len()].copy_from_slice(octets);
 }

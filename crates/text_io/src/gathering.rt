@@ -1,12 +1,12 @@
 //! Reading a whole input, up to a limit.
 
 ghost use Rattle.std.specs.Prelude.{◌≡◌, ◌≢◌, ◌+◌, ◌<◌, ◌≤◌, ◌^◌, ◌++◌, [], length, take, Ok, Err, IfOk, OnOk, option_map};
-ghost use Rattle.text_io.specs.Gathered.{gathered, LeavesBehind};
+ghost use Rattle.text_io.specs.Gathered.{gathered, LeavesAfter};
 ghost use Rattle.text_io.specs.Failures.{read_failures};
 
 use crate::device::Input;
 use crate::ending::RunFault;
-use crate::filling::take_behind;
+use crate::filling::read_after;
 use std::alloc::{AllocError, Global};
 
 /// The initial size of the buffer. It doubles whenever it is full.
@@ -19,7 +19,7 @@ fn make_room(room: &mut Vec<u8>, end: usize, most: usize) -> Result<(), AllocErr
     requires within { end ≤ most }
     requires counted { most < 2 ^ 32 }
     ensures front { OnOk result (take end room.new.items ≡ take end room.old.items) }
-    ensures behind { OnOk result (end < length room.new.items) }
+    ensures after { OnOk result (end < length room.new.items) }
     ensures bounded { OnOk result (length room.new.items ≤ most + 1) }
 {
     let wanted = FIRST_ROOM.max(2 * end).min(most + 1);
@@ -50,7 +50,7 @@ fn take_more<I: Input>(
             return Err(RunFault::NoMemory);
         }
     }
-    take_behind(input, room, end).map_err(|_| RunFault::ReadFailed)
+    read_after(input, room, end).map_err(|_| RunFault::ReadFailed)
 }
 
 /// Reads all octets of an input. Returns none if there are more than `most`; then `most` + 1 octets were read.
@@ -66,7 +66,7 @@ pub fn gather<I: Input>(
     ensures whole { I.is_known → IfOk result (λ found.
         option_map (λ octets. octets.items) found ≡ gathered most (I.rest input.old)) }
     ensures left { I.is_known → IfOk result (λ found.
-        LeavesBehind most (option_map (λ octets. octets.items) found) (I.rest input.old) (I.rest input.new)) }
+        LeavesAfter most (option_map (λ octets. octets.items) found) (I.rest input.old) (I.rest input.new)) }
     ensures reading { I.failures input.new ≡ read_failures result (I.failures input.old) }
     ensures fault { result ≢ Err RunFault.WriteFailed }
 {

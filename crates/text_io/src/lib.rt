@@ -23,14 +23,15 @@ mod stream;
 mod window;
 mod words;
 
-pub use delivery::{give_all, give_last};
+pub use delivery::{give_all, give_answers, give_last};
 pub use device::{Failed, Input, Output};
 pub use driver::answer_lines;
 pub use ending::{Done, RunFault};
 pub use faulty_input::FaultyInput;
 pub use faulty_output::FaultyOutput;
+pub use filling::{bring_forward, read_after};
 pub use gathering::gather;
 pub use line_ends::{before_return, first_feed};
 pub use machine::{Machine, Turn};
-pub use stream::{Giving, Taking};
+pub use stream::{ReaderInput, WriterOutput};
 pub use words::{LineWords, first_word, line_words};

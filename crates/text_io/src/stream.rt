@@ -8,25 +8,25 @@ use std::io::{Read, Write};
 
 /// A reader of std as an input. Every error counts as a failure, an interrupted call included.
 #[derive(Drop)]
-pub struct Taking<R> {
+pub struct ReaderInput<R> {
     /// The reader.
     pub reader: R,
     /// The number of failed calls.
     pub failures: u64,
 }
 
-impl<R> Taking<R> {
+impl<R> ReaderInput<R> {
     /// Makes an input of this reader.
-    pub fn new(reader: R) -> Taking<R>
+    pub fn new(reader: R) -> ReaderInput<R>
         ensures reader { result.reader ≡ reader }
         ensures calm { result.failures ≡ 0 }
     {
         let failures = 0;
-        Taking { reader, failures }
+        ReaderInput { reader, failures }
     }
 }
 
-impl<R: Read> Input for Taking<R> {
+impl<R: Read> Input for ReaderInput<R> {
     ghost is_known = { (r : _) → IsSome (R.remaining r) };
 
     ghost rest = { λ taking. unwrap_or (R.remaining taking.reader) [] };
@@ -52,25 +52,25 @@ fn one_failure(failures: &mut u64) -> Failed
 /// A writer of std as an output. Every error counts as a failure, an interrupted call included. So does a call that
 /// writes nothing, unless there is nothing to write.
 #[derive(Drop)]
-pub struct Giving<W> {
+pub struct WriterOutput<W> {
     /// The writer.
     pub writer: W,
     /// The number of failed calls.
     pub failures: u64,
 }
 
-impl<W> Giving<W> {
+impl<W> WriterOutput<W> {
     /// Makes an output of this writer.
-    pub fn new(writer: W) -> Giving<W>
+    pub fn new(writer: W) -> WriterOutput<W>
         ensures writer { result.writer ≡ writer }
         ensures calm { result.failures ≡ 0 }
     {
         let failures = 0;
-        Giving { writer, failures }
+        WriterOutput { writer, failures }
     }
 }
 
-impl<W: Write> Output for Giving<W> {
+impl<W: Write> Output for WriterOutput<W> {
     ghost is_known = { (w : _) → IsSome (W.contents w) };
 
     ghost held = { λ giving. unwrap_or (W.contents giving.writer) [] };

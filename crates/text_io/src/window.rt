@@ -1,15 +1,14 @@
 //! The octets that were read and not yet answered.
 
-ghost use Rattle.std.specs.Prelude.{◌≡◌, ◌≢◌, ℕ, ◌+◌, ◌<◌, ◌≤◌, ◌++◌, ◌-◌, [], length, take, drop, slice_index, slice_range, vec_len, IfOk, OnOk, OnErr, Ok, IfSome, IfNone};
+ghost use Rattle.std.specs.Prelude.{◌≡◌, ◌≢◌, ℕ, ◌+◌, ◌<◌, ◌≤◌, ◌++◌, [], length, take, drop, slice_index, IfOk, OnOk, OnErr, Ok, IfSome, IfNone};
 ghost use Rattle.text_io.specs.Devices.{one_more};
 ghost use Rattle.text_io.specs.Limits.{most_ahead, most_line_octets};
 
 use crate::device::{Failed, Input};
-use crate::filling::take_behind;
+use crate::filling::{bring_forward, read_after};
 use crate::line_ends::first_feed;
 use std::alloc::{AllocError, Global};
 use std::marker::Model;
-use std::mem;
 
 /// The capacity of a window, in octets. It is larger than the longest line.
 const WINDOW_ROOM: usize = 131072;
@@ -112,29 +111,8 @@ impl Window {
             self.end -= self.start;
             self.start = 0;
         }
-        let count = take_behind(input, &mut self.buffer, self.end)?;
+        let count = read_after(input, &mut self.buffer, self.end)?;
         self.end += count;
         Ok(count)
     }
-}
-
-/// Copies the range from `start` to `end` to the front of the spare buffer, and swaps the two buffers.
-fn bring_forward(buffer: &mut Vec<u8>, spare: &mut Vec<u8>, start: usize, end: usize)
-    requires ordered { start ≤ end }
-    requires within { end ≤ vec_len buffer.old }
-    requires alike { vec_len spare.old ≡ vec_len buffer.old }
-    ensures front { slice_range buffer.new.items 0 (end - start) ≡ slice_range buffer.old.items start end }
-    ensures room { length buffer.new.items ≡ length buffer.old.items }
-    ensures spare_room { length spare.new.items ≡ length spare.old.items }
-{
-    put_in_front(spare, &buffer[start..end]);
-    mem::swap(buffer, spare);
-}
-
-/// Writes the octets over the first ones of the room.
-fn put_in_front(room: &mut [u8], octets: &[u8])
-    requires { length octets.now ≤ length room.old }
-    ensures { room.new ≡ octets.now ++ drop (length octets.now) room.old }
-{
-    room[..octets.len()].copy_from_slice(octets);
 }

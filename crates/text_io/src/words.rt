@@ -12,8 +12,8 @@ fn after_blanks(line: &[u8]) -> &[u8]
     ensures begins { 0 < length result.now → is_blank (slice_index result.now 0) ≡ false }
 {
     let mut rest = line;
-    while let [b' ' | b'\t', behind @ ..] = rest {
-        rest = behind;
+    while let [b' ' | b'\t', after @ ..] = rest {
+        rest = after;
     }
     rest
 }

@@ -10,7 +10,7 @@ mod tests;
 use invocation::{carry_out, carry_out_alone};
 use std::io::IsTerminal;
 use std::process::ExitCode;
-use text_io::{Giving, Taking};
+use text_io::{ReaderInput, WriterOutput};
 use upc_choice::{OfProcess, awaited, words_after_name};
 pub use upc_choice::{Choice, Stop, choose};
 pub use upc_exit::status;
@@ -28,9 +28,9 @@ fn main(rt: HostRuntime) -> ExitCode {
     {
         let _ = eprintln!(rt; "{}", awaited(choice));
     }
-    let mut input = Taking::new(rt.stdin());
-    let mut output = Giving::new(rt.stdout());
-    let mut errors = Giving::new(rt.stderr());
+    let mut input = ReaderInput::new(rt.stdin());
+    let mut output = WriterOutput::new(rt.stdout());
+    let mut errors = WriterOutput::new(rt.stderr());
     ExitCode::from(carry_out(
         &rt,
         rt.alloc(),

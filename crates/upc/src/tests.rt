@@ -11,7 +11,7 @@ use std::alloc::Global;
 use std::sync::Wait;
 use std::test::Fail;
 use std::thread::Threads;
-use text_io::{Done, Giving, RunFault, Taking};
+use text_io::{Done, ReaderInput, RunFault, WriterOutput};
 
 /// The output of a subcommand for an input, and how the run ends.
 fn printed<R: Threads + Wait + Sync>(
@@ -20,8 +20,8 @@ fn printed<R: Threads + Wait + Sync>(
     choice: Choice,
     input: &[u8],
 ) -> Result<(Vec<u8>, Done), RunFault> {
-    let mut source = Taking::new(input);
-    let mut sink = Giving::new(Vec::new(alloc));
+    let mut source = ReaderInput::new(input);
+    let mut sink = WriterOutput::new(Vec::new(alloc));
     let done = match choice {
         Choice::Check => check_source(alloc, &mut source, &mut sink)?,
         Choice::Eval => eval_bytes(alloc, &mut source, &mut sink)?,

@@ -5,7 +5,7 @@ use mathlib.Core.Logic.{∥∥₁_elim}
 use Rattle.card_core.specs.Agreement.{CoreView, Follows}
 use Rattle.card_core.specs.Refusals.{missing_fault}
 use Rattle.card_core.specs.Steps.{IsPieceOf, WorldStep}
-use Rattle.card_core.specs.World.{World, Connection, connection_in, handed_cells, kept_cells}
+use Rattle.card_core.specs.World.{World, Connection, connection_in, returned_cells, kept_cells}
 use Rattle.card_core.specs.declared.fault.DeskFault.{DeskFault}
 use Rattle.card_core.specs.declared.fault.DeskFault.TheVariants.{NoMemory}
 use Rattle.card_core.specs.declared.reply.Reply.{Reply}
@@ -40,7 +40,7 @@ IsShort world vc most = (connection : Connection) → connection_in world.connec
 fits-piece : (world : World) (vc : Vc) (connection : Connection) (handed piece : PieceView) (most : ℕ) → IsShort world vc most
     → connection_in world.connections vc ≡ Some connection → IsPieceOf world vc connection handed → piece ≡ handed → length piece.entries ≤ most
 fits-piece world vc connection handed piece most short found of same =
-    let judged = (each_cell_is_judged connection.contracts empty_buckets (handed_cells connection) (kept_cells connection)).0 in
+    let judged = (each_cell_is_judged connection.contracts empty_buckets (returned_cells connection) (kept_cells connection)).0 in
     subst (λ (n : ℕ). n ≤ most) (sym (ap (λ (p : PieceView). length p.entries) same ∙ ap length of.entries ∙ judged)) (short connection found)
 
 fits-stepped : (before after : World) (vc : Vc) (when : HandOut) (piece : PieceView) (most : ℕ) → IsShort before vc most

@@ -1,11 +1,10 @@
 mod Batches
-mod Boxes
 mod CardArrivals
-mod CardBoxes
 mod CardSteps
 mod ContractLemmas
 mod EntryLemmas
 mod HandingOut
+mod HiddenWords
 mod LineLemmas
 mod Listed
 mod Policing

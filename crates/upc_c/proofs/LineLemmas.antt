@@ -3,7 +3,7 @@ use Rattle.std.proofs.Common.{◌≡◌, ℕ, ◌<◌, ◌≤◌, Option, Some, 
 use Rattle.std.specs.Prelude.{option_map, slice_get}
 use Rattle.card_core.specs.Agreement.{CoreView, CoreAgrees, seating_of}
 use Rattle.card_core.specs.Inspection.{line_at, line_of_seating}
-use Rattle.card_core.specs.World.{World, Connection, connection_in, handed_cells, kept_cells}
+use Rattle.card_core.specs.World.{World, Connection, connection_in, returned_cells, kept_cells}
 use Rattle.line_record.proofs.Public.{each_cell_is_judged}
 use Rattle.line_record.specs.History.{empty_buckets}
 use Rattle.line_record.specs.Line.{LineView}
@@ -35,7 +35,7 @@ counts-by core world vc line values (Some connection) agrees is at cells counts 
     let here : slice_get core.lines connection.line ≡ Some line = sym (line-of core world vc (Some connection) agrees is) ∙ at in
     let serving = agrees.lines.serving vc connection is in
     let same : serving.0 ≡ line = ap (λ l. line-or l line) (sym serving.1 ∙ here) in
-    let judged = (each_cell_is_judged connection.contracts empty_buckets (handed_cells connection) (kept_cells connection)).0 in (
+    let judged = (each_cell_is_judged connection.contracts empty_buckets (returned_cells connection) (kept_cells connection)).0 in (
       connection,
       is,
       record {

@@ -81,7 +81,7 @@ setup-listed before ask =
     (refused_by (May (Setup ask)) (is_some (connection_in before.connections ask.vc)) Taken _ refl
     (refused_by (May (Setup ask)) (length ask.contracts.items == 0) BadContracts _ refl
     (refused_by (May (Setup ask)) (not (any_below before.shape.lines (is_open_line before))) NoLine _ refl
-    (refused_by (May (Setup ask)) (nat_le (2 ^ 62) before.used) Exhausted None refl
+    (refused_by (May (Setup ask)) (nat_le (2 ^ 62) before.incarnations) Exhausted None refl
     (λ x e. absurd (cc))))))
 
 reload-listed : (before : World) (vc : Vc) (id : Id) (reason : DeskFault) → reload_fault before vc id ≡ Some reason → May (Reload vc id) reason
@@ -216,7 +216,7 @@ cell-answers before connection moment =
     refused_by MayAnswer (nat_lt (2 ^ 62) moment) MomentTooLate _ refl
     (refused_by MayAnswer (nat_lt moment (last_moment 0 connection.history)) (MomentBack (last_moment 0 connection.history)) _ refl
     (refused_by MayAnswer (nat_le before.shape.journal (length (kept_cells connection))) JournalFull _ refl
-    (refused_by MayAnswer (nat_le (2 ^ 62) (length (before.judged connection.line))) JournalFull None refl
+    (refused_by MayAnswer (nat_le (2 ^ 62) (length (before.verdicts connection.line))) JournalFull None refl
     (λ x e. absurd (cc)))))
 
 -- The connection is still the one that was picked.

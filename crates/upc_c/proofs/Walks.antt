@@ -5,7 +5,7 @@ pub use Rattle.core.proofs.alloc.Shapes.{after}
 pub use Rattle.core.proofs.atomic.Steps.{fm}
 pub use Rattle.core.proofs.alloc.Calls.{token, handle_tells, Goes-blank}
 pub use Rattle.std_alloc.proofs.ResultValues.{and_tt}
-pub use Rattle.std_alloc.proofs.BoxSteps.Form.{Bx, D, R, P, B, τ, word, box_typed, box_ty}
+pub use Rattle.std_alloc.proofs.BoxSteps.Form.{Bx, D, R, P, B, τ, word, box_typed}
 pub use Rattle.std_alloc.proofs.BoxSteps.Steps.{box_out, box_in}
 pub use Rattle.std_alloc.specs.Box.Ownership.{box_owns}
 pub use mathlib.Core.List.{List, [], ◌∷◌, ◌++◌}
@@ -21,8 +21,8 @@ pub use contract.BorrowLft.{◌⊑◌}
 pub use contract.Monad.{fact, fact_i}
 pub use contract.Running.{tables}
 pub use prog.Wp.{WpFn}
-pub use types.Logic.{Logic, sem}
-pub use types.Kit.{Item, ‵, raw, ◌⊛◌, some, later, at_ret, ◌$◌, ◌∵◌, !, qed, by, move, keep, drop, use0, use1, join, split, split3, pick, rewrite, fsplit, fjoin, fpick, fpack, feq_i, feq_l, suffices, await, done}
+pub use types.Logic.{sem}
+pub use types.Kit.{‵, raw, ◌⊛◌, some, later, at_ret, ◌$◌, ◌∵◌, !, qed, by, move, keep, drop, use0, use1, join, split, split3, pick, rewrite, fsplit, fjoin, fpick, fpack, feq_i, feq_l, suffices, await}
 pub use types.Part.{whole, sub, agg}
 pub use types.Run.{stop, fld, no_more, and_then, of_opd, lit, first, blocks, exec, returns, enter}
 pub use types.ByLocal.{alloc_all, pass_all, free_all, look_at, get, get_in, sets, lands_as, lands_last, env}
@@ -30,7 +30,7 @@ pub use denote.Exit.{yes, no}
 pub use denote.Param.{layout, bounded}
 pub use denote.RattleType.{RattleType, Valss, owns}
 pub use denote.RawPtr.{Ptr, RawPtr, block_ptr, null_ptr, ptr_val, in_a_block}
-pub use denote.Signature.{plain, type_at, types_at}
+pub use denote.Signature.{plain, types_at}
 pub use denote.Steps.{heard, nothing, only}
 pub use denote.Struct.Struct.{within}
 pub use denote.Struct.Owning.{shape, to}

@@ -50,7 +50,7 @@ HasInJournal card path channel cells =
 -- The connection's line has these counts: those of all verdicts ever given on it.
 abbrev pub HasCounted : UpcCard → ℕ → ℕ → UpcCounts → Type 0
 HasCounted card path channel counts =
-    OfConnection card path channel (λ world connection. counts ≡ counts_for_c (tally_of (world.judged connection.line)))
+    OfConnection card path channel (λ world connection. counts ≡ counts_for_c (tally_of (world.verdicts connection.line)))
 
 -- The card has no connection of this path and channel.
 pub record IsMissing (card : UpcCard) (path channel : ℕ) : Type 0 where

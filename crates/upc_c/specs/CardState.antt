@@ -68,7 +68,7 @@ pub record IsStateForC (world : World) (connection : Connection) (room written :
   pub line : state.line ≡ connection.line
   pub program : state.program ≡ id_for_c connection.program
   pub last : state.last ≡ last_moment 0 connection.history
-  pub counts : state.counts ≡ counts_for_c (tally_of (world.judged connection.line))
+  pub counts : state.counts ≡ counts_for_c (tally_of (world.verdicts connection.line))
   pub cells : state.cells ≡ length (kept_cells connection)
   pub contracts : state.contracts ≡ length connection.contracts
   pub fits : state.contracts ≤ length room

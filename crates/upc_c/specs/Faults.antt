@@ -1,5 +1,5 @@
 -- The errors that calls return.
-use Rattle.std.specs.Prelude.{◌+◌, ◌*◌, ℕ}
+use Rattle.std.specs.Prelude.{◌≡◌, ◌+◌, ◌*◌, ℕ}
 use Rattle.upc_c.specs.declared.fault.UpcFault.{UpcFault}
 
 -- An error with a kind, a number and a place, and nothing else.
@@ -13,6 +13,11 @@ call_result fault = fault.kind * 256 + fault.number
 -- No error.
 abbrev pub no_fault : UpcFault
 no_fault = plain_fault 0 0 0
+
+-- What each call returns: the result of the error that it writes. If that is 0, the error is all zeros.
+pub record AnswersCall (result : ℕ) (fault : UpcFault) : Type 0 where
+  pub number : result ≡ call_result fault
+  pub success : result ≡ 0 → fault ≡ no_fault
 
 -- The kind of contract is none of the four: UPC_UNKNOWN_KIND.
 abbrev pub unknown_kind : UpcFault

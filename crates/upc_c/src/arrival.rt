@@ -8,7 +8,7 @@ ghost use Rattle.card_core.specs.declared.answer.Answer.TheVariants.{NoMemory};
 ghost use Rattle.upc_c.specs.CardArrival.{IsArrivalFault, IsPoliced, reason_of_answer};
 ghost use Rattle.upc_c.specs.CardHandle.{card_in, card_missing};
 ghost use Rattle.upc_c.specs.CellHeader.{IsCellFault};
-ghost use Rattle.upc_c.specs.Faults.{call_result, no_fault, out_of_memory};
+ghost use Rattle.upc_c.specs.Faults.{AnswersCall, out_of_memory};
 ghost use Rattle.upc_c.specs.inner.CellsOnCore.{PolicesOn, RefusesOn};
 ghost use Rattle.upc_c.specs.inner.ReachedCore.{IsReachedCore};
 ghost use Rattle.upc_c.specs.inner.Numbered.{IsNumbered};
@@ -55,10 +55,10 @@ fn unjudged_fault_for_c(reason: Unjudged) -> UpcFault
         Unjudged::NoConnection => fault_at(OF_AN_ARRIVAL, 1, 0),
         Unjudged::Released => fault_at(OF_AN_ARRIVAL, 2, 0),
         Unjudged::Stale => fault_at(OF_AN_ARRIVAL, 3, 0),
-        Unjudged::Refused(LineFault::Back(last)) => fault_at(OF_AN_ARRIVAL, 4, last as usize),
-        Unjudged::Refused(LineFault::TooLate) => fault_at(OF_AN_ARRIVAL, 5, 0),
-        Unjudged::Refused(LineFault::Full) => fault_at(OF_AN_ARRIVAL, 6, 0),
-        Unjudged::Refused(LineFault::NoMemory) => out_of_memory(),
+        Unjudged::LineFault(LineFault::Back(last)) => fault_at(OF_AN_ARRIVAL, 4, last as usize),
+        Unjudged::LineFault(LineFault::TooLate) => fault_at(OF_AN_ARRIVAL, 5, 0),
+        Unjudged::LineFault(LineFault::Full) => fault_at(OF_AN_ARRIVAL, 6, 0),
+        Unjudged::LineFault(LineFault::NoMemory) => out_of_memory(),
     }
 }
 
@@ -143,9 +143,8 @@ pub extern "C" fn upc_card_arrive(
     answer: &mut UpcAnswer,
     fault: &mut UpcFault,
 ) -> u32
-    ensures number { result ≡ call_result fault.new }
+    ensures answers { AnswersCall result fault.new }
     ensures judged { result ≡ 0 → IsPoliced card.old card.new octets.old moment answer.new octets.new }
-    ensures success { result ≡ 0 → fault.new ≡ no_fault }
     ensures refused { result ≢ 0 → IsArrivalFault card.old card.new octets.old moment fault.new }
     ensures memory { fault.new ≢ out_of_memory }
     ensures left { result ≢ 0 → card_in card.new ≡ card_in card.old }

@@ -4,7 +4,7 @@ ghost use Rattle.std.specs.Prelude.{◌≡◌, ◌≢◌, ◌⊎◌, ◌<◌, �
 ghost use Rattle.upc_c.specs.CardBatch.{ArePoliced, IsBatchFault, IsNextRefused, cell_in};
 ghost use Rattle.upc_c.specs.CardHandle.{card_missing};
 ghost use Rattle.upc_c.specs.CellHeader.{IsCellFault};
-ghost use Rattle.upc_c.specs.Faults.{call_result, no_fault, out_of_memory};
+ghost use Rattle.upc_c.specs.Faults.{AnswersCall, out_of_memory};
 ghost use Rattle.upc_c.specs.inner.CellsOnCore.{PolicesFirst, PolicesNumber, RefusesNext, RefusesOn};
 ghost use Rattle.upc_c.specs.inner.ReachedCore.{IsReachedCore};
 ghost use Rattle.upc_c.specs.inner.Numbered.{IsNumbered};
@@ -143,11 +143,10 @@ pub extern "C" fn upc_card_arrive_many(
     done: &mut usize,
     fault: &mut UpcFault,
 ) -> u32
-    ensures number { result ≡ call_result fault.new }
+    ensures answers { AnswersCall result fault.new }
     ensures judged { ArePoliced card.old card.new octets.old octets.new stride moments.now
         answers.old answers.new done.new }
     ensures all { result ≡ 0 → done.new ≡ length moments.now }
-    ensures success { result ≡ 0 → fault.new ≡ no_fault }
     ensures refused { result ≢ 0 → IsBatchFault card.new octets.new stride moments.now answers.old
         done.new fault.new }
     ensures memory { fault.new ≢ out_of_memory }

@@ -3,7 +3,7 @@
 ghost use Rattle.std.specs.Prelude.{◌≡◌, ◌≢◌};
 ghost use Rattle.leaky.specs.Tolerance.{tolerance_of};
 ghost use Rattle.upc_c.specs.Bursts.{HasTolerance, IsBurstFault};
-ghost use Rattle.upc_c.specs.Faults.{no_fault, call_result};
+ghost use Rattle.upc_c.specs.Faults.{AnswersCall};
 
 use crate::fault::{OF_A_BURST, UpcFault, fault_at, report, report_success};
 use leaky::{BtFault, burst_tolerance};
@@ -18,9 +18,8 @@ pub extern "C" fn upc_burst_tolerance(
     ticks: &mut u64,
     fault: &mut UpcFault,
 ) -> u32
-    ensures number { result ≡ call_result fault.new }
+    ensures answers { AnswersCall result fault.new }
     ensures tolerance { result ≡ 0 → HasTolerance mbs ts tp × (ticks.new ≡ tolerance_of mbs ts tp) }
-    ensures success { result ≡ 0 → fault.new ≡ no_fault }
     ensures refused { result ≢ 0 → IsBurstFault mbs ts tp fault.new }
     ensures left { result ≢ 0 → ticks.new ≡ ticks.old }
 {

@@ -4,7 +4,7 @@ ghost use Rattle.std.specs.Prelude.{◌≡◌, ◌≢◌, Some, None, IfOk, IfEr
 ghost use Rattle.card_core.specs.Agreement.{CoreView};
 ghost use Rattle.upc_c.specs.CardHandle.{card_in, card_there};
 ghost use Rattle.upc_c.specs.CardMaking.{IsEmptyCard, IsNoCard, card_fault_for_c};
-ghost use Rattle.upc_c.specs.Faults.{call_result, no_fault};
+ghost use Rattle.upc_c.specs.Faults.{AnswersCall};
 ghost use Rattle.upc_c.specs.inner.ReachedCore.{IsReachedCore};
 ghost use Rattle.upc_c.specs.inner.Numbered.{IsNumbered};
 
@@ -55,10 +55,9 @@ pub extern "C" fn upc_card_new(
     card: &mut UpcCard,
     fault: &mut UpcFault,
 ) -> u32
-    ensures number { result ≡ call_result fault.new }
+    ensures answers { AnswersCall result fault.new }
     ensures made { result ≡ 0 → (card_in card.old ≡ None)
         × ((core : CoreView) × IsEmptyCard shape.now core × (card_in card.new ≡ Some core)) }
-    ensures success { result ≡ 0 → fault.new ≡ no_fault }
     ensures there { card_in card.old ≢ None → fault.new ≡ card_there }
     ensures refused { result ≢ 0 → card_in card.old ≡ None → IsNoCard shape.now fault.new }
     ensures left { result ≢ 0 → card.new ≡ card.old }

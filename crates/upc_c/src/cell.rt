@@ -4,7 +4,7 @@ ghost use Rattle.std.specs.Prelude.{◌≡◌, ◌≢◌, length, IfOk, IfErr};
 ghost use Rattle.upc_cell.specs.Tagged.{tagged_form};
 ghost use Rattle.upc_cell.specs.declared.side.Side.{Side as TheSide};
 ghost use Rattle.upc_c.specs.CellHeader.{IsCellFault, IsFieldsFault, fields_at, side_number};
-ghost use Rattle.upc_c.specs.Faults.{call_result, no_fault};
+ghost use Rattle.upc_c.specs.Faults.{AnswersCall};
 ghost use Rattle.upc_c.specs.inner.Numbered.{IsNumbered};
 
 use crate::fault::{OF_A_CELL, OF_THE_CALL, UpcFault, fault_at, report, report_success};
@@ -66,10 +66,9 @@ pub extern "C" fn upc_cell_fields(
     fields: &mut UpcFields,
     fault: &mut UpcFault,
 ) -> u32
-    ensures number { result ≡ call_result fault.new }
+    ensures answers { AnswersCall result fault.new }
     ensures read { result ≡ 0 → (at : TheSide) × (side ≡ side_number at) × (length octets.now ≡ 52)
         × (fields.new ≡ fields_at at octets.now) }
-    ensures success { result ≡ 0 → fault.new ≡ no_fault }
     ensures refused { result ≢ 0 → IsFieldsFault octets.now side fault.new }
     ensures left { result ≢ 0 → fields.new ≡ fields.old }
 {
@@ -90,9 +89,8 @@ pub extern "C" fn upc_cell_fields(
 /// Tags the cell of 52 octets: its cell loss priority becomes 1. Returns the result of the error, or 0.
 #[unsafe(no_mangle)]
 pub extern "C" fn upc_cell_tag(octets: &mut [u8], fault: &mut UpcFault) -> u32
-    ensures number { result ≡ call_result fault.new }
+    ensures answers { AnswersCall result fault.new }
     ensures tagged { result ≡ 0 → (length octets.old ≡ 52) × (octets.new ≡ tagged_form octets.old) }
-    ensures success { result ≡ 0 → fault.new ≡ no_fault }
     ensures refused { result ≢ 0 → IsCellFault octets.old fault.new }
     ensures left { result ≢ 0 → octets.new ≡ octets.old }
 {

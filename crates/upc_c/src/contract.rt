@@ -3,7 +3,7 @@
 ghost use Rattle.std.specs.Prelude.{◌≡◌, ◌≢◌, IfOk, IfErr};
 ghost use Rattle.upc_c.specs.CardState.{contract_for_c};
 ghost use Rattle.upc_c.specs.GivenContract.{IsGivenContract, IsContractFault, IsGivenRate, IsRateFault, AreARate, AreAContract};
-ghost use Rattle.upc_c.specs.Faults.{call_result, no_fault};
+ghost use Rattle.upc_c.specs.Faults.{AnswersCall};
 ghost use Rattle.upc_c.specs.inner.Numbered.{IsNumbered};
 
 use crate::fault::{OF_A_RATE, OF_THE_CALL, UpcFault, fault_at, report, report_success};
@@ -103,9 +103,8 @@ pub(crate) fn contract_for_c(contract: &Contract) -> UpcContract
 /// Checks whether the numbers are a contract. Returns the result of the error, or 0.
 #[unsafe(no_mangle)]
 pub extern "C" fn upc_contract_check(contract: &UpcContract, fault: &mut UpcFault) -> u32
-    ensures number { result ≡ call_result fault.new }
+    ensures answers { AnswersCall result fault.new }
     ensures contract { result ≡ 0 → AreAContract contract.now }
-    ensures success { result ≡ 0 → fault.new ≡ no_fault }
     ensures refused { result ≢ 0 → IsContractFault contract.now fault.new }
 {
     match contract_of(contract) {

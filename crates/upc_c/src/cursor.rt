@@ -4,7 +4,7 @@ ghost use Rattle.std.specs.Prelude.{◌≡◌, ◌≢◌, ◌<◌, ◌⊎◌, No
 ghost use Rattle.upc_c.specs.CardDesk.{HasNoPath, path_too_large};
 ghost use Rattle.upc_c.specs.CardHandle.{card_in, card_missing};
 ghost use Rattle.upc_c.specs.CardState.{IsCursor, IsCursorFault, IsNextOn};
-ghost use Rattle.upc_c.specs.Faults.{call_result, no_fault};
+ghost use Rattle.upc_c.specs.Faults.{AnswersCall};
 ghost use Rattle.upc_c.specs.inner.Numbered.{IsNumbered};
 ghost use Rattle.upc_c.specs.inner.WrittenState.{IsFoundOn};
 
@@ -64,9 +64,8 @@ pub extern "C" fn upc_card_next(
     cursor: &mut UpcCursor,
     fault: &mut UpcFault,
 ) -> u32
-    ensures number { result ≡ call_result fault.new }
+    ensures answers { AnswersCall result fault.new }
     ensures next { result ≡ 0 → IsNextOn card.old cursor.old cursor.new }
-    ensures success { result ≡ 0 → fault.new ≡ no_fault }
     ensures refused { result ≢ 0 → IsCursorFault card.old cursor.old fault.new }
     ensures kept { card_in card.new ≡ card_in card.old }
     ensures left { result ≢ 0 → cursor.new ≡ cursor.old }

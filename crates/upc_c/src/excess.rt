@@ -3,7 +3,7 @@
 ghost use Rattle.std.specs.Prelude.{◌≡◌, ◌≢◌, ◌^◌, ◌≤◌, ◌==◌, not};
 ghost use Rattle.leaky.specs.declared.contract.Contract.{Contract as TheContract};
 ghost use Rattle.upc_c.specs.ExcessForC.{IsExcessForC};
-ghost use Rattle.upc_c.specs.Faults.{call_result, no_fault};
+ghost use Rattle.upc_c.specs.Faults.{AnswersCall};
 ghost use Rattle.upc_c.specs.GivenContract.{IsGivenContract};
 ghost use Rattle.upc_c.specs.Judging.{AreLevels, IsMeterFault};
 
@@ -54,11 +54,10 @@ pub extern "C" fn upc_excess_of(
     excess: &mut UpcExcess,
     fault: &mut UpcFault,
 ) -> u32
-    ensures number { result ≡ call_result fault.new }
+    ensures answers { AnswersCall result fault.new }
     ensures excess { result ≡ 0 → (it : TheContract) × IsGivenContract contract.now it
         × AreLevels levels.now × (moment ≤ 2 ^ 62)
         × IsExcessForC it levels.now (not (clp == 0)) moment excess.new }
-    ensures success { result ≡ 0 → fault.new ≡ no_fault }
     ensures refused { result ≢ 0 → IsMeterFault contract.now levels.now moment fault.new }
     ensures left { result ≢ 0 → excess.new ≡ excess.old }
 {

@@ -1,7 +1,7 @@
 //! Errors, as C gets them.
 
 ghost use Rattle.std.specs.Prelude.{◌≡◌, ◌≢◌};
-ghost use Rattle.upc_c.specs.Faults.{call_result, no_fault, plain_fault};
+ghost use Rattle.upc_c.specs.Faults.{AnswersCall, no_fault, plain_fault};
 ghost use Rattle.upc_c.specs.inner.Numbered.{IsNumbered};
 
 /// The error of a call, or all zeros if it has none.
@@ -80,7 +80,7 @@ pub(crate) fn fault_at(kind: u32, number: u32, place: usize) -> UpcFault
 pub(crate) fn report(fault: &mut UpcFault, found: UpcFault) -> u32
     requires { IsNumbered found }
     ensures written { fault.new ≡ found }
-    ensures number { result ≡ call_result fault.new }
+    ensures answers { AnswersCall result fault.new }
     ensures refused { result ≢ 0 }
 {
     *fault = found;
@@ -90,7 +90,7 @@ pub(crate) fn report(fault: &mut UpcFault, found: UpcFault) -> u32
 /// Writes that there is no error, and returns 0.
 pub(crate) fn report_success(fault: &mut UpcFault) -> u32
     ensures success { fault.new ≡ no_fault }
-    ensures number { result ≡ call_result fault.new }
+    ensures answers { AnswersCall result fault.new }
     ensures zero { result ≡ 0 }
 {
     *fault = NO_FAULT;

@@ -1,84 +1,56 @@
-//! A program under a pointer whose type C doesn't see.
+//! A value under a pointer, or none.
 
 mod card;
-mod parts;
+mod program;
 
-ghost use Rattle.std.specs.Prelude.{◌≡◌, List, Option, Some, None};
-ghost use Rattle.bpf_code.specs.declared.instr.Instr.{Instr};
+ghost use Rattle.std.specs.Prelude.{◌≡◌, ◌≢◌, Option, Some, None};
 
-use bpf_verify::Program;
 pub use card::HiddenCard;
-use parts::Parts;
-use std::alloc::Global;
-use std::marker::{Model, Send};
+pub use program::HiddenProgram;
+use std::alloc::{Allocator, Global};
+use std::marker::Model;
 use std::ptr::null_mut;
 
-/// A program in a box, or none. C has the pointer and never reads what it points to.
-#[repr(C)]
-#[derive(Drop)]
-pub struct HiddenProgram {
-    at: *mut u8,
-    alloc: Global,
-    pub(crate) ghost code: { Option (List Instr) },
+/// The pointer and the allocator of a box, or of none. `HiddenProgram` and `HiddenCard` are these two words for C, which
+/// takes no struct with a type parameter.
+pub(crate) struct Hidden<T, A: Allocator = Global> {
+    at: *mut T,
+    alloc: A,
+    pub(crate) ghost value: { Option T },
 }
 
-impl Model for HiddenProgram {
-    ghost use Rattle.std.specs.Prelude.{List, Option};
-    ghost use Rattle.bpf_code.specs.declared.instr.Instr.{Instr};
-    ghost use Rattle.bpf_verify.specs.contracts.program.Program.{the_row};
+impl<T, A: Allocator> Model for Hidden<T, A> {
     ghost use Rattle.upc_c.specs.inner.Hidden.{owned};
 
-    ghost also_owns = { λ h. owned the_row h.alloc h.at h.code };
+    ghost also_owns = { λ h. owned (A.dealloc_token h.alloc) T.row h.at h.value };
 }
 
-// It may move to another thread, since its box may.
-unsafe impl Send for HiddenProgram {}
-
-impl HiddenProgram {
-    ghost use Rattle.std.specs.Prelude.{◌≡◌, ◌≢◌, Some, None};
-
-    /// Makes one with a program.
-    pub(crate) fn of(program: Box<Program>) -> HiddenProgram
-        ensures { result.code ≡ Some program.value }
+impl<T, A: Allocator> Hidden<T, A> {
+    /// Takes a box apart.
+    pub(crate) fn of(whole: Box<T, A>) -> Hidden<T, A>
+    where
+        T: Drop,
+        ensures { result.value ≡ Some whole.value }
     {
-        HiddenProgram::of_parts(Parts::of(program))
+        let (at, alloc) = Box::into_raw_with_allocator(whole);
+        Hidden { at, alloc }
     }
 
-    /// Returns the program, if there is one.
-    pub(crate) fn into_box(self) -> Box<Program>
-        requires { self.code ≢ None }
-        ensures { self.code ≡ Some result.value }
+    /// Makes the box again, if there is one.
+    pub(crate) fn into_box(self) -> Box<T, A>
+        requires { self.value ≢ None }
+        ensures { self.value ≡ Some result.value }
     {
-        self.into_parts().into_box()
+        let Hidden { at, alloc } = self;
+        unsafe { Box::from_raw(alloc, at) }
     }
 
-    /// Makes one without a program.
-    pub(crate) fn none(alloc: Global) -> HiddenProgram
-        ensures { result.code ≡ None }
+    /// Makes one without a box.
+    pub(crate) fn none(alloc: A) -> Hidden<T, A>
+        ensures { result.value ≡ None }
     {
-        HiddenProgram {
+        Hidden {
             at: null_mut(),
-            alloc,
-        }
-    }
-
-    fn of_parts(parts: Parts<Program, Global>) -> HiddenProgram
-        ensures { result.code ≡ Some parts.value }
-    {
-        let Parts { ptr, alloc } = parts;
-        HiddenProgram {
-            at: ptr as *mut u8,
-            alloc,
-        }
-    }
-
-    fn into_parts(self) -> Parts<Program, Global>
-        requires { self.code ≢ None }
-        ensures { self.code ≡ Some result.value }
-    {
-        let HiddenProgram { at, alloc } = self;
-        Parts {
-            ptr: at as *mut Program,
             alloc,
         }
     }

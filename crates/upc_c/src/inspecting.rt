@@ -3,7 +3,7 @@
 ghost use Rattle.std.specs.Prelude.{◌≡◌, ◌≢◌, None, IfNone, IfSome, IfErr, IfOk};
 ghost use Rattle.upc_c.specs.CardHandle.{card_in, card_missing};
 ghost use Rattle.upc_c.specs.CardInspection.{HasCounted, HasInJournal, HasShape, IsLookUpFault};
-ghost use Rattle.upc_c.specs.Faults.{call_result, no_fault};
+ghost use Rattle.upc_c.specs.Faults.{AnswersCall};
 ghost use Rattle.upc_c.specs.inner.LineCounts.{AreLineCountsIn, AreLineCountsOn, IsMissingIn};
 ghost use Rattle.upc_c.specs.inner.Numbered.{IsNumbered};
 
@@ -73,9 +73,8 @@ pub extern "C" fn upc_card_shape(
     shape: &mut UpcShape,
     fault: &mut UpcFault,
 ) -> u32
-    ensures number { result ≡ call_result fault.new }
+    ensures answers { AnswersCall result fault.new }
     ensures shape { result ≡ 0 → HasShape card.old shape.new }
-    ensures success { result ≡ 0 → fault.new ≡ no_fault }
     ensures refused { result ≢ 0 → (card_in card.old ≡ None) × (fault.new ≡ card_missing) }
     ensures kept { card_in card.new ≡ card_in card.old }
     ensures left { result ≢ 0 → shape.new ≡ shape.old }
@@ -100,9 +99,8 @@ pub extern "C" fn upc_card_journal(
     cells: &mut usize,
     fault: &mut UpcFault,
 ) -> u32
-    ensures number { result ≡ call_result fault.new }
+    ensures answers { AnswersCall result fault.new }
     ensures cells { result ≡ 0 → HasInJournal card.old path channel cells.new }
-    ensures success { result ≡ 0 → fault.new ≡ no_fault }
     ensures refused { result ≢ 0 → IsLookUpFault card.old path channel fault.new }
     ensures kept { card_in card.new ≡ card_in card.old }
     ensures left { result ≢ 0 → cells.new ≡ cells.old }
@@ -127,9 +125,8 @@ pub extern "C" fn upc_card_counts(
     counts: &mut UpcCounts,
     fault: &mut UpcFault,
 ) -> u32
-    ensures number { result ≡ call_result fault.new }
+    ensures answers { AnswersCall result fault.new }
     ensures counts { result ≡ 0 → HasCounted card.old path channel counts.new }
-    ensures success { result ≡ 0 → fault.new ≡ no_fault }
     ensures refused { result ≢ 0 → IsLookUpFault card.old path channel fault.new }
     ensures kept { card_in card.new ≡ card_in card.old }
     ensures left { result ≢ 0 → counts.new ≡ counts.old }

@@ -7,7 +7,7 @@ ghost use Rattle.card_core.specs.declared.step.Step.TheVariants.{Release, Cut};
 ghost use Rattle.upc_c.specs.CardDesk.{IsDeskFault};
 ghost use Rattle.upc_c.specs.CardHandle.{CardTakes, card_in};
 ghost use Rattle.upc_c.specs.CardJournal.{IsCut, IsHandedOut, IsJournalFault, IsReleased, journal_for_c};
-ghost use Rattle.upc_c.specs.Faults.{call_result, no_fault};
+ghost use Rattle.upc_c.specs.Faults.{AnswersCall};
 ghost use Rattle.upc_c.specs.inner.HandOut.{IsLongerIn, IsLongerOn, IsShortIn, replied, handing_reply, step_of};
 ghost use Rattle.upc_c.specs.inner.ReachedCore.{IsReachedCore};
 ghost use Rattle.upc_c.specs.inner.Numbered.{IsNumbered};
@@ -168,9 +168,8 @@ pub extern "C" fn upc_card_release(
     journal: &mut UpcJournal,
     fault: &mut UpcFault,
 ) -> u32
-    ensures number { result ≡ call_result fault.new }
+    ensures answers { AnswersCall result fault.new }
     ensures released { result ≡ 0 → IsReleased card.old card.new path channel room.old room.new journal.new }
-    ensures success { result ≡ 0 → fault.new ≡ no_fault }
     ensures refused { result ≢ 0 → IsJournalFault card.old card.new path channel Release room.old fault.new }
     ensures left { result ≢ 0 → card_in card.new ≡ card_in card.old }
     ensures room_left { result ≢ 0 → room.new ≡ room.old }
@@ -195,9 +194,8 @@ pub extern "C" fn upc_card_cut(
     journal: &mut UpcJournal,
     fault: &mut UpcFault,
 ) -> u32
-    ensures number { result ≡ call_result fault.new }
+    ensures answers { AnswersCall result fault.new }
     ensures cut { result ≡ 0 → IsCut card.old card.new path channel room.old room.new journal.new }
-    ensures success { result ≡ 0 → fault.new ≡ no_fault }
     ensures refused { result ≢ 0 → IsJournalFault card.old card.new path channel Cut room.old fault.new }
     ensures left { result ≢ 0 → card_in card.new ≡ card_in card.old }
     ensures room_left { result ≢ 0 → room.new ≡ room.old }

@@ -5,7 +5,7 @@ ghost use Rattle.card_core.specs.declared.reply.Reply.TheVariants.{Loaded};
 ghost use Rattle.card_core.specs.declared.step.Step.TheVariants.{Load};
 ghost use Rattle.upc_c.specs.CardDesk.{IsDeskFault, IsLoaded, IsLoadFault};
 ghost use Rattle.upc_c.specs.CardHandle.{CardTakes, card_in};
-ghost use Rattle.upc_c.specs.Faults.{call_result, no_fault, ragged};
+ghost use Rattle.upc_c.specs.Faults.{AnswersCall, ragged};
 ghost use Rattle.upc_c.specs.inner.Numbered.{IsNumbered};
 
 use crate::card::UpcCard;
@@ -45,9 +45,8 @@ pub extern "C" fn upc_card_load(
     id: &mut UpcId,
     fault: &mut UpcFault,
 ) -> u32
-    ensures number { result ≡ call_result fault.new }
+    ensures answers { AnswersCall result fault.new }
     ensures loaded { result ≡ 0 → IsLoaded card.old card.new octets.now id.new }
-    ensures success { result ≡ 0 → fault.new ≡ no_fault }
     ensures refused { result ≢ 0 → IsLoadFault card.old card.new octets.now fault.new }
     ensures ragged { 0 < length octets.now % 8 → fault.new ≡ ragged }
     ensures left { result ≢ 0 → card_in card.new ≡ card_in card.old }

@@ -3,7 +3,7 @@
 ghost use Rattle.std.specs.Prelude.{◌≡◌, ◌≢◌, ◌^◌, ◌≤◌, ◌==◌, not, IfOk, IfErr};
 ghost use Rattle.leaky.specs.declared.contract.Contract.{Contract as TheContract};
 ghost use Rattle.upc_c.specs.GivenContract.{IsGivenContract, AreAContract};
-ghost use Rattle.upc_c.specs.Faults.{call_result, no_fault};
+ghost use Rattle.upc_c.specs.Faults.{AnswersCall};
 ghost use Rattle.upc_c.specs.Judging.{AreLevels, IsJudged, IsMeterFault, number_of_verdict};
 ghost use Rattle.upc_c.specs.inner.Numbered.{IsNumbered};
 
@@ -92,11 +92,10 @@ pub extern "C" fn upc_judge(
     verdict: &mut u32,
     fault: &mut UpcFault,
 ) -> u32
-    ensures number { result ≡ call_result fault.new }
+    ensures answers { AnswersCall result fault.new }
     ensures judged { result ≡ 0 → (it : TheContract) × IsGivenContract contract.now it
         × AreLevels levels.old × (moment ≤ 2 ^ 62)
         × IsJudged it levels.old (not (clp == 0)) moment verdict.new levels.new }
-    ensures success { result ≡ 0 → fault.new ≡ no_fault }
     ensures refused { result ≢ 0 → IsMeterFault contract.now levels.old moment fault.new }
     ensures left { result ≢ 0 → levels.new ≡ levels.old }
     ensures verdict_left { result ≢ 0 → verdict.new ≡ verdict.old }

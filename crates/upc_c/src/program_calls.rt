@@ -5,13 +5,13 @@ ghost use Rattle.bpf_code.specs.OctetSpelling.{SpellsCode};
 ghost use Rattle.bpf_code.specs.declared.instr.Instr.{Instr};
 ghost use Rattle.bpf_interp.specs.Value.{Value};
 ghost use Rattle.bpf_verify.specs.Accepted.{IsAccepted};
-ghost use Rattle.upc_c.specs.Faults.{call_result, no_fault};
+ghost use Rattle.upc_c.specs.Faults.{AnswersCall};
 ghost use Rattle.upc_c.specs.ProgramHandle.{IsNoProgram, IsRunFault, program_in, program_there};
 ghost use Rattle.upc_c.specs.inner.Numbered.{IsNumbered};
 
 use crate::cell::cell_of;
 use crate::fault::{OF_THE_CALL, UpcFault, fault_at, report, report_success};
-use crate::hidden::HiddenProgram;
+use crate::hidden::{Hidden, HiddenProgram};
 use crate::library_faults::out_of_memory;
 use crate::program::UpcProgram;
 use crate::program_octets::accepted;
@@ -42,10 +42,9 @@ pub extern "C" fn upc_program_new(
     program: &mut UpcProgram,
     fault: &mut UpcFault,
 ) -> u32
-    ensures number { result ≡ call_result fault.new }
+    ensures answers { AnswersCall result fault.new }
     ensures made { result ≡ 0 → (program_in program.old ≡ None)
         × ((code : List Instr) × SpellsCode octets.now code × IsAccepted code × (program_in program.new ≡ Some code)) }
-    ensures success { result ≡ 0 → fault.new ≡ no_fault }
     ensures there { program_in program.old ≢ None → fault.new ≡ program_there }
     ensures refused { result ≢ 0 → program_in program.old ≡ None → IsNoProgram octets.now fault.new }
     ensures left { result ≢ 0 → program.new ≡ program.old }
@@ -57,7 +56,7 @@ pub extern "C" fn upc_program_new(
         Ok(made) => {
             *program = UpcProgram {
                 live: 1,
-                inner: HiddenProgram::of(made),
+                inner: HiddenProgram::of(Hidden::of(made)),
             };
             report_success(fault)
         }
@@ -77,11 +76,11 @@ pub extern "C" fn upc_program_free(alloc: Global, program: &mut UpcProgram)
         program,
         UpcProgram {
             live: 0,
-            inner: HiddenProgram::none(alloc),
+            inner: HiddenProgram::of(Hidden::none(alloc)),
         },
     );
     let UpcProgram { live: _, inner } = old;
-    drop(inner.into_box());
+    drop(inner.into_hidden().into_box());
 }
 
 /// Runs the program on a cell of 52 octets. Returns the result of the error, or 0.
@@ -94,11 +93,10 @@ pub extern "C" fn upc_program_run(
     steps: &mut u32,
     fault: &mut UpcFault,
 ) -> u32
-    ensures number { result ≡ call_result fault.new }
+    ensures answers { AnswersCall result fault.new }
     ensures ran { result ≡ 0 → (length octets.now ≡ 52) × ((code : List Instr) × (program_in program.old ≡ Some code)
         × IsAccepted code × Value code octets.now value.new steps.new) }
     ensures kept { program_in program.new ≡ program_in program.old }
-    ensures success { result ≡ 0 → fault.new ≡ no_fault }
     ensures refused { result ≢ 0 → IsRunFault (program_in program.old) octets.now fault.new }
     ensures left { result ≢ 0 → (value.new ≡ value.old) × (steps.new ≡ steps.old) }
 {
@@ -113,15 +111,15 @@ pub extern "C" fn upc_program_run(
         program,
         UpcProgram {
             live: 0,
-            inner: HiddenProgram::none(alloc),
+            inner: HiddenProgram::of(Hidden::none(alloc)),
         },
     );
     let UpcProgram { live: _, inner } = old;
-    let boxed = inner.into_box();
+    let boxed = inner.into_hidden().into_box();
     let outcome = run(&boxed, &cell);
     *program = UpcProgram {
         live: 1,
-        inner: HiddenProgram::of(boxed),
+        inner: HiddenProgram::of(Hidden::of(boxed)),
     };
     *value = outcome.value;
     *steps = outcome.steps;

@@ -3,7 +3,7 @@
 ghost use Rattle.std.specs.Prelude.{◌≡◌, ◌≢◌, ◌⊎◌, ◌<◌, ◌%◌, ℕ, List, length, IfOk, IfErr, IsErr};
 ghost use Rattle.bpf_code.specs.OctetSpelling.{SpellsCode};
 ghost use Rattle.bpf_verify.specs.Accepted.{IsAccepted};
-ghost use Rattle.upc_c.specs.Faults.{call_result, no_fault, out_of_memory, ragged};
+ghost use Rattle.upc_c.specs.Faults.{AnswersCall, out_of_memory, ragged};
 ghost use Rattle.upc_c.specs.Programs.{IsAsmRefusal, IsAssembled, IsCheckRefusal, IsDecodeRefusal, IsListRefusal, IsListed, IsBufferFault, IsProgram, IsWritten};
 ghost use Rattle.upc_c.specs.inner.Numbered.{IsNumbered};
 
@@ -93,9 +93,8 @@ fn listed(alloc: Global, octets: &[u8]) -> Result<Vec<u8>, UpcFault>
 /// Checks whether the octets spell a program. Returns the result of the error, or 0.
 #[unsafe(no_mangle)]
 pub extern "C" fn upc_check(alloc: Global, program: &[u8], fault: &mut UpcFault) -> u32
-    ensures number { result ≡ call_result fault.new }
+    ensures answers { AnswersCall result fault.new }
     ensures accepted { result ≡ 0 → IsProgram program.now }
-    ensures success { result ≡ 0 → fault.new ≡ no_fault }
     ensures refused { result ≢ 0 → IsDecodeRefusal program.now fault.new ⊎ IsCheckRefusal program.now fault.new }
     ensures ragged { 0 < length program.now % 8 → fault.new ≡ ragged }
 {
@@ -115,10 +114,9 @@ pub extern "C" fn upc_assemble(
     count: &mut usize,
     fault: &mut UpcFault,
 ) -> u32
-    ensures number { result ≡ call_result fault.new }
+    ensures answers { AnswersCall result fault.new }
     ensures assembled { result ≡ 0 → (octets : List ℕ) × IsAssembled source.now octets
         × IsWritten octets room.old room.new count.new }
-    ensures success { result ≡ 0 → fault.new ≡ no_fault }
     ensures refused { result ≢ 0 → IsAsmRefusal source.now fault.new ⊎ (fault.new ≡ out_of_memory)
         ⊎ ((octets : List ℕ) × IsAssembled source.now octets × IsBufferFault octets room.old fault.new) }
     ensures left { result ≢ 0 → room.new ≡ room.old }
@@ -140,10 +138,9 @@ pub extern "C" fn upc_listing(
     count: &mut usize,
     fault: &mut UpcFault,
 ) -> u32
-    ensures number { result ≡ call_result fault.new }
+    ensures answers { AnswersCall result fault.new }
     ensures listed { result ≡ 0 → (text : List ℕ) × IsListed program.now text
         × IsWritten text room.old room.new count.new }
-    ensures success { result ≡ 0 → fault.new ≡ no_fault }
     ensures refused { result ≢ 0 → IsDecodeRefusal program.now fault.new ⊎ IsListRefusal program.now fault.new
         ⊎ ((text : List ℕ) × IsListed program.now text × IsBufferFault text room.old fault.new) }
     ensures ragged { 0 < length program.now % 8 → fault.new ≡ ragged }

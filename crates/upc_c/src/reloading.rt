@@ -6,7 +6,7 @@ ghost use Rattle.card_core.specs.declared.reply.Reply.TheVariants.{Reloaded, Ret
 ghost use Rattle.card_core.specs.declared.step.Step.TheVariants.{Reload, Retire};
 ghost use Rattle.upc_c.specs.CardDesk.{IsConnectionFault, IsDeskFault, IsReloaded, IsRetired, id_of};
 ghost use Rattle.upc_c.specs.CardHandle.{CardTakes, card_in};
-ghost use Rattle.upc_c.specs.Faults.{call_result, no_fault};
+ghost use Rattle.upc_c.specs.Faults.{AnswersCall};
 ghost use Rattle.upc_c.specs.inner.Numbered.{IsNumbered};
 
 use crate::card::UpcCard;
@@ -56,9 +56,8 @@ pub extern "C" fn upc_card_retire(
     program: &UpcId,
     fault: &mut UpcFault,
 ) -> u32
-    ensures number { result ≡ call_result fault.new }
+    ensures answers { AnswersCall result fault.new }
     ensures retired { result ≡ 0 → IsRetired card.old card.new program.now }
-    ensures success { result ≡ 0 → fault.new ≡ no_fault }
     ensures refused { result ≢ 0 → IsDeskFault card.old card.new (Retire (id_of program.now)) fault.new }
     ensures left { result ≢ 0 → card_in card.new ≡ card_in card.old }
 {
@@ -80,9 +79,8 @@ pub extern "C" fn upc_card_reload(
     earlier: &mut UpcId,
     fault: &mut UpcFault,
 ) -> u32
-    ensures number { result ≡ call_result fault.new }
+    ensures answers { AnswersCall result fault.new }
     ensures reloaded { result ≡ 0 → IsReloaded card.old card.new path channel program.now earlier.new }
-    ensures success { result ≡ 0 → fault.new ≡ no_fault }
     ensures refused { result ≢ 0 → IsConnectionFault card.old card.new path channel
         (λ vc. Reload vc (id_of program.now)) fault.new }
     ensures left { result ≢ 0 → card_in card.new ≡ card_in card.old }

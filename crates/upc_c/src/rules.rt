@@ -1,7 +1,7 @@
 //! Rules for classes of cells, compiled to programs.
 
 ghost use Rattle.std.specs.Prelude.{◌≡◌, ◌≢◌, ◌⊎◌, ℕ, List, IfOk, IfErr};
-ghost use Rattle.upc_c.specs.Faults.{call_result, no_fault, out_of_memory};
+ghost use Rattle.upc_c.specs.Faults.{AnswersCall, out_of_memory};
 ghost use Rattle.upc_c.specs.Programs.{IsBufferFault, IsWritten};
 ghost use Rattle.upc_c.specs.CompiledRules.{IsCompiled, IsRulesRefusal};
 ghost use Rattle.upc_c.specs.inner.Numbered.{IsNumbered};
@@ -39,10 +39,9 @@ pub extern "C" fn upc_rules_compile(
     count: &mut usize,
     fault: &mut UpcFault,
 ) -> u32
-    ensures number { result ≡ call_result fault.new }
+    ensures answers { AnswersCall result fault.new }
     ensures compiled { result ≡ 0 → (octets : List ℕ) × IsCompiled rules.now octets
         × IsWritten octets room.old room.new count.new }
-    ensures success { result ≡ 0 → fault.new ≡ no_fault }
     ensures refused { result ≢ 0 → IsRulesRefusal rules.now fault.new ⊎ (fault.new ≡ out_of_memory)
         ⊎ ((octets : List ℕ) × IsCompiled rules.now octets × IsBufferFault octets room.old fault.new) }
     ensures left { result ≢ 0 → room.new ≡ room.old }

@@ -5,7 +5,7 @@ ghost use Rattle.card_core.specs.declared.reply.Reply.TheVariants.{SetUp};
 ghost use Rattle.card_core.specs.declared.step.Step.TheVariants.{Setup};
 ghost use Rattle.upc_c.specs.CardDesk.{HasNoPath, IsDeskFault, IsSetUp, IsSetupFault, IsVc, path_too_large};
 ghost use Rattle.upc_c.specs.CardHandle.{CardTakes, card_in, card_missing};
-ghost use Rattle.upc_c.specs.Faults.{call_result, no_fault, out_of_memory};
+ghost use Rattle.upc_c.specs.Faults.{AnswersCall, out_of_memory};
 ghost use Rattle.upc_c.specs.inner.Numbered.{IsNumbered};
 
 use crate::card::UpcCard;
@@ -66,9 +66,8 @@ pub extern "C" fn upc_card_setup(
     contracts: &[UpcContract],
     fault: &mut UpcFault,
 ) -> u32
-    ensures number { result ≡ call_result fault.new }
+    ensures answers { AnswersCall result fault.new }
     ensures set { result ≡ 0 → IsSetUp card.old card.new path channel program.now contracts.now }
-    ensures success { result ≡ 0 → fault.new ≡ no_fault }
     ensures refused { result ≢ 0
         → IsSetupFault card.old card.new path channel program.now contracts.now fault.new }
     ensures left { result ≢ 0 → fault.new ≢ out_of_memory → card_in card.new ≡ card_in card.old }

@@ -5,7 +5,7 @@ ghost use Rattle.card_core.specs.ConnectionState.{HasLevelsForEach};
 ghost use Rattle.upc_c.specs.CardHandle.{card_in};
 ghost use Rattle.upc_c.specs.CardInspection.{IsLookUpFault};
 ghost use Rattle.upc_c.specs.CardState.{HasState, IsStateFault};
-ghost use Rattle.upc_c.specs.Faults.{call_result, no_fault, no_room};
+ghost use Rattle.upc_c.specs.Faults.{AnswersCall, no_room};
 ghost use Rattle.upc_c.specs.inner.Numbered.{IsNumbered};
 ghost use Rattle.upc_c.specs.inner.LineCounts.{IsMissingIn};
 ghost use Rattle.upc_c.specs.inner.WrittenState.{AreMetersOf, IsStateOf, IsStateOn, IsWrittenState, levels_for_c, state_for_c};
@@ -161,9 +161,8 @@ pub extern "C" fn upc_card_state(
     state: &mut UpcState,
     fault: &mut UpcFault,
 ) -> u32
-    ensures number { result ≡ call_result fault.new }
+    ensures answers { AnswersCall result fault.new }
     ensures state { result ≡ 0 → HasState card.old path channel room.old room.new state.new }
-    ensures success { result ≡ 0 → fault.new ≡ no_fault }
     ensures refused { result ≢ 0 → IsStateFault card.old path channel room.old fault.new }
     ensures kept { card_in card.new ≡ card_in card.old }
     ensures room_left { result ≢ 0 → room.new ≡ room.old }

@@ -10,7 +10,7 @@ ghost use Rattle.upc_c.specs.inner.WithCore.{IsCalledOn, KeepsReached};
 use crate::card::UpcCard;
 use crate::desk_fault::card_missing;
 use crate::fault::UpcFault;
-use crate::hidden::HiddenCard;
+use crate::hidden::{Hidden, HiddenCard};
 use card_core::{Core, Shape};
 use std::alloc::Global;
 use std::mem::replace;
@@ -30,11 +30,11 @@ pub(crate) fn take_core(alloc: Global, card: &mut UpcCard) -> Option<Box<Core>>
         card,
         UpcCard {
             live: 0,
-            inner: HiddenCard::none(alloc),
+            inner: HiddenCard::of(Hidden::none(alloc)),
         },
     );
     let UpcCard { live: _, inner } = old;
-    Some(inner.into_box())
+    Some(inner.into_hidden().into_box())
 }
 
 /// Puts the core back.
@@ -44,7 +44,7 @@ pub(crate) fn put_core(card: &mut UpcCard, core: Box<Core>)
 {
     *card = UpcCard {
         live: 1,
-        inner: HiddenCard::of(core),
+        inner: HiddenCard::of(Hidden::of(core)),
     };
 }
 

@@ -20,11 +20,11 @@ two_numbers word other = with_both (λ one another. (one, another)) (number_of_d
 
 -- The shape with these numbers and this side.
 abbrev pub shape_with : Side → ℕ × ℕ → ℕ × ℕ → Shape
-shape_with side store queues = record {
-  programs = store.0;
-  lines = store.1;
-  ports = queues.0;
-  journal = queues.1;
+shape_with side sizes ports = record {
+  programs = sizes.0;
+  lines = sizes.1;
+  ports = ports.0;
+  journal = ports.1;
   side = side;
 }
 

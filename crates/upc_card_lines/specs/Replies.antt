@@ -15,7 +15,7 @@ use Rattle.upc_card_lines.specs.CardFaults.{arrive_fault, desk_fault}
 -- The line of a cell that arrived on this connection, if the program that named its contract has a name with this
 -- number. NoMemory has none.
 abbrev pub numbered_answer_text : ℕ → Vc → Answer → Option (List ℕ)
-numbered_answer_text name vc (answer.Judged number count moment value program verdict leaving) =
+numbered_answer_text name vc (answer.Judged line_number number moment value program verdict leaving) =
     Some (verdict_text verdict (judging_text vc name value) leaving)
 numbered_answer_text name vc answer.NoConnection = Some (arrive_fault (codes "1 NoConnection"))
 numbered_answer_text name vc answer.Released = Some (arrive_fault (codes "2 Released"))
@@ -27,7 +27,7 @@ numbered_answer_text name vc answer.NoMemory = None
 
 -- The number in the name of the program that named a judged cell's contract. For a cell that isn't judged it is 0.
 abbrev pub number_of_judging : List Id → Answer → ℕ
-number_of_judging names (answer.Judged number count moment value program verdict leaving) = number_of_program names program
+number_of_judging names (answer.Judged line_number number moment value program verdict leaving) = number_of_program names program
 number_of_judging names _ = 0
 
 -- The line of a cell that arrived on this connection, if these are the ids of the programs.

@@ -48,7 +48,7 @@ fn sized(programs: &[u8], lines: &[u8], ports: &[u8], journal: &[u8], side: Side
 }
 
 /// Returns the shape of the words after `card`.
-fn shape_behind(line: &[u8]) -> Option<Shape>
+fn shape_after(line: &[u8]) -> Option<Shape>
     ensures { result ≡ shape_of (words_of line.now) }
 {
     let Some((programs, rest)) = first_word(line) else {
@@ -83,7 +83,7 @@ pub fn read_card(line: &[u8]) -> Option<Shape>
         return None;
     };
     if name == b"card".as_slice() {
-        shape_behind(rest)
+        shape_after(rest)
     } else {
         None
     }

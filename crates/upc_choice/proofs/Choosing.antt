@@ -16,7 +16,7 @@ use Rattle.clap.specs.declared.parser.matches.ArgMatches.TheViews.{out-ArgMatche
 use Rattle.clap.specs.declared.parser.matches.SubCommand.{SubCommand}
 use Rattle.clap.proofs.FaultLemmas.{fails_as}
 use Rattle.clap.proofs.OnLiterals.{clap_on_literals}
-use Rattle.upc_choice.specs.Choice.{NamesSubcommand, IsChoiceOf, IsChosen, behind_name, choice_named, faults_in, subcommand_in, subcommands, upc_app, with_name}
+use Rattle.upc_choice.specs.Choice.{NamesSubcommand, IsChoiceOf, IsChosen, with_own_name, choice_named, faults_in, subcommand_in, subcommands, upc_app, with_name}
 use Rattle.upc_choice.specs.Stopping.{IsStopFor, StopsAt}
 use Rattle.std.specs.Str.{bytes_eq}
 use Rattle.std.proofs.lemmas.Slice.Eq.{bytes_eq-Decides}
@@ -36,7 +36,7 @@ pub upc_is_free : is_simple_and_free upc_app ≡ true
 unfolding upc_app with_name clap_on_literals
 upc_is_free = refl
 
-pub faults_at : {T : Type 0} (a : App) (words given : List Text) (r : Result T Error) → a ≡ upc_app → words ≡ behind_name given
+pub faults_at : {T : Type 0} (a : App) (words given : List Text) (r : Result T Error) → a ≡ upc_app → words ≡ with_own_name given
     → (is_simple_and_free a ≡ true → FailsBy (fault_of a words) r) → FailsBy (faults_in given) r
 unfolding faults_in
 faults_at a words given r is all kinds = fails_as r _ _ (ap₂ fault_of is all) (kinds (ap is_simple_and_free is ∙ upc_is_free))
@@ -46,7 +46,7 @@ module _ {Z : Type 0} where
   name_of_rows (Some b) = refl
   name_of_rows None = refl
 
-pub name_at : (a : App) (words given : List Text) (m : ArgMatches) (name : Option Text) → a ≡ upc_app → words ≡ behind_name given → name ≡ subcommand_name_of m
+pub name_at : (a : App) (words given : List Text) (m : ArgMatches) (name : Option Text) → a ≡ upc_app → words ≡ with_own_name given → name ≡ subcommand_name_of m
     → HasMatchesOf a words m → name ≡ subcommand_in given
 unfolding subcommand_in
 name_at a words given m name is all met matches =
@@ -70,7 +70,7 @@ upc_offers_help : (built upc_app).top.disable_help_subcommand ≡ false
 unfolding upc_app with_name clap_on_literals
 upc_offers_help = refl
 
-words_after : (given : List Text) → argument_words upc_app (behind_name given) ≡ given
+words_after : (given : List Text) → argument_words upc_app (with_own_name given) ≡ given
 unfolding upc_app with_name
 words_after given = refl
 
@@ -78,7 +78,7 @@ found_in : (given : List Text) → faults_in given ≡ [] → Finds is_named giv
 unfolding faults_in subcommand_in
 found_in given none =
     subst (λ words. Finds is_named words (subcommand_in given)) (words_after given)
-    (finds is_named upc_app (behind_name given) upc_is_plain upc_has_help_alone upc_offers_help none)
+    (finds is_named upc_app (with_own_name given) upc_is_plain upc_has_help_alone upc_offers_help none)
 
 named_by : (given : List Text) (found : Option Text) → Finds is_named given found → IfSome found (λ name. is_named name ≡ true)
 named_by given found (inl h) = subst (λ o. IfSome o (λ name. is_named name ≡ true)) (sym h.1) tt

@@ -187,8 +187,8 @@ first_word s names word alone e = go (subcommand_met names idle word) e
 mark_ends : (s : Shape) (names : Names) (w : Walk) (words : List Text) → has_requests_alone s ≡ true → w.stopped ≡ None → w.is_trailing ≡ true
     → walk_fault s names w words ≡ [] → words ≡ []
 unfolding walk_fault
-mark_ends s names w [] alone going behind e = refl
-mark_ends s names w (word ∷ rest) alone going behind e = absurd (go w.stopped w.is_trailing going behind (neither _ _ e).0)
+mark_ends s names w [] alone going rest_after e = refl
+mark_ends s names w (word ∷ rest) alone going rest_after e = absurd (go w.stopped w.is_trailing going rest_after (neither _ _ e).0)
   where
     go : (stopped : Option (Text × List Text)) (is_trailing : Bool) → stopped ≡ None → is_trailing ≡ true
         → cond (is_some stopped) [] (or_else (word_fault s names is_trailing w.waiting word w.held)

@@ -22,16 +22,16 @@ unfoldable pub upc_app : App
 upc_app = fold (λ app row. with_name app row.0) (new_app (codes "upc")) subcommands
 
 -- The command line as clap reads it: the program's name, then the words.
-abbrev pub behind_name : List Text → List Text
-behind_name words = codes "upc" ∷ words
+abbrev pub with_own_name : List Text → List Text
+with_own_name words = codes "upc" ∷ words
 
 -- The name of the subcommand in the words, if there is one.
 unfoldable pub subcommand_in : List Text → Option Text
-subcommand_in words = option_map (λ found. found.0) (subcommand_of upc_app (behind_name words))
+subcommand_in words = option_map (λ found. found.0) (subcommand_of upc_app (with_own_name words))
 
 -- The kinds of error in the words; a request for help is one of them. The list is empty if clap accepts the words.
 unfoldable pub faults_in : List Text → Kinds
-faults_in words = fault_of upc_app (behind_name words)
+faults_in words = fault_of upc_app (with_own_name words)
 
 -- The choice with this name.
 abbrev pub choice_named : Text → Option Choice

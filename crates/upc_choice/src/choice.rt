@@ -5,7 +5,7 @@ ghost use Rattle.std.specs.String.{string_bytes};
 ghost use Rattle.clap.specs.Values.{kind_of};
 ghost use Rattle.clap.specs.Simple.{app_of, new_app};
 ghost use Rattle.clap.specs.Kinds.{FailsBy};
-ghost use Rattle.upc_choice.specs.Choice.{NamesSubcommand, IsChoiceOf, IsChosen, behind_name, choice_named, faults_in};
+ghost use Rattle.upc_choice.specs.Choice.{NamesSubcommand, IsChoiceOf, IsChosen, with_own_name, choice_named, faults_in};
 ghost use Rattle.upc_choice.specs.Choice.{subcommand_in, upc_app, with_name};
 ghost use Rattle.upc_choice.specs.Stopping.{IsStopFor, StopsAt};
 
@@ -50,7 +50,7 @@ pub fn choose(alloc: Global, words: Vec<String>) -> Result<Choice, Stop>
     ensures granted { (choice : Choice) → NamesSubcommand (map string_bytes words.items) choice
         → IfErr result (λ stop. stop ≡ Stop.NoMemory) }
 {
-    let Ok(words) = behind_own_name(alloc, words) else {
+    let Ok(words) = with_own_name_first(alloc, words) else {
         return Err(Stop::NoMemory);
     };
     let Ok(command) = own_command(alloc) else {
@@ -61,8 +61,8 @@ pub fn choose(alloc: Global, words: Vec<String>) -> Result<Choice, Stop>
 }
 
 /// Puts the program's name before the words, because `clap` takes the first word as the name.
-fn behind_own_name(alloc: Global, mut words: Vec<String>) -> Result<Vec<String>, AllocError>
-    ensures { IfOk result (λ all. map string_bytes all.items ≡ behind_name (map string_bytes words.items)) }
+fn with_own_name_first(alloc: Global, mut words: Vec<String>) -> Result<Vec<String>, AllocError>
+    ensures { IfOk result (λ all. map string_bytes all.items ≡ with_own_name (map string_bytes words.items)) }
 {
     let name = String::from_str(alloc, "upc")?;
     words.insert(0, name)?;
@@ -125,9 +125,9 @@ fn with_subcommand<'a>(
 /// Returns the name of the subcommand in the words, if `clap` accepts them.
 fn found_in<'a>(command: Command<'a>, words: &'a [String]) -> Result<Option<&'a str>, Error>
     requires { app_of command ≡ upc_app }
-    ensures kinds { (given : List (List ℕ)) → map string_bytes words.entry.now ≡ behind_name given
+    ensures kinds { (given : List (List ℕ)) → map string_bytes words.entry.now ≡ with_own_name given
         → FailsBy (faults_in given) result }
-    ensures name { (given : List (List ℕ)) → map string_bytes words.entry.now ≡ behind_name given
+    ensures name { (given : List (List ℕ)) → map string_bytes words.entry.now ≡ with_own_name given
         → IfOk result (λ name. option_map (λ text. text.now) name ≡ subcommand_in given) }
 {
     match command.try_get_matches_from(words) {

@@ -7,7 +7,7 @@ ghost use Rattle.upc_dealing.specs.CellLine.{IsCellLine};
 
 use std::alloc::{AllocError, Global};
 use upc_cell::{Cell, Side};
-use upc_script::{Command, read_cell, read_command};
+use upc_script::{Command, read_command, read_common_cell};
 use upc_words::{CellWord, cell_of_word};
 
 /// The reason why a cell line has no cell.
@@ -50,7 +50,7 @@ pub fn read_by_words(alloc: Global, side: Side, line: &[u8]) -> Result<CellLine,
 pub fn read_cell_line(alloc: Global, side: Side, line: &[u8]) -> Result<CellLine, AllocError>
     ensures { IfOk result (IsCellLine (command_of side (words_of line.now))) }
 {
-    match read_cell(line) {
+    match read_common_cell(line) {
         Some(arrival) => Ok(CellLine::Comes(arrival.moment, arrival.cell)),
         None => read_by_words(alloc, side, line),
     }

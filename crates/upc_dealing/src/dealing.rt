@@ -8,7 +8,7 @@ use crate::script_lines::first_line;
 use std::alloc::{AllocError, Global};
 use text_io::first_word;
 use upc_cell::{Cell, Side, Vc};
-use upc_script::{named_command, read_cell};
+use upc_script::{named_command, read_common_cell};
 
 /// The number of channels of a path.
 const CHANNELS: usize = 65536;
@@ -151,7 +151,7 @@ impl<'a> Deal<'a> {
         requires { 0 < length self.old.arrivals.items }
         ensures { OnOk result (DealsLine side line.now (dealt self.old) (dealt self.new)) }
     {
-        match read_cell(line) {
+        match read_common_cell(line) {
             Some(arrival) => self.deal_cell(side, &arrival.cell, line),
             None => self.deal_by_words(alloc, side, line),
         }

@@ -29,7 +29,7 @@ pub use reason::{Knowing, Reasoned, Work};
 pub use setup_file::{SetupFiles, Unreadable, read_setup};
 use std::io::IsTerminal;
 use std::process::ExitCode;
-use text_io::Giving;
+use text_io::WriterOutput;
 use upc_choice::{OfProcess, Stop, words_after_name};
 
 fn main(rt: HostRuntime) -> ExitCode {
@@ -46,14 +46,14 @@ fn main(rt: HostRuntime) -> ExitCode {
     }
     let shows = reads_capture(&chosen) && rt.stderr().is_terminal() && !rt.stdout().is_terminal();
     let shown_on = if shows {
-        Some(Giving::new(rt.stderr()))
+        Some(WriterOutput::new(rt.stderr()))
     } else {
         None
     };
     let stdin = Knowing::new(rt.alloc(), Work::Reading, rt.stdin());
     let mut input = LookedAt::new(rt.alloc(), Counted::new(rt.alloc(), stdin, shown_on));
     let mut output = Knowing::new(rt.alloc(), Work::Writing, rt.stdout());
-    let mut errors = Giving::new(rt.stderr());
+    let mut errors = WriterOutput::new(rt.stderr());
     let status = carry_out(
         &rt,
         rt.alloc(),

@@ -14,7 +14,7 @@ use Rattle.upc_cell.specs.declared.side.Side.TheVariants.{Uni, Nni}
 use Rattle.upc_cell.specs.declared.vc.Vc.{Vc}
 use Rattle.line_record.specs.Tally.{nothing}
 use Rattle.line_record.specs.declared.tally.Tally.{Tally}
-use Rattle.card_core.specs.Sections.{judgement_in}
+use Rattle.card_core.specs.Sections.{judged_in_answer}
 use Rattle.card_core.specs.Steps.{cell_after}
 use Rattle.card_core.specs.declared.answer.Answer.{Answer}
 use Rattle.card_core.specs.declared.answer.Answer.TheVariants.{Judged, NoConnection, Released, Stale, MomentTooLate, MomentBack, JournalFull, NoMemory}
@@ -60,7 +60,7 @@ same-judged (a ∷ b ∷ []) whole verdict judging = absurd (omega (arith, whole
 same-judged (a ∷ b ∷ c ∷ []) whole verdict judging = absurd (omega (arith, whole))
 same-judged (a ∷ b ∷ c ∷ d ∷ rest) whole verdict judging = same-verdict verdict judging a b c d rest
 
-same-answer : (all : List Id) (vc : Vc) (octets : List ℕ) (moment : ℕ) → length octets ≡ 52 → (answer : Answer) → IfSome (judgement_in answer) (IsJudgedAnswer octets moment)
+same-answer : (all : List Id) (vc : Vc) (octets : List ℕ) (moment : ℕ) → length octets ≡ 52 → (answer : Answer) → IfSome (judged_in_answer answer) (IsJudgedAnswer octets moment)
     → answer_text all vc (answer_kept (shown_cell (header_of octets)) (ruled answer)) ≡ answer_text all vc answer
 same-answer all vc octets moment whole (Judged line number when value program verdict leaving) judged =
     let judging = judging_text vc (number_of_program all program) value in

@@ -8,7 +8,7 @@ use Rattle.leaky.specs.declared.verdict.Verdict.TheVariants.{Pass, Tag, Discard,
 use Rattle.line_record.specs.declared.tally.Tally.{Tally}
 use Rattle.line_record.specs.Tally.{nothing, counted, plus, total}
 use Rattle.line_record.proofs.Public.{totals_join}
-use Rattle.card_core.specs.Sections.{JudgedView, judgement_in}
+use Rattle.card_core.specs.Sections.{JudgedView, judged_in_answer}
 use Rattle.card_core.specs.declared.answer.Answer.{Answer}
 use Rattle.card_core.specs.declared.answer.Answer.TheVariants.{Judged, NoConnection, Released, Stale, MomentTooLate, MomentBack, JournalFull, NoMemory}
 use Rattle.port_card.specs.Closing.{seats_total}
@@ -106,9 +106,9 @@ same-counts cell NoMemory = refl
 
 -- The counts of a seat after one more answer.
 pub seat-counted : (old new : Tally) (cell : List ℕ) (answer : Answer) (stored : AnsweredCell) → stored ≡ answered_cell cell answer
-    → new ≡ counts_after old (judgement_in answer) → new ≡ plus old (cell_counts stored)
+    → new ≡ counts_after old (judged_in_answer answer) → new ≡ plus old (cell_counts stored)
 seat-counted old new cell answer stored kept is =
-    is ∙ after-plus old (judgement_in answer) ∙ ap (plus old) (sym (same-counts cell answer)) ∙ ap (λ (c : AnsweredCell). plus old (cell_counts c)) (sym kept)
+    is ∙ after-plus old (judged_in_answer answer) ∙ ap (plus old) (sym (same-counts cell answer)) ∙ ap (λ (c : AnsweredCell). plus old (cell_counts c)) (sym kept)
 
 -- One more cell, or none.
 pub cells-more : (cells : List AnsweredCell) (one : Option AnsweredCell) → cells_counts (cells ++ option_to_list one) ≡ plus (cells_counts cells) (stored_counts one)

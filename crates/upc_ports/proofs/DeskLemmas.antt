@@ -20,7 +20,7 @@ use Rattle.upc_script.specs.ReplyTexts.{program_name}
 use Rattle.upc_card_lines.specs.AddsSome.{AddsSome}
 use Rattle.upc_script.specs.Rates.{first_wanted_fault}
 use Rattle.upc_script.specs.declared.script_words.Wanted.{Wanted}
-use Rattle.upc_script.specs.ScriptCommands.{Command, load, retire, setup, reload, release, cut, cell, command_of, cell_of_words, load_of, retire_of, setup_of, reload_of, release_of, cut_of, seat_of, setup_with, reload_with, only_vc, contracts_of}
+use Rattle.upc_script.specs.ScriptCommands.{Command, load, retire, setup, reload, release, cut, cell, command_of, cell_of_words, load_of, retire_of, setup_of, reload_of, release_of, cut_of, connection_and_program, setup_with, reload_with, only_vc, contracts_of}
 use Rattle.upc_script.specs.ScriptWords.{number_of_digits, program_of}
 use Rattle.line_record.specs.Tally.{nothing, plus}
 use Rattle.line_record.specs.declared.tally.Tally.{Tally}
@@ -136,13 +136,13 @@ setup-no side (path ∷ []) = refl
 setup-no side (path ∷ channel ∷ []) = refl
 setup-no side (path ∷ channel ∷ program ∷ contracts) =
     and_then-no (λ seat. option_map (setup_with seat) (contracts_of contracts))
-    (λ seat. mapped-no (setup_with seat) (λ wanted. refl) (contracts_of contracts)) (seat_of side path channel program)
+    (λ seat. mapped-no (setup_with seat) (λ wanted. refl) (contracts_of contracts)) (connection_and_program side path channel program)
 
 reload-no : (side : Side) (words : List (List ℕ)) → is_cell (reload_of side words) ≡ false
 reload-no side [] = refl
 reload-no side (path ∷ []) = refl
 reload-no side (path ∷ channel ∷ []) = refl
-reload-no side (path ∷ channel ∷ program ∷ []) = mapped-no reload_with (λ seat. refl) (seat_of side path channel program)
+reload-no side (path ∷ channel ∷ program ∷ []) = mapped-no reload_with (λ seat. refl) (connection_and_program side path channel program)
 reload-no side (path ∷ channel ∷ program ∷ more ∷ words) = refl
 
 release-no : (side : Side) (words : List (List ℕ)) → is_cell (release_of side words) ≡ false

@@ -52,7 +52,7 @@ pub unjudged_unnumbered : (names : List Id) (reason : Unjudged) → number_of_ju
 unjudged_unnumbered names unjudged.NoConnection = refl
 unjudged_unnumbered names unjudged.Released = refl
 unjudged_unnumbered names unjudged.Stale = refl
-unjudged_unnumbered names (unjudged.Refused TooLate) = refl
-unjudged_unnumbered names (unjudged.Refused (Back last)) = refl
-unjudged_unnumbered names (unjudged.Refused Full) = refl
-unjudged_unnumbered names (unjudged.Refused NoMemory) = refl
+unjudged_unnumbered names (unjudged.LineFault TooLate) = refl
+unjudged_unnumbered names (unjudged.LineFault (Back last)) = refl
+unjudged_unnumbered names (unjudged.LineFault Full) = refl
+unjudged_unnumbered names (unjudged.LineFault NoMemory) = refl

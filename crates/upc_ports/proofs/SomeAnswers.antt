@@ -117,8 +117,8 @@ line-some side all names (Some command) = command-some side all names command
 
 each-some : (side : Side) (all : List Id) (names : List Id) (lines : List (List ℕ)) → (text : List ℕ) × AnswersEach side all lines names text names nothing
 each-some side all names [] = ([], (refl, refl, refl))
-each-some side all names (line_content ∷ lines) =
-    let here = line-some side all names (command_of side (words_of line_content)) in
+each-some side all names (content ∷ lines) =
+    let here = line-some side all names (command_of side (words_of content)) in
     let later = each-some side all names lines in (here.0 ++ later.0, (here.0, later.0, names, nothing, nothing, refl, refl, here.1, later.1))
 
 -- A card of any shape has a text for any lines.

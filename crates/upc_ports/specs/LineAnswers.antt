@@ -8,7 +8,7 @@ use Rattle.port_card.specs.Seats.{counts_after}
 use Rattle.gen_arena.specs.declared.id.Id.{Id}
 use Rattle.upc_cell.specs.Connection.{vc_of}
 use Rattle.upc_cell.specs.declared.side.Side.{Side}
-use Rattle.card_core.specs.Sections.{judgement_in}
+use Rattle.card_core.specs.Sections.{judged_in_answer}
 use Rattle.card_core.specs.declared.answer.Answer.{Answer}
 use Rattle.card_core.specs.declared.fault.DeskFault.TheVariants.{ProgramsFull}
 use Rattle.card_core.specs.declared.reply.Reply.{Reply}
@@ -87,12 +87,12 @@ MayObey (cell moment digits) names text names' = Refuses bad_line names text nam
 -- A cell of these octets that arrived at this moment may have this answer: a judged cell leaves as its verdict requires,
 -- and the moment is the error only if it is too late or goes back.
 pub record MayAnswer (octets : List ℕ) (moment : ℕ) (answer : Answer) : Type 0 where
-  pub judged : IfSome (judgement_in answer) (IsJudgedAnswer octets moment)
+  pub judged : IfSome (judged_in_answer answer) (IsJudgedAnswer octets moment)
   pub blames : BlamesRightly moment answer
 
 -- The counts of an answer: one cell with its verdict if the cell is judged, otherwise none.
 abbrev pub counts_of : Answer → Tally
-counts_of answer = counts_after nothing (judgement_in answer)
+counts_of answer = counts_after nothing (judged_in_answer answer)
 
 -- The text is the line of an answer that the cell may have, on the connection of its own header. `all` are the ids of
 -- all programs that the script loads; a judged cell's program has a name only if it is one of these. The counts are those of

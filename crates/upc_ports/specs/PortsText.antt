@@ -35,15 +35,15 @@ OpensOrEnds reading shape text next =
 
 -- A line with words: the first opens the card, and each later one is one of its script's.
 abbrev pub ReadsWords : Bool → ScriptReading → List ℕ → List ℕ → Option ScriptReading → Type 0
-ReadsWords false reading line_content text next =
-    MatchOption (card_line_shape (words_of line_content)) (EndsBy no_card text next) (λ shape. OpensOrEnds reading shape text next)
-ReadsWords true reading line_content text next = (text ≡ []) × (next ≡ Some (record reading { lines = reading.lines ++ line_content ∷ [] }))
+ReadsWords false reading content text next =
+    MatchOption (card_line_shape (words_of content)) (EndsBy no_card text next) (λ shape. OpensOrEnds reading shape text next)
+ReadsWords true reading content text next = (text ≡ []) × (next ≡ Some (record reading { lines = reading.lines ++ content ∷ [] }))
 
 -- The line leads to the next state, or to none if it ends the reading. A line without words and a comment line change
 -- nothing.
 abbrev pub ReadSteps : ScriptReading → List ℕ → List ℕ → Option ScriptReading → Type 0
-ReadSteps reading line_content text next =
-    MatchBool (is_silent (words_of line_content)) ((text ≡ []) × (next ≡ Some reading)) (ReadsWords reading.opened reading line_content text next)
+ReadSteps reading content text next =
+    MatchBool (is_silent (words_of content)) ((text ≡ []) × (next ≡ Some reading)) (ReadsWords reading.opened reading content text next)
 
 -- The end of the input. Without a card it is an error.
 abbrev pub ReadCloses : Bool → List ℕ → Done → Type 0

@@ -47,10 +47,10 @@ fn ruled(answer: &Answer) -> Result<Ruling, Unjudged>
         Answer::NoConnection => Unjudged::NoConnection,
         Answer::Released => Unjudged::Released,
         Answer::Stale => Unjudged::Stale,
-        Answer::MomentBack { last } => Unjudged::Refused(LineFault::Back(last)),
-        Answer::MomentTooLate => Unjudged::Refused(LineFault::TooLate),
-        Answer::JournalFull => Unjudged::Refused(LineFault::Full),
-        Answer::NoMemory => Unjudged::Refused(LineFault::NoMemory),
+        Answer::MomentBack { last } => Unjudged::LineFault(LineFault::Back(last)),
+        Answer::MomentTooLate => Unjudged::LineFault(LineFault::TooLate),
+        Answer::JournalFull => Unjudged::LineFault(LineFault::Full),
+        Answer::NoMemory => Unjudged::LineFault(LineFault::NoMemory),
     })
 }
 

@@ -111,7 +111,7 @@ impl<S: Ledgers> ScriptDesk<S> {
     }
 
     /// Sets up a connection with the contracts of these words, if they are one to four contracts.
-    fn ask<R: Wait>(
+    fn setup_from_words<R: Wait>(
         &mut self,
         rt: &R,
         card: &Card<S>,
@@ -200,7 +200,9 @@ impl<S: Ledgers> ScriptDesk<S> {
         match command {
             Command::Load(digits) => self.load(rt, card, digits, answers),
             Command::Retire(number) => self.retire(rt, card, *number, answers),
-            Command::Setup(vc, number, words) => self.ask(rt, card, *vc, *number, words, answers),
+            Command::Setup(vc, number, words) => self.setup_from_words(
+                rt, card, *vc, *number, words, answers,
+            ),
             Command::Reload(vc, number) => self.reload(rt, card, *vc, *number, answers),
             Command::Release(vc) => self.release(rt, card, *vc, answers),
             Command::Cut(vc) => self.cut(rt, card, *vc, answers),

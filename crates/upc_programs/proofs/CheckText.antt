@@ -8,7 +8,7 @@ use Rattle.upc_codes.proofs.Public.{checks-as, checks-once}
 use Rattle.upc_programs.specs.SourceFaults.{asm_fault}
 use Rattle.upc_words.specs.FaultLines.{too_long}
 use Rattle.text_io.specs.Devices.{TakesEnough}
-use Rattle.text_io.specs.Gathered.{gathered, LeavesBehind}
+use Rattle.text_io.specs.Gathered.{gathered, LeavesAfter}
 use Rattle.text_io.specs.Limits.{most_ahead}
 use Rattle.text_io.specs.declared.ending.Done.{Done}
 use Rattle.text_io.specs.declared.ending.Done.TheVariants.{Whole, Ended}
@@ -76,13 +76,13 @@ gathered-none octets sized =
 
 -- The octets read are enough for the answer.
 pub enough : (octets left : List ℕ) (found : Option (List ℕ)) (text : List ℕ) (done : Done) → found ≡ gathered most_source_octets octets
-    → LeavesBehind most_source_octets found octets left → AnswersSource found text done
+    → LeavesAfter most_source_octets found octets left → AnswersSource found text done
     → TakesEnough (λ needed. (printed : List ℕ) × IsCheckText needed printed done) most_ahead octets left
-enough octets left None text done is behind prints =
+enough octets left None text done is after prints =
     let P : Option (List ℕ) → Type 0 = λ found. AnswersSource found text done in
     let none : length {A = ℕ} [] ≤ most_ahead = omega arith in
-    (behind.0, [], behind.1, none, (text, subst P (sym (gathered-none behind.0 behind.2)) prints))
-enough octets left (Some source) text done is behind prints =
+    (after.0, [], after.1, none, (text, subst P (sym (gathered-none after.0 after.2)) prints))
+enough octets left (Some source) text done is after prints =
     let P : Option (List ℕ) → Type 0 = λ found. AnswersSource found text done in
     let none : length {A = ℕ} [] ≤ most_ahead = omega arith in
-    (octets, [], sym (append-nil octets) ∙ ap (λ xs. octets ++ xs) (sym behind), none, (text, subst P is prints))
+    (octets, [], sym (append-nil octets) ∙ ap (λ xs. octets ++ xs) (sym after), none, (text, subst P is prints))

@@ -57,8 +57,8 @@ ReadsOrRuns (Some code) words text next = CellLine code words text × (next ≡ 
 -- The answer to a line, and the next world (none if the line ends the run). A line without words and a comment have
 -- an empty answer.
 abbrev pub EvalSteps : EvalWorld → List ℕ → List ℕ → Option EvalWorld → Type 0
-EvalSteps world line_content text next =
-    MatchBool (is_silent (words_of line_content)) ((text ≡ []) × (next ≡ Some world)) (ReadsOrRuns world (words_of line_content) text next)
+EvalSteps world content text next =
+    MatchBool (is_silent (words_of content)) ((text ≡ []) × (next ≡ Some world)) (ReadsOrRuns world (words_of content) text next)
 
 -- The end of the input. It is an error if there was no program line.
 abbrev pub EvalCloses : EvalWorld → List ℕ → Done → Type 0

@@ -5,6 +5,6 @@ mod answer_texts;
 mod check;
 mod eval;
 
-pub use answer_texts::{add_asm_fault, add_program};
+pub use answer_texts::{add_accepted, add_asm_fault, add_no_program, add_program, add_value};
 pub use check::check_source;
 pub use eval::eval_bytes;

@@ -119,7 +119,7 @@ pub number-unjudged : (names : List Id) (reason : Unjudged) → number_of_judgin
 number-unjudged names unjudged.NoConnection = refl
 number-unjudged names unjudged.Released = refl
 number-unjudged names unjudged.Stale = refl
-number-unjudged names (unjudged.Refused TooLate) = refl
-number-unjudged names (unjudged.Refused (Back last)) = refl
-number-unjudged names (unjudged.Refused Full) = refl
-number-unjudged names (unjudged.Refused NoMemory) = refl
+number-unjudged names (unjudged.LineFault TooLate) = refl
+number-unjudged names (unjudged.LineFault (Back last)) = refl
+number-unjudged names (unjudged.LineFault Full) = refl
+number-unjudged names (unjudged.LineFault NoMemory) = refl

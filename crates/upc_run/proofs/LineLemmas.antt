@@ -6,34 +6,34 @@ use Rattle.upc_run.specs.RunText.{Card, CommandLine, PolicesCell, OpensOrObeys}
 use Rattle.upc_script.specs.ScriptCommands.{cell, command_of}
 use Rattle.upc_script.specs.inner.SpelledCell.{SpellsCell}
 use Rattle.upc_run.specs.ShownCard.{Held}
-use Rattle.upc_run.specs.inner.Policing.{Moves, SaysLine}
+use Rattle.upc_run.specs.inner.Policing.{Moves, AnswersLine}
 use Rattle.upc_run.proofs.ArrivalLemmas.{moves-cell}
 use Rattle.upc_run.proofs.MovesLemmas.{moves-line, moves-map}
 
 -- A line with words is a command.
 steps : (before after : Card) (line text : List ℕ) → is_silent (words_of line) ≡ false → CommandLine before (words_of line) text after
-    → SaysLine line before text after
+    → AnswersLine line before text after
 steps before after line text asks printed =
     subst (λ (b : Bool). MatchBool b ((text ≡ []) × (Some (Some after) ≡ Some (Some before))) (OpensOrObeys (Some before) (words_of line) text (Some (Some after)))) (sym asks)
     (after, printed, refl)
 
 pub moves-asked : (line old new : List ℕ) (held held' : Held) → is_silent (words_of line) ≡ false
-    → Moves (λ before. CommandLine before (words_of line)) held held' old new → Moves (SaysLine line) held held' old new
+    → Moves (λ before. CommandLine before (words_of line)) held held' old new → Moves (AnswersLine line) held held' old new
 moves-asked line old new held held' asks moves =
-    moves-map (λ before. CommandLine before (words_of line)) (SaysLine line) held held' old new (λ before after text printed. steps before after line text asks printed) moves
+    moves-map (λ before. CommandLine before (words_of line)) (AnswersLine line) held held' old new (λ before after text printed. steps before after line text asks printed) moves
 
 -- A silent line.
-silent-line : (before : Card) (line text : List ℕ) → text ≡ [] → is_silent (words_of line) ≡ true → SaysLine line before text before
+silent-line : (before : Card) (line text : List ℕ) → text ≡ [] → is_silent (words_of line) ≡ true → AnswersLine line before text before
 silent-line before line text none silent =
     subst (λ (b : Bool). MatchBool b ((text ≡ []) × (Some (Some before) ≡ Some (Some before))) (OpensOrObeys (Some before) (words_of line) text (Some (Some before)))) (sym silent)
     (none, refl)
 
-pub moves-silent : (line old : List ℕ) (held : Held) → is_silent (words_of line) ≡ true → Moves (SaysLine line) held held old old
+pub moves-silent : (line old : List ℕ) (held : Held) → is_silent (words_of line) ≡ true → Moves (AnswersLine line) held held old old
 moves-silent line old held silent = ([], sym (append-nil old), λ before led shows. (before, shows, silent-line before line [] refl silent))
 
 -- The line of a cell that is policed.
 pub moves-cell_line : (line : List ℕ) (moment : ℕ) (here old new : List ℕ) (held held' : Held) → SpellsCell line moment here
-    → Moves (λ before. PolicesCell before moment here) held held' old new → Moves (SaysLine line) held held' old new
+    → Moves (λ before. PolicesCell before moment here) held held' old new → Moves (AnswersLine line) held held' old new
 moves-cell_line line moment here old new held held' is moves =
     let number : List ℕ = is.0 in
     let word : List ℕ = is.1 in

@@ -96,10 +96,10 @@ pub moves-at : (Goes : Card → List ℕ → Card → Type 0) (kept held held' :
 moves-at Goes kept held held' old new same moves = subst (λ (here : Held). Moves Goes here held' old new) same moves
 
 -- A fact about each change gives the same change with that fact.
-pub moves-map : (Goes Says : Card → List ℕ → Card → Type 0) (held held' : Held) (old new : List ℕ)
-    → ((before after : Card) (text : List ℕ) → Goes before text after → Says before text after)
-    → Moves Goes held held' old new → Moves Says held held' old new
-moves-map Goes Says held held' old new says moves = (
+pub moves-map : (Goes Answers : Card → List ℕ → Card → Type 0) (held held' : Held) (old new : List ℕ)
+    → ((before after : Card) (text : List ℕ) → Goes before text after → Answers before text after)
+    → Moves Goes held held' old new → Moves Answers held held' old new
+moves-map Goes Answers held held' old new says moves = (
   moves.0,
   moves.1,
   λ before led shows. let on = moves.2 before led shows in (on.0, on.1, says before on.0 moves.0 on.2),

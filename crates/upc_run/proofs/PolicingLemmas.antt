@@ -9,7 +9,7 @@ use Rattle.text_io.specs.declared.words.LineWords.{LineWords}
 use Rattle.text_io.specs.declared.words.LineWords.TheVariants.{Silent, One, Several}
 use Rattle.upc_run.specs.RunText.{IsSoundRun, RunSteps, RunWorld, OpensOrObeys, run_rules}
 use Rattle.upc_run.specs.ShownCard.{Held, ShowsRun}
-use Rattle.upc_run.specs.inner.Policing.{Moves, OpensAs, SaysLine}
+use Rattle.upc_run.specs.inner.Policing.{Moves, OpensAs, AnswersLine}
 
 -- A line with one word or more isn't silent.
 pub line-asks : (words : List (List ℕ)) (found : LineWords) → IsLineWords words found
@@ -25,7 +25,7 @@ steps world line text next asks printed =
     subst (λ (b : Bool). MatchBool b ((text ≡ []) × (next ≡ Some world)) (OpensOrObeys world (words_of line) text next)) (sym asks) printed
 
 -- A line that changes the card.
-pub turn-moved : (line old new : List ℕ) (held held' : Held) → Moves (SaysLine line) held held' old new
+pub turn-moved : (line old new : List ℕ) (held held' : Held) → Moves (AnswersLine line) held held' old new
     → Answers run_rules (ShowsRun (Some held)) line GoesOn (ShowsRun (Some held')) old new
 turn-moved line old new held held' moves = (moves.0, moves.1, by)
   where

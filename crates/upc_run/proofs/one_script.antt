@@ -5,7 +5,7 @@ pub mod Seen
 pub mod SeenPrograms
 pub mod SeenConnections
 pub mod SeenCells
-pub mod Stands
+pub mod HoldsAfter
 pub mod ProgramSteps
 pub mod ConnectionSteps
 pub mod RecordSteps

@@ -160,8 +160,8 @@ OpensOrObeys (Some before) words text next =
 -- The line has this answer and leads to the next state, or to none if it ends the run. A line without words and a
 -- comment line have no answer.
 abbrev pub RunSteps : RunWorld → List ℕ → List ℕ → Option RunWorld → Type 0
-RunSteps world line_content text next =
-    MatchBool (is_silent (words_of line_content)) ((text ≡ []) × (next ≡ Some world)) (OpensOrObeys world (words_of line_content) text next)
+RunSteps world content text next =
+    MatchBool (is_silent (words_of content)) ((text ≡ []) × (next ≡ Some world)) (OpensOrObeys world (words_of content) text next)
 
 -- The end of the input. Without a card it is an error.
 abbrev pub RunCloses : RunWorld → List ℕ → Done → Type 0

@@ -13,7 +13,7 @@ use upc_cell::{Cell, Side, Vc};
 use upc_codes::read_code;
 use upc_script::{
     Command, Names, Wanted, add_cut, add_loaded, add_released, add_reloaded, add_retired, add_set,
-    asking_word, contracts, contracts_of, named_command, read_cell,
+    asking_word, contracts, contracts_of, named_command, read_common_cell,
 };
 use upc_words::{
     CellWord, add_bad_hex, add_bad_line, add_wrong_length, cell_of_word, octets_of_word,
@@ -49,7 +49,7 @@ impl ScriptCard {
     ghost use Rattle.upc_run.specs.RunText.{AsksConnection, CommandLine, LoadsOctets, Obeys, PolicesCell, TakesCommand, TakesNamed, new_card};
     ghost use Rattle.upc_script.specs.CommandSeen.{command_seen, setup_seen};
     ghost use Rattle.upc_run.specs.ShownCard.{ShowsCard};
-    ghost use Rattle.upc_run.specs.inner.Policing.{AnswersCell, Moves, ObeysSeen, SaysLine};
+    ghost use Rattle.upc_run.specs.inner.Policing.{AnswersCell, Moves, ObeysSeen, AnswersLine};
     ghost use Rattle.text_io.specs.Words.{words_of};
 
     /// Makes a card of this shape.
@@ -91,7 +91,7 @@ impl ScriptCard {
 
     /// Loads the program of this code.
     #[inline(never)]
-    fn put(
+    fn load_code(
         &mut self,
         digits: &[u8],
         code: Vec<Instr>,
@@ -124,7 +124,7 @@ impl ScriptCard {
             return add_bad_hex(answers);
         };
         match read_code(alloc, &octets, answers)? {
-            Some(code) => self.put(digits, code, answers),
+            Some(code) => self.load_code(digits, code, answers),
             None => Ok(()),
         }
     }
@@ -176,7 +176,7 @@ impl ScriptCard {
 
     /// Sets up a connection with the contracts of these words, if they are one to four contracts.
     #[inline(never)]
-    fn ask(
+    fn setup_from_words(
         &mut self,
         vc: Vc,
         number: u64,
@@ -291,7 +291,9 @@ impl ScriptCard {
             Command::Cell(moment, word) => self.cell(alloc, *moment, word, answers),
             Command::Load(digits) => self.load(alloc, digits, answers),
             Command::Retire(number) => self.retire(*number, answers),
-            Command::Setup(vc, number, words) => self.ask(*vc, *number, words, answers),
+            Command::Setup(vc, number, words) => self.setup_from_words(
+                *vc, *number, words, answers,
+            ),
             Command::Reload(vc, number) => self.reload(*vc, *number, answers),
             Command::Release(vc) => self.release(*vc, answers),
             Command::Cut(vc) => self.cut(*vc, answers),
@@ -323,7 +325,7 @@ impl ScriptCard {
         line: &[u8],
         answers: &mut Vec<u8>,
     ) -> Result<(), AllocError>
-        ensures { OnOk result (Moves (SaysLine line.now) self.old self.new answers.old.items answers.new.items) }
+        ensures { OnOk result (Moves (AnswersLine line.now) self.old self.new answers.old.items answers.new.items) }
     {
         match asking_word(line) {
             Some((name, rest)) => self.answer_command(alloc, name, rest, answers),
@@ -339,9 +341,9 @@ impl ScriptCard {
         line: &[u8],
         answers: &mut Vec<u8>,
     ) -> Result<(), AllocError>
-        ensures { OnOk result (Moves (SaysLine line.now) self.old self.new answers.old.items answers.new.items) }
+        ensures { OnOk result (Moves (AnswersLine line.now) self.old self.new answers.old.items answers.new.items) }
     {
-        match read_cell(line) {
+        match read_common_cell(line) {
             Some(arrival) => self.police(arrival.moment, &arrival.cell, answers),
             None => self.answer_words(alloc, line, answers),
         }

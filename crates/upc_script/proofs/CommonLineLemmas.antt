@@ -21,7 +21,7 @@ one-cut before last front word same long =
     let first : before ≡ front =
     sym (take-append_seam before (32 ∷ last)) ∙ ap (take (length before)) same ∙ ap (λ n. take n (front ++ 32 ∷ word)) alike
     ∙ take-append_seam front (32 ∷ word) in
-    let behind : 32 ∷ last ≡ 32 ∷ word = append_cancel_left before (32 ∷ last) (32 ∷ word) (same ∙ ap (λ beginning. beginning ++ 32 ∷ word) (sym first)) in
+    let after : 32 ∷ last ≡ 32 ∷ word = append_cancel_left before (32 ∷ last) (32 ∷ word) (same ∙ ap (λ beginning. beginning ++ 32 ∷ word) (sym first)) in
     (first, cc)
 
 -- A word without blanks is not cut.
@@ -41,9 +41,9 @@ not-within before last front word same shorter visible =
     absurd (cc)
 
 -- The text after the command.
-behind : (line rest : List ℕ) (moment : ℕ) (cell : List ℕ) → line ≡ codes "cell " ++ rest → (is : IsCommonLine line moment cell)
+after : (line rest : List ℕ) (moment : ℕ) (cell : List ℕ) → line ≡ codes "cell " ++ rest → (is : IsCommonLine line moment cell)
     → rest ≡ is.0 ++ 32 ∷ is.1
-behind line rest moment cell here is = append_cancel_left (codes "cell ") rest (is.0 ++ 32 ∷ is.1) (sym here ∙ is.2)
+after line rest moment cell here is = append_cancel_left (codes "cell ") rest (is.0 ++ 32 ∷ is.1) (sym here ∙ is.2)
 
 -- If there is a space before the last eight octets, they are the word.
 pub common-header : (line rest before last : List ℕ) (moment : ℕ) (cell : List ℕ) → line ≡ codes "cell " ++ rest → rest ≡ before ++ 32 ∷ last
@@ -52,7 +52,7 @@ common-header line rest before last moment cell here cut long is =
     let number : List ℕ = is.0 in
     let word : List ℕ = is.1 in
     let spells : IsCellWord word (OfCell cell) = is.4 in
-    let same : before ++ 32 ∷ last ≡ number ++ 32 ∷ word = sym cut ∙ behind line rest moment cell here is in
+    let same : before ++ 32 ∷ last ≡ number ++ 32 ∷ word = sym cut ∙ after line rest moment cell here is in
     elim (cell-lengths word cell spells) [
       | inl whole ↦ absurd (not-within before last number word same (omega (arith, long, whole)) (cell-visible word cell spells).1)
       | inr header ↦
@@ -70,9 +70,9 @@ common-whole line rest before last moment cell here no_header cut long is =
     let spells : IsCellWord word (OfCell cell) = is.4 in
     elim (cell-lengths word cell spells) [
       | inl whole ↦
-          let parts = one-cut before last number word (sym cut ∙ behind line rest moment cell here is) (omega (arith, long, whole)) in
+          let parts = one-cut before last number word (sym cut ∙ after line rest moment cell here is) (omega (arith, long, whole)) in
           (rw parts.0 is.3, rw parts.1 spells)
-      | inr header ↦ absurd (no_header number word (behind line rest moment cell here is) header)
+      | inr header ↦ absurd (no_header number word (after line rest moment cell here is) header)
     ]
 
 -- If there is neither, the line has another form.
@@ -84,8 +84,8 @@ common-neither line rest here no_header no_whole moment cell is =
     let number : List ℕ = is.0 in
     let word : List ℕ = is.1 in
     elim (cell-lengths word cell is.4) [
-      | inl whole ↦ no_whole number word (behind line rest moment cell here is) whole
-      | inr header ↦ no_header number word (behind line rest moment cell here is) header
+      | inl whole ↦ no_whole number word (after line rest moment cell here is) whole
+      | inr header ↦ no_header number word (after line rest moment cell here is) header
     ]
 
 -- A fact holds if nothing was found.

@@ -9,13 +9,13 @@ use Rattle.upc_script.specs.ScriptWords.{wanted_of, wanted_of_each}
 use Rattle.upc_script.specs.declared.script_words.Wanted.{Wanted}
 
 -- These contracts, and those of the words after them.
-abbrev pub read_behind : List Wanted → List (List ℕ) → Option (List Wanted)
-read_behind read words = option_map (λ later. read ++ later) (wanted_of_each words)
+abbrev pub read_rest : List Wanted → List (List ℕ) → Option (List Wanted)
+read_rest read words = option_map (λ later. read ++ later) (wanted_of_each words)
 
 -- The contracts that were read so far and those of the remaining words are the contracts of all words.
 pub record ReadsOn (words : List (List ℕ)) (read : List Wanted) (rest : List (List ℕ)) : Type 0 where
   pub many : length read + length rest ≡ length words
-  pub reads : read_behind read rest ≡ wanted_of_each words
+  pub reads : read_rest read rest ≡ wanted_of_each words
   pub few : length read ≤ 4
 
 pub reads_first : (words : List (List ℕ)) → ReadsOn words [] words
@@ -30,16 +30,16 @@ next-read : (read : List Wanted) (first : Wanted) (later : Option (List Wanted))
 next-read read first None = refl
 next-read read first (Some later) = ap (λ xs. Some xs) (append_assoc read (first ∷ []) later)
 
-pub reads_next : (words : List (List ℕ)) (read : List Wanted) (rest behind : List (List ℕ)) (word : List ℕ) (first : Wanted)
-    → ReadsOn words read rest → length read < 4 → rest ≡ word ∷ behind → wanted_of word ≡ Some first → ReadsOn words (read ++ first ∷ []) behind
-reads_next words read rest behind word first so_far room cut is = record {
+pub reads_next : (words : List (List ℕ)) (read : List Wanted) (rest after : List (List ℕ)) (word : List ℕ) (first : Wanted)
+    → ReadsOn words read rest → length read < 4 → rest ≡ word ∷ after → wanted_of word ≡ Some first → ReadsOn words (read ++ first ∷ []) after
+reads_next words read rest after word first so_far room cut is = record {
   many =
       let longer : length (read ++ first ∷ []) ≡ length read + 1 = length-append read (first ∷ []) in
-      let cut_length : length rest ≡ length behind + 1 = ap length cut ∙ omega arith in
+      let cut_length : length rest ≡ length after + 1 = ap length cut ∙ omega arith in
       omega (arith, longer, cut_length, so_far.many);
-  reads = next-read read first (wanted_of_each behind)
-      ∙ sym (ap (λ o. option_map (λ (xs : List Wanted). read ++ xs) (option_and_then (λ (w : Wanted). option_map (λ (xs : List Wanted). w ∷ xs) (wanted_of_each behind)) o)) is)
-      ∙ sym (ap (read_behind read) cut) ∙ so_far.reads;
+  reads = next-read read first (wanted_of_each after)
+      ∙ sym (ap (λ o. option_map (λ (xs : List Wanted). read ++ xs) (option_and_then (λ (w : Wanted). option_map (λ (xs : List Wanted). w ∷ xs) (wanted_of_each after)) o)) is)
+      ∙ sym (ap (read_rest read) cut) ∙ so_far.reads;
   few = let longer : length (read ++ first ∷ []) ≡ length read + 1 = length-append read (first ∷ []) in omega (arith, longer, room);
 }
 
@@ -47,12 +47,12 @@ none-either : (b : Bool) (o : Option (List Wanted)) → o ≡ None → (if b the
 none-either true o e = e
 none-either false o e = refl
 
-pub reads_none : (words : List (List ℕ)) (read : List Wanted) (rest behind : List (List ℕ)) (word : List ℕ)
-    → ReadsOn words read rest → rest ≡ word ∷ behind → wanted_of word ≡ None → contracts_of words ≡ None
-reads_none words read rest behind word so_far cut is =
+pub reads_none : (words : List (List ℕ)) (read : List Wanted) (rest after : List (List ℕ)) (word : List ℕ)
+    → ReadsOn words read rest → rest ≡ word ∷ after → wanted_of word ≡ None → contracts_of words ≡ None
+reads_none words read rest after word so_far cut is =
     none-either (nat_le 1 (length words) && nat_le (length words) 4) (wanted_of_each words)
-    (sym so_far.reads ∙ ap (read_behind read) cut
-    ∙ ap (λ o. option_map (λ (xs : List Wanted). read ++ xs) (option_and_then (λ (w : Wanted). option_map (λ (xs : List Wanted). w ∷ xs) (wanted_of_each behind)) o)) is)
+    (sym so_far.reads ∙ ap (read_rest read) cut
+    ∙ ap (λ o. option_map (λ (xs : List Wanted). read ++ xs) (option_and_then (λ (w : Wanted). option_map (λ (xs : List Wanted). w ∷ xs) (wanted_of_each after)) o)) is)
 
 test-false : (n : ℕ) → 4 < n → (nat_le 1 n && nat_le n 4) ≡ false
 test-false n above = grind (arith, nat_tests)
@@ -63,10 +63,10 @@ test-none n none = grind (arith, nat_tests)
 test-true : (n : ℕ) → 0 < n → n ≤ 4 → (nat_le 1 n && nat_le n 4) ≡ true
 test-true n some few = grind (arith, nat_tests)
 
-pub reads_many : (words : List (List ℕ)) (read : List Wanted) (rest behind : List (List ℕ)) (word : List ℕ)
-    → ReadsOn words read rest → rest ≡ word ∷ behind → 4 ≤ length read → contracts_of words ≡ None
-reads_many words read rest behind word so_far cut full =
-    let above : 4 < length words = (let cut_length : length rest ≡ length (word ∷ behind) = ap length cut in omega (arith, cut_length, so_far.many, full)) in
+pub reads_many : (words : List (List ℕ)) (read : List Wanted) (rest after : List (List ℕ)) (word : List ℕ)
+    → ReadsOn words read rest → rest ≡ word ∷ after → 4 ≤ length read → contracts_of words ≡ None
+reads_many words read rest after word so_far cut full =
+    let above : 4 < length words = (let cut_length : length rest ≡ length (word ∷ after) = ap length cut in omega (arith, cut_length, so_far.many, full)) in
     ap (λ b. if b then wanted_of_each words else None) (test-false (length words) above)
 
 pub reads_empty : (words : List (List ℕ)) (read : List Wanted) (rest : List (List ℕ)) → ReadsOn words read rest → rest ≡ [] → length read ≡ 0 → contracts_of words ≡ None
@@ -80,4 +80,4 @@ reads_all words read rest so_far ends some =
     let same : length words ≡ length read = (let cut_length : length rest ≡ 0 = ap length ends in omega (arith, cut_length, so_far.many)) in
     let test : (nat_le 1 (length words) && nat_le (length words) 4) ≡ true = test-true (length words) (omega (arith, same, some)) (omega (arith, same, so_far.few)) in
     ap (λ b. if b then wanted_of_each words else None) test
-    ∙ sym so_far.reads ∙ ap (read_behind read) ends ∙ ap (λ xs. Some xs) (append-nil read)
+    ∙ sym so_far.reads ∙ ap (read_rest read) ends ∙ ap (λ xs. Some xs) (append-nil read)

@@ -5,13 +5,13 @@ use Rattle.std.specs.Prelude.{nat_le}
 use Rattle.std.specs.Option.{option_and_then}
 use Rattle.std.proofs.lemmas.Bool.Decides.{nat_tests}
 use Rattle.std.proofs.lemmas.List.{take_rest}
-use Rattle.upc_script.specs.ScriptWords.{most_number, number_of_digits, spelled_behind, up_to}
+use Rattle.upc_script.specs.ScriptWords.{most_number, number_of_digits, spelled_after, up_to}
 use Rattle.text_io.specs.Words.{is_digit}
 use Rattle.upc_script.specs.inner.Digits.{with_digit}
 
 -- The number that the octets spell after digits with this value.
-abbrev pub number_behind : ℕ → List ℕ → Option ℕ
-number_behind high octets = option_and_then (up_to most_number) (spelled_behind high octets)
+abbrev pub number_after : ℕ → List ℕ → Option ℕ
+number_after high octets = option_and_then (up_to most_number) (spelled_after high octets)
 
 le-false : (n m : ℕ) → m < n → nat_le n m ≡ false
 le-false n m above = grind (arith, nat_tests)
@@ -20,49 +20,49 @@ larger : (n m : ℕ) → nat_le n m ≡ false → m < n
 larger n m e = grind (arith, nat_tests)
 
 -- A value that is too large remains too large.
-too_large : (high : ℕ) (octets : List ℕ) → most_number < high → number_behind high octets ≡ None
-unfolding spelled_behind
+too_large : (high : ℕ) (octets : List ℕ) → most_number < high → number_after high octets ≡ None
+unfolding spelled_after
 too_large high [] above = ap (λ b. if b then Some high else None) (le-false high most_number above)
 too_large high (octet ∷ rest) above =
-    elim (is_digit octet) as (λ t. option_and_then (up_to most_number) (if t then spelled_behind (high * 10 + (octet - 48)) rest else None) ≡ None)
+    elim (is_digit octet) as (λ t. option_and_then (up_to most_number) (if t then spelled_after (high * 10 + (octet - 48)) rest else None) ≡ None)
     [ true ↦ too_large (high * 10 + (octet - 48)) rest (omega arith) | false ↦ refl ]
 
 within-or : (n : ℕ) (rest : List ℕ) (b : Bool) → nat_le n most_number ≡ b
-    → number_behind n rest ≡ option_and_then (λ next. number_behind next rest) (if b then Some n else None)
+    → number_after n rest ≡ option_and_then (λ next. number_after next rest) (if b then Some n else None)
 within-or n rest true e = refl
 within-or n rest false e = too_large n rest (larger n most_number e)
 
 -- One more digit.
-digit_more : (high octet : ℕ) (rest : List ℕ) → number_behind high (octet ∷ rest) ≡ option_and_then (λ next. number_behind next rest) (with_digit high octet)
-unfolding spelled_behind
+digit_more : (high octet : ℕ) (rest : List ℕ) → number_after high (octet ∷ rest) ≡ option_and_then (λ next. number_after next rest) (with_digit high octet)
+unfolding spelled_after
 digit_more high octet rest =
-    elim (is_digit octet) as (λ t. option_and_then (up_to most_number) (if t then spelled_behind (high * 10 + (octet - 48)) rest else None)
-    ≡ option_and_then (λ next. number_behind next rest) (if t then up_to most_number (high * 10 + (octet - 48)) else None))
+    elim (is_digit octet) as (λ t. option_and_then (up_to most_number) (if t then spelled_after (high * 10 + (octet - 48)) rest else None)
+    ≡ option_and_then (λ next. number_after next rest) (if t then up_to most_number (high * 10 + (octet - 48)) else None))
     [ true ↦ within-or (high * 10 + (octet - 48)) rest (nat_le (high * 10 + (octet - 48)) most_number) refl | false ↦ refl ]
 
 -- One more of the remaining digits.
 pub number_goes_on : (high next : ℕ) (octets : List ℕ) → 1 ≤ length octets → with_digit high (get_or octets 0 0) ≡ Some next
-    → number_behind next (take (length octets - 1) (drop 1 octets)) ≡ number_behind high octets
+    → number_after next (take (length octets - 1) (drop 1 octets)) ≡ number_after high octets
 number_goes_on high next [] some e = absurd (omega arith)
 number_goes_on high next (octet ∷ rest) some e =
-    ap (λ xs. number_behind next xs) (take_rest (octet ∷ rest) 1)
-    ∙ sym (digit_more high octet rest ∙ ap (λ o. option_and_then (λ n. number_behind n rest) o) e)
+    ap (λ xs. number_after next xs) (take_rest (octet ∷ rest) 1)
+    ∙ sym (digit_more high octet rest ∙ ap (λ o. option_and_then (λ n. number_after n rest) o) e)
 
 -- No digit, or one that makes the value too large.
-pub number_stops : (high : ℕ) (octets : List ℕ) → 1 ≤ length octets → with_digit high (get_or octets 0 0) ≡ None → number_behind high octets ≡ None
+pub number_stops : (high : ℕ) (octets : List ℕ) → 1 ≤ length octets → with_digit high (get_or octets 0 0) ≡ None → number_after high octets ≡ None
 number_stops high [] some e = absurd (omega arith)
-number_stops high (octet ∷ rest) some e = digit_more high octet rest ∙ ap (λ o. option_and_then (λ n. number_behind n rest) o) e
+number_stops high (octet ∷ rest) some e = digit_more high octet rest ∙ ap (λ o. option_and_then (λ n. number_after n rest) o) e
 
 -- The end of the digits.
-pub number_ends : (value : ℕ) (octets : List ℕ) → length octets < 1 → value ≤ most_number → number_behind value octets ≡ Some value
-unfolding spelled_behind
+pub number_ends : (value : ℕ) (octets : List ℕ) → length octets < 1 → value ≤ most_number → number_after value octets ≡ Some value
+unfolding spelled_after
 number_ends value [] none within =
     let test : nat_le value most_number ≡ true = grind (arith, nat_tests) in
     ap (λ b. if b then Some value else None) test
 number_ends value (octet ∷ rest) none within = absurd (omega arith)
 
 -- Before the first digit.
-pub number_begins : (word : List ℕ) → 0 < length word → number_behind 0 word ≡ number_of_digits word
+pub number_begins : (word : List ℕ) → 0 < length word → number_after 0 word ≡ number_of_digits word
 number_begins [] some = absurd (omega arith)
 number_begins (octet ∷ rest) some = refl
 

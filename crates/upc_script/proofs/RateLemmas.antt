@@ -23,15 +23,15 @@ made-next (first ∷ asks) (other ∷ made) ask contract so_far is = (so_far.0, 
 -- If the first of two errors is none, the second decides.
 none-first : (fault here joined later : Option GcraFault) → first_of_two fault here ≡ None → (here ≡ None → joined ≡ later)
     → first_of_two fault joined ≡ later
-none-first None here joined later sound behind = behind sound
-none-first (Some fault) here joined later sound behind = cc
+none-first None here joined later sound after = after sound
+none-first (Some fault) here joined later sound after = cc
 
 -- The first error of requested contracts without one, followed by others.
-fault-behind : (asks later : List Wanted) → first_wanted_fault asks ≡ None → first_wanted_fault (asks ++ later) ≡ first_wanted_fault later
-fault-behind [] later sound = refl
-fault-behind (ask ∷ asks) later sound =
+fault-after : (asks later : List Wanted) → first_wanted_fault asks ≡ None → first_wanted_fault (asks ++ later) ≡ first_wanted_fault later
+fault-after [] later sound = refl
+fault-after (ask ∷ asks) later sound =
     none-first (wanted_fault ask) (first_wanted_fault asks) (first_wanted_fault (asks ++ later)) (first_wanted_fault later) sound
-    (fault-behind asks later)
+    (fault-after asks later)
 
 pub made-one_more : (asks : List Wanted) (made : List Contract) (count : ℕ) (other : Wanted) (contract : Contract)
     → count < length asks → MadeOf asks made count → IsContract (get_or asks count other) contract
@@ -42,7 +42,7 @@ made-one_more asks made count other contract below so_far is sound =
     let P : List Wanted → Type 0 = λ xs. AreContracts xs (made ++ contract ∷ []) in
     record {
       contracts = subst P (sym grown) (made-next (take count asks) made ask contract so_far.contracts is);
-      sound = ap first_wanted_fault grown ∙ fault-behind (take count asks) (ask ∷ []) so_far.sound
+      sound = ap first_wanted_fault grown ∙ fault-after (take count asks) (ask ∷ []) so_far.sound
           ∙ ap (λ (f : Option GcraFault). first_of_two f None) sound;
       many = omega (arith, length-append made (contract ∷ []), so_far.many);
     }
@@ -53,8 +53,8 @@ pub faulty-first : (asks : List Wanted) (made : List Contract) (count : ℕ) (ot
     → first_wanted_fault asks ≡ Some fault
 faulty-first asks made count other fault below so_far faulty =
     let ask : Wanted = get_or asks count other in
-    let behind : List Wanted = drop (suc count) asks in
-    let split : asks ≡ take count asks ++ ask ∷ behind =
+    let after : List Wanted = drop (suc count) asks in
+    let split : asks ≡ take count asks ++ ask ∷ after =
     sym (take-append-drop count asks) ∙ ap (λ xs. take count asks ++ xs) (drop-cons asks count other below) in
-    ap first_wanted_fault split ∙ fault-behind (take count asks) (ask ∷ behind) so_far.sound
-    ∙ ap (λ (f : Option GcraFault). first_of_two f (first_wanted_fault behind)) faulty
+    ap first_wanted_fault split ∙ fault-after (take count asks) (ask ∷ after) so_far.sound
+    ∙ ap (λ (f : Option GcraFault). first_of_two f (first_wanted_fault after)) faulty

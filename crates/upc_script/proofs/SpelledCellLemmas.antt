@@ -7,7 +7,7 @@ use Rattle.text_io.proofs.Public.{first-word, one-word}
 use Rattle.upc_words.specs.CellWord.{IsCellWord}
 use Rattle.upc_words.specs.declared.hexadecimal.CellWord.TheVariants.{OfCell}
 use Rattle.upc_words.proofs.Public.{cell-visible}
-use Rattle.upc_script.specs.ScriptWords.{most_number, number_of_digits, spelled_behind, up_to}
+use Rattle.upc_script.specs.ScriptWords.{most_number, number_of_digits, spelled_after, up_to}
 use Rattle.upc_script.specs.inner.SpelledCell.{SpellsCell}
 
 -- A digit is not blank.
@@ -20,12 +20,12 @@ at-place octet octets first later zero below = first
 at-place octet octets first later (suc k) below = later k (omega arith)
 
 -- No octet of a number is blank.
-digits-visible : (high : ℕ) (octets : List ℕ) (value : ℕ) → spelled_behind high octets ≡ Some value
+digits-visible : (high : ℕ) (octets : List ℕ) (value : ℕ) → spelled_after high octets ≡ Some value
     → (k : ℕ) → k < length octets → is_blank (get_or octets k 0) ≡ false
-unfolding spelled_behind
+unfolding spelled_after
 digits-visible high [] value e k below = absurd (omega arith)
 digits-visible high (octet ∷ octets) value e k below =
-    elim (is_digit octet) as (λ t. is_digit octet ≡ t → (if t then spelled_behind (high * 10 + (octet - 48)) octets else None) ≡ Some value
+    elim (is_digit octet) as (λ t. is_digit octet ≡ t → (if t then spelled_after (high * 10 + (octet - 48)) octets else None) ≡ Some value
     → is_blank (get_or (octet ∷ octets) k 0) ≡ false) [
       | true ↦ λ digit spelled.
           at-place octet octets (digit-visible octet digit) (λ n under. digits-visible (high * 10 + (octet - 48)) octets value spelled n under) k below
@@ -40,7 +40,7 @@ number-visible : (word : List ℕ) (value : ℕ) → number_of_digits word ≡ S
     → (0 < length word) × ((k : ℕ) → k < length word → is_blank (get_or word k 0) ≡ false)
 number-visible [] value e = absurd (cc)
 number-visible (octet ∷ octets) value e =
-    let found = value-spelled (spelled_behind 0 (octet ∷ octets)) value e in
+    let found = value-spelled (spelled_after 0 (octet ∷ octets)) value e in
     (omega arith, λ k below. digits-visible 0 (octet ∷ octets) found.0 found.1 k below)
 
 command-visible : (k : ℕ) → k < length (codes "cell") → is_blank (get_or (codes "cell") k 0) ≡ false

@@ -32,8 +32,8 @@ abbrev pub contracts_of : List (List ℕ) → Option (List Wanted)
 contracts_of words = if nat_le 1 (length words) && nat_le (length words) 4 then wanted_of_each words else None
 
 -- A connection and the number of a program, which two commands begin with.
-abbrev pub seat_of : Side → List ℕ → List ℕ → List ℕ → Option (Vc × ℕ)
-seat_of side path channel program = with_both (λ vc number. (vc, number)) (vc_named side path channel) (program_of program)
+abbrev pub connection_and_program : Side → List ℕ → List ℕ → List ℕ → Option (Vc × ℕ)
+connection_and_program side path channel program = with_both (λ vc number. (vc, number)) (vc_named side path channel) (program_of program)
 
 -- The setup of this connection and program, with these contracts.
 abbrev pub setup_with : Vc × ℕ → List Wanted → Command
@@ -42,7 +42,7 @@ setup_with seat wanted = setup seat.0 seat.1 wanted
 -- `setup VPI VCI pN CONTRACT ..`
 abbrev pub setup_of : Side → List (List ℕ) → Option Command
 setup_of side (path ∷ channel ∷ program ∷ contracts) =
-    with_both setup_with (seat_of side path channel program) (contracts_of contracts)
+    with_both setup_with (connection_and_program side path channel program) (contracts_of contracts)
 setup_of side _ = None
 
 -- The reload of this connection and program.
@@ -52,7 +52,7 @@ reload_with seat = reload seat.0 seat.1
 -- `reload VPI VCI pN`
 abbrev pub reload_of : Side → List (List ℕ) → Option Command
 reload_of side (path ∷ channel ∷ program ∷ []) =
-    option_map reload_with (seat_of side path channel program)
+    option_map reload_with (connection_and_program side path channel program)
 reload_of side _ = None
 
 -- The connection of exactly two words.

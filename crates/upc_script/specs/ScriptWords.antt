@@ -21,10 +21,10 @@ abbrev pub up_to : ℕ → ℕ → Option ℕ
 up_to most number = if nat_le number most then Some number else None
 
 -- The number that digits spell after digits with the value `high`, the highest first. None if an octet isn't a digit.
-unfoldable pub spelled_behind : ℕ → List ℕ → Option ℕ
-spelled_behind high [] = Some high
-spelled_behind high (octet ∷ octets) =
-    if is_digit octet then spelled_behind (high * 10 + (octet - 48)) octets else None
+unfoldable pub spelled_after : ℕ → List ℕ → Option ℕ
+spelled_after high [] = Some high
+spelled_after high (octet ∷ octets) =
+    if is_digit octet then spelled_after (high * 10 + (octet - 48)) octets else None
 
 -- The greatest number of a word: 2^64 - 1.
 abbrev pub most_number : ℕ
@@ -33,7 +33,7 @@ most_number = 18446744073709551615
 -- The number that one or more digits spell, if it is at most 2^64 - 1. It may have leading zeros.
 abbrev pub number_of_digits : List ℕ → Option ℕ
 number_of_digits [] = None
-number_of_digits (octet ∷ octets) = option_and_then (up_to most_number) (spelled_behind 0 (octet ∷ octets))
+number_of_digits (octet ∷ octets) = option_and_then (up_to most_number) (spelled_after 0 (octet ∷ octets))
 
 -- The number that a word spells, if it is at most this one.
 abbrev pub number_up_to : ℕ → List ℕ → Option ℕ

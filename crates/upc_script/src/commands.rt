@@ -146,7 +146,7 @@ pub fn contracts(line: &[u8]) -> Option<ArrayVec<Wanted, 4>>
 {
     let mut wanted = ArrayVec::new();
     let mut rest = line;
-    while let Some((word, behind)) = first_word(rest) {
+    while let Some((word, after)) = first_word(rest) {
         let Some(next) = contract(word) else {
             return None;
         };
@@ -154,7 +154,7 @@ pub fn contracts(line: &[u8]) -> Option<ArrayVec<Wanted, 4>>
             return None;
         }
         wanted.push(next);
-        rest = behind;
+        rest = after;
     }
     if wanted.is_empty() {
         return None;

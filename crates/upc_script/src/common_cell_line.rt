@@ -17,7 +17,7 @@ pub struct Arrival {
 
 /// Returns the text after `cell` and a space. None if the line doesn't begin with them.
 #[inline(always)]
-pub fn after_command(line: &[u8]) -> Option<&[u8]>
+pub fn text_after_cell(line: &[u8]) -> Option<&[u8]>
     ensures rest { IfSome result (λ rest. line.now ≡ codes "cell " ++ rest.now) }
     ensures none { IfNone result ((rest : List ℕ) → line.now ≡ codes "cell " ++ rest → ⊥) }
 {
@@ -30,7 +30,7 @@ pub fn after_command(line: &[u8]) -> Option<&[u8]>
 /// Returns the text before a space, and the last `count` octets, which follow the space. None if there is no space
 /// before them.
 #[inline(always)]
-fn cut_before(text: &[u8], count: usize) -> Option<(&[u8], &[u8])>
+fn split_last_word(text: &[u8], count: usize) -> Option<(&[u8], &[u8])>
     ensures parts { IfSome result (λ parts. (text.now ≡ parts.0.now ++ 32 ∷ parts.1.now) × (length parts.1.now ≡ count)) }
     ensures none { IfNone result ((before last : List ℕ) → text.now ≡ before ++ 32 ∷ last → length last ≡ count → ⊥) }
 {
@@ -47,14 +47,14 @@ fn cut_before(text: &[u8], count: usize) -> Option<(&[u8], &[u8])>
 /// Returns the cell of a line of the common form, and its moment. None if the line has another form. No digit is a
 /// space, so the place of the last space gives the length of the word.
 #[inline(always)]
-pub fn read_cell(line: &[u8]) -> Option<Arrival>
+pub fn read_common_cell(line: &[u8]) -> Option<Arrival>
     ensures cell { IfSome result (λ found. IsCommonLine line.now found.moment found.cell) }
     ensures none { IfNone result ((moment : ℕ) → (cell : List ℕ) → IsCommonLine line.now moment cell → ⊥) }
 {
-    let rest = after_command(line)?;
-    let parts = match cut_before(rest, HEADER_DIGITS) {
+    let rest = text_after_cell(line)?;
+    let parts = match split_last_word(rest, HEADER_DIGITS) {
         Some(parts) => parts,
-        None => cut_before(rest, CELL_DIGITS)?,
+        None => split_last_word(rest, CELL_DIGITS)?,
     };
     let moment = number(parts.0)?;
     let cell = cell_of_digits(parts.1)?;

@@ -10,7 +10,7 @@ mod reply_texts;
 mod script_words;
 
 pub use commands::{Command, asking_word, contracts, named_command, read_command};
-pub use common_cell_line::{Arrival, after_command, read_cell};
+pub use common_cell_line::{Arrival, read_common_cell, text_after_cell};
 pub use names::Names;
 pub use rates::contracts_of;
 pub use reply_texts::{

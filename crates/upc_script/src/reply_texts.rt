@@ -13,7 +13,7 @@ use upc_words::{TextFromEnd, add_number, add_text};
 
 /// Adds the name of the program of this number.
 #[tactic(auto, using(std::proofs::lemmas::List::append_assoc))]
-fn add_program(answers: &mut Vec<u8>, number: u64) -> Result<(), AllocError>
+fn add_program_name(answers: &mut Vec<u8>, number: u64) -> Result<(), AllocError>
     ensures { OnOk result (answers.new.items ≡ answers.old.items ++ program_name number) }
 {
     answers.push(b'p')?;
@@ -72,7 +72,7 @@ pub fn add_loaded(answers: &mut Vec<u8>, number: u64) -> Result<(), AllocError>
         (answers.new.items ≡ answers.old.items ++ line (codes "loaded " ++ program_name number)) }
 {
     answers.extend_from_slice(b"loaded ")?;
-    add_program(answers, number)?;
+    add_program_name(answers, number)?;
     answers.push(b'\n')?;
     Ok(())
 }
@@ -84,7 +84,7 @@ pub fn add_retired(answers: &mut Vec<u8>, number: u64) -> Result<(), AllocError>
         (answers.new.items ≡ answers.old.items ++ line (codes "retired " ++ program_name number)) }
 {
     answers.extend_from_slice(b"retired ")?;
-    add_program(answers, number)?;
+    add_program_name(answers, number)?;
     answers.push(b'\n')?;
     Ok(())
 }
@@ -256,7 +256,7 @@ fn add_leaving(
 /// Adds the answer to a judged cell that doesn't leave.
 #[inline(always)]
 #[tactic(auto, using(std::proofs::lemmas::List::append_assoc))]
-fn add_kept(
+fn add_without_header(
     answers: &mut Vec<u8>,
     verdict: &[u8],
     vc: Vc,
@@ -290,7 +290,7 @@ pub fn add_verdict(
     match verdict {
         Verdict::Pass => add_leaving(answers, b"pass ", vc, number, value, leaving),
         Verdict::Tag => add_leaving(answers, b"tag ", vc, number, value, leaving),
-        Verdict::Discard => add_kept(answers, b"discard ", vc, number, value),
-        Verdict::Refuse => add_kept(answers, b"refuse ", vc, number, value),
+        Verdict::Discard => add_without_header(answers, b"discard ", vc, number, value),
+        Verdict::Refuse => add_without_header(answers, b"refuse ", vc, number, value),
     }
 }

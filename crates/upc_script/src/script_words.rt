@@ -88,12 +88,12 @@ fn short_number(word: &[u8]) -> Option<u64>
 {
     let mut value = 0u64;
     let mut rest = word;
-    while let [octet, behind @ ..] = rest {
+    while let [octet, after @ ..] = rest {
         let Some(next) = appended(value, *octet) else {
             return None;
         };
         value = next;
-        rest = behind;
+        rest = after;
     }
     Some(value)
 }
@@ -106,12 +106,12 @@ fn long_number(word: &[u8]) -> Option<u64>
 {
     let mut value = 0u64;
     let mut rest = word;
-    while let [octet, behind @ ..] = rest {
+    while let [octet, after @ ..] = rest {
         let Some(next) = shifted(value, *octet) else {
             return None;
         };
         value = next;
-        rest = behind;
+        rest = after;
     }
     Some(value)
 }
@@ -199,20 +199,20 @@ fn both_rates(word: &[u8]) -> Option<(Rate, Rate)>
 pub fn contract(word: &[u8]) -> Option<Wanted>
     ensures { result ≡ wanted_of word.now }
 {
-    let (kind, behind) = cut(b':', word)?;
+    let (kind, after) = cut(b':', word)?;
     if kind == b"cbr1".as_slice() {
-        return Some(Wanted::Cbr1(one_rate(behind)?));
+        return Some(Wanted::Cbr1(one_rate(after)?));
     }
     if kind == b"vbr1".as_slice() {
-        let (peak, sustained) = both_rates(behind)?;
+        let (peak, sustained) = both_rates(after)?;
         return Some(Wanted::Vbr1(peak, sustained));
     }
     if kind == b"vbr2".as_slice() {
-        let (peak, sustained) = both_rates(behind)?;
+        let (peak, sustained) = both_rates(after)?;
         return Some(Wanted::Vbr2(peak, sustained));
     }
     if kind == b"vbr3".as_slice() {
-        let (peak, sustained) = both_rates(behind)?;
+        let (peak, sustained) = both_rates(after)?;
         return Some(Wanted::Vbr3(peak, sustained));
     }
     None

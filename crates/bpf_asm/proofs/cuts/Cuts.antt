@@ -6,7 +6,7 @@ use Rattle.bpf_asm.specs.inner.Seen.{token_seen}
 use Rattle.bpf_asm.specs.declared.token.LentToken.{LentToken}
 use Rattle.bpf_asm.specs.declared.token.LentToken.TheVariants.{Name, Number, Faulty, Mark}
 use Rattle.std.specs.Borrow.{Bor}
-use Rattle.bpf_asm.specs.Tokens.{Token, name, number, faulty, mark, signed, signed_behind, tokens_of, tokens_read}
+use Rattle.bpf_asm.specs.Tokens.{Token, name, number, faulty, mark, signed, signed_after, tokens_of, tokens_read}
 
 -- A text without tokens.
 pub read_none : (text : List ℕ) → tokens_of text ≡ [] → tokens_read text ≡ []
@@ -14,12 +14,12 @@ unfolding tokens_read signed
 read_none text e = ap signed e
 
 -- One token, and those after it.
-pub read_cons : (text rest : List ℕ) (token : Token) → tokens_of text ≡ token ∷ tokens_of rest → tokens_read text ≡ signed_behind token (tokens_read rest)
+pub read_cons : (text rest : List ℕ) (token : Token) → tokens_of text ≡ token ∷ tokens_of rest → tokens_read text ≡ signed_after token (tokens_read rest)
 unfolding tokens_read signed
 read_cons text rest token e = ap signed e
 
 -- A mark other than `#` remains at the front, whatever follows.
-pub cut_mark-found : (octet : ℕ) (tokens : List Token) → octet ≢ 35 → signed_behind (mark octet) tokens ≡ mark octet ∷ tokens
+pub cut_mark-found : (octet : ℕ) (tokens : List Token) → octet ≢ 35 → signed_after (mark octet) tokens ≡ mark octet ∷ tokens
 cut_mark-found octet [] h = refl
 cut_mark-found octet (name octets ∷ tokens) h = refl
 cut_mark-found octet (number value ∷ tokens) h = refl
@@ -30,16 +30,16 @@ cut_mark-found octet (mark minus ∷ faulty ∷ tokens) h = refl
 cut_mark-found octet (mark minus ∷ mark other ∷ tokens) h = refl
 cut_mark-found octet (mark minus ∷ number value ∷ tokens) h = rw (ne_eqb octet 35 h) refl
 
-pub mark_behind : (found octet : ℕ) (tokens : List Token) → (found == octet) ≡ false → cut_mark octet (signed_behind (mark found) tokens) ≡ None
-mark_behind found octet [] h = rw h refl
-mark_behind found octet (name octets ∷ tokens) h = rw h refl
-mark_behind found octet (number value ∷ tokens) h = rw h refl
-mark_behind found octet (faulty ∷ tokens) h = rw h refl
-mark_behind found octet (mark minus ∷ []) h = rw h refl
-mark_behind found octet (mark minus ∷ name octets ∷ tokens) h = rw h refl
-mark_behind found octet (mark minus ∷ faulty ∷ tokens) h = rw h refl
-mark_behind found octet (mark minus ∷ mark other ∷ tokens) h = rw h refl
-mark_behind found octet (mark minus ∷ number value ∷ tokens) h =
+pub mark_after : (found octet : ℕ) (tokens : List Token) → (found == octet) ≡ false → cut_mark octet (signed_after (mark found) tokens) ≡ None
+mark_after found octet [] h = rw h refl
+mark_after found octet (name octets ∷ tokens) h = rw h refl
+mark_after found octet (number value ∷ tokens) h = rw h refl
+mark_after found octet (faulty ∷ tokens) h = rw h refl
+mark_after found octet (mark minus ∷ []) h = rw h refl
+mark_after found octet (mark minus ∷ name octets ∷ tokens) h = rw h refl
+mark_after found octet (mark minus ∷ faulty ∷ tokens) h = rw h refl
+mark_after found octet (mark minus ∷ mark other ∷ tokens) h = rw h refl
+mark_after found octet (mark minus ∷ number value ∷ tokens) h =
     elim (found == 35 && minus == 45) as (λ t. cut_mark octet (if t then mark found ∷ number ((2 ^ 32 - value) % 2 ^ 32) ∷ tokens else mark found ∷ mark minus ∷ number value ∷ tokens) ≡ None) [ true ↦ rw h refl | false ↦ rw h refl ]
 
 -- A cut of a text without tokens.
@@ -62,7 +62,7 @@ mark_found octet found text rest token h f m e =
 pub mark_other : (octet found : ℕ) (text rest : List ℕ) (token : LentToken) → (found ≡ octet → ⊥) → token ≡ Mark found → tokens_of text ≡ token_seen token ∷ tokens_of rest → cut_mark octet (tokens_read text) ≡ None
 mark_other octet found text rest token f m e =
     let whole : tokens_of text ≡ mark found ∷ tokens_of rest = e ∙ ap (λ (t : LentToken). token_seen t ∷ tokens_of rest) m in
-    rw (read_cons text rest (mark found) whole) (mark_behind found octet (tokens_read rest) (ne_eqb found octet f))
+    rw (read_cons text rest (mark found) whole) (mark_after found octet (tokens_read rest) (ne_eqb found octet f))
 
 -- The token isn't an octet.
 pub mark_default : (octet : ℕ) (text rest : List ℕ) (token : LentToken) → ((found : ℕ) → token ≡ Mark found → ⊥) → tokens_of text ≡ token_seen token ∷ tokens_of rest → cut_mark octet (tokens_read text) ≡ None
@@ -76,54 +76,54 @@ number_found value text rest token m e =
     let whole : tokens_of text ≡ number value ∷ tokens_of rest = e ∙ ap (λ (t : LentToken). token_seen t ∷ tokens_of rest) m in
     rw (read_cons text rest (number value) whole) refl
 
-pub number_behind : (found : ℕ) (tokens : List Token) → cut_number (signed_behind (mark found) tokens) ≡ None
-number_behind found [] = refl
-number_behind found (name octets ∷ tokens) = refl
-number_behind found (number value ∷ tokens) = refl
-number_behind found (faulty ∷ tokens) = refl
-number_behind found (mark minus ∷ []) = refl
-number_behind found (mark minus ∷ name octets ∷ tokens) = refl
-number_behind found (mark minus ∷ faulty ∷ tokens) = refl
-number_behind found (mark minus ∷ mark other ∷ tokens) = refl
-number_behind found (mark minus ∷ number value ∷ tokens) =
+pub number_after : (found : ℕ) (tokens : List Token) → cut_number (signed_after (mark found) tokens) ≡ None
+number_after found [] = refl
+number_after found (name octets ∷ tokens) = refl
+number_after found (number value ∷ tokens) = refl
+number_after found (faulty ∷ tokens) = refl
+number_after found (mark minus ∷ []) = refl
+number_after found (mark minus ∷ name octets ∷ tokens) = refl
+number_after found (mark minus ∷ faulty ∷ tokens) = refl
+number_after found (mark minus ∷ mark other ∷ tokens) = refl
+number_after found (mark minus ∷ number value ∷ tokens) =
     elim (found == 35 && minus == 45) as (λ t. cut_number (if t then mark found ∷ number ((2 ^ 32 - value) % 2 ^ 32) ∷ tokens else mark found ∷ mark minus ∷ number value ∷ tokens) ≡ None) [ true ↦ refl | false ↦ refl ]
 
 pub number_default : (text rest : List ℕ) (token : LentToken) → ((value : ℕ) → token ≡ Number value → ⊥) → tokens_of text ≡ token_seen token ∷ tokens_of rest → cut_number (tokens_read text) ≡ None
 number_default text rest (Name octets) h e = rw (read_cons text rest (name octets.now) e) refl
 number_default text rest (Number value) h e = absurd (h value refl)
 number_default text rest Faulty h e = rw (read_cons text rest faulty e) refl
-number_default text rest (Mark found) h e = rw (read_cons text rest (mark found) e) (number_behind found (tokens_read rest))
+number_default text rest (Mark found) h e = rw (read_cons text rest (mark found) e) (number_after found (tokens_read rest))
 
 pub name_found : (octets : Bor (List ℕ)) (text rest : List ℕ) (token : LentToken) → token ≡ Name octets → tokens_of text ≡ token_seen token ∷ tokens_of rest → cut_name (tokens_read text) ≡ Some (octets.now, tokens_read rest)
 name_found octets text rest token m e =
     let whole : tokens_of text ≡ name octets.now ∷ tokens_of rest = e ∙ ap (λ (t : LentToken). token_seen t ∷ tokens_of rest) m in
     rw (read_cons text rest (name octets.now) whole) refl
 
-pub name_behind : (found : ℕ) (tokens : List Token) → cut_name (signed_behind (mark found) tokens) ≡ None
-name_behind found [] = refl
-name_behind found (name octets ∷ tokens) = refl
-name_behind found (number value ∷ tokens) = refl
-name_behind found (faulty ∷ tokens) = refl
-name_behind found (mark minus ∷ []) = refl
-name_behind found (mark minus ∷ name octets ∷ tokens) = refl
-name_behind found (mark minus ∷ faulty ∷ tokens) = refl
-name_behind found (mark minus ∷ mark other ∷ tokens) = refl
-name_behind found (mark minus ∷ number value ∷ tokens) =
+pub name_after : (found : ℕ) (tokens : List Token) → cut_name (signed_after (mark found) tokens) ≡ None
+name_after found [] = refl
+name_after found (name octets ∷ tokens) = refl
+name_after found (number value ∷ tokens) = refl
+name_after found (faulty ∷ tokens) = refl
+name_after found (mark minus ∷ []) = refl
+name_after found (mark minus ∷ name octets ∷ tokens) = refl
+name_after found (mark minus ∷ faulty ∷ tokens) = refl
+name_after found (mark minus ∷ mark other ∷ tokens) = refl
+name_after found (mark minus ∷ number value ∷ tokens) =
     elim (found == 35 && minus == 45) as (λ t. cut_name (if t then mark found ∷ number ((2 ^ 32 - value) % 2 ^ 32) ∷ tokens else mark found ∷ mark minus ∷ number value ∷ tokens) ≡ None) [ true ↦ refl | false ↦ refl ]
 
 pub name_default : (text rest : List ℕ) (token : LentToken) → ((octets : Bor (List ℕ)) → token ≡ Name octets → ⊥) → tokens_of text ≡ token_seen token ∷ tokens_of rest → cut_name (tokens_read text) ≡ None
 name_default text rest (Name octets) h e = absurd (h octets refl)
 name_default text rest (Number value) h e = rw (read_cons text rest (number value) e) refl
 name_default text rest Faulty h e = rw (read_cons text rest faulty e) refl
-name_default text rest (Mark found) h e = rw (read_cons text rest (mark found) e) (name_behind found (tokens_read rest))
+name_default text rest (Mark found) h e = rw (read_cons text rest (mark found) e) (name_after found (tokens_read rest))
 
 -- After `#`.
-pub hash_found : (found : ℕ) (text rest : List ℕ) (token : LentToken) → found ≡ 35 → token ≡ Mark found → tokens_of text ≡ token_seen token ∷ tokens_of rest → tokens_read text ≡ signed_behind (mark 35) (tokens_read rest)
+pub hash_found : (found : ℕ) (text rest : List ℕ) (token : LentToken) → found ≡ 35 → token ≡ Mark found → tokens_of text ≡ token_seen token ∷ tokens_of rest → tokens_read text ≡ signed_after (mark 35) (tokens_read rest)
 hash_found found text rest token f m e =
     let whole : tokens_of text ≡ mark 35 ∷ tokens_of rest = e ∙ ap (λ (t : LentToken). token_seen t ∷ tokens_of rest) m ∙ ap (λ (n : ℕ). mark n ∷ tokens_of rest) f in
     read_cons text rest (mark 35) whole
 
-some_mark : (found : ℕ) (tokens : List Token) → is_ended (signed_behind (mark found) tokens) ≡ false
+some_mark : (found : ℕ) (tokens : List Token) → is_ended (signed_after (mark found) tokens) ≡ false
 some_mark found [] = refl
 some_mark found (name octets ∷ tokens) = refl
 some_mark found (number value ∷ tokens) = refl
@@ -135,8 +135,8 @@ some_mark found (mark minus ∷ mark other ∷ tokens) = refl
 some_mark found (mark minus ∷ number value ∷ tokens) =
     elim (found == 35 && minus == 45) as (λ t. is_ended (if t then mark found ∷ number ((2 ^ 32 - value) % 2 ^ 32) ∷ tokens else mark found ∷ mark minus ∷ number value ∷ tokens) ≡ false) [ true ↦ refl | false ↦ refl ]
 
-pub some_behind : (token : Token) (tokens : List Token) → is_ended (signed_behind token tokens) ≡ false
-some_behind (name octets) tokens = refl
-some_behind (number value) tokens = refl
-some_behind faulty tokens = refl
-some_behind (mark found) tokens = some_mark found tokens
+pub some_after : (token : Token) (tokens : List Token) → is_ended (signed_after token tokens) ≡ false
+some_after (name octets) tokens = refl
+some_after (number value) tokens = refl
+some_after faulty tokens = refl
+some_after (mark found) tokens = some_mark found tokens

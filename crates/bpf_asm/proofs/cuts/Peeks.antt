@@ -5,9 +5,9 @@ use Rattle.text_io.specs.Words.{is_blank, is_digit}
 use Rattle.bpf_asm.specs.inner.Reading.{cut_mark, is_ended}
 use Rattle.bpf_asm.specs.Numbers.{number_of_word}
 use Rattle.bpf_asm.specs.SourceLines.{without_comment}
-use Rattle.bpf_asm.specs.Tokens.{Token, name, mark, is_run, is_word, joined, number_token, pieces_of, signed, signed_behind, token_of, tokens_in, tokens_of, tokens_read, word_token}
+use Rattle.bpf_asm.specs.Tokens.{Token, name, mark, is_run, is_word, joined, number_token, pieces_of, signed, signed_after, token_of, tokens_in, tokens_of, tokens_read, word_token}
 use Rattle.bpf_asm.specs.inner.LineTokens.{line_tokens}
-use Rattle.bpf_asm.proofs.cuts.Cuts.{mark_none, read_none, some_behind}
+use Rattle.bpf_asm.proofs.cuts.Cuts.{mark_none, read_none, some_after}
 use Rattle.bpf_asm.proofs.octets.Comments.{apart_comment, comment_first, word_apart}
 use Rattle.bpf_asm.proofs.octets.Reading.{mark_first, tokens_of-none}
 
@@ -42,19 +42,19 @@ unfolding tokens_of pieces_of
 word-begun octet rest w = begun octet (pieces_of rest) w
 
 -- A number is not a mark.
-number-no_mark : (octet : ℕ) (found : Option ℕ) (tokens : List Token) → cut_mark octet (signed_behind (number_token found) tokens) ≡ None
+number-no_mark : (octet : ℕ) (found : Option ℕ) (tokens : List Token) → cut_mark octet (signed_after (number_token found) tokens) ≡ None
 number-no_mark octet (Some value) tokens = refl
 number-no_mark octet None tokens = refl
 
-word-no_mark : (octet first : ℕ) (word : List ℕ) (tokens : List Token) → cut_mark octet (signed_behind (word_token (first ∷ word)) tokens) ≡ None
+word-no_mark : (octet first : ℕ) (word : List ℕ) (tokens : List Token) → cut_mark octet (signed_after (word_token (first ∷ word)) tokens) ≡ None
 unfolding word_token
 word-no_mark octet first word tokens =
-    elim (is_digit first) as (λ d. cut_mark octet (signed_behind (if d then number_token (number_of_word (first ∷ word)) else name (first ∷ word)) tokens) ≡ None) [
+    elim (is_digit first) as (λ d. cut_mark octet (signed_after (if d then number_token (number_of_word (first ∷ word)) else name (first ∷ word)) tokens) ≡ None) [
       | true ↦ number-no_mark octet (number_of_word (first ∷ word)) tokens
       | false ↦ refl
     ]
 
-read-begun : (text : List ℕ) (token : Token) (tokens : List Token) → tokens_of text ≡ token ∷ tokens → tokens_read text ≡ signed_behind token (signed tokens)
+read-begun : (text : List ℕ) (token : Token) (tokens : List Token) → tokens_of text ≡ token ∷ tokens → tokens_read text ≡ signed_after token (signed tokens)
 unfolding tokens_read signed
 read-begun text token tokens e = ap signed e
 
@@ -88,10 +88,10 @@ line_same text skipped e = read-same (without_comment text) (without_comment ski
 first-token : (first : ℕ) (rest : List ℕ) (b : Bool) → is_word first ≡ b → is_blank first ≡ false → is_ended (tokens_read (first ∷ rest)) ≡ false
 first-token first rest true w blank =
     let begins = word-begun first rest w in
-    ap is_ended (read-begun (first ∷ rest) (word_token (first ∷ begins.0)) begins.1 begins.2) ∙ some_behind (word_token (first ∷ begins.0)) (signed begins.1)
+    ap is_ended (read-begun (first ∷ rest) (word_token (first ∷ begins.0)) begins.1 begins.2) ∙ some_after (word_token (first ∷ begins.0)) (signed begins.1)
 first-token first rest false w blank =
     let begins = mark_first (first ∷ rest) (omega arith) w blank in
-    ap is_ended (read-begun (first ∷ rest) (mark first) (tokens_of (drop 1 (first ∷ rest))) begins) ∙ some_behind (mark first) (signed (tokens_of (drop 1 (first ∷ rest))))
+    ap is_ended (read-begun (first ∷ rest) (mark first) (tokens_of (drop 1 (first ∷ rest))) begins) ∙ some_after (mark first) (signed (tokens_of (drop 1 (first ∷ rest))))
 
 -- Without a token the end is reached.
 pub spent_none : (text : List ℕ) → line_tokens text ≡ [] → true ≡ is_ended (tokens_in text)

@@ -48,19 +48,19 @@ label_split (first ∷ lines) line (suc at) name h =
     elim (label_split lines line at name h) [ inl f ↦ inl f | inr l ↦ inr (ap suc l.0, l.1) ]
 
 -- A label of a prefix names the same place in the whole.
-pub stands_kept : (lines more : List SourceLine) (name : List ℕ) (place : ℕ) → NamesPlace lines name place → NamesPlace (lines ++ more) name place
-stands_kept lines more name place s = record {
+pub holds_kept : (lines more : List SourceLine) (name : List ℕ) (place : ℕ) → NamesPlace lines name place → NamesPlace (lines ++ more) name place
+holds_kept lines more name place s = record {
   before = s.before;
   here = s.here;
-  behind = s.behind ++ more;
-  split = ap (λ (ls : List SourceLine). ls ++ more) s.split ∙ append_assoc s.before (s.here ∷ s.behind) more;
+  after = s.after ++ more;
+  split = ap (λ (ls : List SourceLine). ls ++ more) s.split ∙ append_assoc s.before (s.here ∷ s.after) more;
   named = s.named;
   counted = s.counted;
 }
 
 -- The last line's label names the place after the statements before it.
-stands_last : (lines : List SourceLine) (line : SourceLine) (name : List ℕ) → line.label ≡ Some name → NamesPlace (lines ++ line ∷ []) name (length (statements_of lines))
-stands_last lines line name e = record { before = lines; here = line; behind = []; split = refl; named = e; counted = refl }
+holds_last : (lines : List SourceLine) (line : SourceLine) (name : List ℕ) → line.label ≡ Some name → NamesPlace (lines ++ line ∷ []) name (length (statements_of lines))
+holds_last lines line name e = record { before = lines; here = line; after = []; split = refl; named = e; counted = refl }
 
 -- The number of statements of one line.
 pub statements_one : (line : SourceLine) (s : Option Statement) → line.statement ≡ s → length (statements_of (line ∷ [])) ≡ statement_count s
@@ -84,12 +84,12 @@ both_once lines line label one other name is new once (inl f) (inr g) = let same
 both_once lines line label one other name is new once (inr f) (inl g) = let same : name ≡ label = some_name _ _ (sym f.1 ∙ is) in absurd (new other (rw same at g))
 both_once lines line label one other name is new once (inr f) (inr g) = f.0 ∙ sym g.0
 
-put_stands : (lines : List SourceLine) (line : SourceLine) (label name : List ℕ) (places place : ℕ) → line.label ≡ Some label → places ≡ length (statements_of lines) → (old : Option ℕ) → (old ≡ Some place → NamesPlace lines name place) → (t : Bool) → bytes_eq label name ≡ t → (if t then Some places else old) ≡ Some place → NamesPlace (lines ++ line ∷ []) name place
-put_stands lines line label name places place is counted old stands true b e =
+put_holds : (lines : List SourceLine) (line : SourceLine) (label name : List ℕ) (places place : ℕ) → line.label ≡ Some label → places ≡ length (statements_of lines) → (old : Option ℕ) → (old ≡ Some place → NamesPlace lines name place) → (t : Bool) → bytes_eq label name ≡ t → (if t then Some places else old) ≡ Some place → NamesPlace (lines ++ line ∷ []) name place
+put_holds lines line label name places place is counted old holds true b e =
     let same : label ≡ name = (bytes_eq-Decides label name).0 b in
     let at : place ≡ length (statements_of lines) = sym (some_place places place e) ∙ counted in
-    rw at (stands_last lines line name (is ∙ ap (λ (n : List ℕ). Some n) same))
-put_stands lines line label name places place is counted old stands false b e = stands_kept lines (line ∷ []) name place (stands e)
+    rw at (holds_last lines line name (is ∙ ap (λ (n : List ℕ). Some n) same))
+put_holds lines line label name places place is counted old holds false b e = holds_kept lines (line ∷ []) name place (holds e)
 
 put_unknown : (lines : List SourceLine) (line : SourceLine) (label name : List ℕ) (places at : ℕ) → line.label ≡ Some label → (old : Option ℕ) → (old ≡ None → ¬ HasLabel lines at name) → (t : Bool) → bytes_eq label name ≡ t → (if t then Some places else old) ≡ None → HasLabel lines at name ⊎ ((at ≡ length lines) × (line.label ≡ Some name)) → ⊥
 put_unknown lines line label name places at is old unknown true b e h = some_none places e
@@ -100,17 +100,17 @@ put_unknown lines line label name places at is old unknown false b e (inr l) =
     cc
 
 -- The line at which a list is split has its label.
-pub stands_label : (before : List SourceLine) (here : SourceLine) (behind : List SourceLine) (name : List ℕ) → here.label ≡ Some name → HasLabel (before ++ here ∷ behind) (length before) name
-stands_label [] here behind name e = (here, refl, e)
-stands_label (first ∷ before) here behind name e = stands_label before here behind name e
+pub holds_label : (before : List SourceLine) (here : SourceLine) (after : List SourceLine) (name : List ℕ) → here.label ≡ Some name → HasLabel (before ++ here ∷ after) (length before) name
+holds_label [] here after name e = (here, refl, e)
+holds_label (first ∷ before) here after name e = holds_label before here after name e
 
 -- A label that names a place is the label of some line.
-pub stands_has : (lines : List SourceLine) (name : List ℕ) (place : ℕ) → NamesPlace lines name place → (at : ℕ) × HasLabel lines at name
-stands_has lines name place s = (length s.before, subst (λ (ls : List SourceLine). HasLabel ls (length s.before) name) (sym s.split) (stands_label s.before s.here s.behind name s.named))
+pub holds_has : (lines : List SourceLine) (name : List ℕ) (place : ℕ) → NamesPlace lines name place → (at : ℕ) × HasLabel lines at name
+holds_has lines name place s = (length s.before, subst (λ (ls : List SourceLine). HasLabel ls (length s.before) name) (sym s.split) (holds_label s.before s.here s.after name s.named))
 
 twice_by : (lines : List SourceLine) (line : SourceLine) (label : List ℕ) (old : Option ℕ) → line.label ≡ Some label → is_none old ≡ false → ((place : ℕ) → old ≡ Some place → NamesPlace lines label place) → IsTwice lines line
-twice_by lines line label None is o stands = cc
-twice_by lines line label (Some place) is o stands = let h = stands_has lines label place (stands place refl) in (label, is, h.0, h.1)
+twice_by lines line label None is o holds = cc
+twice_by lines line label (Some place) is o holds = let h = holds_has lines label place (holds place refl) in (label, is, h.0, h.1)
 
 are_more : (done : List (List ℕ)) (lines : List SourceLine) (octets : List ℕ) (line : SourceLine) → IsSourceLine octets line → AreLines done lines → AreLines (done ++ octets ∷ []) (lines ++ line ∷ [])
 are_more [] [] octets line is a = (is, refl)
@@ -124,7 +124,7 @@ unfolding statements_of
 agrees_none find none = record {
   counted = refl;
   once = λ one other label a b. cc;
-  stands = λ name place e. absurd (some_none place (sym e ∙ none name));
+  holds = λ name place e. absurd (some_none place (sym e ∙ none name));
   unknown = λ name e at h. cc;
 }
 
@@ -133,7 +133,7 @@ pub agrees_plain : (lines : List SourceLine) (line : SourceLine) (find : List �
 agrees_plain lines line find places n a = record {
   counted = ap (λ (m : ℕ). m + statement_count line.statement) a.counted ∙ sym (count_more lines line);
   once = λ one other label f g. a.once one other label (no_last lines line one label n f) (no_last lines line other label n g);
-  stands = λ name place e. stands_kept lines (line ∷ []) name place (a.stands name place e);
+  holds = λ name place e. holds_kept lines (line ∷ []) name place (a.holds name place e);
   unknown = λ name e at h. a.unknown name e at (no_last lines line at name n h);
 }
 
@@ -142,13 +142,13 @@ pub agrees_label : (lines : List SourceLine) (line : SourceLine) (label : List �
 agrees_label lines line label find found places is new put a = record {
   counted = ap (λ (m : ℕ). m + statement_count line.statement) a.counted ∙ sym (count_more lines line);
   once = λ one other name f g. both_once lines line label one other name is (a.unknown label new) a.once (label_split lines line one name f) (label_split lines line other name g);
-  stands = λ name place e. put_stands lines line label name places place is a.counted (find name) (a.stands name place) (bytes_eq label name) refl (sym (put name) ∙ e);
+  holds = λ name place e. put_holds lines line label name places place is a.counted (find name) (a.holds name place) (bytes_eq label name) refl (sym (put name) ∙ e);
   unknown = λ name e at h. put_unknown lines line label name places at is (find name) (λ f. a.unknown name f at) (bytes_eq label name) refl (sym (put name) ∙ e) (label_split lines line at name h);
 }
 
 -- A line with an old label.
 pub twice_is : (lines : List SourceLine) (line : SourceLine) (label : List ℕ) (find : List ℕ → Option ℕ) (places : ℕ) → line.label ≡ Some label → is_none (find label) ≡ false → AgreesWith lines find places → IsTwice lines line
-twice_is lines line label find places is old a = twice_by lines line label (find label) is old (a.stands label)
+twice_is lines line label find places is old a = twice_by lines line label (find label) is old (a.holds label)
 
 -- No line is read.
 pub read_none : (source : List (List ℕ)) → IsReadTo source source [] 0

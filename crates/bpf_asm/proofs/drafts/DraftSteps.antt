@@ -9,7 +9,7 @@ use Rattle.bpf_asm.specs.inner.Seen.{statement_seen}
 use Rattle.bpf_asm.specs.StatementSpelling.{Statement}
 use Rattle.bpf_asm.specs.declared.unresolved.Unresolved.{Unresolved}
 use Rattle.bpf_asm.specs.declared.statement.LentStatement.{LentStatement}
-use Rattle.bpf_asm.specs.inner.Drafts.{EachStands, IsDraft, StandsBehind, drafted, has_labels, is_unresolved, kept_of, statements_seen, unresolved_of}
+use Rattle.bpf_asm.specs.inner.Drafts.{EachHolds, IsDraft, HoldsAfter, drafted, has_labels, is_unresolved, kept_of, statements_seen, unresolved_of}
 use Rattle.bpf_asm.proofs.drafts.Resolving.{statements_more}
 use Rattle.bpf_code.specs.declared.instr.Instr.{Instr}
 
@@ -30,25 +30,25 @@ split_last (a ∷ all) (z ∷ front) x y back e =
       | inr s ↦ inr (ap (λ v. v ∷ front) (sym head) ∙ ap (λ vs. a ∷ vs) s.0, s.1)
     ]
 
-stands_more : (lines : List SourceLine) (line : SourceLine) (front : List Unresolved) (u : Unresolved) → StandsBehind lines front u → StandsBehind (lines ++ line ∷ []) front u
-stands_more lines line front u s = record {
+holds_more : (lines : List SourceLine) (line : SourceLine) (front : List Unresolved) (u : Unresolved) → HoldsAfter lines front u → HoldsAfter (lines ++ line ∷ []) front u
+holds_more lines line front u s = record {
   before = s.before;
   here = s.here;
-  behind = s.behind ++ line ∷ [];
-  split = ap (λ (ls : List SourceLine). ls ++ line ∷ []) s.split ∙ append_assoc s.before (s.here ∷ s.behind) (line ∷ []);
+  after = s.after ++ line ∷ [];
+  split = ap (λ (ls : List SourceLine). ls ++ line ∷ []) s.split ∙ append_assoc s.before (s.here ∷ s.after) (line ∷ []);
   number = s.number;
-  stands = s.stands;
+  holds = s.holds;
   earlier = s.earlier;
   place = s.place;
 }
 
-stands_last : (lines : List SourceLine) (line : SourceLine) (all : List Unresolved) (u : Unresolved) → line.statement ≡ Some (statement_seen u.statement) → u.line ≡ length lines + 1 → u.place ≡ length all → statements_of lines ≡ statements_seen all → StandsBehind (lines ++ line ∷ []) all u
-stands_last lines line all u s n p e = record { before = lines; here = line; behind = []; split = refl; number = n; stands = s; earlier = e; place = p }
+holds_last : (lines : List SourceLine) (line : SourceLine) (all : List Unresolved) (u : Unresolved) → line.statement ≡ Some (statement_seen u.statement) → u.line ≡ length lines + 1 → u.place ≡ length all → statements_of lines ≡ statements_seen all → HoldsAfter (lines ++ line ∷ []) all u
+holds_last lines line all u s n p e = record { before = lines; here = line; after = []; split = refl; number = n; holds = s; earlier = e; place = p }
 
-each_add : (lines : List SourceLine) (line : SourceLine) (all : List Unresolved) (u : Unresolved) → StandsBehind (lines ++ line ∷ []) all u → EachStands lines all → EachStands (lines ++ line ∷ []) (all ++ u ∷ [])
+each_add : (lines : List SourceLine) (line : SourceLine) (all : List Unresolved) (u : Unresolved) → HoldsAfter (lines ++ line ∷ []) all u → EachHolds lines all → EachHolds (lines ++ line ∷ []) (all ++ u ∷ [])
 each_add lines line all u last each = λ front v back e.
     elim (split_last all front u v back e) [
-      | inl s ↦ stands_more lines line front v (each front v s.0 s.1)
+      | inl s ↦ holds_more lines line front v (each front v s.0 s.1)
       | inr s ↦ rw (s.0, s.1) last
     ]
 
@@ -62,7 +62,7 @@ pub draft_skip : (lines : List SourceLine) (line : SourceLine) (code : List Inst
 draft_skip lines line code unresolved e d = record {
   all = d.all;
   statements = statements_more lines line ∙ ap (λ (s : Option Statement). statements_of lines ++ option_to_list s) e ∙ append-nil (statements_of lines) ∙ d.statements;
-  each = λ front u back s. stands_more lines line front u (d.each front u back s);
+  each = λ front u back s. holds_more lines line front u (d.each front u back s);
   forms = d.forms;
   labelled = d.labelled;
 }
@@ -77,7 +77,7 @@ draft_by lines line code more unresolved left u s n p m l d =
     record {
       all = d.all ++ u ∷ [];
       statements = statements_more lines line ∙ ap (λ (t : Option Statement). statements_of lines ++ option_to_list t) s ∙ ap (λ (ss : List Statement). ss ++ statement_seen u.statement ∷ []) d.statements ∙ sym (map-append (λ (v : Unresolved). statement_seen v.statement) d.all (u ∷ []));
-      each = each_add lines line d.all u (stands_last lines line d.all u s n place d.statements) d.each;
+      each = each_add lines line d.all u (holds_last lines line d.all u s n place d.statements) d.each;
       forms = m ∙ ap (λ (c : List Instr). c ++ drafted u.statement ∷ []) d.forms ∙ sym (map-append (λ (v : Unresolved). drafted v.statement) d.all (u ∷ []));
       labelled = l ∙ ap (λ (us : List Unresolved). us ++ kept_of (has_labels u.statement) u) d.labelled ∙ ap (λ (us : List Unresolved). filter is_unresolved d.all ++ us) (kept_is (has_labels u.statement) u refl) ∙ sym (filter-append is_unresolved d.all (u ∷ []));
     }

@@ -12,7 +12,7 @@ use Rattle.bpf_asm.specs.declared.fault.AsmFault.{AsmFault}
 use Rattle.bpf_asm.specs.declared.fault.AsmKind.{AsmKind}
 use Rattle.bpf_asm.specs.declared.statement.LentStatement.{LentStatement}
 use Rattle.bpf_asm.specs.declared.statement.LentStatement.TheVariants.{Plain, Jump as LabelJump, Branch as LabelBranch}
-use Rattle.bpf_asm.specs.inner.Drafts.{EachStands, IsResolvedTo, drafted, first_forms, has_labels, is_unresolved, statements_seen}
+use Rattle.bpf_asm.specs.inner.Drafts.{EachHolds, IsResolvedTo, drafted, first_forms, has_labels, is_unresolved, statements_seen}
 use Rattle.bpf_asm.proofs.drafts.Resolving.{mean_have, mean_length, mean_more}
 use Rattle.bpf_code.specs.declared.instr.Instr.{Instr}
 
@@ -53,17 +53,17 @@ plains_mean lines place (v ∷ plains) e =
     let parts = plain_parts (is_unresolved v) v plains refl e in
     (plain_means lines place v.statement parts.0, plains_mean lines (place + 1) plains parts.1)
 
-mean_append : (lines : List SourceLine) (place : ℕ) (ss more : List Statement) (code behind : List Instr) → MeanFrom lines place ss code → MeanFrom lines (place + length ss) more behind → MeanFrom lines place (ss ++ more) (code ++ behind)
-mean_append lines place [] more [] behind m n = let z : place + 0 ≡ place = omega arith in subst (λ (p : ℕ). MeanFrom lines p more behind) z n
-mean_append lines place [] more (i ∷ code) behind m n = cc
-mean_append lines place (s ∷ ss) more [] behind m n = absurd m
-mean_append lines place (s ∷ ss) more (i ∷ code) behind m n =
+mean_append : (lines : List SourceLine) (place : ℕ) (ss more : List Statement) (code after : List Instr) → MeanFrom lines place ss code → MeanFrom lines (place + length ss) more after → MeanFrom lines place (ss ++ more) (code ++ after)
+mean_append lines place [] more [] after m n = let z : place + 0 ≡ place = omega arith in subst (λ (p : ℕ). MeanFrom lines p more after) z n
+mean_append lines place [] more (i ∷ code) after m n = cc
+mean_append lines place (s ∷ ss) more [] after m n = absurd m
+mean_append lines place (s ∷ ss) more (i ∷ code) after m n =
     let moved : place + length (s ∷ ss) ≡ place + 1 + length ss = omega arith in
-    (m.0, mean_append lines (place + 1) ss more code behind m.1 (subst (λ (p : ℕ). MeanFrom lines p more behind) moved n))
+    (m.0, mean_append lines (place + 1) ss more code after m.1 (subst (λ (p : ℕ). MeanFrom lines p more after) moved n))
 
 -- Instructions without labels after others.
-plains_behind : (lines : List SourceLine) (front plains : List Unresolved) (done : List Instr) → filter is_unresolved plains ≡ [] → MeanFrom lines 0 (statements_seen front) done → MeanFrom lines 0 (statements_seen (front ++ plains)) (done ++ first_forms plains)
-plains_behind lines front plains done none m =
+plains_after : (lines : List SourceLine) (front plains : List Unresolved) (done : List Instr) → filter is_unresolved plains ≡ [] → MeanFrom lines 0 (statements_seen front) done → MeanFrom lines 0 (statements_seen (front ++ plains)) (done ++ first_forms plains)
+plains_after lines front plains done none m =
     rw (map-append (λ (v : Unresolved). statement_seen v.statement) front plains)
     (mean_append lines 0 (statements_seen front) (statements_seen plains) done (first_forms plains) m (plains_mean lines (0 + length (statements_seen front)) plains none))
 
@@ -72,7 +72,7 @@ pub record IsNext (lines : List SourceLine) (code : List Instr) (u : Unresolved)
   pub front : List Unresolved
   pub rest : List Unresolved
   pub statements : statements_of lines ≡ statements_seen (front ++ u ∷ rest)
-  pub each : EachStands lines (front ++ u ∷ rest)
+  pub each : EachHolds lines (front ++ u ∷ rest)
   pub done : List Instr
   pub means : MeanFrom lines 0 (statements_seen front) done
   pub forms : code ≡ done ++ drafted u.statement ∷ first_forms rest
@@ -82,11 +82,11 @@ pub record IsNext (lines : List SourceLine) (code : List Instr) (u : Unresolved)
 next_by : (lines : List SourceLine) (code : List Instr) (u : Unresolved) (more : List Unresolved) (r : IsResolvedTo lines code (u ∷ more)) → FirstKept r.back u more → IsNext lines code u more
 next_by lines code u more r f =
     let all : r.front ++ r.back ≡ (r.front ++ f.plains) ++ u ∷ f.rest = ap (λ us. r.front ++ us) f.split ∙ sym (append_assoc r.front f.plains (u ∷ f.rest)) in
-    let each : EachStands lines ((r.front ++ f.plains) ++ u ∷ f.rest) = subst (λ (us : List Unresolved). EachStands lines us) all r.each in
-    let means = plains_behind lines r.front f.plains r.done f.none r.means in
-    let stands = each (r.front ++ f.plains) u f.rest refl in
+    let each : EachHolds lines ((r.front ++ f.plains) ++ u ∷ f.rest) = subst (λ (us : List Unresolved). EachHolds lines us) all r.each in
+    let means = plains_after lines r.front f.plains r.done f.none r.means in
+    let holds = each (r.front ++ f.plains) u f.rest refl in
     let count : length (r.done ++ first_forms f.plains) ≡ length (r.front ++ f.plains) = mean_length lines 0 (statements_seen (r.front ++ f.plains)) (r.done ++ first_forms f.plains) means ∙ length-map (r.front ++ f.plains) (λ (v : Unresolved). statement_seen v.statement) in
-    let behind : first_forms r.back ≡ first_forms f.plains ++ drafted u.statement ∷ first_forms f.rest = ap first_forms f.split ∙ map-append (λ (v : Unresolved). drafted v.statement) f.plains (u ∷ f.rest) in
+    let after : first_forms r.back ≡ first_forms f.plains ++ drafted u.statement ∷ first_forms f.rest = ap first_forms f.split ∙ map-append (λ (v : Unresolved). drafted v.statement) f.plains (u ∷ f.rest) in
     record {
       front = r.front ++ f.plains;
       rest = f.rest;
@@ -94,9 +94,9 @@ next_by lines code u more r f =
       each = each;
       done = r.done ++ first_forms f.plains;
       means = means;
-      forms = r.forms ∙ ap (λ c. r.done ++ c) behind ∙ sym (append_assoc r.done (first_forms f.plains) (drafted u.statement ∷ first_forms f.rest));
+      forms = r.forms ∙ ap (λ c. r.done ++ c) after ∙ sym (append_assoc r.done (first_forms f.plains) (drafted u.statement ∷ first_forms f.rest));
       labelled = f.labelled;
-      counted = stands.place ∙ sym count;
+      counted = holds.place ∙ sym count;
     }
 
 -- The next instruction with labels.
@@ -129,7 +129,7 @@ next_resolved lines code u more i here n =
       front = n.front ++ u ∷ [];
       back = n.rest;
       statements = n.statements ∙ ap statements_seen (sym all);
-      each = subst (λ (us : List Unresolved). EachStands lines us) (sym all) n.each;
+      each = subst (λ (us : List Unresolved). EachHolds lines us) (sym all) n.each;
       done = n.done ++ i ∷ [];
       means = subst (λ (ss : List Statement). MeanFrom lines 0 ss (n.done ++ i ∷ [])) (sym (map-append seen n.front (u ∷ []))) more_means;
       forms = ap (λ c. set c u.place i) n.forms ∙ set_at n.done (drafted u.statement) (first_forms n.rest) i u.place (sym n.counted) ∙ sym (append_assoc n.done (i ∷ []) (first_forms n.rest));
@@ -144,12 +144,12 @@ next_fault lines code u more kind fault l k f n =
     record {
       before = s.before;
       here = s.here;
-      behind = s.behind;
+      after = s.after;
       split = s.split;
       number = l ∙ s.number;
       earlier = rw s.earlier (mean_have lines 0 (statements_seen n.front) n.done n.means);
       statement = statement_seen u.statement;
-      stands = s.stands;
+      holds = s.holds;
       faulty = subst (λ (p : ℕ). IsStatementFault lines p (statement_seen u.statement) fault.kind) place (subst (λ (j : AsmKind). IsStatementFault lines u.place (statement_seen u.statement) j) (sym k) f);
     }
 
@@ -157,4 +157,4 @@ next_fault lines code u more kind fault l k f n =
 pub resolved_all : (lines : List SourceLine) (code : List Instr) (unresolved : List Unresolved) → unresolved ≡ [] → IsResolvedTo lines code unresolved → MeanFrom lines 0 (statements_of lines) code
 resolved_all lines code unresolved none r =
     let plains : filter is_unresolved r.back ≡ [] = sym r.labelled ∙ none in
-    rw (r.statements, r.forms) (plains_behind lines r.front r.back r.done plains r.means)
+    rw (r.statements, r.forms) (plains_after lines r.front r.back r.done plains r.means)

@@ -26,7 +26,7 @@ pub first_by : (source left : List (List ℕ)) (octets : List ℕ) (lines : List
 first_by source left octets lines count kind fault r once f at = record {
   before = r.done;
   here = octets;
-  behind = left;
+  after = left;
   split = r.split;
   number = at.0 ∙ ap (λ (n : ℕ). n + 1) r.counted;
   lines = lines;

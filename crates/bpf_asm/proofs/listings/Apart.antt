@@ -7,7 +7,7 @@ use Rattle.bpf_asm.specs.inner.Feeds.{no_feed}
 use Rattle.text_io.specs.Lines.{without_return}
 use Rattle.bpf_asm.proofs.octets.LineCuts.{line_ended}
 use Rattle.bpf_asm.specs.StatementSpelling.{Part, text, num, label, part_octets, part_tokens, spelling_octets, spelling_tokens}
-use Rattle.bpf_asm.specs.Tokens.{Token, name, number, faulty, mark, is_run, is_word, signed, signed_behind, pieces_of, tokens_of}
+use Rattle.bpf_asm.specs.Tokens.{Token, name, number, faulty, mark, is_run, is_word, signed, signed_after, pieces_of, tokens_of}
 use Rattle.bpf_asm.specs.inner.WordRuns.{all_word}
 use Rattle.bpf_asm.proofs.octets.Decimals.{tokens_of-decimal, decimal_word}
 use Rattle.bpf_asm.proofs.octets.Pieces.{ends_word, tokens_of-append}
@@ -167,16 +167,16 @@ no_minus [] = true
 no_minus (mark octet ∷ tokens) = not (octet == 45) && no_minus tokens
 no_minus (_ ∷ tokens) = no_minus tokens
 
-behind_same : (octet : ℕ) (tokens : List Token) → no_minus tokens ≡ true → signed_behind (mark octet) tokens ≡ mark octet ∷ tokens
-behind_same octet [] h = refl
-behind_same octet (name octets ∷ tokens) h = refl
-behind_same octet (number value ∷ tokens) h = refl
-behind_same octet (faulty ∷ tokens) h = refl
-behind_same octet (mark minus ∷ []) h = refl
-behind_same octet (mark minus ∷ name octets ∷ tokens) h = refl
-behind_same octet (mark minus ∷ faulty ∷ tokens) h = refl
-behind_same octet (mark minus ∷ mark other ∷ tokens) h = refl
-behind_same octet (mark minus ∷ number value ∷ tokens) h =
+after_same : (octet : ℕ) (tokens : List Token) → no_minus tokens ≡ true → signed_after (mark octet) tokens ≡ mark octet ∷ tokens
+after_same octet [] h = refl
+after_same octet (name octets ∷ tokens) h = refl
+after_same octet (number value ∷ tokens) h = refl
+after_same octet (faulty ∷ tokens) h = refl
+after_same octet (mark minus ∷ []) h = refl
+after_same octet (mark minus ∷ name octets ∷ tokens) h = refl
+after_same octet (mark minus ∷ faulty ∷ tokens) h = refl
+after_same octet (mark minus ∷ mark other ∷ tokens) h = refl
+after_same octet (mark minus ∷ number value ∷ tokens) h =
     let both = and_parts (not (minus == 45)) (no_minus tokens) h in
     let no : (octet == 35 && minus == 45) ≡ false = and_right _ _ (not-true _ both.0) in
     rw no refl
@@ -190,4 +190,4 @@ signed_same (number value ∷ tokens) h = ap (λ (ts : List Token). number value
 signed_same (faulty ∷ tokens) h = ap (λ (ts : List Token). faulty ∷ ts) (signed_same tokens h)
 signed_same (mark octet ∷ tokens) h =
     let both = and_parts (not (octet == 45)) (no_minus tokens) h in
-    ap (signed_behind (mark octet)) (signed_same tokens both.1) ∙ behind_same octet tokens both.1
+    ap (signed_after (mark octet)) (signed_same tokens both.1) ∙ after_same octet tokens both.1

@@ -1,7 +1,7 @@
 -- Each row of a listing.
 use Rattle.std.proofs.Common.{◌≡◌, ℕ, ◌+◌, ◌<◌, ◌^◌, Bool, true, false, ◌&&◌, List, [], ◌∷◌, codes, refl, inl, inr}
 use Rattle.bpf_asm.specs.Listing.{StaysWithin, first_spelling, label_at, statement_at}
-use Rattle.bpf_asm.specs.Numbers.{number_of_word, value_behind}
+use Rattle.bpf_asm.specs.Numbers.{number_of_word, value_after}
 use Rattle.bpf_asm.specs.StatementSpelling.{Part, text, label, spelling_tokens, spellings}
 use Rattle.bpf_asm.specs.Tokens.{pieces_of, tokens_of, word_token}
 use Rattle.bpf_code.specs.Widths.{FitsFields}
@@ -28,7 +28,7 @@ is_good parts = is_apart parts && (texts_inline parts && no_minus (spelling_toke
 
 -- The instruction has a row with this property.
 pub row_good : (place : ℕ) (i : Instr) → (is_good (line_parts place i) && is_some_row (spellings (statement_at place i))) ≡ true
-unfolding spellings tokens_of pieces_of word_token number_of_word value_behind
+unfolding spellings tokens_of pieces_of word_token number_of_word value_after
 row_good place (LoadAbs Word k) = refl
 row_good place (LoadInd Word k) = refl
 row_good place (LoadAbs Half k) = refl

@@ -2,29 +2,29 @@
 use Rattle.std.proofs.Common.{ℕ, ◌+◌, ◌<◌, ◌≤◌, List, length, get_or, subst, arith, inl, inr, below_more}
 use Rattle.std.proofs.lemmas.Option.{get_or_from_slice_get, slice_get-get_or, slice_get_cases}
 use Rattle.bpf_asm.specs.Listing.{IsFirstLeaving, Leaves, StaysWithin}
-use Rattle.bpf_code.specs.Flow.{StandsAt}
+use Rattle.bpf_code.specs.Flow.{IsInstrAt}
 use Rattle.bpf_code.specs.declared.instr.Instr.{Instr}
 
 -- The instruction at each place has this property.
 abbrev pub AllPlaces : (ℕ → Instr → Type 0) → List Instr → Type 0
-AllPlaces P code = (place : ℕ) (i : Instr) → StandsAt code place i → P place i
+AllPlaces P code = (place : ℕ) (i : Instr) → IsInstrAt code place i → P place i
 
 -- The same for the places before this one.
 abbrev pub PlacesBelow : (ℕ → Instr → Type 0) → List Instr → ℕ → Type 0
-PlacesBelow P code count = (place : ℕ) → place < count → (i : Instr) → StandsAt code place i → P place i
+PlacesBelow P code count = (place : ℕ) → place < count → (i : Instr) → IsInstrAt code place i → P place i
 
 -- The place of an instruction is within the code.
-pub stands_within : (code : List Instr) (place : ℕ) (i : Instr) → StandsAt code place i → place < length code
-stands_within code place i s = elim (slice_get_cases code place).1 [ inl w ↦ w.1 | inr w ↦ let e = w.1 in cc ]
+pub instr_within : (code : List Instr) (place : ℕ) (i : Instr) → IsInstrAt code place i → place < length code
+instr_within code place i s = elim (slice_get_cases code place).1 [ inl w ↦ w.1 | inr w ↦ let e = w.1 in cc ]
 
 -- The places before the code's length are all places.
 pub places_all : (P : ℕ → Instr → Type 0) (code : List Instr) (count : ℕ) → length code ≤ count → PlacesBelow P code count → AllPlaces P code
-places_all P code count h below place i s = let w = stands_within code place i s in below place (omega arith) i s
+places_all P code count h below place i s = let w = instr_within code place i s in below place (omega arith) i s
 
 -- One more place.
 pub places_more : (P : ℕ → Instr → Type 0) (code : List Instr) (at : ℕ) (d : Instr) → PlacesBelow P code at → P at (get_or code at d) → PlacesBelow P code (at + 1)
 places_more P code at d below here =
-    below_more (λ (place : ℕ). (i : Instr) → StandsAt code place i → P place i) at below (λ i s. subst (λ (j : Instr). P at j) (get_or_from_slice_get code at i d s) here)
+    below_more (λ (place : ℕ). (i : Instr) → IsInstrAt code place i → P place i) at below (λ i s. subst (λ (j : Instr). P at j) (get_or_from_slice_get code at i d s) here)
 
 -- No place.
 pub places_none : (P : ℕ → Instr → Type 0) (code : List Instr) → PlacesBelow P code 0

@@ -70,8 +70,8 @@ line_spelled place i w s h =
     let inline = parts_inline parts plain_parts.0 reads in
     let whole : tokens_of (without_comment (spelling_octets parts)) ≡ spelling_tokens parts = ap tokens_of (inline_whole (spelling_octets parts) inline) ∙ parts_read parts good.0 reads in
     let tokens : signed (tokens_of (without_comment (spelling_octets parts))) ≡ spelling_tokens parts = ap signed whole ∙ signed_same (spelling_tokens parts) plain_parts.1 in
-    let behind : spelling_tokens parts ≡ name (label_at place) ∷ mark 58 ∷ spelling_tokens row = ap (λ (ts : List Token). name (label_at place) ∷ (ts ++ spelling_tokens row)) colon_token in
-    (inline, (spelling_tokens row, tokens ∙ behind, row_first (spellings (statement_at place i)) both.1))
+    let after : spelling_tokens parts ≡ name (label_at place) ∷ mark 58 ∷ spelling_tokens row = ap (λ (ts : List Token). name (label_at place) ∷ (ts ++ spelling_tokens row)) colon_token in
+    (inline, (spelling_tokens row, tokens ∙ after, row_first (spellings (statement_at place i)) both.1))
 
 -- The lines of a listing parse as these.
 lines_spelled : (place : ℕ) (code : List Instr) → IsListable (2 ^ 64) place code → place + length code ≤ 2 ^ 64 → AreLines (source_lines (listing_from place code)) (lines_in place code)
@@ -121,40 +121,40 @@ some_statement place (i ∷ code) zero h e = cc
 some_statement place (i ∷ code) (suc at) h e = some_statement (place + 1) code at (omega arith) e
 
 -- Each label names its place.
-label_stands : (place : ℕ) (code : List Instr) (at : ℕ) → at < length code → NamesPlace (lines_in place code) (label_at (place + at)) at
+label_holds : (place : ℕ) (code : List Instr) (at : ℕ) → at < length code → NamesPlace (lines_in place code) (label_at (place + at)) at
 unfolding lines_in statements_of
-label_stands place [] at h = absurd (omega arith)
-label_stands place (i ∷ code) zero h =
+label_holds place [] at h = absurd (omega arith)
+label_holds place (i ∷ code) zero h =
     let here : place ≡ place + 0 = omega arith in
-    record { before = []; here = line_at place i; behind = lines_in (place + 1) code; split = refl; named = ap (λ (p : ℕ). Some (label_at p)) here; counted = refl }
-label_stands place (i ∷ code) (suc at) h =
-    let later = label_stands (place + 1) code at (omega arith) in
+    record { before = []; here = line_at place i; after = lines_in (place + 1) code; split = refl; named = ap (λ (p : ℕ). Some (label_at p)) here; counted = refl }
+label_holds place (i ∷ code) (suc at) h =
+    let later = label_holds (place + 1) code at (omega arith) in
     let moved : place + 1 + at ≡ place + suc at = omega arith in
     record {
       before = line_at place i ∷ later.before;
       here = later.here;
-      behind = later.behind;
+      after = later.after;
       split = ap (λ (ls : List SourceLine). line_at place i ∷ ls) later.split;
       named = later.named ∙ ap (λ (p : ℕ). Some (label_at p)) moved;
       counted = ap suc later.counted;
     }
 
-stands_at : (whole : List Instr) (target : ℕ) → target < length whole → NamesPlace (lines_in 0 whole) (label_at target) target
-stands_at whole target h = let z : 0 + target ≡ target = omega arith in subst (λ (p : ℕ). NamesPlace (lines_in 0 whole) (label_at p) target) z (label_stands 0 whole target h)
+holds_at : (whole : List Instr) (target : ℕ) → target < length whole → NamesPlace (lines_in 0 whole) (label_at target) target
+holds_at whole target h = let z : 0 + target ≡ target = omega arith in subst (λ (p : ℕ). NamesPlace (lines_in 0 whole) (label_at p) target) z (label_holds 0 whole target h)
 
 -- Each statement means the instruction.
 means_here : (whole : List Instr) (place : ℕ) (i : Instr) → FitsFields i × StaysWithin (length whole) place i → Means (lines_in 0 whole) place (statement_at place i) i
 means_here whole place (Jump k) l =
     let small : k < 2 ^ 32 = l.0.k in
-    (k, refl, record { stands = stands_at whole (place + 1 + k) (l.1 (place + 1 + k) refl); fits = omega arith })
+    (k, refl, record { holds = holds_at whole (place + 1 + k) (l.1 (place + 1 + k) refl); fits = omega arith })
 means_here whole place (Branch test by jt jf) l =
     let small : jt < 2 ^ 8 = l.0.jt in
     let little : jf < 2 ^ 8 = l.0.jf in (
       jt,
       jf,
       refl,
-      record { stands = stands_at whole (place + 1 + jt) (l.1 (place + 1 + jt) (inl refl)); fits = omega arith },
-      record { stands = stands_at whole (place + 1 + jf) (l.1 (place + 1 + jf) (inr refl)); fits = omega arith },
+      record { holds = holds_at whole (place + 1 + jt) (l.1 (place + 1 + jt) (inl refl)); fits = omega arith },
+      record { holds = holds_at whole (place + 1 + jf) (l.1 (place + 1 + jf) (inr refl)); fits = omega arith },
     )
 means_here whole place (LoadAbs size k) l = refl
 means_here whole place (LoadInd size k) l = refl

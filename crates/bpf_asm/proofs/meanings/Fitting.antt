@@ -8,9 +8,9 @@ use Rattle.bpf_asm.specs.SourceLines.{source_lines, without_comment}
 use Rattle.bpf_asm.specs.Meaning.{IsMeaning, IsSide, MeanFrom, Means}
 use Rattle.bpf_asm.specs.Numbers.{number_of_word, value_of, within_word}
 use Rattle.bpf_asm.specs.StatementSpelling.{Part, Statement, inverse_names, label, load_name, num, one_sided, op_name, operand, plain, jump, branch, spelling_tokens, spellings, text, test_name}
-use Rattle.bpf_asm.specs.Tokens.{Token, faulty, is_word, mark, name, number, number_token, pieces_of, signed, signed_behind, token_of, tokens_in, tokens_of, tokens_read, word_token}
+use Rattle.bpf_asm.specs.Tokens.{Token, faulty, is_word, mark, name, number, number_token, pieces_of, signed, signed_after, token_of, tokens_in, tokens_of, tokens_read, word_token}
 use Rattle.bpf_code.specs.Encoding.{code_octets}
-use Rattle.bpf_code.specs.Flow.{StandsAt}
+use Rattle.bpf_code.specs.Flow.{IsInstrAt}
 use Rattle.bpf_code.specs.OctetSpelling.{SpellsPlainly}
 use Rattle.bpf_code.specs.Widths.{FitsFields}
 use Rattle.bpf_asm.specs.inner.OperandWidths.{OperandFits}
@@ -76,7 +76,7 @@ pieces_small (piece ∷ pieces) = found_more (token_of piece) (filter_map token_
 rest_small : (value : ℕ) → is_small (number ((2 ^ 32 - value) % 2 ^ 32)) ≡ true
 rest_small value = lt-ltb ((2 ^ 32 - value) % 2 ^ 32) (2 ^ 32) (omega arith)
 
-signed_more : (token : Token) (tokens : List Token) → is_small token ≡ true → all_small tokens ≡ true → all_small (signed_behind token tokens) ≡ true
+signed_more : (token : Token) (tokens : List Token) → is_small token ≡ true → all_small tokens ≡ true → all_small (signed_after token tokens) ≡ true
 signed_more (name octets) tokens t h = h
 signed_more (number value) tokens t h = and_from _ _ t h
 signed_more faulty tokens t h = h
@@ -214,7 +214,7 @@ means_fits lines place (plain j) i f m = rw m f
 means_fits lines place (jump target) i f m = let fits = m.2.fits in rw m.1 (record { k = omega arith; jt = tt; jf = tt })
 means_fits lines place (branch test by met unmet) i f m = rw m.2 (record { k = f; jt = side_fits lines place met m.0 m.3; jf = side_fits lines place unmet m.1 m.4 })
 
-mean_fit : (lines : List SourceLine) (from : ℕ) (ss : List Statement) (code : List Instr) → StatementsFit ss → MeanFrom lines from ss code → (place : ℕ) (i : Instr) → StandsAt code place i → FitsFields i
+mean_fit : (lines : List SourceLine) (from : ℕ) (ss : List Statement) (code : List Instr) → StatementsFit ss → MeanFrom lines from ss code → (place : ℕ) (i : Instr) → IsInstrAt code place i → FitsFields i
 mean_fit lines from [] [] f m place i e = cc
 mean_fit lines from [] (j ∷ code) f m place i e = cc
 mean_fit lines from (s ∷ ss) [] f m place i e = absurd m
@@ -222,7 +222,7 @@ mean_fit lines from (s ∷ ss) (j ∷ code) f m zero i e = let same : j ≡ i = 
 mean_fit lines from (s ∷ ss) (j ∷ code) f m (suc place) i e = mean_fit lines (from + 1) ss code f.1 m.1 place i e
 
 -- Each instruction that a source means fits its fields.
-pub meaning-fits : (source : List ℕ) (code : List Instr) → IsMeaning source code → (place : ℕ) (i : Instr) → StandsAt code place i → FitsFields i
+pub meaning-fits : (source : List ℕ) (code : List Instr) → IsMeaning source code → (place : ℕ) (i : Instr) → IsInstrAt code place i → FitsFields i
 meaning-fits source code m = mean_fit m.lines 0 (statements_of m.lines) code (lines_fit (source_lines source) m.lines m.spelled) m.mean.meant
 
 -- So the octets of its code spell it, with 0 in all unused fields.

@@ -6,18 +6,18 @@ use Rattle.bpf_asm.specs.Labels.{EachLabelOnce, HasLabel, IsDangling, Operand, s
 use Rattle.bpf_asm.specs.SourceLines.{source_lines, without_comment}
 use Rattle.bpf_asm.specs.Meaning.{IsMeaning, MeanFrom, Means}
 use Rattle.bpf_asm.specs.StatementSpelling.{Statement}
-use Rattle.bpf_asm.specs.Tokens.{HasBadNumber, Token, name, number, faulty, mark, has_faulty, is_faulty, signed, signed_behind, tokens_in, tokens_of, tokens_read}
+use Rattle.bpf_asm.specs.Tokens.{HasBadNumber, Token, name, number, faulty, mark, has_faulty, is_faulty, signed, signed_after, tokens_in, tokens_of, tokens_read}
 use Rattle.bpf_asm.specs.declared.fault.AsmFault.{AsmFault}
 use Rattle.bpf_asm.specs.declared.fault.AsmKind.{AsmKind}
 use Rattle.bpf_asm.specs.declared.fault.AsmKind.TheVariants.{BadLine, BadNumber, LabelTwice, UnknownLabel, Backward, TooFar, DanglingLabel, NoMemory}
-use Rattle.bpf_asm.proofs.drafts.Agreement.{label_kept, stands_has, stands_label, statements_of-append}
+use Rattle.bpf_asm.proofs.drafts.Agreement.{label_kept, holds_has, holds_label, statements_of-append}
 use Rattle.bpf_asm.proofs.spellings.NoFaulty.{no_faulty}
-use Rattle.bpf_asm.proofs.meanings.OneMeaning.{line_once, lines_once, stands_once}
+use Rattle.bpf_asm.proofs.meanings.OneMeaning.{line_once, lines_once, holds_once}
 use Rattle.bpf_asm.proofs.drafts.PendingSteps.{label_within}
 use Rattle.bpf_asm.proofs.drafts.Resolving.{means_has}
 use Rattle.bpf_code.specs.declared.instr.Instr.{Instr}
 
-mark_faulty : (octet : ℕ) (ts : List Token) → has_faulty (signed_behind (mark octet) ts) ≡ has_faulty ts
+mark_faulty : (octet : ℕ) (ts : List Token) → has_faulty (signed_after (mark octet) ts) ≡ has_faulty ts
 mark_faulty octet [] = refl
 mark_faulty octet (name octets ∷ ts) = refl
 mark_faulty octet (number value ∷ ts) = refl
@@ -29,16 +29,16 @@ mark_faulty octet (mark minus ∷ mark other ∷ ts) = refl
 mark_faulty octet (mark minus ∷ number value ∷ ts) =
     elim (octet == 35 && minus == 45) as (λ t. has_faulty (if t then mark octet ∷ number ((2 ^ 32 - value) % 2 ^ 32) ∷ ts else mark octet ∷ mark minus ∷ number value ∷ ts) ≡ has_faulty ts) [ true ↦ refl | false ↦ refl ]
 
-behind_faulty : (t : Token) (ts : List Token) → has_faulty (signed_behind t ts) ≡ (is_faulty t || has_faulty ts)
-behind_faulty (name octets) ts = refl
-behind_faulty (number value) ts = refl
-behind_faulty faulty ts = refl
-behind_faulty (mark octet) ts = mark_faulty octet ts
+after_faulty : (t : Token) (ts : List Token) → has_faulty (signed_after t ts) ≡ (is_faulty t || has_faulty ts)
+after_faulty (name octets) ts = refl
+after_faulty (number value) ts = refl
+after_faulty faulty ts = refl
+after_faulty (mark octet) ts = mark_faulty octet ts
 
 signed_faulty : (ts : List Token) → has_faulty (signed ts) ≡ has_faulty ts
 unfolding signed
 signed_faulty [] = refl
-signed_faulty (t ∷ ts) = behind_faulty t (signed ts) ∙ ap (λ (b : Bool). is_faulty t || b) (signed_faulty ts)
+signed_faulty (t ∷ ts) = after_faulty t (signed ts) ∙ ap (λ (b : Bool). is_faulty t || b) (signed_faulty ts)
 
 body_faulty : (ts : List Token) (s : Option Statement) → Rattle.bpf_asm.specs.Grammar.IsStatement ts s → has_faulty ts ≡ false
 body_faulty ts None h = ap has_faulty h
@@ -65,18 +65,18 @@ pub record Parts (before : List (List ℕ)) (here : List ℕ) (lines : List Sour
   pub spelled : AreLines before front
   pub is : IsSourceLine here line
 
-pub parts_of : (before : List (List ℕ)) (here : List ℕ) (behind : List (List ℕ)) (lines : List SourceLine) → AreLines (before ++ here ∷ behind) lines → Parts before here lines
-parts_of [] here behind [] a = absurd a
-parts_of [] here behind (line ∷ lines) a = record { front = []; line = line; back = lines; split = refl; spelled = refl; is = a.0 }
-parts_of (first ∷ before) here behind [] a = absurd a
-parts_of (first ∷ before) here behind (line ∷ lines) a =
-    let later = parts_of before here behind lines a.1 in
+pub parts_of : (before : List (List ℕ)) (here : List ℕ) (after : List (List ℕ)) (lines : List SourceLine) → AreLines (before ++ here ∷ after) lines → Parts before here lines
+parts_of [] here after [] a = absurd a
+parts_of [] here after (line ∷ lines) a = record { front = []; line = line; back = lines; split = refl; spelled = refl; is = a.0 }
+parts_of (first ∷ before) here after [] a = absurd a
+parts_of (first ∷ before) here after (line ∷ lines) a =
+    let later = parts_of before here after lines a.1 in
     record { front = line ∷ later.front; line = later.line; back = later.back; split = ap (λ (ls : List SourceLine). line ∷ ls) later.split; spelled = (a.0, later.spelled); is = later.is }
 
 twice_never : (lines front : List SourceLine) (line : SourceLine) (back : List SourceLine) (label : List ℕ) (earlier : ℕ) → lines ≡ front ++ line ∷ back → EachLabelOnce lines → line.label ≡ Some label → HasLabel front earlier label → ⊥
 twice_never lines front line back label earlier e once l h =
     let one : HasLabel lines earlier label = subst (λ (ls : List SourceLine). HasLabel ls earlier label) (sym e) (label_kept front (line ∷ back) earlier label h) in
-    let other : HasLabel lines (length front) label = subst (λ (ls : List SourceLine). HasLabel ls (length front) label) (sym e) (stands_label front line back label l) in
+    let other : HasLabel lines (length front) label = subst (λ (ls : List SourceLine). HasLabel ls (length front) label) (sym e) (holds_label front line back label l) in
     let same = once earlier (length front) label one other in
     let within = label_within front earlier label h in
     omega arith
@@ -95,12 +95,12 @@ line_never before here lines known DanglingLabel p once spelled f = f
 line_never before here lines known NoMemory p once spelled f = f
 
 pub operand_never : (lines : List SourceLine) (place : ℕ) (operand : Operand) (kind : AsmKind) → EachLabelOnce lines → HasOffset lines place operand → IsOperandFault lines place operand kind → ⊥
-operand_never lines place operand UnknownLabel once o f = let h = stands_has lines operand.label (place + 1 + o.0) o.1.stands in f h.0 h.1
+operand_never lines place operand UnknownLabel once o f = let h = holds_has lines operand.label (place + 1 + o.0) o.1.holds in f h.0 h.1
 operand_never lines place operand Backward once o f =
-    let same = stands_once lines operand.label (place + 1 + o.0) f.0 once o.1.stands f.1 in
+    let same = holds_once lines operand.label (place + 1 + o.0) f.0 once o.1.holds f.1 in
     let low = f.2 in omega arith
 operand_never lines place operand TooFar once o f =
-    let same = stands_once lines operand.label (place + 1 + o.0) f.0 once o.1.stands f.1 in
+    let same = holds_once lines operand.label (place + 1 + o.0) f.0 once o.1.holds f.1 in
     let far = f.2 in let fits = o.1.fits in omega arith
 operand_never lines place operand BadLine once o f = f
 operand_never lines place operand BadNumber once o f = f
@@ -121,15 +121,15 @@ mean_at lines place (t ∷ ss) s more (i ∷ code) m =
     let moved : place + 1 + length ss ≡ place + length (t ∷ ss) = omega arith in
     (later.0, subst (λ (p : ℕ). Means lines p s later.0) moved later.1)
 
-pub some_here : (line : SourceLine) (behind : List SourceLine) (s : Statement) → line.statement ≡ Some s → statements_of (line ∷ behind) ≡ s ∷ statements_of behind
+pub some_here : (line : SourceLine) (after : List SourceLine) (s : Statement) → line.statement ≡ Some s → statements_of (line ∷ after) ≡ s ∷ statements_of after
 unfolding statements_of
-some_here line behind s e = rw e refl
+some_here line after s e = rw e refl
 
 first_never : (lines : List SourceLine) (fault : AsmFault) (code : List Instr) → EachLabelOnce lines → MeanFrom lines 0 (statements_of lines) code → IsFirstOperandFault lines fault → ⊥
 first_never lines fault code once m f =
-    let all : statements_of lines ≡ statements_of f.before ++ f.statement ∷ statements_of f.behind =
-    ap statements_of f.split ∙ statements_of-append f.before (f.here ∷ f.behind) ∙ ap (λ (ss : List Statement). statements_of f.before ++ ss) (some_here f.here f.behind f.statement f.stands) in
-    let meant = mean_at lines 0 (statements_of f.before) f.statement (statements_of f.behind) code (rw all at m) in
+    let all : statements_of lines ≡ statements_of f.before ++ f.statement ∷ statements_of f.after =
+    ap statements_of f.split ∙ statements_of-append f.before (f.here ∷ f.after) ∙ ap (λ (ss : List Statement). statements_of f.before ++ ss) (some_here f.here f.after f.statement f.holds) in
+    let meant = mean_at lines 0 (statements_of f.before) f.statement (statements_of f.after) code (rw all at m) in
     let z : 0 + length (statements_of f.before) ≡ length (statements_of f.before) = omega arith in
     let here = subst (λ (p : ℕ). Means lines p f.statement meant.0) z meant.1 in
     let have = means_has lines (length (statements_of f.before)) f.statement meant.0 here in
@@ -146,5 +146,5 @@ label_never source fault code a g =
 -- A source that means a code has no fault.
 pub never_both : (source : List ℕ) (code : List Instr) (fault : AsmFault) → IsMeaning source code → IsFault source fault → ⊥
 never_both source code fault a (inl f) =
-    line_never f.before f.here a.lines f.lines fault.kind (parts_of f.before f.here f.behind a.lines (rw f.split at a.spelled)) a.mean.once f.spelled f.faulty
+    line_never f.before f.here a.lines f.lines fault.kind (parts_of f.before f.here f.after a.lines (rw f.split at a.spelled)) a.mean.once f.spelled f.faulty
 never_both source code fault a (inr g) = label_never source fault code a g

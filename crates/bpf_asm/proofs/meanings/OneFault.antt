@@ -8,9 +8,9 @@ use Rattle.bpf_asm.specs.StatementSpelling.{Statement}
 use Rattle.bpf_asm.specs.declared.fault.AsmFault.{AsmFault}
 use Rattle.bpf_asm.specs.declared.fault.AsmKind.{AsmKind}
 use Rattle.bpf_asm.specs.declared.fault.AsmKind.TheVariants.{BadLine, BadNumber, LabelTwice, UnknownLabel, Backward, TooFar, DanglingLabel, NoMemory}
-use Rattle.bpf_asm.proofs.drafts.Agreement.{stands_has, statements_of-append}
+use Rattle.bpf_asm.proofs.drafts.Agreement.{holds_has, statements_of-append}
 use Rattle.bpf_asm.proofs.meanings.NeverBoth.{line_never, line_numbers, offset_in, operand_never, parts_of, some_here}
-use Rattle.bpf_asm.proofs.meanings.OneMeaning.{lines_once, stands_once}
+use Rattle.bpf_asm.proofs.meanings.OneMeaning.{lines_once, holds_once}
 
 -- Two places in a list are the same, or one is before the other.
 InFront : {A : Type 0} → List A → A → List A → Type 0
@@ -75,7 +75,7 @@ line_front source one other f g front =
 
 line_fault_once : (source : List (List ℕ)) (one other : AsmFault) → IsFirstLineFault source one → IsFirstLineFault source other → one ≡ other
 line_fault_once source one other f g =
-    elim (two_places f.before f.here f.behind g.before g.here g.behind (sym f.split ∙ g.split)) [
+    elim (two_places f.before f.here f.after g.before g.here g.after (sym f.split ∙ g.split)) [
       | inl s ↦
           let lines = lines_once f.before f.lines g.lines f.spelled (rw (sym s.0) at g.spelled) in
           let there : IsLineFault f.lines f.here other.kind = subst (λ (ls : List SourceLine). IsLineFault ls f.here other.kind) (sym lines) (subst (λ (h : List ℕ). IsLineFault g.lines h other.kind) (sym s.1) g.faulty) in
@@ -85,7 +85,7 @@ line_fault_once source one other f g =
 
 line_or_label : (source : List (List ℕ)) (one other : AsmFault) → IsFirstLineFault source one → IsLabelFault source other → ⊥
 line_or_label source one other f g =
-    line_never f.before f.here g.lines f.lines one.kind (parts_of f.before f.here f.behind g.lines (rw f.split at g.spelled)) g.once f.spelled f.faulty
+    line_never f.before f.here g.lines f.lines one.kind (parts_of f.before f.here f.after g.lines (rw f.split at g.spelled)) g.once f.spelled f.faulty
 
 dangling_once : (lines : List SourceLine) (one other : AsmFault) → IsFirstDangling lines one → IsFirstDangling lines other → one ≡ other
 dangling_once lines one other f g =
@@ -102,23 +102,23 @@ operand_once lines place operand UnknownLabel BadLine once f g = absurd g
 operand_once lines place operand UnknownLabel BadNumber once f g = absurd g
 operand_once lines place operand UnknownLabel LabelTwice once f g = absurd g
 operand_once lines place operand UnknownLabel UnknownLabel once f g = refl
-operand_once lines place operand UnknownLabel Backward once f g = let h = stands_has lines operand.label g.0 g.1 in absurd (f h.0 h.1)
-operand_once lines place operand UnknownLabel TooFar once f g = let h = stands_has lines operand.label g.0 g.1 in absurd (f h.0 h.1)
+operand_once lines place operand UnknownLabel Backward once f g = let h = holds_has lines operand.label g.0 g.1 in absurd (f h.0 h.1)
+operand_once lines place operand UnknownLabel TooFar once f g = let h = holds_has lines operand.label g.0 g.1 in absurd (f h.0 h.1)
 operand_once lines place operand UnknownLabel DanglingLabel once f g = absurd g
 operand_once lines place operand UnknownLabel NoMemory once f g = absurd g
 operand_once lines place operand Backward BadLine once f g = absurd g
 operand_once lines place operand Backward BadNumber once f g = absurd g
 operand_once lines place operand Backward LabelTwice once f g = absurd g
-operand_once lines place operand Backward UnknownLabel once f g = let h = stands_has lines operand.label f.0 f.1 in absurd (g h.0 h.1)
+operand_once lines place operand Backward UnknownLabel once f g = let h = holds_has lines operand.label f.0 f.1 in absurd (g h.0 h.1)
 operand_once lines place operand Backward Backward once f g = refl
-operand_once lines place operand Backward TooFar once f g = let same = stands_once lines operand.label f.0 g.0 once f.1 g.1 in let low = f.2 in let far = g.2 in absurd (omega arith)
+operand_once lines place operand Backward TooFar once f g = let same = holds_once lines operand.label f.0 g.0 once f.1 g.1 in let low = f.2 in let far = g.2 in absurd (omega arith)
 operand_once lines place operand Backward DanglingLabel once f g = absurd g
 operand_once lines place operand Backward NoMemory once f g = absurd g
 operand_once lines place operand TooFar BadLine once f g = absurd g
 operand_once lines place operand TooFar BadNumber once f g = absurd g
 operand_once lines place operand TooFar LabelTwice once f g = absurd g
-operand_once lines place operand TooFar UnknownLabel once f g = let h = stands_has lines operand.label f.0 f.1 in absurd (g h.0 h.1)
-operand_once lines place operand TooFar Backward once f g = let same = stands_once lines operand.label f.0 g.0 once f.1 g.1 in let far = f.2 in let low = g.2 in absurd (omega arith)
+operand_once lines place operand TooFar UnknownLabel once f g = let h = holds_has lines operand.label f.0 f.1 in absurd (g h.0 h.1)
+operand_once lines place operand TooFar Backward once f g = let same = holds_once lines operand.label f.0 g.0 once f.1 g.1 in let far = f.2 in let low = g.2 in absurd (omega arith)
 operand_once lines place operand TooFar TooFar once f g = refl
 operand_once lines place operand TooFar DanglingLabel once f g = absurd g
 operand_once lines place operand TooFar NoMemory once f g = absurd g
@@ -147,7 +147,7 @@ first_front : (lines : List SourceLine) (one other : AsmFault) → EachLabelOnce
 unfolding InFront
 first_front lines one other once f g front =
     let all : statements_of g.before ≡ statements_of f.before ++ f.statement ∷ statements_of front.0 =
-    ap statements_of front.1 ∙ statements_of-append f.before (f.here ∷ front.0) ∙ ap (λ (ss : List Statement). statements_of f.before ++ ss) (some_here f.here front.0 f.statement f.stands) in
+    ap statements_of front.1 ∙ statements_of-append f.before (f.here ∷ front.0) ∙ ap (λ (ss : List Statement). statements_of f.before ++ ss) (some_here f.here front.0 f.statement f.holds) in
     let have = have_at lines 0 (statements_of f.before) f.statement (statements_of front.0) (rw all at g.earlier) in
     let z : 0 + length (statements_of f.before) ≡ length (statements_of f.before) = omega arith in
     let here = subst (λ (p : ℕ). HasOffsets lines p (operands_of f.statement)) z have in
@@ -159,9 +159,9 @@ some_statement one other e = cc
 
 first_once : (lines : List SourceLine) (one other : AsmFault) → EachLabelOnce lines → IsFirstOperandFault lines one → IsFirstOperandFault lines other → one ≡ other
 first_once lines one other once f g =
-    elim (two_places f.before f.here f.behind g.before g.here g.behind (sym f.split ∙ g.split)) [
+    elim (two_places f.before f.here f.after g.before g.here g.after (sym f.split ∙ g.split)) [
       | inl e ↦
-          let s : f.statement ≡ g.statement = some_statement _ _ (sym f.stands ∙ ap (λ (l : SourceLine). l.statement) e.1 ∙ g.stands) in
+          let s : f.statement ≡ g.statement = some_statement _ _ (sym f.holds ∙ ap (λ (l : SourceLine). l.statement) e.1 ∙ g.holds) in
           let there : IsStatementFault lines (length (statements_of f.before)) f.statement other.kind =
           subst (λ (b : List SourceLine). IsStatementFault lines (length (statements_of b)) f.statement other.kind) (sym e.0)
           (subst (λ (t : Statement). IsStatementFault lines (length (statements_of g.before)) t other.kind) (sym s) g.faulty) in

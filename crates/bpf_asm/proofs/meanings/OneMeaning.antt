@@ -8,7 +8,7 @@ use Rattle.bpf_asm.specs.Meaning.{IsMeaning, IsSide, MeanFrom, Means}
 use Rattle.bpf_asm.specs.StatementSpelling.{Statement, plain, jump, branch}
 use Rattle.bpf_asm.specs.Tokens.{tokens_in}
 use Rattle.bpf_asm.proofs.spellings.LineBack.{line_back}
-use Rattle.bpf_asm.proofs.drafts.Agreement.{stands_label}
+use Rattle.bpf_asm.proofs.drafts.Agreement.{holds_label}
 use Rattle.bpf_code.specs.declared.instr.Instr.{Instr}
 use Rattle.bpf_code.specs.declared.instr.Instr.TheVariants.{Jump, Branch}
 
@@ -30,25 +30,25 @@ lines_once (here ∷ octets) (one ∷ some) (two ∷ other) a b =
     ap (λ (line : SourceLine). line ∷ some) (line_once here one two a.0 b.0) ∙ ap (λ (lines : List SourceLine). two ∷ lines) (lines_once octets some other a.1 b.1)
 
 -- The place that a label names, from the number of its line.
-stands_place : (lines : List SourceLine) (name : List ℕ) (place : ℕ) → NamesPlace lines name place → (at : ℕ) × HasLabel lines at name × (place ≡ length (statements_of (take at lines)))
-stands_place lines name place s =
-    let front : take (length s.before) lines ≡ s.before = ap (λ (ls : List SourceLine). take (length s.before) ls) s.split ∙ take_at s.before (s.here ∷ s.behind) (length s.before) refl in (
+holds_place : (lines : List SourceLine) (name : List ℕ) (place : ℕ) → NamesPlace lines name place → (at : ℕ) × HasLabel lines at name × (place ≡ length (statements_of (take at lines)))
+holds_place lines name place s =
+    let front : take (length s.before) lines ≡ s.before = ap (λ (ls : List SourceLine). take (length s.before) ls) s.split ∙ take_at s.before (s.here ∷ s.after) (length s.before) refl in (
       length s.before,
-      subst (λ (ls : List SourceLine). HasLabel ls (length s.before) name) (sym s.split) (stands_label s.before s.here s.behind name s.named),
+      subst (λ (ls : List SourceLine). HasLabel ls (length s.before) name) (sym s.split) (holds_label s.before s.here s.after name s.named),
       s.counted ∙ ap (λ (ls : List SourceLine). length (statements_of ls)) (sym front),
     )
 
 -- A label that occurs once names one place.
-pub stands_once : (lines : List SourceLine) (name : List ℕ) (one other : ℕ) → EachLabelOnce lines → NamesPlace lines name one → NamesPlace lines name other → one ≡ other
-stands_once lines name one other once a b =
-    let first = stands_place lines name one a in
-    let second = stands_place lines name other b in
+pub holds_once : (lines : List SourceLine) (name : List ℕ) (one other : ℕ) → EachLabelOnce lines → NamesPlace lines name one → NamesPlace lines name other → one ≡ other
+holds_once lines name one other once a b =
+    let first = holds_place lines name one a in
+    let second = holds_place lines name other b in
     let same : first.0 ≡ second.0 = once first.0 second.0 name first.1 second.1 in
     first.2 ∙ ap (λ (at : ℕ). length (statements_of (take at lines))) same ∙ sym second.2
 
 offset_once : (lines : List SourceLine) (place : ℕ) (operand : Operand) (one other : ℕ) → EachLabelOnce lines → IsOffset lines place operand one → IsOffset lines place operand other → one ≡ other
 offset_once lines place operand one other once a b =
-    let same : place + 1 + one ≡ place + 1 + other = stands_once lines operand.label (place + 1 + one) (place + 1 + other) once a.stands b.stands in
+    let same : place + 1 + one ≡ place + 1 + other = holds_once lines operand.label (place + 1 + one) (place + 1 + other) once a.holds b.holds in
     omega arith
 
 side_once : (lines : List SourceLine) (place : ℕ) (label : Option (List ℕ)) (one other : ℕ) → EachLabelOnce lines → IsSide lines place label one → IsSide lines place label other → one ≡ other

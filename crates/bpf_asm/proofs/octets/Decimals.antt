@@ -2,7 +2,7 @@
 use Rattle.std.proofs.Common.{◌≡◌, ℕ, ◌+◌, ◌*◌, ◌/◌, ◌%◌, ◌^◌, ◌<◌, ◌≤◌, Bool, true, false, ◌&&◌, ◌||◌, ◌==◌, nat_lt, if◌then◌else◌, List, [], ◌∷◌, ◌++◌, Some, None, decimal, refl, ap, ◌∙◌, arith}
 use Rattle.std.proofs.lemmas.Bool.{and_from, and_parts, and_right, lt-ltb}
 use Rattle.std.proofs.lemmas.Fmt.{decimal_by_steps}
-use Rattle.bpf_asm.specs.Numbers.{digit_of, number_of_word, value_behind, value_of, within_word}
+use Rattle.bpf_asm.specs.Numbers.{digit_of, number_of_word, value_after, value_of, within_word}
 use Rattle.bpf_asm.specs.Tokens.{name, number, tokens_of, word_token}
 use Rattle.text_io.specs.Words.{is_digit}
 use Rattle.bpf_asm.specs.inner.WordRuns.{all_word}
@@ -10,12 +10,12 @@ use Rattle.bpf_asm.proofs.octets.Pieces.{tokens_of-word}
 use Rattle.bpf_asm.proofs.octets.OctetTests.{digit_no_sign, digit_of-digit, digit_within, digit_word}
 
 -- One more digit.
-value_behind-snoc : (base high : ℕ) (digits : List ℕ) (octet value : ℕ) → value_behind base high digits ≡ Some value → nat_lt (digit_of octet) base ≡ true → value_behind base high (digits ++ octet ∷ []) ≡ Some (value * base + digit_of octet)
-unfolding value_behind
-value_behind-snoc base high [] octet value e h = let same : high ≡ value = cc in rw (h, same) refl
-value_behind-snoc base high (first ∷ digits) octet value e h =
-    elim (nat_lt (digit_of first) base) as (λ t. (if t then value_behind base (high * base + digit_of first) digits else None) ≡ Some value → (if t then value_behind base (high * base + digit_of first) (digits ++ octet ∷ []) else None) ≡ Some (value * base + digit_of octet))
-    [ true ↦ λ f. value_behind-snoc base (high * base + digit_of first) digits octet value f h | false ↦ λ f. cc ] e
+value_after-snoc : (base high : ℕ) (digits : List ℕ) (octet value : ℕ) → value_after base high digits ≡ Some value → nat_lt (digit_of octet) base ≡ true → value_after base high (digits ++ octet ∷ []) ≡ Some (value * base + digit_of octet)
+unfolding value_after
+value_after-snoc base high [] octet value e h = let same : high ≡ value = cc in rw (h, same) refl
+value_after-snoc base high (first ∷ digits) octet value e h =
+    elim (nat_lt (digit_of first) base) as (λ t. (if t then value_after base (high * base + digit_of first) digits else None) ≡ Some value → (if t then value_after base (high * base + digit_of first) (digits ++ octet ∷ []) else None) ≡ Some (value * base + digit_of octet))
+    [ true ↦ λ f. value_after-snoc base (high * base + digit_of first) digits octet value f h | false ↦ λ f. cc ] e
 
 -- Every octet is a digit.
 abbrev pub all_digit : List ℕ → Bool
@@ -37,10 +37,10 @@ digits_word (first ∷ digits) a =
 -- One or more decimal digits with this value.
 abbrev pub IsDecimal : ℕ → List ℕ → Type 0
 IsDecimal value [] = ⊥
-IsDecimal value (octet ∷ rest) = (value_behind 10 0 (octet ∷ rest) ≡ Some value) × (all_digit (octet ∷ rest) ≡ true)
+IsDecimal value (octet ∷ rest) = (value_after 10 0 (octet ∷ rest) ≡ Some value) × (all_digit (octet ∷ rest) ≡ true)
 
 one_decimal : (value : ℕ) → value < 10 → IsDecimal value ((48 + value) ∷ [])
-unfolding value_behind
+unfolding value_after
 one_decimal value h =
     let v = digit_of-digit value h in
     let l : nat_lt value 10 ≡ true = lt-ltb value 10 h in
@@ -56,7 +56,7 @@ more_decimal value (octet ∷ rest) h d =
     let l : nat_lt (digit_of (48 + value % 10)) 10 ≡ true = rw v (lt-ltb (value % 10) 10 low) in
     let e : value / 10 * 10 + digit_of (48 + value % 10) ≡ value = rw v (omega arith) in
     let digit : is_digit (48 + value % 10) ≡ true = digit_within (48 + value % 10) (omega arith) (omega arith) in
-    (value_behind-snoc 10 0 (octet ∷ rest) (48 + value % 10) (value / 10) d.0 l ∙ ap (λ (n : ℕ). Some n) e, all_digit-snoc (octet ∷ rest) (48 + value % 10) d.1 digit)
+    (value_after-snoc 10 0 (octet ∷ rest) (48 + value % 10) (value / 10) d.0 l ∙ ap (λ (n : ℕ). Some n) e, all_digit-snoc (octet ∷ rest) (48 + value % 10) d.1 digit)
 
 -- The decimal digits of a number.
 pub decimal_digits : (value : ℕ) → value < 2 ^ 64 → IsDecimal value (decimal value)

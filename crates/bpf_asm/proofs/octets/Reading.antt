@@ -2,7 +2,7 @@
 use Rattle.std.proofs.Common.{◌≡◌, ℕ, ◌+◌, ◌*◌, ◌<◌, ◌≤◌, ◌^◌, true, false, ◌&&◌, nat_lt, if◌then◌else◌, List, [], ◌∷◌, ◌++◌, length, get_or, take, drop, Option, Some, None, refl, sym, ap, ◌∙◌, arith, zero, suc, ◌==◌, ◌||◌, length-take, take-append-drop}
 use Rattle.std.proofs.lemmas.Bool.{and_from, and_parts, le-ltb, lt-ltb}
 use Rattle.std.proofs.lemmas.List.{at_drop_all, at_drop_more, drop_more, take_more}
-use Rattle.bpf_asm.specs.Numbers.{digit_of, is_hexadecimal, number_of_word, value_behind, value_in, within_word}
+use Rattle.bpf_asm.specs.Numbers.{digit_of, is_hexadecimal, number_of_word, value_after, value_in, within_word}
 use Rattle.bpf_asm.specs.Tokens.{is_run, is_word, mark, name, number, faulty, number_token, pieces_of, tokens_of, word_token}
 use Rattle.bpf_asm.specs.inner.WordRuns.{all_word}
 use Rattle.text_io.specs.Words.{is_blank, is_digit}
@@ -83,46 +83,46 @@ faulty_word word h d n = rw (word_token_read word h, d, n) refl
 pub name_word : (word : List ℕ) → 0 < length word → is_digit (get_or word 0 0) ≡ false → name word ≡ word_token word
 name_word word h d = rw (word_token_read word h, d) refl
 
-value_behind-step : (base high octet : ℕ) (rest : List ℕ) → value_behind base high (octet ∷ rest) ≡ (if nat_lt (digit_of octet) base then value_behind base (high * base + digit_of octet) rest else None)
-unfolding value_behind
-value_behind-step base high octet rest = refl
+value_after-step : (base high octet : ℕ) (rest : List ℕ) → value_after base high (octet ∷ rest) ≡ (if nat_lt (digit_of octet) base then value_after base (high * base + digit_of octet) rest else None)
+unfolding value_after
+value_after-step base high octet rest = refl
 
-value_in-some : (base : ℕ) (digits : List ℕ) → 0 < length digits → value_in base digits ≡ value_behind base 0 digits
+value_in-some : (base : ℕ) (digits : List ℕ) → 0 < length digits → value_in base digits ≡ value_after base 0 digits
 value_in-some base [] h = absurd (omega arith)
 value_in-some base (octet ∷ rest) h = refl
 
 -- One more digit.
-pub value_more : (base high : ℕ) (digits : List ℕ) (at : ℕ) (whole : Option ℕ) → at < length digits → digit_of (get_or digits at 0) < base → value_behind base high (drop at digits) ≡ whole → value_behind base (high * base + digit_of (get_or digits at 0)) (drop (at + 1) digits) ≡ whole
+pub value_more : (base high : ℕ) (digits : List ℕ) (at : ℕ) (whole : Option ℕ) → at < length digits → digit_of (get_or digits at 0) < base → value_after base high (drop at digits) ≡ whole → value_after base (high * base + digit_of (get_or digits at 0)) (drop (at + 1) digits) ≡ whole
 value_more base high digits at whole h d e =
     let l = lt-ltb (digit_of (get_or digits at 0)) base d in
-    sym (at_drop_more (value_behind base high) digits at 0 h ∙ value_behind-step base high (get_or digits at 0) (drop (at + 1) digits) ∙ rw l refl) ∙ e
+    sym (at_drop_more (value_after base high) digits at 0 h ∙ value_after-step base high (get_or digits at 0) (drop (at + 1) digits) ∙ rw l refl) ∙ e
 
 -- An octet that isn't a digit.
-pub value_stops : (base high : ℕ) (digits : List ℕ) (at : ℕ) → at < length digits → base ≤ digit_of (get_or digits at 0) → value_behind base high (drop at digits) ≡ value_behind base 0 digits → None ≡ within_word (value_in base digits)
+pub value_stops : (base high : ℕ) (digits : List ℕ) (at : ℕ) → at < length digits → base ≤ digit_of (get_or digits at 0) → value_after base high (drop at digits) ≡ value_after base 0 digits → None ≡ within_word (value_in base digits)
 value_stops base high digits at h d e =
     let l = le-ltb (digit_of (get_or digits at 0)) base d in
-    let none : value_behind base high (drop at digits) ≡ None = at_drop_more (value_behind base high) digits at 0 h ∙ value_behind-step base high (get_or digits at 0) (drop (at + 1) digits) ∙ rw l refl in
+    let none : value_after base high (drop at digits) ≡ None = at_drop_more (value_after base high) digits at 0 h ∙ value_after-step base high (get_or digits at 0) (drop (at + 1) digits) ∙ rw l refl in
     sym (ap within_word (value_in-some base digits (omega arith) ∙ sym e ∙ none))
 
 large_times : (high base : ℕ) → 1 ≤ base → high ≤ high * base
 large_times high base b = grind arith
 
-large_none : (base high : ℕ) (digits : List ℕ) → 1 ≤ base → 2 ^ 32 ≤ high → within_word (value_behind base high digits) ≡ None
-unfolding value_behind
+large_none : (base high : ℕ) (digits : List ℕ) → 1 ≤ base → 2 ^ 32 ≤ high → within_word (value_after base high digits) ≡ None
+unfolding value_after
 large_none base high [] b h = rw (le-ltb high (2 ^ 32) h) refl
 large_none base high (octet ∷ rest) b h =
     let more : high ≤ high * base = large_times high base b in
-    elim (nat_lt (digit_of octet) base) as (λ t. within_word (if t then value_behind base (high * base + digit_of octet) rest else None) ≡ None)
+    elim (nat_lt (digit_of octet) base) as (λ t. within_word (if t then value_after base (high * base + digit_of octet) rest else None) ≡ None)
     [ true ↦ large_none base (high * base + digit_of octet) rest b (omega arith) | false ↦ refl ]
 
 -- A number that is too large.
-pub value_large : (base high : ℕ) (digits rest : List ℕ) → 0 < length digits → 1 ≤ base → 2 ^ 32 ≤ high → value_behind base high rest ≡ value_behind base 0 digits → None ≡ within_word (value_in base digits)
+pub value_large : (base high : ℕ) (digits rest : List ℕ) → 0 < length digits → 1 ≤ base → 2 ^ 32 ≤ high → value_after base high rest ≡ value_after base 0 digits → None ≡ within_word (value_in base digits)
 value_large base high digits rest some b h e =
     sym (ap within_word (value_in-some base digits some ∙ sym e) ∙ large_none base high rest b h)
 
 -- The whole number.
-pub value_end : (base high : ℕ) (digits : List ℕ) (at : ℕ) → 0 < length digits → length digits ≤ at → high < 2 ^ 32 → value_behind base high (drop at digits) ≡ value_behind base 0 digits → Some high ≡ within_word (value_in base digits)
-unfolding value_behind
+pub value_end : (base high : ℕ) (digits : List ℕ) (at : ℕ) → 0 < length digits → length digits ≤ at → high < 2 ^ 32 → value_after base high (drop at digits) ≡ value_after base 0 digits → Some high ≡ within_word (value_in base digits)
+unfolding value_after
 value_end base high digits at some h l e =
-    let whole : value_behind base high (drop at digits) ≡ Some high = at_drop_all (value_behind base high) digits at h in
+    let whole : value_after base high (drop at digits) ≡ Some high = at_drop_all (value_after base high) digits at h in
     sym (ap within_word (value_in-some base digits some ∙ sym e ∙ whole) ∙ rw (lt-ltb high (2 ^ 32) l) refl)

@@ -1,7 +1,7 @@
 -- A form that is read after a name is one of the spellings of a statement.
 use Rattle.std.proofs.Common.{◌≡◌, ℕ, List, [], ◌∷◌, ◌++◌, Option, Some, None, codes, refl, sym, ap, ◌∙◌, inl, inr, append-nil}
 use Rattle.bpf_asm.specs.Grammar.{IsOneOf}
-use Rattle.bpf_asm.specs.Numbers.{number_of_word, value_behind}
+use Rattle.bpf_asm.specs.Numbers.{number_of_word, value_after}
 use Rattle.bpf_asm.specs.inner.Reading.{◌>>=◌, absolute_in, arithmetic_in, branch_in, constant_in, cut_name, cut_operand, cut_target, cut_word, ended, header, header_in, indexed_in, inverse_in, jump_in, length_in, load_index, load_word, or_else, packet, return_in, scratch_in, second_in}
 use Rattle.bpf_asm.specs.StatementSpelling.{Statement, plain, jump, branch, spellings}
 use Rattle.bpf_asm.specs.Tokens.{Token, name, number, mark, pieces_of, tokens_of, word_token}
@@ -52,7 +52,7 @@ length_sound octets ts s made e h =
     at_row (name octets ∷ ts) (name octets ∷ mark 35 ∷ name (codes "len") ∷ []) made s (ap (λ (r : List Token). name octets ∷ r) (length_is ts n.0 n.1)) (some_same made s n.2) h
 
 pub word_sound : (ts : List Token) (s : Statement) → load_word ts ≡ Some s → Named (codes "ld") ts s
-unfolding spellings tokens_of pieces_of word_token number_of_word value_behind
+unfolding spellings tokens_of pieces_of word_token number_of_word value_after
 word_sound ts s e =
     let imm = constant_in ts >>= (λ k. Some (plain (LoadImm k))) in
     let mem = scratch_in ts >>= (λ k. Some (plain (LoadMem k))) in
@@ -69,7 +69,7 @@ word_sound ts s e =
     ]
 
 pub index_sound : (ts : List Token) (s : Statement) → load_index ts ≡ Some s → Named (codes "ldx") ts s
-unfolding spellings tokens_of pieces_of word_token number_of_word value_behind
+unfolding spellings tokens_of pieces_of word_token number_of_word value_after
 index_sound ts s e =
     let imm = constant_in ts >>= (λ k. Some (plain (LdxImm k))) in
     let mem = scratch_in ts >>= (λ k. Some (plain (LdxMem k))) in
@@ -86,7 +86,7 @@ index_sound ts s e =
     ]
 
 pub return_sound : (ts : List Token) (s : Statement) → return_in ts ≡ Some s → Named (codes "ret") ts s
-unfolding spellings tokens_of pieces_of word_token number_of_word value_behind
+unfolding spellings tokens_of pieces_of word_token number_of_word value_after
 return_sound ts s e =
     elim (else_some (constant_in ts >>= (λ k. Some (plain (RetK k)))) (cut_word (codes "a") ts >>= ended (plain RetA)) s e) [
       | inl g ↦ numbered (codes "ret") ts s (constant_in ts) (λ k. plain (RetK k)) (λ k. mark 35 ∷ number k ∷ []) g (constant_is ts) (λ k. inl refl)

@@ -2,7 +2,7 @@
 use Rattle.std.proofs.Common.{◌≡◌, ◌⊎◌, ℕ, Bool, true, false, if◌then◌else◌, List, [], ◌∷◌, Option, Some, None, codes, refl, ap, ◌∙◌, inl, inr}
 use Rattle.std.specs.Str.{bytes_eq}
 use Rattle.std.proofs.lemmas.Slice.Eq.{bytes_eq-Decides}
-use Rattle.bpf_asm.specs.Numbers.{number_of_word, value_behind}
+use Rattle.bpf_asm.specs.Numbers.{number_of_word, value_after}
 use Rattle.bpf_asm.specs.inner.Reading.{arithmetic_in, branch_in, table_entry, header_in, inverse_in, inverse_of, moved_forms, moved_in, op_of, op_rows, test_rows, inverse_rows, other_forms, other_in, scratch_in, branch_named}
 use Rattle.bpf_asm.specs.StatementSpelling.{Statement, plain, branch, spellings}
 use Rattle.bpf_asm.specs.Tokens.{Token, name, number, mark, pieces_of, tokens_of, word_token}
@@ -37,7 +37,7 @@ at_name : (octets word : List ℕ) (ts : List Token) (s : Statement) → octets 
 at_name octets word ts s e h = rw e h
 
 pub op_sound : (octets : List ℕ) (ts : List Token) (s : Statement) (op : Op) → op_of octets ≡ Some op → arithmetic_in op ts ≡ Some s → Named octets ts s
-unfolding op_of spellings tokens_of pieces_of word_token number_of_word value_behind
+unfolding op_of spellings tokens_of pieces_of word_token number_of_word value_after
 op_sound octets ts s op o e =
     elim (entry_is octets op op_rows o) [
       | inl w ↦ at_name octets (codes "add") ts s w.0 (arithmetic_sound Add (codes "add") ts s (both_operands (λ by. Named (codes "add") (operand_tokens by) (plain (Alu Add by))) (λ k. inl refl) (inl refl)) (rw w.1 e))
@@ -72,7 +72,7 @@ op_sound octets ts s op o e =
     ]
 
 pub test_sound : (octets : List ℕ) (ts : List Token) (s : Statement) (test : Test) → branch_named octets ≡ Some test → branch_in test ts ≡ Some s → Named octets ts s
-unfolding branch_named spellings tokens_of pieces_of word_token number_of_word value_behind
+unfolding branch_named spellings tokens_of pieces_of word_token number_of_word value_after
 test_sound octets ts s test o e =
     elim (entry_is octets test test_rows o) [
       | inl w ↦ at_name octets (codes "jeq") ts s w.0 (branch_sound Eq (codes "jeq") ts s (both_operands (λ by. (l : List ℕ) → Named (codes "jeq") (one_tokens by l) (branch Eq by (Some l) None)) (λ k l. inl refl) (λ l. inl refl)) (both_operands (λ by. (l m : List ℕ) → Named (codes "jeq") (two_tokens by l m) (branch Eq by (Some l) (Some m))) (λ k l m. inl refl) (λ l m. inl refl)) (rw w.1 e))
@@ -89,7 +89,7 @@ test_sound octets ts s test o e =
     ]
 
 pub inverse_named : (octets : List ℕ) (ts : List Token) (s : Statement) (test : Test) → inverse_of octets ≡ Some test → inverse_in test ts ≡ Some s → Named octets ts s
-unfolding inverse_of spellings tokens_of pieces_of word_token number_of_word value_behind
+unfolding inverse_of spellings tokens_of pieces_of word_token number_of_word value_after
 inverse_named octets ts s test o e =
     elim (entry_is octets test inverse_rows o) [
       | inl w ↦ at_name octets (codes "jne") ts s w.0 (inverse_sound Eq (codes "jne") ts s (both_operands (λ by. (l : List ℕ) → Named (codes "jne") (one_tokens by l) (branch Eq by None (Some l))) (λ k l. inl refl) (λ l. inl refl)) (rw w.1 e))
@@ -106,7 +106,7 @@ inverse_named octets ts s test o e =
     ]
 
 moved_form : (octets : List ℕ) (ts : List Token) (s : Statement) (form : List Token → Option Statement) → IsEntry octets form moved_forms → form ts ≡ Some s → Named octets ts s
-unfolding spellings tokens_of pieces_of word_token number_of_word value_behind
+unfolding spellings tokens_of pieces_of word_token number_of_word value_after
 moved_form octets ts s form o e =
     elim o [
       | inl w ↦ at_name octets (codes "ld") ts s w.0 (word_sound ts s (ap (λ (f : List Token → Option Statement). f ts) w.1 ∙ e))
@@ -138,7 +138,7 @@ moved_sound octets ts s e =
     moved_form octets ts s n.0 (entry_is octets n.0 moved_forms n.1) n.2
 
 other_form : (octets : List ℕ) (ts : List Token) (s : Statement) (form : List Token → Option Statement) → IsEntry octets form other_forms → form ts ≡ Some s → Named octets ts s
-unfolding spellings tokens_of pieces_of word_token number_of_word value_behind
+unfolding spellings tokens_of pieces_of word_token number_of_word value_after
 other_form octets ts s form o e =
     elim o [
       | inl w ↦ at_name octets (codes "neg") ts s w.0 (lone (codes "neg") ts s (plain Neg) (ap (λ (f : List Token → Option Statement). f ts) w.1 ∙ e) (inl refl))

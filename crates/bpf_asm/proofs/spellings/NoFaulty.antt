@@ -1,7 +1,7 @@
 -- No spelling of a statement has a word that begins with a digit and is no number.
 use Rattle.std.proofs.Common.{◌≡◌, false, List, Some, None, refl, inl, inr}
 use Rattle.bpf_asm.specs.Grammar.{IsOneOf}
-use Rattle.bpf_asm.specs.Numbers.{number_of_word, value_behind}
+use Rattle.bpf_asm.specs.Numbers.{number_of_word, value_after}
 use Rattle.bpf_asm.specs.StatementSpelling.{Statement, plain, jump, branch, spellings}
 use Rattle.bpf_asm.specs.Tokens.{Token, has_faulty, pieces_of, tokens_of, word_token}
 use Rattle.bpf_code.specs.declared.instr.By.TheVariants.{Imm, X}
@@ -12,7 +12,7 @@ use Rattle.bpf_code.specs.declared.instr.Test.TheVariants.{Eq, Gt, Ge, Set}
 
 -- A spelling of a statement has no faulty token.
 pub no_faulty : (ts : List Token) (s : Statement) → IsOneOf ts (spellings s) → has_faulty ts ≡ false
-unfolding spellings tokens_of pieces_of word_token number_of_word value_behind
+unfolding spellings tokens_of pieces_of word_token number_of_word value_after
 no_faulty ts (plain (LoadAbs Word k)) h = elim h [ inl e ↦ rw e refl | inr e ↦ absurd e ]
 no_faulty ts (plain (LoadInd Word k)) h = elim h [ inl e ↦ rw e refl | inr e ↦ absurd e ]
 no_faulty ts (plain (LoadAbs Half k)) h = elim h [ inl e ↦ rw e refl | inr e ↦ absurd e ]

@@ -1,7 +1,7 @@
 -- No spelling of a statement begins with a label.
 use Rattle.std.proofs.Common.{◌≡◌, List, Some, None, refl, inl, inr}
 use Rattle.bpf_asm.specs.Grammar.{IsOneOf}
-use Rattle.bpf_asm.specs.Numbers.{number_of_word, value_behind}
+use Rattle.bpf_asm.specs.Numbers.{number_of_word, value_after}
 use Rattle.bpf_asm.specs.inner.Reading.{cut_label}
 use Rattle.bpf_asm.specs.StatementSpelling.{Statement, plain, jump, branch, spellings}
 use Rattle.bpf_asm.specs.Tokens.{Token, pieces_of, tokens_of, word_token}
@@ -13,7 +13,7 @@ use Rattle.bpf_code.specs.declared.instr.Test.TheVariants.{Eq, Gt, Ge, Set}
 
 -- A spelling of a statement has no label in front.
 pub no_label : (ts : List Token) (s : Statement) → IsOneOf ts (spellings s) → cut_label ts ≡ None
-unfolding spellings tokens_of pieces_of word_token number_of_word value_behind
+unfolding spellings tokens_of pieces_of word_token number_of_word value_after
 no_label ts (plain (LoadAbs Word k)) h = elim h [ inl e ↦ rw e refl | inr e ↦ absurd e ]
 no_label ts (plain (LoadInd Word k)) h = elim h [ inl e ↦ rw e refl | inr e ↦ absurd e ]
 no_label ts (plain (LoadAbs Half k)) h = elim h [ inl e ↦ rw e refl | inr e ↦ absurd e ]

@@ -1,7 +1,7 @@
 -- Every spelling of a statement is read as that statement.
 use Rattle.std.proofs.Common.{◌≡◌, List, Some, None, refl, inl, inr}
 use Rattle.bpf_asm.specs.Grammar.{IsOneOf}
-use Rattle.bpf_asm.specs.Numbers.{number_of_word, value_behind}
+use Rattle.bpf_asm.specs.Numbers.{number_of_word, value_after}
 use Rattle.bpf_asm.specs.inner.Reading.{inverse_of, moved_in, named_in, op_of, other_in, statement_in, branch_named}
 use Rattle.bpf_asm.specs.StatementSpelling.{Statement, plain, jump, branch, spellings}
 use Rattle.bpf_asm.specs.Tokens.{Token, pieces_of, tokens_of, word_token}
@@ -13,7 +13,7 @@ use Rattle.bpf_code.specs.declared.instr.Test.TheVariants.{Eq, Gt, Ge, Set}
 
 -- A spelling of a statement is read as that statement.
 pub reads_back : (ts : List Token) (s : Statement) → IsOneOf ts (spellings s) → statement_in ts ≡ Some s
-unfolding spellings statement_in named_in op_of branch_named inverse_of moved_in other_in tokens_of pieces_of word_token number_of_word value_behind
+unfolding spellings statement_in named_in op_of branch_named inverse_of moved_in other_in tokens_of pieces_of word_token number_of_word value_after
 reads_back ts (plain (LoadAbs Word k)) h = elim h [ inl e ↦ rw e refl | inr e ↦ absurd e ]
 reads_back ts (plain (LoadInd Word k)) h = elim h [ inl e ↦ rw e refl | inr e ↦ absurd e ]
 reads_back ts (plain (LoadAbs Half k)) h = elim h [ inl e ↦ rw e refl | inr e ↦ absurd e ]

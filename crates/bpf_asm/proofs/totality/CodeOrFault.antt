@@ -26,17 +26,17 @@ next_line : (before : List SourceLine) (line : SourceLine) (s : Option Statement
 next_line before line s e = statements_more before line ∙ ap (λ (o : Option Statement). statements_of before ++ option_to_list o) e
 
 -- The same with one more line.
-mean_line : (lines before : List SourceLine) (line : SourceLine) (behind : List SourceLine) (code : List Instr) (s : Option Statement) → line.statement ≡ s → lines ≡ before ++ line ∷ behind → MeanFrom lines 0 (statements_of before) code → ((more : List Instr) × MeanFrom lines 0 (statements_of (before ++ line ∷ [])) more) ⊎ ((fault : AsmFault) × IsFirstOperandFault lines fault)
-mean_line lines before line behind code None none split m =
+mean_line : (lines before : List SourceLine) (line : SourceLine) (after : List SourceLine) (code : List Instr) (s : Option Statement) → line.statement ≡ s → lines ≡ before ++ line ∷ after → MeanFrom lines 0 (statements_of before) code → ((more : List Instr) × MeanFrom lines 0 (statements_of (before ++ line ∷ [])) more) ⊎ ((fault : AsmFault) × IsFirstOperandFault lines fault)
+mean_line lines before line after code None none split m =
     let same : statements_of (before ++ line ∷ []) ≡ statements_of before = next_line before line None none ∙ append-nil (statements_of before) in
     inl (code, subst (λ (ss : List Statement). MeanFrom lines 0 ss code) (sym same) m)
-mean_line lines before line behind code (Some s) stands split m =
+mean_line lines before line after code (Some s) holds split m =
     elim (means-or_fault lines (length (statements_of before)) s) [
       | inl here ↦
           let place : length (statements_of before) ≡ 0 + length (statements_of before) = omega arith in
           let means = subst (λ (p : ℕ). Means lines p s here.0) place here.1 in
           let all = mean_more lines 0 (statements_of before) code s here.0 m means in
-          inl (code ++ here.0 ∷ [], subst (λ (ss : List Statement). MeanFrom lines 0 ss (code ++ here.0 ∷ [])) (sym (next_line before line (Some s) stands)) all)
+          inl (code ++ here.0 ∷ [], subst (λ (ss : List Statement). MeanFrom lines 0 ss (code ++ here.0 ∷ [])) (sym (next_line before line (Some s) holds)) all)
       | inr bad ↦
           let fault : AsmFault = record { line = length before + 1; kind = bad.0 } in
           inr (
@@ -44,25 +44,25 @@ mean_line lines before line behind code (Some s) stands split m =
             record {
               before = before;
               here = line;
-              behind = behind;
+              after = after;
               split = split;
               number = refl;
               earlier = mean_have lines 0 (statements_of before) code m;
               statement = s;
-              stands = stands;
+              holds = holds;
               faulty = bad.1;
             },
           )
     ]
 
 -- The same for the lines that are left.
-mean_behind : (lines before behind : List SourceLine) (code : List Instr) → lines ≡ before ++ behind → MeanFrom lines 0 (statements_of before) code → MeanOrFaulty lines
-mean_behind lines before [] code split m =
+mean_after : (lines before after : List SourceLine) (code : List Instr) → lines ≡ before ++ after → MeanFrom lines 0 (statements_of before) code → MeanOrFaulty lines
+mean_after lines before [] code split m =
     let all : before ≡ lines = sym (append-nil before) ∙ sym split in
     inl (code, subst (λ (ls : List SourceLine). MeanFrom lines 0 (statements_of ls) code) all m)
-mean_behind lines before (line ∷ behind) code split m =
-    elim (mean_line lines before line behind code line.statement refl split m) [
-      | inl more ↦ mean_behind lines (before ++ line ∷ []) behind more.0 (split ∙ sym (append_assoc before (line ∷ []) behind)) more.1
+mean_after lines before (line ∷ after) code split m =
+    elim (mean_line lines before line after code line.statement refl split m) [
+      | inl more ↦ mean_after lines (before ++ line ∷ []) after more.0 (split ∙ sym (append_assoc before (line ∷ []) after)) more.1
       | inr bad ↦ inr bad
     ]
 
@@ -73,7 +73,7 @@ mean_none lines = refl
 
 -- The same for the statements of all lines.
 mean-or_fault : (lines : List SourceLine) → MeanOrFaulty lines
-mean-or_fault lines = mean_behind lines [] lines [] refl (mean_none lines)
+mean-or_fault lines = mean_after lines [] lines [] refl (mean_none lines)
 
 -- Lines of the grammar with each label once mean a code or have a fault of labels.
 spelled-or_fault : (source : List ℕ) (lines : List SourceLine) (pending : Option ℕ) → AreLines (source_lines source) lines → EachLabelOnce lines → IsPending lines pending → ((code : List Instr) × IsMeaning source code) ⊎ ((fault : AsmFault) × IsFault source fault)

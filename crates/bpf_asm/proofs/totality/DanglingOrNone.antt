@@ -26,17 +26,17 @@ dangling-or_none [] = (None, λ at d. cc)
 dangling-or_none (line ∷ lines) =
     elim (first_dangles line lines line.label refl) [
       | inl first ↦ (Some 0, (omega arith, first, λ earlier h. absurd (omega arith)))
-      | inr not ↦ behind not (dangling-or_none lines)
+      | inr not ↦ after not (dangling-or_none lines)
     ]
   where
-    none_behind : ¬ IsDangling (line ∷ lines) 0 → ((at : ℕ) → ¬ IsDangling lines at) → (at : ℕ) → ¬ IsDangling (line ∷ lines) at
-    none_behind not none zero d = not d
-    none_behind not none (suc at) d = none at d
+    none_after : ¬ IsDangling (line ∷ lines) 0 → ((at : ℕ) → ¬ IsDangling lines at) → (at : ℕ) → ¬ IsDangling (line ∷ lines) at
+    none_after not none zero d = not d
+    none_after not none (suc at) d = none at d
 
     none_before : (at : ℕ) → ¬ IsDangling (line ∷ lines) 0 → ((earlier : ℕ) → earlier < at → ¬ IsDangling lines earlier) → (earlier : ℕ) → earlier < suc at → ¬ IsDangling (line ∷ lines) earlier
     none_before at not none zero h d = not d
     none_before at not none (suc earlier) h d = none earlier (omega arith) d
 
-    behind : ¬ IsDangling (line ∷ lines) 0 → ((pending : Option ℕ) × IsPending lines pending) → (pending : Option ℕ) × IsPending (line ∷ lines) pending
-    behind not (None, none) = (None, none_behind not none)
-    behind not (Some at, p) = (Some (suc at), (omega (arith, p.0), p.1, none_before at not p.2))
+    after : ¬ IsDangling (line ∷ lines) 0 → ((pending : Option ℕ) × IsPending lines pending) → (pending : Option ℕ) × IsPending (line ∷ lines) pending
+    after not (None, none) = (None, none_after not none)
+    after not (Some at, p) = (Some (suc at), (omega (arith, p.0), p.1, none_before at not p.2))

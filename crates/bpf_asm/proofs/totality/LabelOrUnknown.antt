@@ -29,12 +29,12 @@ unfolding statements_of
 none_before = refl
 
 -- A label names a place, or no line has it.
-pub stands-or_unknown : (lines : List SourceLine) (name : List ℕ) → ((place : ℕ) × NamesPlace lines name place) ⊎ ((at : ℕ) → ¬ HasLabel lines at name)
-stands-or_unknown [] name = inr (λ at h. cc)
-stands-or_unknown (line ∷ lines) name =
+pub holds-or_unknown : (lines : List SourceLine) (name : List ℕ) → ((place : ℕ) × NamesPlace lines name place) ⊎ ((at : ℕ) → ¬ HasLabel lines at name)
+holds-or_unknown [] name = inr (λ at h. cc)
+holds-or_unknown (line ∷ lines) name =
     elim (named_by line.label name) [
-      | inl named ↦ inl (0, record { before = []; here = line; behind = lines; split = refl; named = named; counted = none_before })
-      | inr not ↦ elim (stands-or_unknown lines name) [
+      | inl named ↦ inl (0, record { before = []; here = line; after = lines; split = refl; named = named; counted = none_before })
+      | inr not ↦ elim (holds-or_unknown lines name) [
         | inr none ↦ inr (no_label line lines name not none)
         | inl found ↦
             let s = found.1 in
@@ -43,7 +43,7 @@ stands-or_unknown (line ∷ lines) name =
               record {
                 before = line ∷ s.before;
                 here = s.here;
-                behind = s.behind;
+                after = s.after;
                 split = ap (λ (ls : List SourceLine). line ∷ ls) s.split;
                 named = s.named;
                 counted = refl;

@@ -10,8 +10,8 @@ use Rattle.bpf_asm.specs.declared.fault.AsmKind.TheVariants.{BadLine, BadNumber}
 use Rattle.bpf_asm.proofs.spellings.LineBack.{line_back, line_true}
 
 -- The line parses or has a fault.
-abbrev pub SaysOrFaulty : List ℕ → Type 0
-SaysOrFaulty octets = ((line : SourceLine) × IsSourceLine octets line) ⊎ ((kind : AsmKind) × ((before : List SourceLine) → IsLineFault before octets kind))
+abbrev pub ParsesOrFaulty : List ℕ → Type 0
+ParsesOrFaulty octets = ((line : SourceLine) × IsSourceLine octets line) ⊎ ((kind : AsmKind) × ((before : List SourceLine) → IsLineFault before octets kind))
 
 -- Some number is bad.
 bad_by : (octets : List ℕ) → has_faulty (tokens_of (without_comment octets)) ≡ true → HasBadNumber octets
@@ -37,11 +37,11 @@ unread octets line none is =
     cc
 
 -- By both tests.
-decided : (octets : List ℕ) (bad : Bool) (read : Option SourceLine) → has_faulty (tokens_of (without_comment octets)) ≡ bad → line_in (tokens_in octets) ≡ read → SaysOrFaulty octets
+decided : (octets : List ℕ) (bad : Bool) (read : Option SourceLine) → has_faulty (tokens_of (without_comment octets)) ≡ bad → line_in (tokens_in octets) ≡ read → ParsesOrFaulty octets
 decided octets true read h e = inr (BadNumber, λ before. bad_by octets h)
 decided octets false None h e = inr (BadLine, λ before. (not_bad octets h, λ line is. unread octets line e is))
 decided octets false (Some line) h e = inl (line, read_is octets line e)
 
 -- A line is in the grammar or has a fault.
-pub line-or_fault : (octets : List ℕ) → SaysOrFaulty octets
+pub line-or_fault : (octets : List ℕ) → ParsesOrFaulty octets
 line-or_fault octets = decided octets (has_faulty (tokens_of (without_comment octets))) (line_in (tokens_in octets)) refl refl

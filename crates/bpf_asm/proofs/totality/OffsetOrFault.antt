@@ -9,28 +9,28 @@ use Rattle.bpf_asm.specs.StatementSpelling.{Statement, plain, jump, branch}
 use Rattle.bpf_asm.specs.inner.Drafts.{IsSideFault}
 use Rattle.bpf_asm.specs.declared.fault.AsmKind.{AsmKind}
 use Rattle.bpf_asm.specs.declared.fault.AsmKind.TheVariants.{UnknownLabel, Backward, TooFar}
-use Rattle.bpf_asm.proofs.totality.LabelOrUnknown.{stands-or_unknown}
+use Rattle.bpf_asm.proofs.totality.LabelOrUnknown.{holds-or_unknown}
 use Rattle.bpf_asm.proofs.drafts.Resolving.{first_side, jump_fault, second_side}
 use Rattle.bpf_code.specs.declared.instr.Instr.{Instr}
 use Rattle.bpf_code.specs.declared.instr.Instr.TheVariants.{Jump, Branch}
 
 -- A label that names a place.
 reached : (lines : List SourceLine) (place : ℕ) (operand : Operand) (target : ℕ) → NamesPlace lines operand.label target → HasOffset lines place operand ⊎ ((kind : AsmKind) × IsOperandFault lines place operand kind)
-reached lines place operand target stands =
+reached lines place operand target holds =
     elim (cases_lt place target) [
-      | inr back ↦ inr (Backward, (target, stands, back))
+      | inr back ↦ inr (Backward, (target, holds, back))
       | inl ahead ↦ elim (cases_lt (place + 1 + operand.most) target) [
-        | inl far ↦ inr (TooFar, (target, stands, far))
+        | inl far ↦ inr (TooFar, (target, holds, far))
         | inr near ↦
             let there : target ≡ place + 1 + (target - (place + 1)) = omega arith in
-            inl (target - (place + 1), record { stands = subst (λ (t : ℕ). NamesPlace lines operand.label t) there stands; fits = omega arith })
+            inl (target - (place + 1), record { holds = subst (λ (t : ℕ). NamesPlace lines operand.label t) there holds; fits = omega arith })
       ]
     ]
 
 -- A label operand has an offset or a fault.
 offset-or_fault : (lines : List SourceLine) (place : ℕ) (operand : Operand) → HasOffset lines place operand ⊎ ((kind : AsmKind) × IsOperandFault lines place operand kind)
 offset-or_fault lines place operand =
-    elim (stands-or_unknown lines operand.label) [
+    elim (holds-or_unknown lines operand.label) [
       | inl found ↦ reached lines place operand found.0 found.1
       | inr unknown ↦ inr (UnknownLabel, unknown)
     ]

@@ -24,7 +24,7 @@ use Rattle.bpf_code.specs.declared.instr.Instr.TheVariants.{Jump, Branch}
 pub record AgreesWith (lines : List SourceLine) (find : List ℕ → Option ℕ) (places : ℕ) : Type 0 where
   pub counted : places ≡ length (statements_of lines)
   pub once : EachLabelOnce lines
-  pub stands : (name : List ℕ) (place : ℕ) → find name ≡ Some place → NamesPlace lines name place
+  pub holds : (name : List ℕ) (place : ℕ) → find name ≡ Some place → NamesPlace lines name place
   pub unknown : (name : List ℕ) → find name ≡ None → (at : ℕ) → ¬ HasLabel lines at name
 
 -- The instruction of a statement, with offsets of 0 if it has labels.
@@ -52,25 +52,25 @@ abbrev pub first_forms : List Unresolved → List Instr
 first_forms all = map (λ (u : Unresolved). drafted u.statement) all
 
 -- The instruction is in the lines, after these others, at its line and its place.
-pub record StandsBehind (lines : List SourceLine) (front : List Unresolved) (u : Unresolved) : Type 0 where
+pub record HoldsAfter (lines : List SourceLine) (front : List Unresolved) (u : Unresolved) : Type 0 where
   pub before : List SourceLine
   pub here : SourceLine
-  pub behind : List SourceLine
-  pub split : lines ≡ before ++ here ∷ behind
+  pub after : List SourceLine
+  pub split : lines ≡ before ++ here ∷ after
   pub number : u.line ≡ length before + 1
-  pub stands : here.statement ≡ Some (statement_seen u.statement)
+  pub holds : here.statement ≡ Some (statement_seen u.statement)
   pub earlier : statements_of before ≡ statements_seen front
   pub place : u.place ≡ length front
 
 -- Each of these instructions is in the lines, after those before it.
-abbrev pub EachStands : List SourceLine → List Unresolved → Type 0
-EachStands lines all = (front : List Unresolved) (u : Unresolved) (back : List Unresolved) → all ≡ front ++ u ∷ back → StandsBehind lines front u
+abbrev pub EachHolds : List SourceLine → List Unresolved → Type 0
+EachHolds lines all = (front : List Unresolved) (u : Unresolved) (back : List Unresolved) → all ≡ front ++ u ∷ back → HoldsAfter lines front u
 
 -- The code and the instructions with labels are the draft of these lines.
 pub record IsDraft (lines : List SourceLine) (code : List Instr) (unresolved : List Unresolved) : Type 0 where
   pub all : List Unresolved
   pub statements : statements_of lines ≡ statements_seen all
-  pub each : EachStands lines all
+  pub each : EachHolds lines all
   pub forms : code ≡ first_forms all
   pub labelled : unresolved ≡ filter is_unresolved all
 
@@ -80,7 +80,7 @@ pub record IsResolvedTo (lines : List SourceLine) (code : List Instr) (unresolve
   pub front : List Unresolved
   pub back : List Unresolved
   pub statements : statements_of lines ≡ statements_seen (front ++ back)
-  pub each : EachStands lines (front ++ back)
+  pub each : EachHolds lines (front ++ back)
   pub done : List Instr
   pub means : MeanFrom lines 0 (statements_seen front) done
   pub forms : code ≡ done ++ first_forms back

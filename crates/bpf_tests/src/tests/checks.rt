@@ -206,7 +206,7 @@ fn the_longest_code_has_4096_instructions(rt: HostRuntime) -> Result<(), Fail> {
     for (jumps, fault) in [(4095, None), (4096, Some(Fault::TooLong))] {
         let mut code = [Instr::Jump(0)].repeat(rt.alloc(), jumps)?;
         code.push(Instr::RetK(7))?;
-        assert_eq!(rt; fault_in(code), fault, "behind {jumps} jumps");
+        assert_eq!(rt; fault_in(code), fault, "after {jumps} jumps");
     }
     Ok(())
 }

@@ -177,8 +177,8 @@ fn the_longest_program_takes_a_step_an_instruction(rt: HostRuntime) -> Result<()
 
 /// The outcome of a code, and of the same code followed by enough unreachable returns that it isn't laid out.
 fn both_ways(alloc: Global, code: &[Instr], header: [u8; 4]) -> Result<[(u32, u32); 2], Fail> {
-    let behind = [Instr::RetK(0)].repeat(alloc, MOST_LAID_OUT)?;
-    let longer = [code, behind.as_slice()].concat(alloc)?;
+    let after = [Instr::RetK(0)].repeat(alloc, MOST_LAID_OUT)?;
+    let longer = [code, after.as_slice()].concat(alloc)?;
     Ok([
         outcome(alloc, code, header)?,
         outcome(alloc, &longer, header)?,

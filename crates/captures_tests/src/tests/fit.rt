@@ -5,7 +5,7 @@ use captures::Tick;
 use lab_fit::{FitFault, fit_capture};
 use std::alloc::Global;
 use std::test::Fail;
-use text_io::{Done, Giving, RunFault, Taking};
+use text_io::{Done, ReaderInput, RunFault, WriterOutput};
 use upc_cell::Side;
 
 /// The output of `fit` for a capture of such records, and how the run ends, with a tick of one second.
@@ -27,8 +27,8 @@ fn fitted(
             return Err(RunFault::NoMemory);
         }
     }
-    let mut source = Taking::new(capture.as_slice());
-    let mut sink = Giving::new(Vec::new(alloc));
+    let mut source = ReaderInput::new(capture.as_slice());
+    let mut sink = WriterOutput::new(Vec::new(alloc));
     let done = fit_capture(
         alloc,
         increment,

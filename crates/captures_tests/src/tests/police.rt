@@ -7,7 +7,7 @@ use lab_police::police_capture;
 use std::alloc::{AllocError, Global};
 use std::test::Fail;
 use std::thread::Threads;
-use text_io::{Done, Giving, RunFault, Taking};
+use text_io::{Done, ReaderInput, RunFault, WriterOutput};
 
 /// A script for one connection with a tick of a second: an increment of 4 and a limit of 1, and journals of one entry.
 const SETUP: &[u8] = b"card 1 1 1 1\nload 0006000000000001\nsetup 1 5 p1 cbr1:4/1\n";
@@ -24,8 +24,8 @@ fn policed(
     let Some(tick) = Tick::new(1_000_000_000) else {
         return Err(RunFault::NoMemory);
     };
-    let mut source = Taking::new(capture);
-    let mut sink = Giving::new(Vec::new(alloc));
+    let mut source = ReaderInput::new(capture);
+    let mut sink = WriterOutput::new(Vec::new(alloc));
     let done = police_capture(
         rt,
         threads,

@@ -7,7 +7,7 @@ use lab_setups::{police_setup, rules_names};
 use std::alloc::Global;
 use std::test::Fail;
 use std::thread::Threads;
-use text_io::{Done, Giving, RunFault, Taking};
+use text_io::{Done, ReaderInput, RunFault, WriterOutput};
 
 /// A script for two connections with a tick of a second, each with rules of its own.
 const SETUP: &[u8] =
@@ -45,8 +45,8 @@ fn policed(
             return Err(RunFault::NoMemory);
         }
     }
-    let mut source = Taking::new(capture.as_slice());
-    let mut sink = Giving::new(Vec::new(alloc));
+    let mut source = ReaderInput::new(capture.as_slice());
+    let mut sink = WriterOutput::new(Vec::new(alloc));
     let done = police_setup(
         rt,
         1,

@@ -16,11 +16,11 @@ use Rattle.card_core.specs.Log.{Event, Leads}
 -- The programs: no id has a generation above the number of times that its slot was given, so the next generation is
 -- new. Each live code was given under its id, and each given code is accepted.
 pub record SoundPrograms (world : World) : Type 0 where
-  pub once : (id : Id) (code : List Instr) → code_in world.given id ≡ Some code
-      → id.generation ≤ times_given world.given id.slot
+  pub once : (id : Id) (code : List Instr) → code_in world.loaded id ≡ Some code
+      → id.generation ≤ times_given world.loaded id.slot
   pub live_given : (id : Id) (code : List Instr) → code_in world.live id ≡ Some code
-      → code_in world.given id ≡ Some code
-  pub accepted : (id : Id) (code : List Instr) → code_in world.given id ≡ Some code → IsAccepted code
+      → code_in world.loaded id ≡ Some code
+  pub accepted : (id : Id) (code : List Instr) → code_in world.loaded id ≡ Some code → IsAccepted code
 
 -- One connection: its line is one of the card's, its incarnation is one of those given, its program is live, it has a
 -- contract, and the moments of its history never go back and are at most 2^62. Some counts at its setup, plus those of
@@ -28,14 +28,14 @@ pub record SoundPrograms (world : World) : Type 0 where
 pub record SoundConnection (world : World) (connection : Connection) : Type 0 where
   pub within : connection.line < world.shape.lines
   pub first : 1 ≤ connection.incarnation
-  pub old : connection.incarnation ≤ world.used
+  pub old : connection.incarnation ≤ world.incarnations
   pub named_live : IsSome (code_in world.live connection.program)
   pub some : 0 < length connection.contracts
   pub history : IsHistory connection.history
   pub early : All (λ cell. cell.moment ≤ 2 ^ 62) connection.history
-  pub handed : connection.handed ≤ length connection.history
+  pub returned : connection.returned ≤ length connection.history
   pub opening : Tally
-  pub counted : tallied opening (judged connection.contracts empty_buckets [] connection.history) ≡ tally_of (world.judged connection.line)
+  pub counted : tallied opening (judged connection.contracts empty_buckets [] connection.history) ≡ tally_of (world.verdicts connection.line)
 
 -- The connections: each virtual connection occurs at most once in their list, and no two have the same line or
 -- incarnation.
@@ -58,7 +58,7 @@ pub record SoundConnections (world : World) : Type 0 where
 pub record SoundPicking (world : World) (picking : Picking) : Type 0 where
   pub own : picking.vc ≡ vc_of world.shape.side picking.cell
   pub live : IsSome (code_in world.live picking.program)
-  pub old : picking.incarnation ≤ world.used
+  pub old : picking.incarnation ≤ world.incarnations
   pub same_line : (connection : Connection) → connection_in world.connections picking.vc ≡ Some connection
       → connection.incarnation ≡ picking.incarnation → connection.line ≡ picking.line
 
@@ -69,7 +69,7 @@ pub record WorldInvariant (world : World) : Type 0 where
   pub ports : (port : ℕ) (picking : Picking) → slice_get world.ports port ≡ Some (picked picking)
       → SoundPicking world picking
   pub sized : length world.ports ≡ world.shape.ports
-  pub used : world.used ≤ 2 ^ 62
+  pub incarnations : world.incarnations ≤ 2 ^ 62
 
 -- The invariant holds for every world that a log leads to.
 abbrev pub ReachedWorldsAreSound : Type 0

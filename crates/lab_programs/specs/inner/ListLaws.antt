@@ -37,8 +37,8 @@ lists-words : (world : Bool) (words : List (List ℕ)) → (text : List ℕ) × 
 lists-words false words = listed-line words
 lists-words true words = (bad_line, None, (refl, refl))
 
-list-can_step : (world : Bool) (line_content : List ℕ) → (text : List ℕ) × (next : Option Bool) × ListSteps world line_content text next
-list-can_step world line_content = silent-or (ListsOrEnds world (words_of line_content)) world (is_silent (words_of line_content)) (lists-words world (words_of line_content))
+list-can_step : (world : Bool) (content : List ℕ) → (text : List ℕ) × (next : Option Bool) × ListSteps world content text next
+list-can_step world content = silent-or (ListsOrEnds world (words_of content)) world (is_silent (words_of content)) (lists-words world (words_of content))
 
 list-can_close : (world : Bool) → (text : List ℕ) × (done : Done) × ListCloses world text done
 list-can_close false = (no_program, Ended, (refl, refl))
@@ -46,4 +46,4 @@ list-can_close true = ([], Whole, (refl, refl))
 
 -- The rules of `list` are total.
 pub list-total : IsTotal list_rules
-list-total = record { keeps = λ world line_content text after sound steps. tt; step = λ world line_content sound. list-can_step world line_content; close = λ world sound. list-can_close world }
+list-total = record { keeps = λ world content text after sound steps. tt; step = λ world content sound. list-can_step world content; close = λ world sound. list-can_close world }

@@ -2,12 +2,12 @@
 use Rattle.std.specs.Prelude.{◌≡◌, ℕ, ◌+◌, ◌<◌, ◌≤◌, List, [], ◌++◌, length, drop}
 use Rattle.bpf_asm.specs.SourceLines.{source_lines}
 use Rattle.bpf_code.specs.declared.instr.Instr.{Instr}
+use Rattle.bpf_interp.specs.Registers.{HoldsScratch}
 use Rattle.bpf_interp.specs.State.{State, At}
 use Rattle.bpf_interp.specs.Value.{EndsIn}
+use Rattle.bpf_interp.specs.declared.registers.Registers.{Registers}
 use Rattle.lab_programs.specs.Comments.{listed_lines}
 use Rattle.lab_programs.specs.Trace.{GoesThrough, step_lines}
-use Rattle.lab_programs.specs.inner.Registers.{HoldsWords}
-use Rattle.lab_programs.specs.declared.registers.Registers.{Registers}
 
 -- If the machine goes from here through these states, it goes from the start through states of which the first `steps`
 -- have the lines that were added.
@@ -20,9 +20,10 @@ Joins code packet here steps before after later value =
 -- ends.
 pub record IsTraced (code : List Instr) (packet : List ℕ) (before after : List ℕ) (registers : Registers) (words : List ℕ) (steps : ℕ) (lines : List ℕ) : Type 0 where
   pub memory : List (ℕ × ℕ)
-  pub agrees : HoldsWords memory words
+  pub agrees : HoldsScratch memory words
   pub ends : (value : ℕ) × (left : ℕ) × EndsIn code packet (At registers.pc registers.a registers.x memory) value left
   pub within : registers.pc < length code
+  pub skipped : registers.skipped ≤ registers.pc
   pub counted : steps ≤ registers.pc
   pub left : source_lines lines ≡ drop registers.pc (listed_lines code)
   pub joins : (later : List State) (value : ℕ) → GoesThrough code packet (At registers.pc registers.a registers.x memory) later value

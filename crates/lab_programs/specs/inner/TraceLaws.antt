@@ -44,21 +44,21 @@ trace-line code accepted (word ∷ []) = traces-word code accepted (octets_of_di
 trace-line code accepted (word ∷ other ∷ words) = (bad_line, refl)
 
 -- Before the program line, each line has the answer of `upc eval`.
-trace-can_step : (world : EvalWorld) (line_content : List ℕ) → IsSoundWorld world → (text : List ℕ) × (next : Option EvalWorld) × TraceSteps world line_content text next
-trace-can_step None line_content sound = eval-total.step None line_content sound
-trace-can_step (Some code) line_content sound =
-    let printed = trace-line code sound (words_of line_content) in
-    silent-or (ReadsOrTraces (Some code) (words_of line_content)) (Some code) (is_silent (words_of line_content)) (printed.0, Some (Some code), (printed.1, refl))
+trace-can_step : (world : EvalWorld) (content : List ℕ) → IsSoundWorld world → (text : List ℕ) × (next : Option EvalWorld) × TraceSteps world content text next
+trace-can_step None content sound = eval-total.step None content sound
+trace-can_step (Some code) content sound =
+    let printed = trace-line code sound (words_of content) in
+    silent-or (ReadsOrTraces (Some code) (words_of content)) (Some code) (is_silent (words_of content)) (printed.0, Some (Some code), (printed.1, refl))
 
 cell-sound : (code : List Instr) (after : EvalWorld) (words : List (List ℕ)) (text : List ℕ) → IsSoundWorld (Some code) → ReadsOrTraces (Some code) words text (Some after) → IsSoundWorld after
 cell-sound code after words text sound printed = let same : Some code ≡ after = let e = printed.1 in cc in subst IsSoundWorld same sound
 
-trace-keeps_sound : (world : EvalWorld) (line_content text : List ℕ) (after : EvalWorld) → IsSoundWorld world → TraceSteps world line_content text (Some after) → IsSoundWorld after
-trace-keeps_sound None line_content text after sound steps = eval-total.keeps None line_content text after sound steps
-trace-keeps_sound (Some code) line_content text after sound steps =
-    silent-sound IsSoundWorld (ReadsOrTraces (Some code) (words_of line_content) text (Some after)) (Some code) after text (is_silent (words_of line_content)) sound
-    (cell-sound code after (words_of line_content) text sound) steps
+trace-keeps_sound : (world : EvalWorld) (content text : List ℕ) (after : EvalWorld) → IsSoundWorld world → TraceSteps world content text (Some after) → IsSoundWorld after
+trace-keeps_sound None content text after sound steps = eval-total.keeps None content text after sound steps
+trace-keeps_sound (Some code) content text after sound steps =
+    silent-sound IsSoundWorld (ReadsOrTraces (Some code) (words_of content) text (Some after)) (Some code) after text (is_silent (words_of content)) sound
+    (cell-sound code after (words_of content) text sound) steps
 
 -- The rules of `trace` are total.
 pub trace-total : IsTotal trace_rules
-trace-total = record { keeps = λ world line_content text after sound steps. trace-keeps_sound world line_content text after sound steps; step = trace-can_step; close = eval-total.close }
+trace-total = record { keeps = λ world content text after sound steps. trace-keeps_sound world content text after sound steps; step = trace-can_step; close = eval-total.close }

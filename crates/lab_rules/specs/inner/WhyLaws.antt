@@ -16,15 +16,15 @@ abbrev pub why_world : List ℕ → Option NumberedRules → WhyWorld
 why_world text None = before_cells text
 why_world text (Some numbered) = among_cells (numbered_read numbered)
 
-steps_by : (text line_content : List ℕ) (b : Bool) → (here : List ℕ) × (next : Option WhyWorld) × MatchBool b
+steps_by : (text content : List ℕ) (b : Bool) → (here : List ℕ) × (next : Option WhyWorld) × MatchBool b
     ((here ≡ fault_answer (numbered_in text)) × (next ≡ option_map among_cells (some_rules (numbered_in text))))
-    ((here ≡ []) × (next ≡ Some (before_cells (with_rules_line text line_content))))
-steps_by text line_content true = (fault_answer (numbered_in text), option_map among_cells (some_rules (numbered_in text)), (refl, refl))
-steps_by text line_content false = ([], Some (before_cells (with_rules_line text line_content)), (refl, refl))
+    ((here ≡ []) × (next ≡ Some (before_cells (with_rules_line text content))))
+steps_by text content true = (fault_answer (numbered_in text), option_map among_cells (some_rules (numbered_in text)), (refl, refl))
+steps_by text content false = ([], Some (before_cells (with_rules_line text content)), (refl, refl))
 
-can_step : (world : WhyWorld) (line_content : List ℕ) → (here : List ℕ) × (next : Option WhyWorld) × WhySteps world line_content here next
-can_step (before_cells text) line_content = steps_by text line_content (is_cells_line line_content)
-can_step (among_cells numbered) line_content = (why_text numbered (words_of line_content), Some (among_cells numbered), (refl, refl))
+can_step : (world : WhyWorld) (content : List ℕ) → (here : List ℕ) × (next : Option WhyWorld) × WhySteps world content here next
+can_step (before_cells text) content = steps_by text content (is_cells_line content)
+can_step (among_cells numbered) content = (why_text numbered (words_of content), Some (among_cells numbered), (refl, refl))
 
 can_close : (world : WhyWorld) → (here : List ℕ) × (done : Done) × WhyCloses world here done
 can_close (before_cells text) = (fault_answer (numbered_in text), done_by (some_rules (numbered_in text)), (refl, refl))
@@ -33,7 +33,7 @@ can_close (among_cells numbered) = ([], Whole, (refl, refl))
 -- The rules of `why` are total.
 pub why-total : IsTotal why_rules
 why-total = record {
-  keeps = λ world line_content here after sound steps. tt;
-  step = λ world line_content sound. can_step world line_content;
+  keeps = λ world content here after sound steps. tt;
+  step = λ world content sound. can_step world content;
   close = λ world sound. can_close world;
 }

@@ -22,13 +22,13 @@ load_digits (Some (cut vc)) = None
 load_digits (Some (cell moment digits)) = None
 
 -- Whether an answer says that a program was loaded.
-abbrev pub says_loaded : List ℕ → Bool
-says_loaded answer = bytes_eq (take 7 answer) (codes "loaded ")
+abbrev pub is_loaded_answer : List ℕ → Bool
+is_loaded_answer answer = bytes_eq (take 7 answer) (codes "loaded ")
 
 -- The digits of the program that a line loads, if this is the answer to it on a card of this side or before there is one.
 abbrev pub loaded_digits : Option Side → List ℕ → List ℕ → Option (List ℕ)
-loaded_digits None line_content answer = None
-loaded_digits (Some side) line_content answer = if says_loaded answer then load_digits (command_of side (words_of line_content)) else None
+loaded_digits None content answer = None
+loaded_digits (Some side) content answer = if is_loaded_answer answer then load_digits (command_of side (words_of content)) else None
 
 -- What is kept after a line that loads the program of these digits, or loads none.
 abbrev pub ProgramsAfter : Option (List ℕ) → List NamesNone → List NamesNone → Type 0

@@ -20,12 +20,12 @@ pub record ShowsScript (ShowsRun : RunWorld → Type 0) (met : ℕ) (faulty : Bo
   pub blames : world.faulty ≡ faulty
   pub keeps : programs ≡ loaded_programs world.run
 
-sound_after : (before after : ScriptWorld) (line_content answer : List ℕ) (next : Option RunWorld) → IsSoundRun before.run → RunSteps before.run line_content answer next
+sound_after : (before after : ScriptWorld) (content answer : List ℕ) (next : Option RunWorld) → IsSoundRun before.run → RunSteps before.run content answer next
     → Some after ≡ option_map (after_answer before answer) next → IsSoundRun after.run
-sound_after before after line_content answer None sound steps e = let no = e in cc
-sound_after before after line_content answer (Some run) sound steps e =
+sound_after before after content answer None sound steps e = let no = e in cc
+sound_after before after content answer (Some run) sound steps e =
     let same : after ≡ after_answer before answer run = cc in
-    subst (λ (world : ScriptWorld). IsSoundRun world.run) (sym same) (run-total.keeps before.run line_content answer run sound steps)
+    subst (λ (world : ScriptWorld). IsSoundRun world.run) (sym same) (run-total.keeps before.run content answer run sound steps)
 
 ends_by : (world : ScriptWorld) (b : Bool) → (text : List ℕ) × (done : Done)
     × MatchBool b ((text ≡ []) × (done ≡ Ended)) ((text ≡ no_fault_line world.met) × (done ≡ Whole))
@@ -39,10 +39,10 @@ closes_by (Some card) world = ends_by world world.faulty
 -- The rules of `explain` are total.
 pub script-total : IsTotal script_rules
 script-total = record {
-  keeps = λ before line_content text after sound steps. sound_after before after line_content steps.0 steps.1 sound steps.2 steps.4;
-  step = λ world line_content sound.
-      let run = run-total.step world.run line_content sound in (
-        explained (loaded_programs world.run) (run_side world.run) (one_line_more world.met) line_content run.0,
+  keeps = λ before content text after sound steps. sound_after before after content steps.0 steps.1 sound steps.2 steps.4;
+  step = λ world content sound.
+      let run = run-total.step world.run content sound in (
+        explained (loaded_programs world.run) (run_side world.run) (one_line_more world.met) content run.0,
         option_map (after_answer world run.0) run.1,
         (run.0, run.1, run.2, refl, refl),
       );

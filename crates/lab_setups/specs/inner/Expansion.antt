@@ -3,7 +3,7 @@ use Rattle.std.specs.Prelude.{◌≡◌, ℕ, List, ◌++◌, map, Some}
 use Rattle.std.specs.Global.{Vec}
 use Rattle.bpf_code.specs.declared.instr.Instr.{Instr}
 use Rattle.bpf_verify.specs.Accepted.{IsAccepted}
-use Rattle.lab_rules.specs.RulesText.{most_rules_octets}
+use Rattle.lab_rules.specs.RulesAnswers.{most_rules_octets}
 use Rattle.rules_text.specs.ValuesRead.{FollowsText}
 use Rattle.text_io.specs.Gathered.{gathered}
 use Rattle.text_io.specs.Lines.{lines_of}

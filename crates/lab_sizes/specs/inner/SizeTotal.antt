@@ -9,7 +9,7 @@ use Rattle.lab_sizes.specs.SizeText.{size_answer, size_rules}
 -- The rules of `size` are total.
 pub size-total : IsTotal size_rules
 size-total = record {
-  keeps = λ world line_content text after sound steps. tt;
-  step = λ world line_content sound. (size_answer (words_of line_content), Some world, (refl, refl));
+  keeps = λ world content text after sound steps. tt;
+  step = λ world content sound. (size_answer (words_of content), Some world, (refl, refl));
   close = λ world sound. ([], Whole, (refl, refl));
 }

@@ -2,7 +2,7 @@
 use Rattle.std.specs.Prelude.{map, reverse, Option, Some, None, Result, Ok, Err}
 use Rattle.cell_rules.specs.declared.field.Field.{Field}
 use Rattle.cell_rules.specs.declared.test.Test.{Test}
-use Rattle.rules_text.specs.LineGrammar.{Awaited, GroupRead, LineContext, Reading, StatementRead, SubjectRead, awaits_start, awaits_unit, awaits_operator, awaits_offset, awaits_relation, awaits_mask, awaits_sign, awaits_constant, awaits_dots, awaits_high, awaits_comma, awaits_low, awaits_arrow, awaits_value, awaits_rest, awaits_side, awaits_end, says_nothing, says_side, says_line, says_otherwise}
+use Rattle.rules_text.specs.LineGrammar.{Awaited, GroupRead, LineContext, Reading, StatementRead, SubjectRead, awaits_start, awaits_unit, awaits_operator, awaits_offset, awaits_relation, awaits_mask, awaits_sign, awaits_constant, awaits_dots, awaits_high, awaits_comma, awaits_low, awaits_arrow, awaits_value, awaits_rest, awaits_side, awaits_end, blank_statement, side_statement, line_statement, otherwise_statement}
 use Rattle.rules_text.specs.RulesRead.{FieldRead, TestRead, field_read, line_read, test_read}
 use Rattle.rules_text.specs.TextOfRules.{TextReading}
 use Rattle.rules_text.specs.declared.fault.RuleKind.{RuleKind}
@@ -50,12 +50,12 @@ some_test_seen (Some test) = Some (test_read test)
 abbrev pub group_seen : Group → GroupRead
 group_seen group = record { either = some_test_seen group.either; both = some_test_seen group.both; negated = group.negated }
 
--- What a line says.
-abbrev pub rule_statement_seen : Statement → StatementRead
-rule_statement_seen statement.Blank = says_nothing
-rule_statement_seen (statement.Side side) = says_side side
-rule_statement_seen (statement.Line line) = says_line (line_read line)
-rule_statement_seen (statement.Otherwise value) = says_otherwise value
+-- The statement of a line.
+abbrev pub line_statement_seen : Statement → StatementRead
+line_statement_seen statement.Blank = blank_statement
+line_statement_seen (statement.Side side) = side_statement side
+line_statement_seen (statement.Line line) = line_statement (line_read line)
+line_statement_seen (statement.Otherwise value) = otherwise_statement value
 
 -- What was read before a line.
 abbrev pub context_seen : Context → LineContext
@@ -71,7 +71,7 @@ reading_seen reader = record {
   spans = reader.spans.items;
   comparisons = reader.comparisons;
   test = test_read reader.test;
-  statement = rule_statement_seen reader.statement;
+  statement = line_statement_seen reader.statement;
 }
 
 -- What was read of a text.
@@ -93,7 +93,7 @@ abbrev pub field_found : Result Field RuleKind → Result FieldRead RuleKind
 field_found (Ok field) = Ok (field_read field)
 field_found (Err kind) = Err kind
 
--- What a line says, or the fault.
+-- The statement of a line, or its fault.
 abbrev pub statement_found : Result Statement RuleKind → Result StatementRead RuleKind
-statement_found (Ok statement) = Ok (rule_statement_seen statement)
+statement_found (Ok statement) = Ok (line_statement_seen statement)
 statement_found (Err kind) = Err kind

@@ -12,14 +12,14 @@ use Rattle.text_io.specs.declared.machine.Turn.TheVariants.{GoesOn, Ends}
 -- answer to the whole input.
 abbrev pub IsProgress : {World : Type 0} → Rules World → World → List ℕ → List ℕ → ℕ → World → Type 0
 IsProgress rules start answered printed met present =
-    (behind more : List ℕ) (done : Done) → Prints rules met present (lines_of behind) more done
-    → Prints rules 0 start (lines_of (answered ++ behind)) (printed ++ more) done
+    (later more : List ℕ) (done : Done) → Prints rules met present (lines_of later) more done
+    → Prints rules 0 start (lines_of (answered ++ later)) (printed ++ more) done
 
 -- And if the rest leads from the present world to another, the whole input leads to it too.
 abbrev pub KeepsEnding : {World : Type 0} → Rules World → World → List ℕ → List ℕ → ℕ → World → Type 0
 KeepsEnding {World = World} rules start answered printed met present =
-    (behind more : List ℕ) (last : World) → EndsAt rules met present (lines_of behind) more last
-    → EndsAt rules 0 start (lines_of (answered ++ behind)) (printed ++ more) last
+    (later more : List ℕ) (last : World) → EndsAt rules met present (lines_of later) more last
+    → EndsAt rules 0 start (lines_of (answered ++ later)) (printed ++ more) last
 
 -- And the present world is sound and shown.
 pub record Reaches {World : Type 0} (rules : Rules World) (start : World) (answered printed : List ℕ) (met : ℕ) (shown : World → Type 0) : Type 0 where

@@ -6,8 +6,8 @@ use parity::Parity;
 use std::alloc::Global;
 use std::test::Fail;
 use text_io::{
-    Done, FaultyInput, FaultyOutput, Giving, Input, LineWords, RunFault, Taking, answer_lines,
-    first_word, gather, give_all, line_words,
+    Done, FaultyInput, FaultyOutput, Input, LineWords, ReaderInput, RunFault, WriterOutput,
+    answer_lines, first_word, gather, give_all, line_words,
 };
 
 /// Runs the machine over devices that fail after a number of successful calls. Returns how it ends, the output, and
@@ -96,12 +96,12 @@ fn an_input_over_its_limit_is_taken_up_to_one_octet_more(rt: HostRuntime) {
 #[test]
 fn a_large_input_is_gathered_whole(rt: HostRuntime) -> Result<(), Fail> {
     let octets = vec![in rt.alloc(); 7u8; 300000]?;
-    let mut input = Taking::new(octets.as_slice());
+    let mut input = ReaderInput::new(octets.as_slice());
     let Some(found) = gather(rt.alloc(), &mut input, 300000)? else {
         return Err(Fail::new("it is within its limit"));
     };
     assert_eq!(rt; found.as_slice(), octets.as_slice());
-    let mut input = Taking::new(octets.as_slice());
+    let mut input = ReaderInput::new(octets.as_slice());
     assert_eq!(rt;
         gather(rt.alloc(), &mut input, 299999)?.map(|found| found.len()),
         None
@@ -143,7 +143,7 @@ fn a_device_counts_its_failures(rt: HostRuntime) -> Result<(), Fail> {
     assert!(rt; input.take(&mut room).is_err());
     assert!(rt; input.take(&mut room).is_err());
     assert_eq!(rt; input.failures, 2);
-    let mut output = Giving::new(Vec::new(rt.alloc()));
+    let mut output = WriterOutput::new(Vec::new(rt.alloc()));
     assert!(rt; give_all(&mut output, b"text").is_ok());
     assert_eq!(rt;
         (output.writer.as_slice(), output.failures),

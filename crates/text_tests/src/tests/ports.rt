@@ -6,7 +6,7 @@ use std::sync::Wait;
 use std::sync::atomic::{AtomicU64, Ordering};
 use std::test::Fail;
 use std::thread::{self, Threads};
-use text_io::{Done, Giving, RunFault, Taking};
+use text_io::{Done, ReaderInput, RunFault, WriterOutput};
 use upc_ports::run_ports_with;
 
 /// The maximum number of turns of a gate.
@@ -41,8 +41,8 @@ fn printed<G: Gate + Sync, R: Threads + Wait + Sync>(
     script: &[u8],
     gate: &G,
 ) -> Result<(Vec<u8>, Done), RunFault> {
-    let mut source = Taking::new(script);
-    let mut sink = Giving::new(Vec::new(alloc));
+    let mut source = ReaderInput::new(script);
+    let mut sink = WriterOutput::new(Vec::new(alloc));
     let done = run_ports_with(rt, alloc, &mut source, &mut sink, gate)?;
     Ok((sink.writer, done))
 }

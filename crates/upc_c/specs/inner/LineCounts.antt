@@ -11,7 +11,7 @@ use Rattle.upc_c.specs.declared.inspecting.LineCounts.{LineCounts}
 -- The line's journal has the cells since the last cut, and its counts are those of all verdicts given on it.
 pub record AgreesOnLine (line : LineCounts) (world : World) (connection : Connection) : Type 0 where
   pub cells : length (kept_cells connection) ≡ line.cells
-  pub counts : line.counts ≡ tally_of (world.judged connection.line)
+  pub counts : line.counts ≡ tally_of (world.verdicts connection.line)
 
 -- In each world that the core agrees with, these are the counts of the connection's line.
 abbrev pub AreLineCountsIn : CoreView → Vc → LineCounts → Type 0

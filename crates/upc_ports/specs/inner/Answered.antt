@@ -18,10 +18,10 @@ ruled (Judged line number moment value program verdict leaving) = Ok (record { p
 ruled NoConnection = Err unjudged.NoConnection
 ruled Released = Err unjudged.Released
 ruled Stale = Err unjudged.Stale
-ruled MomentTooLate = Err (unjudged.Refused TooLate)
-ruled (MomentBack last) = Err (unjudged.Refused (Back last))
-ruled JournalFull = Err (unjudged.Refused Full)
-ruled NoMemory = Err (unjudged.Refused LineNoMemory)
+ruled MomentTooLate = Err (unjudged.LineFault TooLate)
+ruled (MomentBack last) = Err (unjudged.LineFault (Back last))
+ruled JournalFull = Err (unjudged.LineFault Full)
+ruled NoMemory = Err (unjudged.LineFault LineNoMemory)
 
 -- Octets 0 to 3 of a cell.
 abbrev pub header_of : List ℕ → List ℕ

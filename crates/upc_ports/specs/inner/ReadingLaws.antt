@@ -25,9 +25,9 @@ opened_by : (reading : ScriptReading) (shape : Option Shape) → (text : List �
 opened_by reading None = (no_card, None, (refl, refl))
 opened_by reading (Some shape) = shaped reading shape (shape_fault shape)
 
-reads-words : (opened : Bool) (reading : ScriptReading) (line_content : List ℕ) → (text : List ℕ) × (next : Option ScriptReading) × ReadsWords opened reading line_content text next
-reads-words false reading line_content = opened_by reading (card_line_shape (words_of line_content))
-reads-words true reading line_content = ([], Some (record reading { lines = reading.lines ++ line_content ∷ [] }), (refl, refl))
+reads-words : (opened : Bool) (reading : ScriptReading) (content : List ℕ) → (text : List ℕ) × (next : Option ScriptReading) × ReadsWords opened reading content text next
+reads-words false reading content = opened_by reading (card_line_shape (words_of content))
+reads-words true reading content = ([], Some (record reading { lines = reading.lines ++ content ∷ [] }), (refl, refl))
 
 closes : (opened : Bool) → (text : List ℕ) × (done : Done) × ReadCloses opened text done
 closes false = (no_card, Ended, (refl, refl))

@@ -59,8 +59,8 @@ asks : (world : EvalWorld) → IsSoundWorld world → (words : List (List ℕ)) 
 asks None sound words = program-line words
 asks (Some code) sound words = let printed = cell-line code sound words in (printed.0, Some (Some code), (printed.1, refl))
 
-eval-can_step : (world : EvalWorld) (line_content : List ℕ) → IsSoundWorld world → (text : List ℕ) × (next : Option EvalWorld) × EvalSteps world line_content text next
-eval-can_step world line_content sound = silent-or (ReadsOrRuns world (words_of line_content)) world (is_silent (words_of line_content)) (asks world sound (words_of line_content))
+eval-can_step : (world : EvalWorld) (content : List ℕ) → IsSoundWorld world → (text : List ℕ) × (next : Option EvalWorld) × EvalSteps world content text next
+eval-can_step world content sound = silent-or (ReadsOrRuns world (words_of content)) world (is_silent (words_of content)) (asks world sound (words_of content))
 
 eval-can_close : (world : EvalWorld) → IsSoundWorld world → (text : List ℕ) × (done : Done) × EvalCloses world text done
 eval-can_close None sound = (no_program, Ended, (refl, refl))
@@ -95,15 +95,15 @@ asks-sound : (world after : EvalWorld) (words : List (List ℕ)) (text : List �
 asks-sound None after words text sound reads = line-sound words text after reads
 asks-sound (Some code) after words text sound printed = let same : Some code ≡ after = let e = printed.1 in cc in subst IsSoundWorld same sound
 
-eval-keeps_sound : (world : EvalWorld) (line_content text : List ℕ) (after : EvalWorld) → IsSoundWorld world → EvalSteps world line_content text (Some after) → IsSoundWorld after
-eval-keeps_sound world line_content text after sound steps =
-    silent-sound IsSoundWorld (ReadsOrRuns world (words_of line_content) text (Some after)) world after text (is_silent (words_of line_content)) sound
-    (asks-sound world after (words_of line_content) text sound) steps
+eval-keeps_sound : (world : EvalWorld) (content text : List ℕ) (after : EvalWorld) → IsSoundWorld world → EvalSteps world content text (Some after) → IsSoundWorld after
+eval-keeps_sound world content text after sound steps =
+    silent-sound IsSoundWorld (ReadsOrRuns world (words_of content) text (Some after)) world after text (is_silent (words_of content)) sound
+    (asks-sound world after (words_of content) text sound) steps
 
 -- The rules of `eval` are total.
 pub eval-total : IsTotal eval_rules
 eval-total = record {
-  keeps = λ world line_content text after sound steps. eval-keeps_sound world line_content text after sound steps;
+  keeps = λ world content text after sound steps. eval-keeps_sound world content text after sound steps;
   step = eval-can_step;
   close = eval-can_close;
 }

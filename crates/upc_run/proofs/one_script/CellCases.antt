@@ -7,7 +7,7 @@ use Rattle.std.proofs.lemmas.Option.{same_Some}
 use Rattle.upc_cell.specs.Connection.{vc_of}
 use Rattle.bpf_code.specs.declared.instr.Instr.{Instr}
 use Rattle.card_core.specs.Refusals.{cell_refusal, enter_refusal, judge_refusal, pick_refusal, picking_refusal, refusal}
-use Rattle.card_core.specs.Steps.{Enters, FindsNoMemory, Gives, IsRefused, Judges, Picks, WorldStep, judged_world, judgement_of, left_by_judge, left_by_pick, picking_of}
+use Rattle.card_core.specs.Steps.{Enters, FindsNoMemory, Gives, IsRefused, Judges, Picks, WorldStep, judged_world, judged_answer, left_by_judge, left_by_pick, picking_of}
 use Rattle.card_core.specs.World.{Connection, Picking, PortState, World, code_in, connection_in, entered, outside, picked, with_port}
 use Rattle.card_core.specs.declared.answer.Answer.{Answer}
 use Rattle.card_core.specs.declared.answer.Answer.TheVariants as answer
@@ -50,7 +50,7 @@ pub data PickCase (before : World) (cell : List ℕ) (moment : ℕ) (reply : Rep
   missed_so : connection_in before.connections (vc_of before.shape.side cell) ≡ None → reply ≡ Answered answer.NoConnection
       → after ≡ with_port before 0 outside → PickCase before cell moment reply after
   found_so : (connection : Connection) → connection_in before.connections (vc_of before.shape.side cell) ≡ Some connection
-      → (code : List Instr) → code_in before.given connection.program ≡ Some code
+      → (code : List Instr) → code_in before.loaded connection.program ≡ Some code
       → (value : ℕ) → Gives code cell value → reply ≡ Picked
       → after ≡ with_port before 0 (picked (picking_of cell moment (vc_of before.shape.side cell) connection value))
       → PickCase before cell moment reply after
@@ -86,7 +86,7 @@ pick-case before after cell moment reply had step =
 
 -- The result of judging a picked cell whose connection exists: it is judged, or there is a reason to refuse it.
 pub data JudgeCase (before : World) (picking : Picking) (connection : Connection) (reply : Reply) (after : World) : Type 0 where
-  judged_so : cell_refusal before connection picking.moment ≡ None → reply ≡ Answered (judgement_of before picking connection)
+  judged_so : cell_refusal before connection picking.moment ≡ None → reply ≡ Answered (judged_answer before picking connection)
       → after ≡ judged_world before 0 picking connection → JudgeCase before picking connection reply after
   refused_so : (given : Answer) → cell_refusal before connection picking.moment ≡ Some given → reply ≡ Answered given
       → after ≡ with_port before 0 outside → JudgeCase before picking connection reply after
@@ -101,7 +101,7 @@ judges-case before after picking connection reply had found allowed goes =
     subst (λ (p : Picking). connection_in before.connections p.vc ≡ Some goes.connection) pickings goes.found in
     let connections : goes.connection ≡ connection = same_Some goes.connection connection (sym there ∙ found) in
     judged_so allowed
-    (goes.answer ∙ (λ i. Answered (judgement_of before (pickings i) (connections i))))
+    (goes.answer ∙ (λ i. Answered (judged_answer before (pickings i) (connections i))))
     (goes.world ∙ (λ i. judged_world before 0 (pickings i) (connections i)))
 
 pub judge-case : (before after : World) (picking : Picking) (connection : Connection) (reply : Reply) → PortIs before (picked picking)

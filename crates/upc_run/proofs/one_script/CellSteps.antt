@@ -10,7 +10,7 @@ use Rattle.gen_arena.specs.declared.id.Id.{Id}
 use Rattle.leaky.specs.declared.verdict.Verdict.{Verdict}
 use Rattle.line_record.specs.History.{NamedCell, empty_buckets, last_moment, verdict_after}
 use Rattle.card_core.specs.Refusals.{cell_refusal}
-use Rattle.card_core.specs.Steps.{Gives, WorldStep, cell_after, judged_world, judgement_of, named_cell, picking_of, verdict_on, with_cell}
+use Rattle.card_core.specs.Steps.{Gives, WorldStep, cell_after, judged_world, judged_answer, named_cell, picking_of, verdict_on, with_cell}
 use Rattle.card_core.specs.World.{Connection, PortState, World, code_in, connection_in, entered, kept_cells, outside, picked, with_port, with_verdict}
 use Rattle.card_core.specs.inner.Sound.{WorldInvariant}
 use Rattle.card_core.specs.declared.answer.Answer.{Answer}
@@ -31,7 +31,7 @@ use Rattle.upc_run.proofs.one_script.Seen.{Seen, SeenConnection, code_of, found_
 use Rattle.upc_run.proofs.one_script.SeenCells.{drop-nameless, last-nameless, length-nameless, map-push, verdict-nameless}
 use Rattle.upc_run.proofs.one_script.SeenConnections.{all-found, found-seen}
 use Rattle.upc_run.proofs.one_script.SeenPrograms.{code-seen}
-use Rattle.upc_run.proofs.one_script.Stands.{Stands, stands-later}
+use Rattle.upc_run.proofs.one_script.HoldsAfter.{HoldsAfter, holds-later}
 
 -- A cell that arrived, as the view of a history contains it.
 abbrev pub seen_cell : List ℕ → ℕ → ℕ → NamedCell
@@ -42,7 +42,7 @@ abbrev pub seen_refusal : Seen → SeenConnection → ℕ → Option Answer
 seen_refusal s connection moment =
     if nat_lt (2 ^ 62) moment then Some answer.MomentTooLate
     else if nat_lt moment (last_moment 0 connection.history) then Some (answer.MomentBack (last_moment 0 connection.history))
-    else if nat_le s.shape.journal (length (drop connection.handed connection.history)) then Some answer.JournalFull
+    else if nat_le s.shape.journal (length (drop connection.returned connection.history)) then Some answer.JournalFull
     else None
 
 -- The verdict on this cell.
@@ -80,14 +80,14 @@ PolicesSeen s moment octets text to =
     (λ connection. FoundSeen s (vc_of s.shape.side octets) connection moment octets text to)
 
 -- After fewer lines than a script may have, no line of the card is full, so the view decides whether a cell is refused.
-refusal-seen : (met : ℕ) (world : World) (connection : Connection) (moment : ℕ) → Stands met world → met < most_input_lines
-    → cell_refusal world connection moment ≡ seen_refusal (seen world) (seen_connection world.given connection) moment
-refusal-seen met world connection moment stand few =
-    let counted = stand.counted connection.line in
+refusal-seen : (met : ℕ) (world : World) (connection : Connection) (moment : ℕ) → HoldsAfter met world → met < most_input_lines
+    → cell_refusal world connection moment ≡ seen_refusal (seen world) (seen_connection world.loaded connection) moment
+refusal-seen met world connection moment invariant few =
+    let counted = invariant.counted connection.line in
     let last = last-nameless 0 connection.history in
-    let kept : length (drop connection.handed (map nameless connection.history)) ≡ length (kept_cells connection) =
-    ap length (drop-nameless connection.handed connection.history) ∙ length-nameless (kept_cells connection) in
-    let unworn : nat_le (2 ^ 62) (length (world.judged connection.line)) ≡ false = lt-leb (2 ^ 62) (length (world.judged connection.line)) (omega arith) in
+    let kept : length (drop connection.returned (map nameless connection.history)) ≡ length (kept_cells connection) =
+    ap length (drop-nameless connection.returned connection.history) ∙ length-nameless (kept_cells connection) in
+    let unworn : nat_le (2 ^ 62) (length (world.verdicts connection.line)) ≡ false = lt-leb (2 ^ 62) (length (world.verdicts connection.line)) (omega arith) in
     λ i. if nat_lt (2 ^ 62) moment then Some answer.MomentTooLate
     else if nat_lt moment (sym last i) then Some (answer.MomentBack (sym last i))
     else if nat_le world.shape.journal (sym kept i) then Some answer.JournalFull
@@ -110,18 +110,18 @@ refusal-plain : (s : Seen) (connection : SeenConnection) (moment : ℕ) (given :
     → seen_refusal s connection moment ≡ Some given → answer_text names vc given ≡ answer_text [] vc given
 refusal-plain s connection moment given names vc e =
     plain (nat_lt (2 ^ 62) moment) (nat_lt moment (last_moment 0 connection.history))
-    (nat_le s.shape.journal (length (drop connection.handed connection.history))) (last_moment 0 connection.history) given names vc e
+    (nat_le s.shape.journal (length (drop connection.returned connection.history))) (last_moment 0 connection.history) given names vc e
 
 -- The result of a cell: its answer follows from the view, and the invariant of the world holds with the same programs.
 pub record CellComes (met : ℕ) (before after : World) (moment : ℕ) (octets : List ℕ) (text : List ℕ) : Type 0 where
   pub shown : PolicesSeen (seen before) moment octets text (seen after)
-  pub stands : Stands (met + 1) after
-  pub same : after.given ≡ before.given
+  pub holds : HoldsAfter (met + 1) after
+  pub same : after.loaded ≡ before.loaded
 
 -- A world that differs only in its ports.
-with-ports : (met : ℕ) (before : World) (ports : List PortState) → Stands met before → Stands (met + 1) (record before { ports = ports })
-with-ports met before ports stand =
-    let later = stands-later met before stand in
+with-ports : (met : ℕ) (before : World) (ports : List PortState) → HoldsAfter met before → HoldsAfter (met + 1) (record before { ports = ports })
+with-ports met before ports invariant =
+    let later = holds-later met before invariant in
     record { programs = later.programs; connections = later.connections; counted = later.counted }
 
 counted-more : (judged : ℕ → List Verdict) (line : ℕ) (verdict : Verdict) (other met : ℕ) → length (judged other) ≤ met
@@ -134,10 +134,10 @@ counted-more judged line verdict other met counted =
     choice (other == line)
 
 -- The code of a connection's program.
-code-there : (before : World) → WorldInvariant before → (met : ℕ) → Stands met before → (vc : Vc) (connection : Connection)
-    → connection_in before.connections vc ≡ Some connection → (code : List Instr) → code_in before.given connection.program ≡ Some code
-    → code_of (seen before).live (number_in before.given connection.program) ≡ Some code
-code-there before sound met stand vc connection found code named =
+code-there : (before : World) → WorldInvariant before → (met : ℕ) → HoldsAfter met before → (vc : Vc) (connection : Connection)
+    → connection_in before.connections vc ≡ Some connection → (code : List Instr) → code_in before.loaded connection.program ≡ Some code
+    → code_of (seen before).live (number_in before.loaded connection.program) ≡ Some code
+code-there before sound met invariant vc connection found code named =
     let live = (sound.connections.each vc connection found).named_live in
     let choice : (o : Option (List Instr)) → code_in before.live connection.program ≡ o → is_some o ≡ true → o ≡ Some code = elim [
       | None ↦ λ e some. absurd (cc)
@@ -145,7 +145,7 @@ code-there before sound met stand vc connection found code named =
           let given = sound.programs.live_given connection.program other e in
           sym given ∙ named
     ] in
-    code-seen before.given before.live stand.programs.known connection.program
+    code-seen before.loaded before.live invariant.programs.known connection.program
     ∙ choice (code_in before.live connection.program) refl live
 
 -- The world after a cell with this value has entered and was picked.
@@ -155,13 +155,13 @@ picked_world before octets moment vc connection value =
 
 -- A cell without a connection.
 missed-comes : (met : ℕ) (before after : World) (names : List Id) (moment : ℕ) (octets : List ℕ) (given : Answer) (text : List ℕ)
-    → Stands met before → PortIs before outside → connection_in before.connections (vc_of before.shape.side octets) ≡ None
+    → HoldsAfter met before → PortIs before outside → connection_in before.connections (vc_of before.shape.side octets) ≡ None
     → given ≡ answer.NoConnection → after ≡ with_port (with_port before 0 (entered octets moment)) 0 outside
     → answer_text names (vc_of before.shape.side octets) given ≡ Some text → CellComes met before after moment octets text
-missed-comes met before after names moment octets given text stand free none is world printed =
+missed-comes met before after names moment octets given text invariant free none is world printed =
     let vc = vc_of before.shape.side octets in
     let nothing : found_at (seen before).connections vc ≡ None =
-    found-seen before.given before.connections vc ∙ ap (option_map (seen_connection before.given)) none in
+    found-seen before.loaded before.connections vc ∙ ap (option_map (seen_connection before.loaded)) none in
     let back = put-back before.ports (entered octets moment) free in
     let text_is : text ≡ arrive_fault (codes "1 NoConnection") =
     sym (same_Some _ text (ap (answer_text names vc) (sym is) ∙ printed)) in
@@ -171,18 +171,18 @@ missed-comes met before after names moment octets given text stand free none is 
     (λ connection. FoundSeen (seen before) vc connection moment octets text (seen after)) in
     record {
       shown = subst Answers (sym nothing) (text_is, shown);
-      stands = subst (λ (w : World). Stands (met + 1) w) (sym world) (with-ports met before _ stand);
-      same = ap (λ (w : World). w.given) world;
+      holds = subst (λ (w : World). HoldsAfter (met + 1) w) (sym world) (with-ports met before _ invariant);
+      same = ap (λ (w : World). w.loaded) world;
     }
 
 -- The text for a judgement.
 judged-printed : (before : World) (names : List Id) (vc : Vc) (connection : Connection) (octets : List ℕ) (moment value : ℕ) (text : List ℕ)
-    → names ≡ names_of before.given
-    → answer_text names vc (judgement_of (picked_world before octets moment vc connection value) (picking_of octets moment vc connection value) connection) ≡ Some text
-    → text ≡ judged_text vc (seen_connection before.given connection) octets moment value
+    → names ≡ names_of before.loaded
+    → answer_text names vc (judged_answer (picked_world before octets moment vc connection value) (picking_of octets moment vc connection value) connection) ≡ Some text
+    → text ≡ judged_text vc (seen_connection before.loaded connection) octets moment value
 judged-printed before names vc connection octets moment value text known printed =
-    let number : number_of_program names connection.program ≡ number_in before.given connection.program =
-    ap (λ ids. number_of_program ids connection.program) known ∙ number-is before.given connection.program in
+    let number : number_of_program names connection.program ≡ number_in before.loaded connection.program =
+    ap (λ ids. number_of_program ids connection.program) known ∙ number-is before.loaded connection.program in
     let verdict = verdict-nameless connection.contracts empty_buckets connection.history (named_cell octets moment connection.program value) in
     sym (same_Some _ text printed)
     ∙ (λ i. verdict_text (sym verdict i) (judging_text vc (number i) value) (cell_after (sym verdict i) octets))
@@ -190,42 +190,42 @@ judged-printed before names vc connection octets moment value text known printed
 -- The view after a judgement.
 judged-shown : (before : World) (vc : Vc) (connection : Connection) (octets : List ℕ) (moment value : ℕ) → PortIs before outside
     → seen (judged_world (picked_world before octets moment vc connection value) 0 (picking_of octets moment vc connection value) connection)
-    ≡ judged_seen (seen before) vc (seen_connection before.given connection) (seen_cell octets moment value)
+    ≡ judged_seen (seen before) vc (seen_connection before.loaded connection) (seen_cell octets moment value)
 judged-shown before vc connection octets moment value free =
     let cell = named_cell octets moment connection.program value in
     let pushed = map-push connection.history cell in
-    let connections = with-seen before.given before.connections vc (with_cell connection cell)
-    ∙ (λ i. with_at (seen_connections before.given before.connections) vc (record (seen_connection before.given connection) { history = pushed i })) in
+    let connections = with-seen before.loaded before.connections vc (with_cell connection cell)
+    ∙ (λ i. with_at (seen_connections before.loaded before.connections) vc (record (seen_connection before.loaded connection) { history = pushed i })) in
     let back = put-back_twice before.ports (entered octets moment) (picked (picking_of octets moment vc connection value)) free in
     λ i. record (seen before) { connections = connections i; ports = back i }
 
-judged-stands : (met : ℕ) (before : World) (vc : Vc) (connection : Connection) (octets : List ℕ) (moment value : ℕ) → Stands met before
+judged-holds : (met : ℕ) (before : World) (vc : Vc) (connection : Connection) (octets : List ℕ) (moment value : ℕ) → HoldsAfter met before
     → connection_in before.connections vc ≡ Some connection
-    → Stands (met + 1) (judged_world (picked_world before octets moment vc connection value) 0 (picking_of octets moment vc connection value) connection)
-judged-stands met before vc connection octets moment value stand found =
+    → HoldsAfter (met + 1) (judged_world (picked_world before octets moment vc connection value) 0 (picking_of octets moment vc connection value) connection)
+judged-holds met before vc connection octets moment value invariant found =
     let cell = named_cell octets moment connection.program value in
-    let known = all-found (λ one. 0 < number_in before.given one.program) before.connections vc connection stand.connections.known found in
-    let later = stands-later met before stand in
+    let known = all-found (λ one. 0 < number_in before.loaded one.program) before.connections vc connection invariant.connections.known found in
+    let later = holds-later met before invariant in
     record {
       programs = later.programs;
-      connections = connections-changed before.shape.lines before.given before.connections vc connection (with_cell connection cell) stand.connections found refl known;
-      counted = λ line. counted-more before.judged connection.line (verdict_on connection cell) line met (stand.counted line);
+      connections = connections-changed before.shape.lines before.loaded before.connections vc connection (with_cell connection cell) invariant.connections found refl known;
+      counted = λ line. counted-more before.verdicts connection.line (verdict_on connection cell) line met (invariant.counted line);
     }
 
 -- A cell whose connection is found.
 found-comes : (met : ℕ) (before after : World) (names : List Id) (moment : ℕ) (octets : List ℕ) (given : Answer) (text : List ℕ)
-    → Stands met before → WorldInvariant before → met < most_input_lines → names ≡ names_of before.given → PortIs before outside
+    → HoldsAfter met before → WorldInvariant before → met < most_input_lines → names ≡ names_of before.loaded → PortIs before outside
     → (connection : Connection) → connection_in before.connections (vc_of before.shape.side octets) ≡ Some connection
-    → (code : List Instr) → code_in before.given connection.program ≡ Some code → (value : ℕ) → Gives code octets value
+    → (code : List Instr) → code_in before.loaded connection.program ≡ Some code → (value : ℕ) → Gives code octets value
     → JudgeCase (picked_world before octets moment (vc_of before.shape.side octets) connection value)
     (picking_of octets moment (vc_of before.shape.side octets) connection value) connection (Answered given) after
     → answer_text names (vc_of before.shape.side octets) given ≡ Some text → CellComes met before after moment octets text
-found-comes met before after names moment octets given text stand sound few known free connection found code named value gives judging printed =
+found-comes met before after names moment octets given text invariant sound few known free connection found code named value gives judging printed =
     let vc = vc_of before.shape.side octets in
-    let c = seen_connection before.given connection in
-    let refusal = refusal-seen met before connection moment stand few in
-    let there = found-there before.given before.connections vc connection found in
-    let code_there = code-there before sound met stand vc connection found code named in
+    let c = seen_connection before.loaded connection in
+    let refusal = refusal-seen met before connection moment invariant few in
+    let there = found-there before.loaded before.connections vc connection found in
+    let code_there = code-there before sound met invariant vc connection found code named in
     let Judged : Option Answer → Type 0 = λ o.
     MatchOption o ((text ≡ judged_text vc c octets moment value) × (seen after ≡ judged_seen (seen before) vc c (seen_cell octets moment value)))
     (λ answer. (answer_text [] vc answer ≡ Some text) × (seen after ≡ seen before)) in
@@ -236,15 +236,15 @@ found-comes met before after names moment octets given text stand sound few know
     subst Answers (sym there) (code, value, code_there, gives, judged) in
     elim judging [
       | judged_so allowed answers world ↦
-          let is : given ≡ judgement_of (picked_world before octets moment vc connection value) (picking_of octets moment vc connection value) connection = cc in
+          let is : given ≡ judged_answer (picked_world before octets moment vc connection value) (picking_of octets moment vc connection value) connection = cc in
           let printed_so = ap (answer_text names vc) (sym is) ∙ printed in
           record {
             shown = answered (subst Judged (sym allowed ∙ refusal) (
               judged-printed before names vc connection octets moment value text known printed_so,
               ap seen world ∙ judged-shown before vc connection octets moment value free,
             ));
-            stands = subst (λ (w : World). Stands (met + 1) w) (sym world) (judged-stands met before vc connection octets moment value stand found);
-            same = ap (λ (w : World). w.given) world;
+            holds = subst (λ (w : World). HoldsAfter (met + 1) w) (sym world) (judged-holds met before vc connection octets moment value invariant found);
+            same = ap (λ (w : World). w.loaded) world;
           }
       | refused_so other refused answers world ↦
           let is : given ≡ other = cc in
@@ -255,25 +255,25 @@ found-comes met before after names moment octets given text stand sound few know
               sym (refusal-plain (seen before) c moment other names vc (sym refusal ∙ refused)) ∙ printed_so,
               ap seen world ∙ (λ i. record (seen before) { ports = back i }),
             ));
-            stands = subst (λ (w : World). Stands (met + 1) w) (sym world) (with-ports met before _ stand);
-            same = ap (λ (w : World). w.given) world;
+            holds = subst (λ (w : World). HoldsAfter (met + 1) w) (sym world) (with-ports met before _ invariant);
+            same = ap (λ (w : World). w.loaded) world;
           }
     ]
 
 -- The answer to a cell that has entered.
 answered-comes : (met : ℕ) (before after : World) (names : List Id) (moment : ℕ) (octets : List ℕ) (given : Answer) (text : List ℕ)
-    → Stands met before → WorldInvariant before → met < most_input_lines → names ≡ names_of before.given → PortIs before outside
+    → HoldsAfter met before → WorldInvariant before → met < most_input_lines → names ≡ names_of before.loaded → PortIs before outside
     → IsAnswered (with_port before 0 (entered octets moment)) given after
     → answer_text names (vc_of before.shape.side octets) given ≡ Some text → CellComes met before after moment octets text
-answered-comes met before after names moment octets given text stand sound few known free (inl picks) printed =
+answered-comes met before after names moment octets given text invariant sound few known free (inl picks) printed =
     let came = with_port before 0 (entered octets moment) in
     elim (pick-case came after octets moment (Answered given) (put-there before.ports outside (entered octets moment) free) picks) [
       | missed_so none answers world ↦
           let is : given ≡ answer.NoConnection = cc in
-          missed-comes met before after names moment octets given text stand free none is world printed
+          missed-comes met before after names moment octets given text invariant free none is world printed
       | found_so connection found code named value gives answers world ↦ absurd (cc)
     ]
-answered-comes met before after names moment octets given text stand sound few known free (inr judges) printed =
+answered-comes met before after names moment octets given text invariant sound few known free (inr judges) printed =
     let came = with_port before 0 (entered octets moment) in
     let entering = put-there before.ports outside (entered octets moment) free in
     elim (pick-case came judges.0 octets moment Picked entering judges.1) [
@@ -282,16 +282,16 @@ answered-comes met before after names moment octets given text stand sound few k
           let picking = picking_of octets moment (vc_of before.shape.side octets) connection value in
           let there = put-there came.ports (entered octets moment) (picked picking) entering in
           let judging = subst (λ (w : World). WorldStep w (Judge 0) (Answered given) after) world judges.2 in
-          found-comes met before after names moment octets given text stand sound few known free connection found code named value gives
+          found-comes met before after names moment octets given text invariant sound few known free connection found code named value gives
           (judge-case (with_port came 0 (picked picking)) after picking connection (Answered given) there found refl judging) printed
     ]
 
 -- A cell arrives.
 pub cell-comes : (met : ℕ) (before after : World) (names : List Id) (moment : ℕ) (octets : List ℕ) (given : Answer) (text : List ℕ)
-    → Stands met before → WorldInvariant before → met < most_input_lines → names ≡ names_of before.given → PortIs before outside
+    → HoldsAfter met before → WorldInvariant before → met < most_input_lines → names ≡ names_of before.loaded → PortIs before outside
     → Arrives before octets moment given after
     → answer_text names (vc_of before.shape.side octets) given ≡ Some text → CellComes met before after moment octets text
-cell-comes met before after names moment octets given text stand sound few known free arrives printed =
+cell-comes met before after names moment octets given text invariant sound few known free arrives printed =
     let is = entered-as before arrives.0 octets moment free arrives.1 in
-    answered-comes met before after names moment octets given text stand sound few known free
+    answered-comes met before after names moment octets given text invariant sound few known free
     (subst (λ (w : World). IsAnswered w given after) is arrives.2) printed

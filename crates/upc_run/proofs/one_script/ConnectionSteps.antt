@@ -25,18 +25,18 @@ use Rattle.upc_run.proofs.one_script.OpenPlaces.{apart-filter, is_taken, open-pl
 use Rattle.upc_run.proofs.one_script.Seen.{Seen, SeenConnection, code_of, found_at, seen, seen_connection, seen_connections, with_at}
 use Rattle.upc_run.proofs.one_script.SeenConnections.{all-filter, all-found, found-seen, gone-filter, gone-seen, line_of, line-freed, some-seen}
 use Rattle.upc_run.proofs.one_script.SeenPrograms.{code-seen}
-use Rattle.upc_run.proofs.one_script.Stands.{Comes, Stands, StandConnections, answered, desk-split, left, refused-comes, reprinted, stands-later, unnamed}
+use Rattle.upc_run.proofs.one_script.HoldsAfter.{Comes, HoldsAfter, ConnectionsHold, answered, desk-split, left, refused-comes, reprinted, holds-later, unnamed}
 
 length-connections : (given : List Loading) (connections : List (Vc × Connection)) → length (seen_connections given connections) ≡ length connections
 length-connections given [] = refl
 length-connections given (here ∷ later) = ap suc (length-connections given later)
 
 -- A line is open exactly if there are fewer connections than lines.
-open-lines : (met : ℕ) (world : World) → Stands met world
-    → any_below world.shape.lines (is_open_line world) ≡ nat_lt (length (seen_connections world.given world.connections)) world.shape.lines
-open-lines met world stand =
-    (open-place line_of world.shape.lines world.connections stand.connections.apart stand.connections.below).some
-    ∙ ap (λ n. nat_lt n world.shape.lines) (sym (length-connections world.given world.connections))
+open-lines : (met : ℕ) (world : World) → HoldsAfter met world
+    → any_below world.shape.lines (is_open_line world) ≡ nat_lt (length (seen_connections world.loaded world.connections)) world.shape.lines
+open-lines met world invariant =
+    (open-place line_of world.shape.lines world.connections invariant.connections.apart invariant.connections.below).some
+    ∙ ap (λ n. nat_lt n world.shape.lines) (sym (length-connections world.loaded world.connections))
 
 is-none_mapped : {X Y : Type 0} (f : X → Y) (found : Option X) → is_none (option_map f found) ≡ is_none found
 is-none_mapped f None = refl
@@ -54,33 +54,33 @@ found-there given connections vc connection found = found-seen given connections
 
 -- The invariant holds for the connections without one of them.
 pub connections-without : (bound : ℕ) (given : List Loading) (connections : List (Vc × Connection)) (vc : Vc)
-    → StandConnections bound given connections → StandConnections bound given (without_connection connections vc)
-connections-without bound given connections vc stand =
+    → ConnectionsHold bound given connections → ConnectionsHold bound given (without_connection connections vc)
+connections-without bound given connections vc invariant =
     let kept : Vc × Connection → Bool = λ here. not (is_same_vc vc here.0) in
-    let less : StandConnections bound given (filter kept connections) = record {
-      known = all-filter (λ here. 0 < number_in given here.1.program) kept connections stand.known;
-      apart = apart-filter line_of kept connections stand.apart;
-      below = all-filter (λ here. line_of here < bound) kept connections stand.below;
+    let less : ConnectionsHold bound given (filter kept connections) = record {
+      known = all-filter (λ here. 0 < number_in given here.1.program) kept connections invariant.known;
+      apart = apart-filter line_of kept connections invariant.apart;
+      below = all-filter (λ here. line_of here < bound) kept connections invariant.below;
     } in
-    subst (λ others. StandConnections bound given others) (sym (gone-filter connections vc)) less
+    subst (λ others. ConnectionsHold bound given others) (sym (gone-filter connections vc)) less
 
 -- It also holds with another in its place, on a free line.
 pub connections-with : (bound : ℕ) (given : List Loading) (connections : List (Vc × Connection)) (vc : Vc) (connection : Connection)
-    → StandConnections bound given connections → 0 < number_in given connection.program → connection.line < bound
+    → ConnectionsHold bound given connections → 0 < number_in given connection.program → connection.line < bound
     → is_taken line_of (without_connection connections vc) connection.line ≡ false
-    → StandConnections bound given (with_connection connections vc connection)
-connections-with bound given connections vc connection stand known below free =
-    let less = connections-without bound given connections vc stand in
+    → ConnectionsHold bound given (with_connection connections vc connection)
+connections-with bound given connections vc connection invariant known below free =
+    let less = connections-without bound given connections vc invariant in
     record { known = (known, less.known); apart = (free, less.apart); below = (below, less.below) }
 
 -- A connection that replaces another on the same line.
 pub connections-changed : (bound : ℕ) (given : List Loading) (connections : List (Vc × Connection)) (vc : Vc) (old new : Connection)
-    → StandConnections bound given connections → connection_in connections vc ≡ Some old → new.line ≡ old.line
-    → 0 < number_in given new.program → StandConnections bound given (with_connection connections vc new)
-connections-changed bound given connections vc old new stand found same known =
-    let below = all-found (λ connection. connection.line < bound) connections vc old stand.below found in
-    let free = line-freed connections vc old stand.apart found in
-    connections-with bound given connections vc new stand known
+    → ConnectionsHold bound given connections → connection_in connections vc ≡ Some old → new.line ≡ old.line
+    → 0 < number_in given new.program → ConnectionsHold bound given (with_connection connections vc new)
+connections-changed bound given connections vc old new invariant found same known =
+    let below = all-found (λ connection. connection.line < bound) connections vc old invariant.below found in
+    let free = line-freed connections vc old invariant.apart found in
+    connections-with bound given connections vc new invariant known
     (subst (λ number. number < bound) (sym same) below)
     (subst (λ number. is_taken line_of (without_connection connections vc) number ≡ false) (sym same) free)
 
@@ -114,71 +114,71 @@ seen_setup_fault s vc number contracts =
     else if is_some (found_at s.connections vc) then Some Taken
     else if length contracts == 0 then Some BadContracts
     else if not (nat_lt (length s.connections) s.shape.lines) then Some NoLine
-    else if nat_le (2 ^ 62) s.used then Some Exhausted
+    else if nat_le (2 ^ 62) s.incarnations then Some Exhausted
     else None
 
-setup_fault-seen : (met : ℕ) (world : World) (ask : Ask) → Stands met world
-    → setup_fault world ask ≡ seen_setup_fault (seen world) ask.vc (number_in world.given ask.program) ask.contracts.items
-setup_fault-seen met world ask stand =
-    let code = code-seen world.given world.live stand.programs.known ask.program in
-    let found = some-seen world.given world.connections ask.vc in
-    let free = open-lines met world stand in
+setup_fault-seen : (met : ℕ) (world : World) (ask : Ask) → HoldsAfter met world
+    → setup_fault world ask ≡ seen_setup_fault (seen world) ask.vc (number_in world.loaded ask.program) ask.contracts.items
+setup_fault-seen met world ask invariant =
+    let code = code-seen world.loaded world.live invariant.programs.known ask.program in
+    let found = some-seen world.loaded world.connections ask.vc in
+    let free = open-lines met world invariant in
     λ i. if is_none (sym code i) then Some NoProgram
     else if found i then Some Taken
     else if length ask.contracts.items == 0 then Some BadContracts
     else if not (free i) then Some NoLine
-    else if nat_le (2 ^ 62) world.used then Some Exhausted
+    else if nat_le (2 ^ 62) world.incarnations then Some Exhausted
     else None
 
 abbrev pub fresh : ℕ → List Contract → SeenConnection
-fresh number contracts = record { program = number; contracts = contracts; history = []; handed = 0 }
+fresh number contracts = record { program = number; contracts = contracts; history = []; returned = 0 }
 
 abbrev pub set_up : Seen → Vc → ℕ → List Contract → Seen
-set_up s vc number contracts = record s { connections = with_at s.connections vc (fresh number contracts); used = s.used + 1 }
+set_up s vc number contracts = record s { connections = with_at s.connections vc (fresh number contracts); incarnations = s.incarnations + 1 }
 
 abbrev pub set_text : Vc → Option (List ℕ)
 set_text vc = Some (line (codes "set " ++ connection_name vc))
 
 sets_up-comes : (met : ℕ) (before after : World) (ask : Ask) (vc : Vc) (number : ℕ) (wanted : List Wanted) (reply : Reply) (text : List ℕ)
-    → Stands met before → 0 < number_in before.given ask.program
-    → reply_text (setup vc number wanted) (length before.given) reply ≡ Some text → SetsUp before ask reply after
-    → Comes met before after reply (set_text vc) text (set_up (seen before) ask.vc (number_in before.given ask.program) ask.contracts.items)
-sets_up-comes met before after ask vc number wanted reply text stand known printed goes =
-    let new = new_connection ask goes.line (before.used + 1) in
-    let connections = with-seen before.given before.connections ask.vc new in
-    let later = stands-later met before stand in
+    → HoldsAfter met before → 0 < number_in before.loaded ask.program
+    → reply_text (setup vc number wanted) (length before.loaded) reply ≡ Some text → SetsUp before ask reply after
+    → Comes met before after reply (set_text vc) text (set_up (seen before) ask.vc (number_in before.loaded ask.program) ask.contracts.items)
+sets_up-comes met before after ask vc number wanted reply text invariant known printed goes =
+    let new = new_connection ask goes.line (before.incarnations + 1) in
+    let connections = with-seen before.loaded before.connections ask.vc new in
+    let later = holds-later met before invariant in
     let untaken = not-true (is_taken line_of before.connections goes.line) goes.open_line in
     let free : is_taken line_of (without_connection before.connections ask.vc) goes.line ≡ false =
     subst (λ others. is_taken line_of others goes.line ≡ false) (sym (gone-filter before.connections ask.vc))
     (taken-filter line_of (λ here. not (is_same_vc ask.vc here.0)) before.connections goes.line untaken) in
     record {
-      printed = reprinted (setup vc number wanted) (length before.given) reply _ text goes.answer printed;
-      shown = ap seen goes.world ∙ (λ i. record (seen before) { connections = connections i; used = before.used + 1 });
-      stands = subst (λ (world : World). Stands (met + 1) world) (sym goes.world) (record {
+      printed = reprinted (setup vc number wanted) (length before.loaded) reply _ text goes.answer printed;
+      shown = ap seen goes.world ∙ (λ i. record (seen before) { connections = connections i; incarnations = before.incarnations + 1 });
+      holds = subst (λ (world : World). HoldsAfter (met + 1) world) (sym goes.world) (record {
         programs = later.programs;
-        connections = connections-with before.shape.lines before.given before.connections ask.vc new stand.connections known goes.within free;
+        connections = connections-with before.shape.lines before.loaded before.connections ask.vc new invariant.connections known goes.within free;
         counted = later.counted;
       });
-      named = unnamed before after reply (ap (λ (world : World). world.given) goes.world) (ap id_loaded goes.answer);
+      named = unnamed before after reply (ap (λ (world : World). world.loaded) goes.world) (ap id_loaded goes.answer);
     }
 
 -- A connection is set up.
 pub setup-comes : (met : ℕ) (before after : World) (ask : Ask) (vc : Vc) (number : ℕ) (wanted : List Wanted) (reply : Reply) (text : List ℕ)
-    → Stands met before → 0 < number_in before.given ask.program
-    → reply_text (setup vc number wanted) (length before.given) reply ≡ Some text → WorldStep before (Setup ask) reply after
+    → HoldsAfter met before → 0 < number_in before.loaded ask.program
+    → reply_text (setup vc number wanted) (length before.loaded) reply ≡ Some text → WorldStep before (Setup ask) reply after
     → Comes met before after reply
-    (answered (seen_setup_fault (seen before) ask.vc (number_in before.given ask.program) ask.contracts.items) (set_text vc)) text
-    (left (seen_setup_fault (seen before) ask.vc (number_in before.given ask.program) ask.contracts.items) (seen before)
-    (set_up (seen before) ask.vc (number_in before.given ask.program) ask.contracts.items))
-setup-comes met before after ask vc number wanted reply text stand known printed step =
+    (answered (seen_setup_fault (seen before) ask.vc (number_in before.loaded ask.program) ask.contracts.items) (set_text vc)) text
+    (left (seen_setup_fault (seen before) ask.vc (number_in before.loaded ask.program) ask.contracts.items) (seen before)
+    (set_up (seen before) ask.vc (number_in before.loaded ask.program) ask.contracts.items))
+setup-comes met before after ask vc number wanted reply text invariant known printed step =
     let P : Option DeskFault → Type 0 = λ found.
     Comes met before after reply (answered found (set_text vc)) text
-    (left found (seen before) (set_up (seen before) ask.vc (number_in before.given ask.program) ask.contracts.items)) in
-    subst P (setup_fault-seen met before ask stand)
+    (left found (seen before) (set_up (seen before) ask.vc (number_in before.loaded ask.program) ask.contracts.items)) in
+    subst P (setup_fault-seen met before ask invariant)
     (desk-split P (λ fault. NotSetUp fault ask) (setup_fault before ask) before after (Setup ask) reply
-    (λ goes. sets_up-comes met before after ask vc number wanted reply text stand known printed goes)
+    (λ goes. sets_up-comes met before after ask vc number wanted reply text invariant known printed goes)
     (λ lacks.
     let same : NotSetUp NoMemory ask ≡ reply = let e = lacks.answer in cc in
-    let none = reprinted (setup vc number wanted) (length before.given) reply (NotSetUp NoMemory ask) text (sym same) printed in absurd (cc))
-    (λ fault is. refused-comes met before after reply fault text stand is.world (ap id_loaded is.answer)
-    (reprinted (setup vc number wanted) (length before.given) reply (NotSetUp fault ask) text is.answer printed)) step)
+    let none = reprinted (setup vc number wanted) (length before.loaded) reply (NotSetUp NoMemory ask) text (sym same) printed in absurd (cc))
+    (λ fault is. refused-comes met before after reply fault text invariant is.world (ap id_loaded is.answer)
+    (reprinted (setup vc number wanted) (length before.loaded) reply (NotSetUp fault ask) text is.answer printed)) step)

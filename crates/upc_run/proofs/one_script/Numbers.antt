@@ -134,7 +134,7 @@ get-append [] last id (suc place) found = absurd (cc)
 get-append (here ∷ later) last id zero found = inl found
 get-append (here ∷ later) last id (suc place) found = elim (get-append later last id place found) [
   | inl before ↦ inl before
-  | inr behind ↦ inr (ap suc behind.0, behind.1)
+  | inr reached ↦ inr (ap suc reached.0, reached.1)
 ]
 
 -- The number of the id at a place of the names is that place plus one.
@@ -145,12 +145,12 @@ number-at (loading ∷ earlier) once place id found = elim (get-append (names_of
   | inl before ↦
       let number = number-at earlier once.1 place id before in
       number-stays loading earlier id once.0 (omega arith) ∙ number
-  | inr behind ↦
+  | inr reached ↦
       let number = number-next loading earlier in
       let many = length-names earlier in
       let here : number_in (loading ∷ earlier) id ≡ suc (length earlier) =
-      subst (λ (i : Id). number_in (loading ∷ earlier) i ≡ suc (length earlier)) behind.1 number in
-      omega (arith, here, behind.0, many)
+      subst (λ (i : Id). number_in (loading ∷ earlier) i ≡ suc (length earlier)) reached.1 number in
+      omega (arith, here, reached.0, many)
 ]
 
 -- If this many programs were loaded, this is the number of a name.

@@ -19,13 +19,13 @@ use Rattle.upc_run.specs.RunText.{Card, CommandLine, IsLed, IsRunText, OpensCard
 use Rattle.upc_run.specs.inner.RunLaws.{run-total}
 use Rattle.upc_run.proofs.one_script.OneAnswer.{line-once}
 use Rattle.upc_run.proofs.one_script.Seen.{Seen, seen}
-use Rattle.upc_run.proofs.one_script.SeenLines.{IsBehind, LineSeen, line-comes}
-use Rattle.upc_run.proofs.one_script.Stands.{opening-stands, stands-later}
+use Rattle.upc_run.proofs.one_script.SeenLines.{IsAfterLines, LineSeen, line-comes}
+use Rattle.upc_run.proofs.one_script.HoldsAfter.{opening-holds, holds-later}
 
 -- Both cards have had this number of lines, and their views are equal.
 pub record AreCardsAlike (met : ℕ) (one other : Card) : Type 0 where
-  pub first : IsBehind met one
-  pub second : IsBehind met other
+  pub first : IsAfterLines met one
+  pub second : IsAfterLines met other
   pub same : seen one.world ≡ seen other.world
 
 -- No card was opened yet, or both cards are alike.
@@ -45,8 +45,8 @@ abbrev AnswerAlike : ℕ → List ℕ → List ℕ → Option RunWorld → Optio
 AnswerAlike met one other next next' = (one ≡ other) × LeadAlike (AreAlike met) next next'
 
 -- A line that leaves a card unchanged.
-behind-later : (met : ℕ) (card : Card) → IsBehind met card → IsBehind (met + 1) card
-behind-later met card behind = record { led = behind.led; stands = stands-later met card.world behind.stands; names = behind.names }
+after_lines-later : (met : ℕ) (card : Card) → IsAfterLines met card → IsAfterLines (met + 1) card
+after_lines-later met card reached = record { led = reached.led; holds = holds-later met card.world reached.holds; names = reached.names }
 
 ends-alike : (met : ℕ) (fault one other : List ℕ) (next next' : Option RunWorld) → EndsBy fault one next → EndsBy fault other next'
     → AnswerAlike met one other next next'
@@ -59,8 +59,8 @@ opens-alike : (met : ℕ) (shape : Shape) (found : Option CardFault) (one other 
     → MatchOption found ((other ≡ codes "ready\n") × (next' ≡ Some (Some (new_card shape)))) (λ fault. EndsBy (shape_fault_line fault) other next')
     → AnswerAlike met one other next next'
 opens-alike met shape None one other next next' led p q =
-    let behind : IsBehind met (new_card shape) = record { led = led (new_card shape) p.1; stands = opening-stands met shape; names = refl } in
-    (p.0 ∙ sym q.0, lead met next next' (Some (Some (new_card shape))) (Some (Some (new_card shape))) p.1 q.1 (record { first = behind; second = behind; same = refl }))
+    let reached : IsAfterLines met (new_card shape) = record { led = led (new_card shape) p.1; holds = opening-holds met shape; names = refl } in
+    (p.0 ∙ sym q.0, lead met next next' (Some (Some (new_card shape))) (Some (Some (new_card shape))) p.1 q.1 (record { first = reached; second = reached; same = refl }))
 opens-alike met shape (Some fault) one other next next' led p q = ends-alike met (shape_fault_line fault) one other next next' p q
 
 opening-alike : (met : ℕ) (found : Option Shape) (one other : List ℕ) (next next' : Option RunWorld)
@@ -83,8 +83,8 @@ commands-alike met before before' words one other after after' few alike led led
     (subst (λ (s : Seen). LineSeen s words other (seen after'.world)) (sym alike.same) there.shown) in (
       same.0,
       record {
-        first = record { led = led; stands = here.stands; names = here.names };
-        second = record { led = led'; stands = there.stands; names = there.names };
+        first = record { led = led; holds = here.holds; names = here.names };
+        second = record { led = led'; holds = there.holds; names = there.names };
         same = same.1;
       },
     )
@@ -113,8 +113,8 @@ some-alike : (met : ℕ) (before before' : Card) (line one other : List ℕ) (ne
 some-alike met before before' line one other next next' true few alike led led' p q = (
   p.0 ∙ sym q.0,
   lead (met + 1) next next' (Some (Some before)) (Some (Some before')) p.1 q.1 (record {
-    first = behind-later met before alike.first;
-    second = behind-later met before' alike.second;
+    first = after_lines-later met before alike.first;
+    second = after_lines-later met before' alike.second;
     same = alike.same;
   }),
 )

@@ -27,7 +27,7 @@ use Rattle.upc_run.proofs.one_script.OpenPlaces.{any-same, apart-filter, is_open
 use Rattle.upc_run.proofs.one_script.Seen.{Seen, code_of, names_number, seen, seen_live, without_program}
 use Rattle.upc_run.proofs.one_script.SeenConnections.{all-filter}
 use Rattle.upc_run.proofs.one_script.SeenPrograms.{code-seen, connections-stay, known-stays, live-stays, named-seen, names-stay, without-filter, without-seen}
-use Rattle.upc_run.proofs.one_script.Stands.{Comes, Stands, StandPrograms, answered, desk-split, left, refused-comes, reprinted, slot_of, stands-later, unnamed}
+use Rattle.upc_run.proofs.one_script.HoldsAfter.{Comes, HoldsAfter, ProgramsHold, answered, desk-split, left, refused-comes, reprinted, slot_of, holds-later, unnamed}
 
 and-true : (b : Bool) → (b && true) ≡ b
 and-true true = refl
@@ -38,15 +38,15 @@ length-live given [] = refl
 length-live given (loading ∷ later) = ap suc (length-live given later)
 
 -- After fewer lines than a script may have, a slot is open exactly if there are fewer live programs than slots.
-open-slots : (met : ℕ) (world : World) → Stands met world → met < most_input_lines
-    → any_below world.shape.programs (is_open_slot world) ≡ nat_lt (length (seen_live world.given world.live)) world.shape.programs
-open-slots met world stand few =
-    let unworn : (slot : ℕ) → nat_lt (times_given world.given slot) greatest_generation ≡ true = λ slot.
-    let worn = stand.programs.worn slot in lt-ltb (times_given world.given slot) greatest_generation (omega arith) in
+open-slots : (met : ℕ) (world : World) → HoldsAfter met world → met < most_input_lines
+    → any_below world.shape.programs (is_open_slot world) ≡ nat_lt (length (seen_live world.loaded world.live)) world.shape.programs
+open-slots met world invariant few =
+    let unworn : (slot : ℕ) → nat_lt (times_given world.loaded slot) greatest_generation ≡ true = λ slot.
+    let worn = invariant.programs.worn slot in lt-ltb (times_given world.loaded slot) greatest_generation (omega arith) in
     any-same world.shape.programs (is_open_slot world) (is_open slot_of world.live)
     (λ slot within. ap (λ b. not (is_taken slot_of world.live slot) && b) (unworn slot) ∙ and-true (not (is_taken slot_of world.live slot)))
-    ∙ (open-place slot_of world.shape.programs world.live stand.programs.apart stand.programs.below).some
-    ∙ ap (λ n. nat_lt n world.shape.programs) (sym (length-live world.given world.live))
+    ∙ (open-place slot_of world.shape.programs world.live invariant.programs.apart invariant.programs.below).some
+    ∙ ap (λ n. nat_lt n world.shape.programs) (sym (length-live world.loaded world.live))
 
 -- The reason not to load a program: some port has a cell, or there are as many programs as slots.
 abbrev pub seen_load_fault : Seen → Option DeskFault
@@ -55,9 +55,9 @@ seen_load_fault s =
     else if not (nat_lt (length s.live) s.shape.programs) then Some ProgramsFull
     else None
 
-load_fault-seen : (met : ℕ) (world : World) → Stands met world → met < most_input_lines → load_fault world ≡ seen_load_fault (seen world)
-load_fault-seen met world stand few =
-    let e = open-slots met world stand few in
+load_fault-seen : (met : ℕ) (world : World) → HoldsAfter met world → met < most_input_lines → load_fault world ≡ seen_load_fault (seen world)
+load_fault-seen met world invariant few =
+    let e = open-slots met world invariant few in
     λ i. if is_busy world then Some Busy else if not (e i) then Some ProgramsFull else None
 
 -- The view with one more program.
@@ -65,13 +65,13 @@ abbrev pub with_program : Seen → List Instr → Seen
 with_program s code = record s { programs = suc s.programs; live = record { number = suc s.programs; code = code } ∷ s.live }
 
 -- The id of a program that is loaded is new.
-new-id : (world : World) → WorldInvariant world → (id : Id) → id.generation ≡ times_given world.given id.slot + 1 → number_in world.given id ≡ 0
+new-id : (world : World) → WorldInvariant world → (id : Id) → id.generation ≡ times_given world.loaded id.slot + 1 → number_in world.loaded id ≡ 0
 new-id world sound id next =
-    let choice : (found : Option (List Instr)) → code_in world.given id ≡ found → number_in world.given id ≡ 0 = elim [
-      | None ↦ λ e. number-none world.given id e
+    let choice : (found : Option (List Instr)) → code_in world.loaded id ≡ found → number_in world.loaded id ≡ 0 = elim [
+      | None ↦ λ e. number-none world.loaded id e
       | Some code ↦ λ e. absurd (omega (arith, sound.programs.once id code e, next))
     ] in
-    choice (code_in world.given id) refl
+    choice (code_in world.loaded id) refl
 
 times-more : (loading : Loading) (given : List Loading) (slot met : ℕ) → times_given given slot ≤ met → times_given (loading ∷ given) slot ≤ met + 1
 times-more loading given slot met worn =
@@ -81,35 +81,35 @@ times-more loading given slot met worn =
     ] in
     choice (loading.id.slot == slot)
 
-stands-loaded : (met : ℕ) (before : World) (loading : Loading) → Stands met before → number_in before.given loading.id ≡ 0
+holds-loaded : (met : ℕ) (before : World) (loading : Loading) → HoldsAfter met before → number_in before.loaded loading.id ≡ 0
     → is_taken slot_of before.live loading.id.slot ≡ false → loading.id.slot < before.shape.programs
-    → Stands (met + 1) (record before { given = loading ∷ before.given; live = loading ∷ before.live })
-stands-loaded met before loading stand new free within =
-    let next = number-next loading before.given in
+    → HoldsAfter (met + 1) (record before { loaded = loading ∷ before.loaded; live = loading ∷ before.live })
+holds-loaded met before loading invariant new free within =
+    let next = number-next loading before.loaded in
     record {
       programs = record {
-        once = (new, stand.programs.once);
-        known = (omega (arith, next), known-stays loading before.given before.live new stand.programs.known);
-        apart = (free, stand.programs.apart);
-        below = (within, stand.programs.below);
-        worn = λ slot. times-more loading before.given slot met (stand.programs.worn slot);
+        once = (new, invariant.programs.once);
+        known = (omega (arith, next), known-stays loading before.loaded before.live new invariant.programs.known);
+        apart = (free, invariant.programs.apart);
+        below = (within, invariant.programs.below);
+        worn = λ slot. times-more loading before.loaded slot met (invariant.programs.worn slot);
       };
       connections = record {
-        known = names-stay loading before.given before.connections new stand.connections.known;
-        apart = stand.connections.apart;
-        below = stand.connections.below;
+        known = names-stay loading before.loaded before.connections new invariant.connections.known;
+        apart = invariant.connections.apart;
+        below = invariant.connections.below;
       };
-      counted = λ line. let counted = stand.counted line in omega arith;
+      counted = λ line. let counted = invariant.counted line in omega arith;
     }
 
-shown-loaded : (met : ℕ) (before : World) (loading : Loading) → Stands met before → number_in before.given loading.id ≡ 0
-    → seen (record before { given = loading ∷ before.given; live = loading ∷ before.live }) ≡ with_program (seen before) loading.code
-shown-loaded met before loading stand new =
-    let number = number-next loading before.given in
-    let live = live-stays loading before.given before.live new stand.programs.known in
-    let connections = connections-stay loading before.given before.connections new stand.connections.known in
+shown-loaded : (met : ℕ) (before : World) (loading : Loading) → HoldsAfter met before → number_in before.loaded loading.id ≡ 0
+    → seen (record before { loaded = loading ∷ before.loaded; live = loading ∷ before.live }) ≡ with_program (seen before) loading.code
+shown-loaded met before loading invariant new =
+    let number = number-next loading before.loaded in
+    let live = live-stays loading before.loaded before.live new invariant.programs.known in
+    let connections = connections-stay loading before.loaded before.connections new invariant.connections.known in
     λ i. record (seen before) {
-      programs = suc (length before.given);
+      programs = suc (length before.loaded);
       live = record { number = number i; code = loading.code } ∷ live i;
       connections = connections i;
     }
@@ -117,41 +117,41 @@ shown-loaded met before loading stand new =
 abbrev pub loaded_text : Seen → Option (List ℕ)
 loaded_text s = Some (line (codes "loaded " ++ program_name (suc s.programs)))
 
-loads-comes : (met : ℕ) (before after : World) (code : List Instr) (digits : List ℕ) (reply : Reply) (text : List ℕ) → Stands met before
-    → WorldInvariant before → reply_text (load digits) (length before.given) reply ≡ Some text → Loads before code reply after
+loads-comes : (met : ℕ) (before after : World) (code : List Instr) (digits : List ℕ) (reply : Reply) (text : List ℕ) → HoldsAfter met before
+    → WorldInvariant before → reply_text (load digits) (length before.loaded) reply ≡ Some text → Loads before code reply after
     → Comes met before after reply (loaded_text (seen before)) text (with_program (seen before) code)
-loads-comes met before after code digits reply text stand sound printed goes =
+loads-comes met before after code digits reply text invariant sound printed goes =
     let loading : Loading = record { id = goes.id; code = code } in
-    let next : goes.id.generation ≡ times_given before.given goes.id.slot + 1 =
-    subst (λ slot. goes.id.generation ≡ times_given before.given slot + 1) (sym goes.here) goes.next in
+    let next : goes.id.generation ≡ times_given before.loaded goes.id.slot + 1 =
+    subst (λ slot. goes.id.generation ≡ times_given before.loaded slot + 1) (sym goes.here) goes.next in
     let new = new-id before sound goes.id next in
-    let unused = and_parts (not (is_taken slot_of before.live goes.slot)) (nat_lt (times_given before.given goes.slot) greatest_generation) goes.open_slot in
+    let unused = and_parts (not (is_taken slot_of before.live goes.slot)) (nat_lt (times_given before.loaded goes.slot) greatest_generation) goes.open_slot in
     let free : is_taken slot_of before.live goes.id.slot ≡ false =
     subst (λ slot. is_taken slot_of before.live slot ≡ false) (sym goes.here) (not-true (is_taken slot_of before.live goes.slot) unused.0) in
     let within : goes.id.slot < before.shape.programs = subst (λ slot. slot < before.shape.programs) (sym goes.here) goes.within in
     record {
-      printed = reprinted (load digits) (length before.given) reply (Loaded goes.id) text goes.answer printed;
-      shown = ap seen goes.world ∙ shown-loaded met before loading stand new;
-      stands = subst (λ (world : World). Stands (met + 1) world) (sym goes.world) (stands-loaded met before loading stand new free within);
-      named = ap (λ (world : World). names_of world.given) goes.world
-          ∙ ap (λ (r : Reply). names_of before.given ++ id_loaded r) (sym goes.answer);
+      printed = reprinted (load digits) (length before.loaded) reply (Loaded goes.id) text goes.answer printed;
+      shown = ap seen goes.world ∙ shown-loaded met before loading invariant new;
+      holds = subst (λ (world : World). HoldsAfter (met + 1) world) (sym goes.world) (holds-loaded met before loading invariant new free within);
+      named = ap (λ (world : World). names_of world.loaded) goes.world
+          ∙ ap (λ (r : Reply). names_of before.loaded ++ id_loaded r) (sym goes.answer);
     }
 
 -- A program is loaded.
-pub load-comes : (met : ℕ) (before after : World) (code : List Instr) (digits : List ℕ) (reply : Reply) (text : List ℕ) → Stands met before
-    → WorldInvariant before → met < most_input_lines → reply_text (load digits) (length before.given) reply ≡ Some text
+pub load-comes : (met : ℕ) (before after : World) (code : List Instr) (digits : List ℕ) (reply : Reply) (text : List ℕ) → HoldsAfter met before
+    → WorldInvariant before → met < most_input_lines → reply_text (load digits) (length before.loaded) reply ≡ Some text
     → WorldStep before (Load code) reply after
     → Comes met before after reply (answered (seen_load_fault (seen before)) (loaded_text (seen before))) text
     (left (seen_load_fault (seen before)) (seen before) (with_program (seen before) code))
-load-comes met before after code digits reply text stand sound few printed step =
+load-comes met before after code digits reply text invariant sound few printed step =
     let P : Option DeskFault → Type 0 = λ found.
     Comes met before after reply (answered found (loaded_text (seen before))) text (left found (seen before) (with_program (seen before) code)) in
-    subst P (load_fault-seen met before stand few)
+    subst P (load_fault-seen met before invariant few)
     (desk-split P (λ fault. NotLoaded fault code) (load_fault before) before after (Load code) reply
-    (λ goes. loads-comes met before after code digits reply text stand sound printed goes)
+    (λ goes. loads-comes met before after code digits reply text invariant sound printed goes)
     (λ lacks. let no = lacks.answer in absurd (cc))
-    (λ fault is. refused-comes met before after reply fault text stand is.world (ap id_loaded is.answer)
-    (reprinted (load digits) (length before.given) reply (NotLoaded fault code) text is.answer printed)) step)
+    (λ fault is. refused-comes met before after reply fault text invariant is.world (ap id_loaded is.answer)
+    (reprinted (load digits) (length before.loaded) reply (NotLoaded fault code) text is.answer printed)) step)
 
 -- The reason not to retire a program.
 abbrev pub seen_retire_fault : Seen → ℕ → Option DeskFault
@@ -161,11 +161,11 @@ seen_retire_fault s number =
     else if names_number s.connections number then Some InUse
     else None
 
-retire_fault-seen : (met : ℕ) (world : World) (id : Id) → Stands met world
-    → retire_fault world id ≡ seen_retire_fault (seen world) (number_in world.given id)
-retire_fault-seen met world id stand =
-    let code = code-seen world.given world.live stand.programs.known id in
-    let named = named-seen world.given world.connections stand.connections.known id in
+retire_fault-seen : (met : ℕ) (world : World) (id : Id) → HoldsAfter met world
+    → retire_fault world id ≡ seen_retire_fault (seen world) (number_in world.loaded id)
+retire_fault-seen met world id invariant =
+    let code = code-seen world.loaded world.live invariant.programs.known id in
+    let named = named-seen world.loaded world.connections invariant.connections.known id in
     λ i. if is_busy world then Some Busy
     else if is_none (sym code i) then Some NoProgram
     else if named i then Some InUse
@@ -177,47 +177,47 @@ retired s number = record s { live = without_program s.live number }
 abbrev pub retired_text : ℕ → Option (List ℕ)
 retired_text number = Some (line (codes "retired " ++ program_name number))
 
-programs-without : (met bound : ℕ) (given live : List Loading) (id : Id) → StandPrograms met bound given live
-    → StandPrograms met bound given (without_code live id)
-programs-without met bound given live id stand =
+programs-without : (met bound : ℕ) (given live : List Loading) (id : Id) → ProgramsHold met bound given live
+    → ProgramsHold met bound given (without_code live id)
+programs-without met bound given live id invariant =
     let kept : Loading → Bool = λ loading. not (is_same_id id loading.id) in
-    let less : StandPrograms met bound given (filter kept live) = record {
-      once = stand.once;
-      known = all-filter (λ loading. 0 < number_in given loading.id) kept live stand.known;
-      apart = apart-filter slot_of kept live stand.apart;
-      below = all-filter (λ loading. slot_of loading < bound) kept live stand.below;
-      worn = stand.worn;
+    let less : ProgramsHold met bound given (filter kept live) = record {
+      once = invariant.once;
+      known = all-filter (λ loading. 0 < number_in given loading.id) kept live invariant.known;
+      apart = apart-filter slot_of kept live invariant.apart;
+      below = all-filter (λ loading. slot_of loading < bound) kept live invariant.below;
+      worn = invariant.worn;
     } in
-    subst (λ others. StandPrograms met bound given others) (sym (without-filter live id)) less
+    subst (λ others. ProgramsHold met bound given others) (sym (without-filter live id)) less
 
-retires-comes : (met : ℕ) (before after : World) (id : Id) (number : ℕ) (reply : Reply) (text : List ℕ) → Stands met before
-    → reply_text (retire number) (length before.given) reply ≡ Some text → Retires before id reply after
-    → Comes met before after reply (retired_text number) text (retired (seen before) (number_in before.given id))
-retires-comes met before after id number reply text stand printed goes =
-    let live = without-seen before.given before.live stand.programs.known id in
-    let later = stands-later met before stand in
+retires-comes : (met : ℕ) (before after : World) (id : Id) (number : ℕ) (reply : Reply) (text : List ℕ) → HoldsAfter met before
+    → reply_text (retire number) (length before.loaded) reply ≡ Some text → Retires before id reply after
+    → Comes met before after reply (retired_text number) text (retired (seen before) (number_in before.loaded id))
+retires-comes met before after id number reply text invariant printed goes =
+    let live = without-seen before.loaded before.live invariant.programs.known id in
+    let later = holds-later met before invariant in
     record {
-      printed = reprinted (retire number) (length before.given) reply (Retired goes.code) text goes.answer printed;
+      printed = reprinted (retire number) (length before.loaded) reply (Retired goes.code) text goes.answer printed;
       shown = ap seen goes.world ∙ (λ i. record (seen before) { live = live i });
-      stands = subst (λ (world : World). Stands (met + 1) world) (sym goes.world) (record {
-        programs = programs-without (met + 1) before.shape.programs before.given before.live id later.programs;
+      holds = subst (λ (world : World). HoldsAfter (met + 1) world) (sym goes.world) (record {
+        programs = programs-without (met + 1) before.shape.programs before.loaded before.live id later.programs;
         connections = later.connections;
         counted = later.counted;
       });
-      named = unnamed before after reply (ap (λ (world : World). world.given) goes.world) (ap id_loaded goes.answer);
+      named = unnamed before after reply (ap (λ (world : World). world.loaded) goes.world) (ap id_loaded goes.answer);
     }
 
 -- A program is retired.
-pub retire-comes : (met : ℕ) (before after : World) (id : Id) (number : ℕ) (reply : Reply) (text : List ℕ) → Stands met before
-    → reply_text (retire number) (length before.given) reply ≡ Some text → WorldStep before (Retire id) reply after
-    → Comes met before after reply (answered (seen_retire_fault (seen before) (number_in before.given id)) (retired_text number)) text
-    (left (seen_retire_fault (seen before) (number_in before.given id)) (seen before) (retired (seen before) (number_in before.given id)))
-retire-comes met before after id number reply text stand printed step =
+pub retire-comes : (met : ℕ) (before after : World) (id : Id) (number : ℕ) (reply : Reply) (text : List ℕ) → HoldsAfter met before
+    → reply_text (retire number) (length before.loaded) reply ≡ Some text → WorldStep before (Retire id) reply after
+    → Comes met before after reply (answered (seen_retire_fault (seen before) (number_in before.loaded id)) (retired_text number)) text
+    (left (seen_retire_fault (seen before) (number_in before.loaded id)) (seen before) (retired (seen before) (number_in before.loaded id)))
+retire-comes met before after id number reply text invariant printed step =
     let P : Option DeskFault → Type 0 = λ found.
-    Comes met before after reply (answered found (retired_text number)) text (left found (seen before) (retired (seen before) (number_in before.given id))) in
-    subst P (retire_fault-seen met before id stand)
+    Comes met before after reply (answered found (retired_text number)) text (left found (seen before) (retired (seen before) (number_in before.loaded id))) in
+    subst P (retire_fault-seen met before id invariant)
     (desk-split P (λ fault. Refused fault) (retire_fault before id) before after (Retire id) reply
-    (λ goes. retires-comes met before after id number reply text stand printed goes)
+    (λ goes. retires-comes met before after id number reply text invariant printed goes)
     (λ lacks. let no = lacks.answer in absurd (cc))
-    (λ fault is. refused-comes met before after reply fault text stand is.world (ap id_loaded is.answer)
-    (reprinted (retire number) (length before.given) reply (Refused fault) text is.answer printed)) step)
+    (λ fault is. refused-comes met before after reply fault text invariant is.world (ap id_loaded is.answer)
+    (reprinted (retire number) (length before.loaded) reply (Refused fault) text is.answer printed)) step)

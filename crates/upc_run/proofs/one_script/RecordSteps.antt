@@ -9,7 +9,7 @@ use Rattle.line_record.specs.Piece.{PieceView}
 use Rattle.line_record.specs.Tally.{tally_of}
 use Rattle.card_core.specs.Refusals.{missing_fault, reload_fault}
 use Rattle.card_core.specs.Steps.{Cuts, Releases, Reloads, WorldStep}
-use Rattle.card_core.specs.World.{Connection, Loading, World, connection_in, handed_cells, kept_cells}
+use Rattle.card_core.specs.World.{Connection, Loading, World, connection_in, returned_cells, kept_cells}
 use Rattle.card_core.specs.declared.fault.DeskFault.{DeskFault}
 use Rattle.card_core.specs.declared.fault.DeskFault.TheVariants.{NoConnection, NoMemory, NoProgram}
 use Rattle.card_core.specs.declared.reply.Reply.{Reply}
@@ -26,7 +26,7 @@ use Rattle.upc_run.proofs.one_script.Seen.{Seen, SeenConnection, code_of, found_
 use Rattle.upc_run.proofs.one_script.SeenCells.{drop-nameless, judged-nameless, length-nameless, length-verdicts, take-nameless, verdict_in}
 use Rattle.upc_run.proofs.one_script.SeenConnections.{all-found, gone-seen}
 use Rattle.upc_run.proofs.one_script.SeenPrograms.{code-seen}
-use Rattle.upc_run.proofs.one_script.Stands.{Comes, Stands, answered, desk-split, left, refused-comes, reprinted, stands-later, unnamed}
+use Rattle.upc_run.proofs.one_script.HoldsAfter.{Comes, HoldsAfter, answered, desk-split, left, refused-comes, reprinted, holds-later, unnamed}
 
 -- Reload.
 
@@ -36,11 +36,11 @@ seen_reload_fault s vc number =
     else if is_none (found_at s.connections vc) then Some NoConnection
     else None
 
-reload_fault-seen : (met : ℕ) (world : World) (vc : Vc) (id : Id) → Stands met world
-    → reload_fault world vc id ≡ seen_reload_fault (seen world) vc (number_in world.given id)
-reload_fault-seen met world vc id stand =
-    let code = code-seen world.given world.live stand.programs.known id in
-    let found = none-seen world.given world.connections vc in
+reload_fault-seen : (met : ℕ) (world : World) (vc : Vc) (id : Id) → HoldsAfter met world
+    → reload_fault world vc id ≡ seen_reload_fault (seen world) vc (number_in world.loaded id)
+reload_fault-seen met world vc id invariant =
+    let code = code-seen world.loaded world.live invariant.programs.known id in
+    let found = none-seen world.loaded world.connections vc in
     λ i. if is_none (sym code i) then Some NoProgram
     else if found i then Some NoConnection
     else None
@@ -51,39 +51,39 @@ reloaded number connection = record connection { program = number }
 abbrev pub reloaded_text : Vc → ℕ → Option (List ℕ)
 reloaded_text vc number = Some (line (codes "reloaded " ++ connection_name vc ++ codes " " ++ program_name number))
 
-reloads-comes : (met : ℕ) (before after : World) (vc : Vc) (id : Id) (number : ℕ) (reply : Reply) (text : List ℕ) → Stands met before
-    → 0 < number_in before.given id → reply_text (reload vc number) (length before.given) reply ≡ Some text → Reloads before vc id reply after
-    → Comes met before after reply (reloaded_text vc number) text (changed_at (seen before) vc (reloaded (number_in before.given id)))
-reloads-comes met before after vc id number reply text stand known printed goes =
+reloads-comes : (met : ℕ) (before after : World) (vc : Vc) (id : Id) (number : ℕ) (reply : Reply) (text : List ℕ) → HoldsAfter met before
+    → 0 < number_in before.loaded id → reply_text (reload vc number) (length before.loaded) reply ≡ Some text → Reloads before vc id reply after
+    → Comes met before after reply (reloaded_text vc number) text (changed_at (seen before) vc (reloaded (number_in before.loaded id)))
+reloads-comes met before after vc id number reply text invariant known printed goes =
     let new : Connection = record goes.connection { program = id } in
-    let connections = changed-seen before.given before.connections vc goes.connection new (reloaded (number_in before.given id)) goes.found refl in
-    let later = stands-later met before stand in
+    let connections = changed-seen before.loaded before.connections vc goes.connection new (reloaded (number_in before.loaded id)) goes.found refl in
+    let later = holds-later met before invariant in
     record {
-      printed = reprinted (reload vc number) (length before.given) reply (Reloaded goes.connection.program) text goes.answer printed;
+      printed = reprinted (reload vc number) (length before.loaded) reply (Reloaded goes.connection.program) text goes.answer printed;
       shown = ap seen goes.world ∙ (λ i. record (seen before) { connections = connections i });
-      stands = subst (λ (world : World). Stands (met + 1) world) (sym goes.world) (record {
+      holds = subst (λ (world : World). HoldsAfter (met + 1) world) (sym goes.world) (record {
         programs = later.programs;
-        connections = connections-changed before.shape.lines before.given before.connections vc goes.connection new stand.connections goes.found refl known;
+        connections = connections-changed before.shape.lines before.loaded before.connections vc goes.connection new invariant.connections goes.found refl known;
         counted = later.counted;
       });
-      named = unnamed before after reply (ap (λ (world : World). world.given) goes.world) (ap id_loaded goes.answer);
+      named = unnamed before after reply (ap (λ (world : World). world.loaded) goes.world) (ap id_loaded goes.answer);
     }
 
 -- A connection is given another program.
-pub reload-comes : (met : ℕ) (before after : World) (vc : Vc) (id : Id) (number : ℕ) (reply : Reply) (text : List ℕ) → Stands met before
-    → 0 < number_in before.given id → reply_text (reload vc number) (length before.given) reply ≡ Some text → WorldStep before (Reload vc id) reply after
-    → Comes met before after reply (answered (seen_reload_fault (seen before) vc (number_in before.given id)) (reloaded_text vc number)) text
-    (left (seen_reload_fault (seen before) vc (number_in before.given id)) (seen before) (changed_at (seen before) vc (reloaded (number_in before.given id))))
-reload-comes met before after vc id number reply text stand known printed step =
+pub reload-comes : (met : ℕ) (before after : World) (vc : Vc) (id : Id) (number : ℕ) (reply : Reply) (text : List ℕ) → HoldsAfter met before
+    → 0 < number_in before.loaded id → reply_text (reload vc number) (length before.loaded) reply ≡ Some text → WorldStep before (Reload vc id) reply after
+    → Comes met before after reply (answered (seen_reload_fault (seen before) vc (number_in before.loaded id)) (reloaded_text vc number)) text
+    (left (seen_reload_fault (seen before) vc (number_in before.loaded id)) (seen before) (changed_at (seen before) vc (reloaded (number_in before.loaded id))))
+reload-comes met before after vc id number reply text invariant known printed step =
     let P : Option DeskFault → Type 0 = λ found.
     Comes met before after reply (answered found (reloaded_text vc number)) text
-    (left found (seen before) (changed_at (seen before) vc (reloaded (number_in before.given id)))) in
-    subst P (reload_fault-seen met before vc id stand)
+    (left found (seen before) (changed_at (seen before) vc (reloaded (number_in before.loaded id)))) in
+    subst P (reload_fault-seen met before vc id invariant)
     (desk-split P (λ fault. Refused fault) (reload_fault before vc id) before after (Reload vc id) reply
-    (λ goes. reloads-comes met before after vc id number reply text stand known printed goes)
+    (λ goes. reloads-comes met before after vc id number reply text invariant known printed goes)
     (λ lacks. let no = lacks.answer in absurd (cc))
-    (λ fault is. refused-comes met before after reply fault text stand is.world (ap id_loaded is.answer)
-    (reprinted (reload vc number) (length before.given) reply (Refused fault) text is.answer printed)) step)
+    (λ fault is. refused-comes met before after reply fault text invariant is.world (ap id_loaded is.answer)
+    (reprinted (reload vc number) (length before.loaded) reply (Refused fault) text is.answer printed)) step)
 
 -- Pieces.
 
@@ -96,17 +96,17 @@ abbrev pub kept_text : SeenConnection → List ℕ
 kept_text connection = verdicts_text (kept_verdicts connection)
 
 kept-seen : (given : List Loading) (connection : Connection)
-    → map verdict_in (judged connection.contracts empty_buckets (handed_cells connection) (kept_cells connection))
+    → map verdict_in (judged connection.contracts empty_buckets (returned_cells connection) (kept_cells connection))
     ≡ kept_verdicts (seen_connection given connection)
 kept-seen given connection =
-    let handed = take-nameless connection.handed connection.history in
-    let kept = drop-nameless connection.handed connection.history in
-    sym (judged-nameless connection.contracts empty_buckets (handed_cells connection) (kept_cells connection))
+    let handed = take-nameless connection.returned connection.history in
+    let kept = drop-nameless connection.returned connection.history in
+    sym (judged-nameless connection.contracts empty_buckets (returned_cells connection) (kept_cells connection))
     ∙ (λ i. map verdict_in (judged connection.contracts empty_buckets (sym handed i) (sym kept i)))
 
 -- The text for a piece with these entries.
 piece-seen : (given : List Loading) (connection : Connection) (piece : PieceView)
-    → piece.entries ≡ judged connection.contracts empty_buckets (handed_cells connection) (kept_cells connection)
+    → piece.entries ≡ judged connection.contracts empty_buckets (returned_cells connection) (kept_cells connection)
     → piece_text piece ≡ kept_text (seen_connection given connection)
 piece-seen given connection piece same =
     ap (λ n. codes " " ++ decimal n ++ tally_text (tally_of (map verdict_in piece.entries))) (sym (length-verdicts piece.entries))
@@ -117,7 +117,7 @@ abbrev pub seen_missing_fault : Seen → Vc → Option DeskFault
 seen_missing_fault s vc = if is_none (found_at s.connections vc) then Some NoConnection else None
 
 missing_fault-seen : (world : World) (vc : Vc) → missing_fault world vc ≡ seen_missing_fault (seen world) vc
-missing_fault-seen world vc = ap (λ b. if b then Some NoConnection else None) (none-seen world.given world.connections vc)
+missing_fault-seen world vc = ap (λ b. if b then Some NoConnection else None) (none-seen world.loaded world.connections vc)
 
 -- The line of a piece, which begins with this word.
 abbrev pub printed_piece : List ℕ → Vc → Option SeenConnection → Option (List ℕ)
@@ -125,7 +125,7 @@ printed_piece word vc found = option_map (λ connection. line (word ++ connectio
 
 printed-piece : (given : List Loading) (connections : List (Vc × Connection)) (vc : Vc) (connection : Connection) (piece : PieceView) (word : List ℕ)
     → connection_in connections vc ≡ Some connection
-    → piece.entries ≡ judged connection.contracts empty_buckets (handed_cells connection) (kept_cells connection)
+    → piece.entries ≡ judged connection.contracts empty_buckets (returned_cells connection) (kept_cells connection)
     → printed_piece word vc (found_at (seen_connections given connections) vc) ≡ Some (line (word ++ connection_name vc ++ piece_text piece))
 printed-piece given connections vc connection piece word found entries =
     ap (printed_piece word vc) (found-there given connections vc connection found)
@@ -139,83 +139,83 @@ released s vc = record s { connections = without_at s.connections vc }
 abbrev pub released_text : Seen → Vc → Option (List ℕ)
 released_text s vc = printed_piece (codes "released ") vc (found_at s.connections vc)
 
-releases-comes : (met : ℕ) (before after : World) (vc : Vc) (reply : Reply) (text : List ℕ) → Stands met before
-    → reply_text (release vc) (length before.given) reply ≡ Some text → Releases before vc reply after
+releases-comes : (met : ℕ) (before after : World) (vc : Vc) (reply : Reply) (text : List ℕ) → HoldsAfter met before
+    → reply_text (release vc) (length before.loaded) reply ≡ Some text → Releases before vc reply after
     → Comes met before after reply (released_text (seen before) vc) text (released (seen before) vc)
-releases-comes met before after vc reply text stand printed goes =
-    let connections = gone-seen before.given before.connections vc in
-    let later = stands-later met before stand in
+releases-comes met before after vc reply text invariant printed goes =
+    let connections = gone-seen before.loaded before.connections vc in
+    let later = holds-later met before invariant in
     record {
-      printed = printed-piece before.given before.connections vc goes.connection goes.piece (codes "released ") goes.found goes.last.entries
-          ∙ reprinted (release vc) (length before.given) reply (Released goes.piece) text goes.answer printed;
+      printed = printed-piece before.loaded before.connections vc goes.connection goes.piece (codes "released ") goes.found goes.last.entries
+          ∙ reprinted (release vc) (length before.loaded) reply (Released goes.piece) text goes.answer printed;
       shown = ap seen goes.world ∙ (λ i. record (seen before) { connections = connections i });
-      stands = subst (λ (world : World). Stands (met + 1) world) (sym goes.world) (record {
+      holds = subst (λ (world : World). HoldsAfter (met + 1) world) (sym goes.world) (record {
         programs = later.programs;
-        connections = connections-without before.shape.lines before.given before.connections vc stand.connections;
+        connections = connections-without before.shape.lines before.loaded before.connections vc invariant.connections;
         counted = later.counted;
       });
-      named = unnamed before after reply (ap (λ (world : World). world.given) goes.world) (ap id_loaded goes.answer);
+      named = unnamed before after reply (ap (λ (world : World). world.loaded) goes.world) (ap id_loaded goes.answer);
     }
 
 -- A connection is released.
-pub release-comes : (met : ℕ) (before after : World) (vc : Vc) (reply : Reply) (text : List ℕ) → Stands met before
-    → reply_text (release vc) (length before.given) reply ≡ Some text → WorldStep before (Release vc) reply after
+pub release-comes : (met : ℕ) (before after : World) (vc : Vc) (reply : Reply) (text : List ℕ) → HoldsAfter met before
+    → reply_text (release vc) (length before.loaded) reply ≡ Some text → WorldStep before (Release vc) reply after
     → Comes met before after reply (answered (seen_missing_fault (seen before) vc) (released_text (seen before) vc)) text
     (left (seen_missing_fault (seen before) vc) (seen before) (released (seen before) vc))
-release-comes met before after vc reply text stand printed step =
+release-comes met before after vc reply text invariant printed step =
     let P : Option DeskFault → Type 0 = λ found.
     Comes met before after reply (answered found (released_text (seen before) vc)) text (left found (seen before) (released (seen before) vc)) in
     subst P (missing_fault-seen before vc)
     (desk-split P (λ fault. Refused fault) (missing_fault before vc) before after (Release vc) reply
-    (λ goes. releases-comes met before after vc reply text stand printed goes)
+    (λ goes. releases-comes met before after vc reply text invariant printed goes)
     (λ lacks. let no = lacks.answer in absurd (cc))
-    (λ fault is. refused-comes met before after reply fault text stand is.world (ap id_loaded is.answer)
-    (reprinted (release vc) (length before.given) reply (Refused fault) text is.answer printed)) step)
+    (λ fault is. refused-comes met before after reply fault text invariant is.world (ap id_loaded is.answer)
+    (reprinted (release vc) (length before.loaded) reply (Refused fault) text is.answer printed)) step)
 
 -- Cut.
 
 abbrev pub handed_out : SeenConnection → SeenConnection
-handed_out connection = record connection { handed = length connection.history }
+handed_out connection = record connection { returned = length connection.history }
 
 abbrev pub cut_text : Seen → Vc → Option (List ℕ)
 cut_text s vc = printed_piece (codes "cut ") vc (found_at s.connections vc)
 
-cuts-comes : (met : ℕ) (before after : World) (vc : Vc) (reply : Reply) (text : List ℕ) → Stands met before
-    → reply_text (cut vc) (length before.given) reply ≡ Some text → Cuts before vc reply after
+cuts-comes : (met : ℕ) (before after : World) (vc : Vc) (reply : Reply) (text : List ℕ) → HoldsAfter met before
+    → reply_text (cut vc) (length before.loaded) reply ≡ Some text → Cuts before vc reply after
     → Comes met before after reply (cut_text (seen before) vc) text (changed_at (seen before) vc handed_out)
-cuts-comes met before after vc reply text stand printed goes =
-    let new : Connection = record goes.connection { handed = length goes.connection.history } in
+cuts-comes met before after vc reply text invariant printed goes =
+    let new : Connection = record goes.connection { returned = length goes.connection.history } in
     let many = length-nameless goes.connection.history in
-    let same : seen_connection before.given new ≡ handed_out (seen_connection before.given goes.connection) =
-    λ i. record (seen_connection before.given goes.connection) { handed = sym many i } in
-    let connections = changed-seen before.given before.connections vc goes.connection new handed_out goes.found same in
-    let known = all-found (λ connection. 0 < number_in before.given connection.program) before.connections vc goes.connection stand.connections.known goes.found in
-    let later = stands-later met before stand in
+    let same : seen_connection before.loaded new ≡ handed_out (seen_connection before.loaded goes.connection) =
+    λ i. record (seen_connection before.loaded goes.connection) { returned = sym many i } in
+    let connections = changed-seen before.loaded before.connections vc goes.connection new handed_out goes.found same in
+    let known = all-found (λ connection. 0 < number_in before.loaded connection.program) before.connections vc goes.connection invariant.connections.known goes.found in
+    let later = holds-later met before invariant in
     record {
-      printed = printed-piece before.given before.connections vc goes.connection goes.piece (codes "cut ") goes.found goes.next.entries
-          ∙ reprinted (cut vc) (length before.given) reply (CutOff goes.piece) text goes.answer printed;
+      printed = printed-piece before.loaded before.connections vc goes.connection goes.piece (codes "cut ") goes.found goes.next.entries
+          ∙ reprinted (cut vc) (length before.loaded) reply (CutOff goes.piece) text goes.answer printed;
       shown = ap seen goes.world ∙ (λ i. record (seen before) { connections = connections i });
-      stands = subst (λ (world : World). Stands (met + 1) world) (sym goes.world) (record {
+      holds = subst (λ (world : World). HoldsAfter (met + 1) world) (sym goes.world) (record {
         programs = later.programs;
-        connections = connections-changed before.shape.lines before.given before.connections vc goes.connection new stand.connections goes.found refl known;
+        connections = connections-changed before.shape.lines before.loaded before.connections vc goes.connection new invariant.connections goes.found refl known;
         counted = later.counted;
       });
-      named = unnamed before after reply (ap (λ (world : World). world.given) goes.world) (ap id_loaded goes.answer);
+      named = unnamed before after reply (ap (λ (world : World). world.loaded) goes.world) (ap id_loaded goes.answer);
     }
 
 -- A connection's journal is cut.
-pub cut-comes : (met : ℕ) (before after : World) (vc : Vc) (reply : Reply) (text : List ℕ) → Stands met before
-    → reply_text (cut vc) (length before.given) reply ≡ Some text → WorldStep before (Cut vc) reply after
+pub cut-comes : (met : ℕ) (before after : World) (vc : Vc) (reply : Reply) (text : List ℕ) → HoldsAfter met before
+    → reply_text (cut vc) (length before.loaded) reply ≡ Some text → WorldStep before (Cut vc) reply after
     → Comes met before after reply (answered (seen_missing_fault (seen before) vc) (cut_text (seen before) vc)) text
     (left (seen_missing_fault (seen before) vc) (seen before) (changed_at (seen before) vc handed_out))
-cut-comes met before after vc reply text stand printed step =
+cut-comes met before after vc reply text invariant printed step =
     let P : Option DeskFault → Type 0 = λ found.
     Comes met before after reply (answered found (cut_text (seen before) vc)) text (left found (seen before) (changed_at (seen before) vc handed_out)) in
     subst P (missing_fault-seen before vc)
     (desk-split P (λ fault. Refused fault) (missing_fault before vc) before after (Cut vc) reply
-    (λ goes. cuts-comes met before after vc reply text stand printed goes)
+    (λ goes. cuts-comes met before after vc reply text invariant printed goes)
     (λ lacks.
     let same : Refused NoMemory ≡ reply = let e = lacks.answer in cc in
-    let none = reprinted (cut vc) (length before.given) reply (Refused NoMemory) text (sym same) printed in absurd (cc))
-    (λ fault is. refused-comes met before after reply fault text stand is.world (ap id_loaded is.answer)
-    (reprinted (cut vc) (length before.given) reply (Refused fault) text is.answer printed)) step)
+    let none = reprinted (cut vc) (length before.loaded) reply (Refused NoMemory) text (sym same) printed in absurd (cc))
+    (λ fault is. refused-comes met before after reply fault text invariant is.world (ap id_loaded is.answer)
+    (reprinted (cut vc) (length before.loaded) reply (Refused fault) text is.answer printed)) step)

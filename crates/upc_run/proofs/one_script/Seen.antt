@@ -22,7 +22,7 @@ pub record SeenConnection : Type 0 where
   pub program : ℕ
   pub contracts : List Contract
   pub history : List NamedCell
-  pub handed : ℕ
+  pub returned : ℕ
 
 -- A live program by its number.
 pub record SeenProgram : Type 0 where
@@ -36,7 +36,7 @@ pub record Seen : Type 0 where
   pub programs : ℕ
   pub live : List SeenProgram
   pub connections : List (Vc × SeenConnection)
-  pub used : ℕ
+  pub incarnations : ℕ
   pub ports : List PortState
 
 abbrev pub seen_program : List Loading → Loading → SeenProgram
@@ -50,7 +50,7 @@ seen_connection given connection = record {
   program = number_in given connection.program;
   contracts = connection.contracts;
   history = map nameless connection.history;
-  handed = connection.handed;
+  returned = connection.returned;
 }
 
 abbrev pub seen_entry : List Loading → Vc × Connection → Vc × SeenConnection
@@ -63,10 +63,10 @@ seen_connections given connections = map (seen_entry given) connections
 abbrev pub seen : World → Seen
 seen world = record {
   shape = world.shape;
-  programs = length world.given;
-  live = seen_live world.given world.live;
-  connections = seen_connections world.given world.connections;
-  used = world.used;
+  programs = length world.loaded;
+  live = seen_live world.loaded world.live;
+  connections = seen_connections world.loaded world.connections;
+  incarnations = world.incarnations;
   ports = world.ports;
 }
 
@@ -101,4 +101,4 @@ names_number connections number = list_any (λ here. here.1.program == number) c
 -- The verdicts on the cells that no cut has returned.
 abbrev pub kept_verdicts : SeenConnection → List Verdict
 kept_verdicts connection = map (λ entry. entry.verdict)
-    (judged connection.contracts empty_buckets (take connection.handed connection.history) (drop connection.handed connection.history))
+    (judged connection.contracts empty_buckets (take connection.returned connection.history) (drop connection.returned connection.history))

@@ -29,7 +29,7 @@ use Rattle.upc_run.proofs.one_script.Numbers.{IsNamed, is_number, length-names, 
 use Rattle.upc_run.proofs.one_script.ProgramSteps.{load-comes, loaded_text, retire-comes, retired, retired_text, seen_load_fault, seen_retire_fault, with_program}
 use Rattle.upc_run.proofs.one_script.RecordSteps.{cut-comes, cut_text, handed_out, release-comes, released, released_text, reload-comes, reloaded, reloaded_text, seen_missing_fault, seen_reload_fault}
 use Rattle.upc_run.proofs.one_script.Seen.{Seen, seen}
-use Rattle.upc_run.proofs.one_script.Stands.{Comes, Stands, answered, left, stands-later}
+use Rattle.upc_run.proofs.one_script.HoldsAfter.{Comes, HoldsAfter, answered, left, holds-later}
 
 -- The line has this text, if there is one, and leads to this view.
 abbrev pub TakesSeen : Option (List ℕ) → Seen → List ℕ → Seen → Type 0
@@ -93,48 +93,48 @@ LineSeen s words text to =
 
 -- A card after this number of lines: a log leads to it, the invariant of its world holds, and its names are those of
 -- all programs that were loaded.
-pub record IsBehind (met : ℕ) (card : Card) : Type 0 where
+pub record IsAfterLines (met : ℕ) (card : Card) : Type 0 where
   pub led : IsLed card
-  pub stands : Stands met card.world
-  pub names : card.names ≡ names_of card.world.given
+  pub holds : HoldsAfter met card.world
+  pub names : card.names ≡ names_of card.world.loaded
 
 -- The result of a line: the view decides its answer, and the invariant of the card holds again after one more line.
 pub record LineComes (met : ℕ) (after : Card) (AnswersSeen : Seen → Type 0) : Type 0 where
   pub shown : AnswersSeen (seen after.world)
-  pub stands : Stands (met + 1) after.world
-  pub names : after.names ≡ names_of after.world.given
+  pub holds : HoldsAfter (met + 1) after.world
+  pub names : after.names ≡ names_of after.world.loaded
 
-module _ (met : ℕ) (few : met < most_input_lines) (before : Card) (behind : IsBehind met before) (after : Card) (text : List ℕ) where
+module _ (met : ℕ) (few : met < most_input_lines) (before : Card) (reached : IsAfterLines met before) (after : Card) (text : List ℕ) where
   sound : WorldInvariant before.world
-  sound = worlds-sound behind.led.shape behind.led.log before.world behind.led.leads
+  sound = worlds-sound reached.led.shape reached.led.log before.world reached.led.leads
 
   -- A line that changes nothing.
   refuses-comes : (fault : List ℕ) → RefusesLine fault before text after → LineComes met after (StaysSeen (seen before.world) fault text)
   refuses-comes fault refuses = record {
     shown = (refuses.0, ap (λ (card : Card). seen card.world) refuses.1);
-    stands = subst (λ (card : Card). Stands (met + 1) card.world) (sym refuses.1) (stands-later met before.world behind.stands);
-    names = subst (λ (card : Card). card.names ≡ names_of card.world.given) (sym refuses.1) behind.names;
+    holds = subst (λ (card : Card). HoldsAfter (met + 1) card.world) (sym refuses.1) (holds-later met before.world reached.holds);
+    names = subst (λ (card : Card). card.names ≡ names_of card.world.loaded) (sym refuses.1) reached.names;
   }
 
   -- A step of the desk.
   takes-come : (command : Command) (step : Step) (found : Option (List ℕ)) (next : Seen)
-      → ((reply : Reply) → WorldStep before.world step reply after.world → reply_text command (length before.world.given) reply ≡ Some text
+      → ((reply : Reply) → WorldStep before.world step reply after.world → reply_text command (length before.world.loaded) reply ≡ Some text
       → Comes met before.world after.world reply found text next)
       → TakesCommand before command step text after → LineComes met after (TakesSeen found next text)
   takes-come command step found next comes takes =
-      let many = ap length behind.names ∙ length-names before.world.given in
+      let many = ap length reached.names ∙ length-names before.world.loaded in
       let printed = subst (λ n. reply_text command n takes.reply ≡ Some text) many takes.printed in
       let done = comes takes.reply takes.stepped printed in
       record {
         shown = (done.printed, done.shown);
-        stands = done.stands;
-        names = takes.named ∙ ap (λ ids. ids ++ id_loaded takes.reply) behind.names ∙ sym done.named;
+        holds = done.holds;
+        names = takes.named ∙ ap (λ ids. ids ++ id_loaded takes.reply) reached.names ∙ sym done.named;
       }
 
   -- The program that a number names.
   found-comes : (number : ℕ) (TakesWith : Id → List ℕ → Card → Type 0) (AnswersSeen : List ℕ → Seen → Type 0)
-      → ((id : Id) → number_in before.world.given id ≡ number → 0 < number → TakesWith id text after → LineComes met after (AnswersSeen text))
-      → (found : Option Id) → IsNamed before.world.given number found
+      → ((id : Id) → number_in before.world.loaded id ≡ number → 0 < number → TakesWith id text after → LineComes met after (AnswersSeen text))
+      → (found : Option Id) → IsNamed before.world.loaded number found
       → MatchOption found (RefusesLine no_such_program before text after) (λ id. TakesWith id text after)
       → LineComes met after (NamedSeen (seen before.world) number AnswersSeen text)
   found-comes number TakesWith AnswersSeen comes found (named id there is some) takes =
@@ -142,7 +142,7 @@ module _ (met : ℕ) (few : met < most_input_lines) (before : Card) (behind : Is
       record {
         shown = subst (λ b. MatchBool b (AnswersSeen text (seen after.world)) (StaysSeen (seen before.world) no_such_program text (seen after.world)))
             (sym there) done.shown;
-        stands = done.stands;
+        holds = done.holds;
         names = done.names;
       }
   found-comes number TakesWith AnswersSeen comes found (none_named missing) refuses =
@@ -150,18 +150,18 @@ module _ (met : ℕ) (few : met < most_input_lines) (before : Card) (behind : Is
       record {
         shown = subst (λ b. MatchBool b (AnswersSeen text (seen after.world)) (StaysSeen (seen before.world) no_such_program text (seen after.world)))
             (sym missing) done.shown;
-        stands = done.stands;
+        holds = done.holds;
         names = done.names;
       }
 
   named-comes : (command : Command) (number : ℕ) (TakesWith : Id → List ℕ → Card → Type 0) (AnswersSeen : List ℕ → Seen → Type 0)
-      → ((id : Id) → number_in before.world.given id ≡ number → 0 < number → TakesWith id text after → LineComes met after (AnswersSeen text))
+      → ((id : Id) → number_in before.world.loaded id ≡ number → 0 < number → TakesWith id text after → LineComes met after (AnswersSeen text))
       → TakesNamed before command number TakesWith text after
       → LineComes met after (NamedSeen (seen before.world) number AnswersSeen text)
   named-comes command number TakesWith AnswersSeen comes takes =
-      found-comes number TakesWith AnswersSeen comes (program_named (names_of before.world.given) number)
-      (named-number before.world.given behind.stands.programs.once number)
-      (subst (λ ids. MatchOption (program_named ids number) (RefusesLine no_such_program before text after) (λ id. TakesWith id text after)) behind.names takes)
+      found-comes number TakesWith AnswersSeen comes (program_named (names_of before.world.loaded) number)
+      (named-number before.world.loaded reached.holds.programs.once number)
+      (subst (λ ids. MatchOption (program_named ids number) (RefusesLine no_such_program before text after) (λ id. TakesWith id text after)) reached.names takes)
 
   -- A program is loaded.
   reading-comes : (digits : List ℕ) (reading : ProgramReading) → TakesReading before digits reading text after
@@ -169,13 +169,13 @@ module _ (met : ℕ) (few : met < most_input_lines) (before : Card) (behind : Is
   reading-comes digits (is_program code) takes =
       takes-come (load digits) (Load code) (answered (seen_load_fault (seen before.world)) (loaded_text (seen before.world)))
       (left (seen_load_fault (seen before.world)) (seen before.world) (with_program (seen before.world) code))
-      (λ reply step printed. load-comes met before.world after.world code digits reply text behind.stands sound few printed step) takes
+      (λ reply step printed. load-comes met before.world after.world code digits reply text reached.holds sound few printed step) takes
   reading-comes digits (is_refused fault) refuses = refuses-comes fault refuses
 
   loads-come : (digits octets : List ℕ) → LoadsOctets before digits octets text after → LineComes met after (LoadsSeen (seen before.world) octets text)
   loads-come digits octets loads =
       let done = reading-comes digits loads.0 loads.2 in
-      record { shown = (loads.0, loads.1, done.shown); stands = done.stands; names = done.names }
+      record { shown = (loads.0, loads.1, done.shown); holds = done.holds; names = done.names }
 
   load-line : (digits : List ℕ) (octets : Option (List ℕ))
       → MatchOption octets (RefusesLine bad_hex before text after) (λ found. LoadsOctets before digits found text after)
@@ -193,7 +193,7 @@ module _ (met : ℕ) (few : met < most_input_lines) (before : Card) (behind : Is
       (λ reply step printed.
       subst (λ n. Comes met before.world after.world reply (answered (seen_retire_fault (seen before.world) n) (retired_text number)) text
       (left (seen_retire_fault (seen before.world) n) (seen before.world) (retired (seen before.world) n)))
-      is (retire-comes met before.world after.world id number reply text behind.stands printed step)) taken) takes
+      is (retire-comes met before.world after.world id number reply text reached.holds printed step)) taken) takes
 
   -- A connection is given another program.
   reload-line : (vc : Vc) (number : ℕ) → Obeys before (reload vc number) text after → LineComes met after (ObeysSeen (seen before.world) (reload vc number) text)
@@ -205,14 +205,14 @@ module _ (met : ℕ) (few : met < most_input_lines) (before : Card) (behind : Is
       (λ reply step printed.
       subst (λ n. Comes met before.world after.world reply (answered (seen_reload_fault (seen before.world) vc n) (reloaded_text vc number)) text
       (left (seen_reload_fault (seen before.world) vc n) (seen before.world) (changed_at (seen before.world) vc (reloaded n))))
-      is (reload-comes met before.world after.world vc id number reply text behind.stands (subst (λ n. 0 < n) (sym is) some) printed step)) taken) takes
+      is (reload-comes met before.world after.world vc id number reply text reached.holds (subst (λ n. 0 < n) (sym is) some) printed step)) taken) takes
 
   -- A connection is set up.
-  asks-come : (vc : Vc) (number : ℕ) (wanted : List Wanted) (id : Id) → number_in before.world.given id ≡ number → 0 < number
+  asks-come : (vc : Vc) (number : ℕ) (wanted : List Wanted) (id : Id) → number_in before.world.loaded id ≡ number → 0 < number
       → AsksConnection before vc number wanted id text after → LineComes met after (AsksSeen (seen before.world) vc number wanted text)
   asks-come vc number wanted id is some asks =
       let contracts = asks.ask.contracts.items in
-      let own : number_in before.world.given asks.ask.program ≡ number = ap (number_in before.world.given) asks.program ∙ is in
+      let own : number_in before.world.loaded asks.ask.program ≡ number = ap (number_in before.world.loaded) asks.program ∙ is in
       let done = takes-come (setup vc number wanted) (Setup asks.ask)
       (answered (seen_setup_fault (seen before.world) vc number contracts) (set_text vc))
       (left (seen_setup_fault (seen before.world) vc number contracts) (seen before.world) (set_up (seen before.world) vc number contracts))
@@ -223,9 +223,9 @@ module _ (met : ℕ) (few : met < most_input_lines) (before : Card) (behind : Is
       (subst (λ n. Comes met before.world after.world reply (answered (seen_setup_fault (seen before.world) asks.ask.vc n contracts) (set_text vc)) text
       (left (seen_setup_fault (seen before.world) asks.ask.vc n contracts) (seen before.world) (set_up (seen before.world) asks.ask.vc n contracts)))
       own
-      (setup-comes met before.world after.world asks.ask vc number wanted reply text behind.stands (subst (λ n. 0 < n) (sym own) some) printed step)))
+      (setup-comes met before.world after.world asks.ask vc number wanted reply text reached.holds (subst (λ n. 0 < n) (sym own) some) printed step)))
       asks.taken in
-      record { shown = (contracts, asks.contracts, done.shown); stands = done.stands; names = done.names }
+      record { shown = (contracts, asks.contracts, done.shown); holds = done.holds; names = done.names }
 
   setup-line : (vc : Vc) (number : ℕ) (wanted : List Wanted) (found : Option GcraFault)
       → MatchOption found (TakesNamed before (setup vc number wanted) number (AsksConnection before vc number wanted) text after)
@@ -241,9 +241,9 @@ module _ (met : ℕ) (few : met < most_input_lines) (before : Card) (behind : Is
   polices-come : (moment : ℕ) (octets : List ℕ) → PolicesCell before moment octets text after
       → LineComes met after (PolicesSeen (seen before.world) moment octets text)
   polices-come moment octets polices =
-      let done = cell-comes met before.world after.world before.names moment octets polices.answer text behind.stands sound few behind.names behind.led.free
+      let done = cell-comes met before.world after.world before.names moment octets polices.answer text reached.holds sound few reached.names reached.led.free
       polices.arrived polices.printed in
-      record { shown = done.shown; stands = done.stands; names = polices.same ∙ behind.names ∙ ap names_of (sym done.same) }
+      record { shown = done.shown; holds = done.holds; names = polices.same ∙ reached.names ∙ ap names_of (sym done.same) }
 
   sized-line : (moment : ℕ) (octets : List ℕ) (b : Bool)
       → MatchBool b (PolicesCell before moment octets text after) (RefusesLine (wrong_length (length octets)) before text after)
@@ -266,11 +266,11 @@ module _ (met : ℕ) (few : met < most_input_lines) (before : Card) (behind : Is
   obeys-come (release vc) obeys =
       takes-come (release vc) (Release vc) (answered (seen_missing_fault (seen before.world) vc) (released_text (seen before.world) vc))
       (left (seen_missing_fault (seen before.world) vc) (seen before.world) (released (seen before.world) vc))
-      (λ reply step printed. release-comes met before.world after.world vc reply text behind.stands printed step) obeys
+      (λ reply step printed. release-comes met before.world after.world vc reply text reached.holds printed step) obeys
   obeys-come (cut vc) obeys =
       takes-come (cut vc) (Cut vc) (answered (seen_missing_fault (seen before.world) vc) (cut_text (seen before.world) vc))
       (left (seen_missing_fault (seen before.world) vc) (seen before.world) (changed_at (seen before.world) vc handed_out))
-      (λ reply step printed. cut-comes met before.world after.world vc reply text behind.stands printed step) obeys
+      (λ reply step printed. cut-comes met before.world after.world vc reply text reached.holds printed step) obeys
   obeys-come (cell moment digits) obeys = cell-line moment (octets_of_digits digits) obeys
 
   words-come : (found : Option Command) → MatchOption found (RefusesLine bad_line before text after) (λ command. Obeys before command text after)

@@ -66,8 +66,8 @@ arrive-printed : (name : List ℕ) → IsPrinted (Some (arrive_fault name))
 arrive-printed name = (arrive_fault name, refl)
 
 pub answer-printed : (names : List Id) (vc : Vc) (given : Answer) → Spares (Answered given) → IsPrinted (answer_text names vc given)
-answer-printed names vc (answer.Judged number count moment value program verdict leaving) e =
-    text-there (answer_text names vc (answer.Judged number count moment value program verdict leaving)) refl
+answer-printed names vc (answer.Judged line_number number moment value program verdict leaving) e =
+    text-there (answer_text names vc (answer.Judged line_number number moment value program verdict leaving)) refl
 answer-printed names vc answer.NoConnection e = arrive-printed (codes "1 NoConnection")
 answer-printed names vc answer.Released e = arrive-printed (codes "2 Released")
 answer-printed names vc answer.Stale e = arrive-printed (codes "3 Stale")

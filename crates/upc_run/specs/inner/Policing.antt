@@ -29,8 +29,8 @@ AnswersCell held octets moment given held' = (held'.names ≡ held.names) × ((b
     × Arrives before.world octets moment answer after × CoreAgrees held'.core after)
 
 -- The line has this answer, and the run continues with the card after it.
-abbrev pub SaysLine : List ℕ → Card → List ℕ → Card → Type 0
-SaysLine line before text after = RunSteps (Some before) line text (Some (Some after))
+abbrev pub AnswersLine : List ℕ → Card → List ℕ → Card → Type 0
+AnswersLine line before text after = RunSteps (Some before) line text (Some (Some after))
 
 -- The result of the first line with words: a stored card that represents the new one, or the fault line.
 abbrev pub OpensAs : List (List ℕ) → Option Held → List ℕ → List ℕ → Type 0

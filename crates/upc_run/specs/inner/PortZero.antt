@@ -7,7 +7,7 @@ use Rattle.upc_cell.specs.declared.vc.Vc.{Vc}
 use Rattle.bpf_code.specs.declared.instr.Instr.{Instr}
 use Rattle.gen_arena.specs.declared.id.Id.{Id}
 use Rattle.card_core.specs.Refusals.{enter_refusal, judge_refusal, load_fault, missing_fault, pick_refusal, picking_refusal, reload_fault, retire_fault, setup_fault}
-use Rattle.card_core.specs.Steps.{Enters, FindsNoMemory, IsRefused, Judges, Picks, WorldStep, judgement_of, left_by_judge, left_by_pick, picking_of}
+use Rattle.card_core.specs.Steps.{Enters, FindsNoMemory, IsRefused, Judges, Picks, WorldStep, judged_answer, left_by_judge, left_by_pick, picking_of}
 use Rattle.card_core.specs.World.{Picking, PortState, World, connection_in, entered, outside, picked}
 use Rattle.card_core.specs.declared.answer.Answer.{Answer}
 use Rattle.card_core.specs.declared.answer.Answer.TheVariants as answer
@@ -106,6 +106,6 @@ judge-goes before after picking reply had step =
     by : (found : Option Answer) → MatchOption (option_map Answered found)
         (Judges before 0 reply after ⊎ FindsNoMemory before (Judge 0) reply after) (λ refused. IsRefused before (Judge 0) refused reply after)
         → (given : Answer) × (reply ≡ Answered given) × PortIs after outside
-    by None (inl goes) = (judgement_of before goes.picking goes.connection, goes.answer, subst (λ (w : World). PortIs w outside) (sym goes.world) (put-there before.ports (picked picking) outside had))
+    by None (inl goes) = (judged_answer before goes.picking goes.connection, goes.answer, subst (λ (w : World). PortIs w outside) (sym goes.world) (put-there before.ports (picked picking) outside had))
     by None (inr lacks) = let no = lacks.answer in cc
     by (Some given) is = (given, is.answer, subst (λ (w : World). PortIs w outside) (sym (is.world ∙ ap (left_by_judge before 0) had)) (put-there before.ports (picked picking) outside had))

@@ -61,39 +61,39 @@ ids-next log step reply =
     ∙ ap (λ xs. ids_loaded log ++ xs) (append-nil (id_loaded reply))
 
 -- The log leads to this world, and its programs have these ids.
-record Behind (shape : Shape) (log : List Event) (world : World) (names : List Id) : Type 0 where
+record Reached (shape : Shape) (log : List Event) (world : World) (names : List Id) : Type 0 where
   leads : Leads shape log world
   known : names ≡ ids_loaded log
 
-behind-next : (shape : Shape) (log : List Event) (world after : World) (names : List Id) (step : Step) (reply : Reply)
-    → Behind shape log world names → WorldStep world step reply after
-    → Behind shape (log ++ record { step = step; reply = reply } ∷ []) after (names ++ id_loaded reply)
-behind-next shape log world after names step reply behind goes = record {
-  leads = log-goes_on (opening_world shape) world after log step reply behind.leads goes;
-  known = ap (λ xs. xs ++ id_loaded reply) behind.known ∙ sym (ids-next log step reply);
+reached-next : (shape : Shape) (log : List Event) (world after : World) (names : List Id) (step : Step) (reply : Reply)
+    → Reached shape log world names → WorldStep world step reply after
+    → Reached shape (log ++ record { step = step; reply = reply } ∷ []) after (names ++ id_loaded reply)
+reached-next shape log world after names step reply reached goes = record {
+  leads = log-goes_on (opening_world shape) world after log step reply reached.leads goes;
+  known = ap (λ xs. xs ++ id_loaded reply) reached.known ∙ sym (ids-next log step reply);
 }
 
 -- A step that loads no program.
-behind-quiet : (shape : Shape) (log : List Event) (world after : World) (names : List Id) (step : Step) (reply : Reply)
-    → Behind shape log world names → WorldStep world step reply after → id_loaded reply ≡ []
-    → Behind shape (log ++ record { step = step; reply = reply } ∷ []) after names
-behind-quiet shape log world after names step reply behind goes none =
+reached-quiet : (shape : Shape) (log : List Event) (world after : World) (names : List Id) (step : Step) (reply : Reply)
+    → Reached shape log world names → WorldStep world step reply after → id_loaded reply ≡ []
+    → Reached shape (log ++ record { step = step; reply = reply } ∷ []) after names
+reached-quiet shape log world after names step reply reached goes none =
     let same : names ++ id_loaded reply ≡ names = ap (λ xs. names ++ xs) none ∙ append-nil names in
-    let next = behind-next shape log world after names step reply behind goes in
+    let next = reached-next shape log world after names step reply reached goes in
     record { leads = next.leads; known = sym same ∙ next.known }
 
-behind-of : (card : Card) (led : IsLed card) → Behind led.shape led.log card.world card.names
-behind-of card led = record { leads = led.leads; known = led.names }
+reached-of : (card : Card) (led : IsLed card) → Reached led.shape led.log card.world card.names
+reached-of card led = record { leads = led.leads; known = led.names }
 
-led-of : (card : Card) (shape : Shape) (log : List Event) → Behind shape log card.world card.names → PortIs card.world outside → IsLed card
-led-of card shape log behind free = record { shape = shape; log = log; leads = behind.leads; names = behind.known; free = free }
+led-of : (card : Card) (shape : Shape) (log : List Event) → Reached shape log card.world card.names → PortIs card.world outside → IsLed card
+led-of card shape log reached free = record { shape = shape; log = log; leads = reached.leads; names = reached.known; free = free }
 
 -- The card after a step of the desk.
 led-taken : (before after : Card) (command : Command) (step : Step) (text : List ℕ) → IsLed before
     → ((reply : Reply) → WorldStep before.world step reply after.world → after.world.ports ≡ before.world.ports)
     → TakesCommand before command step text after → IsLed after
 led-taken before after command step text led leaves takes =
-    let next = behind-next led.shape led.log before.world after.world before.names step takes.reply (behind-of before led) takes.stepped in
+    let next = reached-next led.shape led.log before.world after.world before.names step takes.reply (reached-of before led) takes.stepped in
     led-of after led.shape _ (record { leads = next.leads; known = takes.named ∙ next.known })
     (subst (λ states. slice_get states 0 ≡ Some outside) (sym (leaves takes.reply takes.stepped)) led.free)
 
@@ -208,7 +208,7 @@ cell-some before moment octets led =
     let entering = enter-goes before.world one.1 octets moment one.0 led.free one.2 in
     let first : WorldStep before.world (Enter 0 octets moment) Entered one.1 =
     subst (λ (r : Reply). WorldStep before.world (Enter 0 octets moment) r one.1) entering.0 one.2 in
-    let came = behind-quiet led.shape led.log before.world one.1 before.names (Enter 0 octets moment) Entered (behind-of before led) first refl in
+    let came = reached-quiet led.shape led.log before.world one.1 before.names (Enter 0 octets moment) Entered (reached-of before led) first refl in
     let two = step-replied led.shape _ one.1 came.leads (Pick 0) tt in
     elim (pick-goes one.1 two.1 octets moment two.0 entering.1 two.2) [
       | inl missed ↦
@@ -220,7 +220,7 @@ cell-some before moment octets led =
           )
       | inr found ↦
           let second = subst (λ (r : Reply). WorldStep one.1 (Pick 0) r two.1) found.1 two.2 in
-          let went = behind-quiet led.shape _ one.1 two.1 before.names (Pick 0) Picked came second refl in
+          let went = reached-quiet led.shape _ one.1 two.1 before.names (Pick 0) Picked came second refl in
           let three = step-replied led.shape _ two.1 went.leads (Judge 0) tt in
           let given = judge-goes two.1 three.1 found.0 three.0 found.2 three.2 in
           let printed = answer-printed before.names (vc_of before.world.shape.side octets) given.0 (subst Spares given.1 three.3) in
@@ -232,17 +232,17 @@ cell-some before moment octets led =
     ]
 
 answered-led : (before after : Card) (shape : Shape) (log : List Event) (entering : World) (octets : List ℕ) (moment : ℕ) (given : Answer)
-    → Behind shape log entering before.names → PortIs entering (entered octets moment) → after.names ≡ before.names
+    → Reached shape log entering before.names → PortIs entering (entered octets moment) → after.names ≡ before.names
     → IsAnswered entering given after.world → IsLed after
 answered-led before after shape log entering octets moment given came had same (inl picks) =
-    let next = behind-quiet shape log entering after.world before.names (Pick 0) (Answered given) came picks refl in
+    let next = reached-quiet shape log entering after.world before.names (Pick 0) (Answered given) came picks refl in
     elim (pick-goes entering after.world octets moment (Answered given) had picks) [
       | inl missed ↦ led-of after shape _ (record { leads = next.leads; known = same ∙ next.known }) missed.2
       | inr found ↦ let no = found.1 in cc
     ]
 answered-led before after shape log entering octets moment given came had same (inr judges) =
-    let second = behind-quiet shape log entering judges.0 before.names (Pick 0) Picked came judges.1 refl in
-    let third = behind-quiet shape _ judges.0 after.world before.names (Judge 0) (Answered given) second judges.2 refl in
+    let second = reached-quiet shape log entering judges.0 before.names (Pick 0) Picked came judges.1 refl in
+    let third = reached-quiet shape _ judges.0 after.world before.names (Judge 0) (Answered given) second judges.2 refl in
     elim (pick-goes entering judges.0 octets moment Picked had judges.1) [
       | inl missed ↦ let no = missed.1 in cc
       | inr found ↦
@@ -255,7 +255,7 @@ pub arrived-led : (before after : Card) (moment : ℕ) (octets : List ℕ) (give
     → Arrives before.world octets moment given after.world → after.names ≡ before.names → IsLed after
 arrived-led before after moment octets given led arrived same =
     let entering = enter-goes before.world arrived.0 octets moment Entered led.free arrived.1 in
-    let came = behind-quiet led.shape led.log before.world arrived.0 before.names (Enter 0 octets moment) Entered (behind-of before led) arrived.1 refl in
+    let came = reached-quiet led.shape led.log before.world arrived.0 before.names (Enter 0 octets moment) Entered (reached-of before led) arrived.1 refl in
     answered-led before after led.shape _ arrived.0 octets moment given came entering.1 same arrived.2
 
 cell-led : (before after : Card) (moment : ℕ) (octets text : List ℕ) → IsLed before → PolicesCell before moment octets text after → IsLed after
@@ -400,9 +400,9 @@ close-some (Some card) sound = ([], Whole, (refl, refl))
 -- The rules of `run` are total.
 pub run-total : IsTotal run_rules
 run-total = record {
-  keeps = λ world line_content text after sound steps.
-      silent-sound IsSoundRun (OpensOrObeys world (words_of line_content) text (Some after)) world after text (is_silent (words_of line_content)) sound
-      (prints-sound world after (words_of line_content) text sound) steps;
-  step = λ world line_content sound. silent-or (OpensOrObeys world (words_of line_content)) world (is_silent (words_of line_content)) (prints-some world sound (words_of line_content));
+  keeps = λ world content text after sound steps.
+      silent-sound IsSoundRun (OpensOrObeys world (words_of content) text (Some after)) world after text (is_silent (words_of content)) sound
+      (prints-sound world after (words_of content) text sound) steps;
+  step = λ world content sound. silent-or (OpensOrObeys world (words_of content)) world (is_silent (words_of content)) (prints-some world sound (words_of content));
   close = close-some;
 }

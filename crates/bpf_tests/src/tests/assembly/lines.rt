@@ -78,14 +78,14 @@ fn expect_around(
 ) -> Result<(), Fail> {
     let source = [front.as_bytes(), &[octet], back.as_bytes()].concat(alloc)?;
     let found = answer_to(alloc, &source)?;
-    assert_eq!(rt; found.as_str(), answer, "{octet} behind {front:?}");
+    assert_eq!(rt; found.as_str(), answer, "{octet} after {front:?}");
     Ok(())
 }
 
 #[test]
 fn an_octet_that_is_no_token_makes_a_bad_line(rt: HostRuntime) -> Result<(), Fail> {
     for octet in 0..=255u8 {
-        let (alone, before, behind) = match octet {
+        let (alone, before, after) = match octet {
             b'\n' => ("no code", "2 BadNumber 2", "0016000000000000"),
             b' ' | b'\t' => ("no code", "2 BadNumber 1", "0016000000000000"),
             b';' => ("no code", "no code", "0016000000000000"),
@@ -93,7 +93,7 @@ fn an_octet_that_is_no_token_makes_a_bad_line(rt: HostRuntime) -> Result<(), Fai
         };
         expect_around(&rt, rt.alloc(), "", octet, "", alone)?;
         expect_around(&rt, rt.alloc(), "", octet, " 9a", before)?;
-        expect_around(&rt, rt.alloc(), "ret a", octet, "", behind)?;
+        expect_around(&rt, rt.alloc(), "ret a", octet, "", after)?;
     }
     Ok(())
 }

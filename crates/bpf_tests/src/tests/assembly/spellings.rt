@@ -103,14 +103,14 @@ fn is_word(token: &str) -> bool {
 /// gap after the last token; a larger `at` is no gap.
 fn with_gap(alloc: Global, tokens: &[&str], at: usize) -> Result<String, AllocError> {
     let mut text = String::new(alloc);
-    let mut behind_word = false;
+    let mut after_word = false;
     for (gap, token) in tokens.iter().enumerate() {
         let word = is_word(token);
-        if gap == at || (behind_word && word) {
+        if gap == at || (after_word && word) {
             text.push_str(" ")?;
         }
         text.push_str(token)?;
-        behind_word = word;
+        after_word = word;
     }
     if at == tokens.len() {
         text.push_str(" ")?;

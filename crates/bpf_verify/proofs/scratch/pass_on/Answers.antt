@@ -41,6 +41,6 @@ returns-in_default c =
     let here = through (goal.at.returns-in_default c).In_default in
     record {
       successors = λ next word leads. let e : next ≡ c.args.at + 1 = here.1 next leads in c.narrow-in_default.ensures.place next word (omega arith);
-      behind = let next : c.args.at + 1 + 0 ≡ c.args.at + 1 = omega arith in c.narrow-in_default.ensures.words ∙ ap (λ n. get_or c.narrow-in_default.new.written n 0) next;
+      after = let next : c.args.at + 1 + 0 ≡ c.args.at + 1 = omega arith in c.narrow-in_default.ensures.words ∙ ap (λ n. get_or c.narrow-in_default.new.written n 0) next;
       others = λ place led. c.narrow-in_default.ensures.others place (λ e. let f : place ≡ c.args.at + 1 = omega arith in led (subst (λ n. LeadsTo c.args.at c.args.instr n) (sym f) here.0));
     }

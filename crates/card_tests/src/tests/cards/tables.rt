@@ -103,7 +103,7 @@ fn journal(incarnation: u64, entries: usize, is_still: bool) -> Seen {
     }
 }
 
-/// The id of a program. An id that was never given stands for a number that no program has yet.
+/// The id of a program. An id that was never given is used for a number that no program has yet.
 fn id_at(programs: &[Id], number: usize) -> Id {
     match programs.get(number) {
         Some(id) => *id,
@@ -258,14 +258,14 @@ pub fn expect(
     let mut core = Core::new(alloc, shape)?;
     let mut programs = Vec::new(alloc);
     for (row, (planned, wanted)) in rows.iter().enumerate() {
-        let seen = say(alloc, &mut core, &mut programs, *planned)?;
+        let seen = step_seen(alloc, &mut core, &mut programs, *planned)?;
         assert!(rt; seen == *wanted, "row {row}");
     }
     Ok(())
 }
 
 /// Takes a step, and returns what its reply says. A loaded program's id is put with the others.
-fn say(
+fn step_seen(
     alloc: Global,
     core: &mut Core,
     programs: &mut Vec<Id>,

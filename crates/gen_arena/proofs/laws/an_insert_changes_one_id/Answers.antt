@@ -12,7 +12,7 @@ returns-clause-others g c = Inserts-others
 
 pub returns-clause-generation : goal.returns-clause-generation
 returns-clause-generation g c old new id value insert =
-    insert.next ∙ ap (λ n. n + 1) (sym (generation_at-there old id.slot insert.taken insert.stood))
+    insert.next ∙ ap (λ n. n + 1) (sym (generation_at-there old id.slot insert.taken insert.held))
 
 pub returns-clause-slots : goal.returns-clause-slots
 returns-clause-slots g c = Inserts-length

@@ -1,8 +1,8 @@
 -- The registers, and then the scratch word.
 use Rattle.std.proofs.Common.{◌++◌, ℕ, List, ap, ◌∙◌, append_assoc}
 use Rattle.std.proofs.lemmas.Result.{on_ok_weaker}
+use Rattle.bpf_interp.specs.Registers.{memory_after}
 use Rattle.lab_programs.specs.Trace.{registers_text, written_text}
-use Rattle.lab_programs.specs.inner.Registers.{memory_after}
 use Rattle.lab_programs.proofs.step_lines.add_result.Goals as goal
 
 pub returns-in_ok-add_registers-in-Continue : goal.returns-in_ok-add_registers-in-Continue

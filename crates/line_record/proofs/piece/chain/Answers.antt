@@ -17,7 +17,7 @@ returns-then-not-goes_on_from-clause-broken c =
     record {
       earlier = c.index-pieces-place-then-place-gt0.result;
       later = c.index-pieces-place.result;
-      behind = c.if-place-gt0.true;
+      after_first = c.if-place-gt0.true;
       before = slice_get_read pieces (length pieces) (place - 1) c.index-pieces-place-then-place-gt0.result refl (omega arith) c.index-pieces-place-then-place-gt0.is;
       here = slice_get_read pieces (length pieces) place c.index-pieces-place.result refl within c.index-pieces-place.is;
       breaks = λ goes. let told = c.goes_on_from.ensures.1 goes in let is = c.if-not-goes_on_from.true in cc;
@@ -40,8 +40,8 @@ loop-place-preserved c =
     let here = c.index-pieces-place.result in
     let at_here : slice_get pieces place ≡ Some here = slice_get_read pieces (length pieces) place here refl within c.index-pieces-place.is in
     record {
-      goes = λ k h earlier later before behind. elim (below_or_at (suc k) place h) [
-        | inl low ↦ c.loop-place.invariant.goes k low earlier later before behind
+      goes = λ k h earlier later before after_first. elim (below_or_at (suc k) place h) [
+        | inl low ↦ c.loop-place.invariant.goes k low earlier later before after_first
         | inr is ↦ elim c.else-place-gt0.branch [
           | else-place-gt0-via-then-place-gt0+else-not-goes_on_from w ↦
               let there = w.index-pieces-place-then-place-gt0.result in
@@ -51,7 +51,7 @@ loop-place-preserved c =
               let goes : GoesOnFrom there here = w.goes_on_from.ensures.0 told in
               let lower : place - 1 ≡ k = omega arith in
               let one : there ≡ earlier = same_Some there earlier (sym at_there ∙ ap (slice_get pieces) lower ∙ before) in
-              let other : here ≡ later = same_Some here later (sym at_here ∙ ap (slice_get pieces) (sym is) ∙ behind) in
+              let other : here ≡ later = same_Some here later (sym at_here ∙ ap (slice_get pieces) (sym is) ∙ after_first) in
               subst (λ (p : PieceView). GoesOnFrom p later) one (subst (λ (p : PieceView). GoesOnFrom there p) other goes)
           | else-place-gt0-via-else-place-gt0 w ↦ absurd (omega arith)
         ]
@@ -69,9 +69,9 @@ pub returns-clause-run : goal.returns-clause-run
 returns-clause-run c =
     let pieces = c.args.pieces.now in
     AreOneRun-chain pieces
-    (λ place earlier later before behind.
-    let within = slice_get_within pieces (suc place) later behind in
-    c.loop-place.invariant.goes place (omega arith) earlier later before behind)
+    (λ place earlier later before after_first.
+    let within = slice_get_within pieces (suc place) later after_first in
+    c.loop-place.invariant.goes place (omega arith) earlier later before after_first)
     (λ k piece at.
     let within = slice_get_within pieces k piece at in
     c.loop-place.invariant.kept k piece (omega arith) at)

@@ -24,7 +24,7 @@ loop-left-preserved c =
     let lt : at < length lines = omega arith in
     let next : at + 1 ≡ left = omega arith in
     let coded = lines_put lines at left c.index-lines-left.result c.index.result.now c.args.otherwise (coded_of c.loop-left.coding) (coded_of c.put_line.new.coding) lt next c.loop-left.invariant.coded
-    c.index-lines-left.is (c.index.ensures ∙ read_at c.in_ok-helds.helds.items at c.index.result.now (held_at lines None at) (c.in_ok-helds.ensures.held at lt)) c.in_ok-put_line.ensures in
+    c.index-lines-left.is (c.index.ensures ∙ read_at c.in_ok-parts.parts.items at c.index.result.now (held_at lines None at) (c.in_ok-parts.ensures.held at lt)) c.in_ok-put_line.ensures in
     record {
       within = omega arith;
       coded = coded;

@@ -4,7 +4,7 @@ use Rattle.rules_text.specs.TextOfRules.{fault_column, statement_from}
 use Rattle.rules_text.specs.declared.fault.RuleFault.{RuleFault}
 use Rattle.rules_text.specs.declared.fault.RuleKind.TheVariants.{NoMemory, Unbalanced}
 use Rattle.rules_text.specs.inner.Seen.{found_seen}
-use Rattle.rules_text.specs.inner.SeenReading.{context_seen, reading_seen, rule_statement_seen}
+use Rattle.rules_text.specs.inner.SeenReading.{context_seen, reading_seen, line_statement_seen}
 use Rattle.rules_text.proofs.ReadingSteps.{statement_more, statement_fault, statement_end, statement_early, other_fault, placed_same, early_same}
 use Rattle.rules_text.proofs.reader.statement_in.Goals as goal
 
@@ -56,7 +56,7 @@ returns-in-Ok-finish-clause-ok c =
     let reading = reading_seen c.loop-found.reader in
     sym c.loop-found.invariant.rest
     ∙ ap (statement_from context c.args.number reading (c.loop-found.from + 1)) c.in_default.ensures.tokens
-    ∙ statement_end context c.args.number (c.loop-found.from + 1) reading (rule_statement_seen c.in-Ok-finish.statement) (sym c.in-Ok-finish.ensures.statement)
+    ∙ statement_end context c.args.number (c.loop-found.from + 1) reading (line_statement_seen c.in-Ok-finish.statement) (sym c.in-Ok-finish.ensures.statement)
 
 pub returns-in-Err-finish-clause-err : goal.returns-in-Err-finish-clause-err
 returns-in-Err-finish-clause-err c =

@@ -1,4 +1,4 @@
--- The rest of the line, read on from here, says what the whole line does.
+-- The rest of the line, read on from here, has the statement of the whole line.
 use Rattle.std.proofs.Common.{◌≡◌, ◌+◌, ◌-◌, ◌≤◌, length, drop}
 use Rattle.rules_text.specs.LineGrammar.{nothing_read}
 use Rattle.rules_text.specs.RuleTokens.{rule_tokens, tokens_from}

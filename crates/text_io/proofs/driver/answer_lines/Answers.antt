@@ -51,8 +51,8 @@ returns-in-Ok-Ends-clause-text g c = λ ki ko.
     let O = c.octets.result.now in
     let count = c.in-Some.count in
     let line = take count O in
-    let behind = drop (count + 1) O in
-    let cut : left ≡ line ++ 10 ∷ (behind ++ rest) =
+    let later = drop (count + 1) O in
+    let cut : left ≡ line ++ 10 ∷ (later ++ rest) =
     ap (λ xs. xs ++ rest) (sym c.find_line.ensures.same)
     ∙ split-window c.find_line.new.self O rest count c.octets.ensures c.in-Some.ensures.within c.in-Some.ensures.feed in
     let none = no-feed-front c.find_line.new.self O count c.octets.ensures c.in-Some.ensures.before in
@@ -60,10 +60,10 @@ returns-in-Ok-Ends-clause-text g c = λ ki ko.
     let new = c.answer_line.new.answers.items in
     let passes = rw c.in-Ok-Ends.field-0-is at c.in-Ok-Ends.ensures.passes in
     at-given c.give_last.result Ended _ _ c.give_last.ensures.done (c.give_last.ensures.given ko)
-    (λ given. text-of m.rules shown now g.I.Input.is_known g.O.Output.is_known whole (line ++ 10 ∷ (behind ++ rest)) before held (g.O.Output.held c.give_last.new.output) old passes.0 met Ended ki ko
-    (line-ends m.rules now now' line (behind ++ rest) old new met none passes)
+    (λ given. text-of m.rules shown now g.I.Input.is_known g.O.Output.is_known whole (line ++ 10 ∷ (later ++ rest)) before held (g.O.Output.held c.give_last.new.output) old passes.0 met Ended ki ko
+    (line-ends m.rules now now' line (later ++ rest) old new met none passes)
     (given ∙ ap (λ xs. held ++ xs) passes.1)
-    (progress-left m.rules shown now g.I.Input.is_known g.O.Output.is_known whole left (line ++ 10 ∷ (behind ++ rest)) before held old met (λ _. cut) goes))
+    (progress-left m.rules shown now g.I.Input.is_known g.O.Output.is_known whole left (line ++ 10 ∷ (later ++ rest)) before held old met (λ _. cut) goes))
 
 pub returns-in-Ok-Ends-clause-front : goal.returns-in-Ok-Ends-clause-front
 returns-in-Ok-Ends-clause-front g c = λ ki ko.
@@ -81,8 +81,8 @@ returns-in-Ok-Ends-clause-front g c = λ ki ko.
     let O = c.octets.result.now in
     let count = c.in-Some.count in
     let line = take count O in
-    let behind = drop (count + 1) O in
-    let cut : left ≡ line ++ 10 ∷ (behind ++ rest) =
+    let later = drop (count + 1) O in
+    let cut : left ≡ line ++ 10 ∷ (later ++ rest) =
     ap (λ xs. xs ++ rest) (sym c.find_line.ensures.same)
     ∙ split-window c.find_line.new.self O rest count c.octets.ensures c.in-Some.ensures.within c.in-Some.ensures.feed in
     let none = no-feed-front c.find_line.new.self O count c.octets.ensures c.in-Some.ensures.before in
@@ -90,14 +90,14 @@ returns-in-Ok-Ends-clause-front g c = λ ki ko.
     let new = c.answer_line.new.answers.items in
     let passes = rw c.in-Ok-Ends.field-0-is at c.in-Ok-Ends.ensures.passes in
     at-fault c.give_last.result _ _ (c.give_last.ensures.front ko)
-    (λ part. front-of-last m.rules shown now g.I.Input.is_known g.O.Output.is_known whole (line ++ 10 ∷ (behind ++ rest)) before held (g.O.Output.held c.give_last.new.output) old met ki ko
+    (λ part. front-of-last m.rules shown now g.I.Input.is_known g.O.Output.is_known whole (line ++ 10 ∷ (later ++ rest)) before held (g.O.Output.held c.give_last.new.output) old met ki ko
     (λ present sound is_shown. (
       passes.0,
       Ended,
       (part.0, part.1, sym passes.1 ∙ part.2, part.3),
-      line-ends m.rules now now' line (behind ++ rest) old new met none passes present sound is_shown,
+      line-ends m.rules now now' line (later ++ rest) old new met none passes present sound is_shown,
     ))
-    (progress-left m.rules shown now g.I.Input.is_known g.O.Output.is_known whole left (line ++ 10 ∷ (behind ++ rest)) before held old met (λ _. cut) goes))
+    (progress-left m.rules shown now g.I.Input.is_known g.O.Output.is_known whole left (line ++ 10 ∷ (later ++ rest)) before held old met (λ _. cut) goes))
 
 pub returns-in-Ok-Ends-clause-left : goal.returns-in-Ok-Ends-clause-left
 returns-in-Ok-Ends-clause-left g c = λ ki.
@@ -115,18 +115,18 @@ returns-in-Ok-Ends-clause-left g c = λ ki.
     let O = c.octets.result.now in
     let count = c.in-Some.count in
     let line = take count O in
-    let behind = drop (count + 1) O in
-    let cut : left ≡ line ++ 10 ∷ (behind ++ rest) =
+    let later = drop (count + 1) O in
+    let cut : left ≡ line ++ 10 ∷ (later ++ rest) =
     ap (λ xs. xs ++ rest) (sym c.find_line.ensures.same)
     ∙ split-window c.find_line.new.self O rest count c.octets.ensures c.in-Some.ensures.within c.in-Some.ensures.feed in
     let none = no-feed-front c.find_line.new.self O count c.octets.ensures c.in-Some.ensures.before in
     let now' = m.shows c.answer_line.new.machine in
     let new = c.answer_line.new.answers.items in
     let passes = rw c.in-Ok-Ends.field-0-is at c.in-Ok-Ends.ensures.passes in
-    let short : length behind ≤ most_ahead = omega (arith, length-drop (count + 1) O, ap length c.octets.ensures, ap length c.find_line.ensures.same, c.loop-count.invariant.bounded) in
+    let short : length later ≤ most_ahead = omega (arith, length-drop (count + 1) O, ap length c.octets.ensures, ap length c.find_line.ensures.same, c.loop-count.invariant.bounded) in
     at-done c.give_last.result Ended _ c.give_last.ensures.done
-    (enough m.rules shown now g.I.Input.is_known g.O.Output.is_known whole left (line ++ 10 ∷ []) behind rest before held old passes.0 met most_ahead Ended ki
-    (cut ∙ sym (append_assoc line (10 ∷ []) (behind ++ rest))) short
+    (enough m.rules shown now g.I.Input.is_known g.O.Output.is_known whole left (line ++ 10 ∷ []) later rest before held old passes.0 met most_ahead Ended ki
+    (cut ∙ sym (append_assoc line (10 ∷ []) (later ++ rest))) short
     (line-ends m.rules now now' line [] old new met none passes) goes)
 
 pub returns-then-is_err-clause-front : goal.returns-then-is_err-clause-front
@@ -145,16 +145,16 @@ returns-then-is_err-clause-front g c = λ ki ko.
     let O = c.octets.result.now in
     let count = c.in-Some.count in
     let line = take count O in
-    let behind = drop (count + 1) O in
-    let cut : left ≡ line ++ 10 ∷ (behind ++ rest) =
+    let later = drop (count + 1) O in
+    let cut : left ≡ line ++ 10 ∷ (later ++ rest) =
     ap (λ xs. xs ++ rest) (sym c.find_line.ensures.same)
     ∙ split-window c.find_line.new.self O rest count c.octets.ensures c.in-Some.ensures.within c.in-Some.ensures.feed in
     let none = no-feed-front c.find_line.new.self O count c.octets.ensures c.in-Some.ensures.before in
     let now' = m.shows c.answer_line.new.machine in
     let new = c.answer_line.new.answers.items in
     let passes = rw c.in-Ok-GoesOn.field-0-is at c.in-Ok-GoesOn.ensures.passes in
-    let on = progress-line m.rules shown now now' g.I.Input.is_known g.O.Output.is_known whole left line (behind ++ rest) before held old new met none cut passes goes in
-    front-of m.rules g.met.M.Machine.is_total shown now' g.I.Input.is_known g.O.Output.is_known whole (behind ++ rest) before held (g.O.Output.held c.give_if_enough.new.output) new (met + 1) ki ko
+    let on = progress-line m.rules shown now now' g.I.Input.is_known g.O.Output.is_known whole left line (later ++ rest) before held old new met none cut passes goes in
+    front-of m.rules g.met.M.Machine.is_total shown now' g.I.Input.is_known g.O.Output.is_known whole (later ++ rest) before held (g.O.Output.held c.give_if_enough.new.output) new (met + 1) ki ko
     (at-err c.give_if_enough.result _ (sym c.is_err.ensures.value ∙ c.if-is_err.true) (c.give_if_enough.ensures.front ko)) on
 
 pub loop-count-preserved-else-is_err : goal.loop-count-preserved-else-is_err
@@ -178,20 +178,20 @@ loop-count-preserved-else-is_err g c = record {
       let O = c.octets.result.now in
       let count = c.in-Some.count in
       let line = take count O in
-      let behind = drop (count + 1) O in
-      let cut : left ≡ line ++ 10 ∷ (behind ++ rest) =
+      let later = drop (count + 1) O in
+      let cut : left ≡ line ++ 10 ∷ (later ++ rest) =
       ap (λ xs. xs ++ rest) (sym c.find_line.ensures.same)
       ∙ split-window c.find_line.new.self O rest count c.octets.ensures c.in-Some.ensures.within c.in-Some.ensures.feed in
       let none = no-feed-front c.find_line.new.self O count c.octets.ensures c.in-Some.ensures.before in
       let now' = m.shows c.answer_line.new.machine in
       let new = c.answer_line.new.answers.items in
       let passes = rw c.in-Ok-GoesOn.field-0-is at c.in-Ok-GoesOn.ensures.passes in
-      let on = progress-line m.rules shown now now' g.I.Input.is_known g.O.Output.is_known whole left line (behind ++ rest) before held old new met none cut passes goes in
+      let on = progress-line m.rules shown now now' g.I.Input.is_known g.O.Output.is_known whole left line (later ++ rest) before held old new met none cut passes goes in
       let held' = g.O.Output.held c.give_if_enough.new.output in
       let new' = c.give_if_enough.new.answers.items in
-      let given = progress-given m.rules shown now' g.I.Input.is_known g.O.Output.is_known whole (behind ++ rest) before held held' new new' (met + 1)
+      let given = progress-given m.rules shown now' g.I.Input.is_known g.O.Output.is_known whole (later ++ rest) before held held' new new' (met + 1)
       (λ ko. at-ok c.give_if_enough.result _ (sym c.is_err.ensures.value ∙ c.if-is_err.false) (c.give_if_enough.ensures.moved ko)) on in
-      progress-left m.rules shown now' g.I.Input.is_known g.O.Output.is_known whole (behind ++ rest) (c.skip.new.self ++ rest) before held' new' (met + 1)
+      progress-left m.rules shown now' g.I.Input.is_known g.O.Output.is_known whole (later ++ rest) (c.skip.new.self ++ rest) before held' new' (met + 1)
       (λ _. ap (λ xs. xs ++ rest) (ap (λ xs. drop (count + 1) xs) c.octets.ensures ∙ sym c.skip.ensures)) given;
 }
 
@@ -209,8 +209,8 @@ returns-then-is_over_limits-clause-text g c = λ ki ko.
     let left = c.loop-count.window ++ rest in
     let goes = c.loop-count.invariant.goes in
     let W = c.octets-waiting.result.now in
-    let over : (behind : List ℕ) → OfEach m.rules now (λ present. Prints m.rules met present (lines_of (c.loop-count.window ++ behind)) m.rules.too_long Ended) =
-    λ behind. window-over m.rules now met (length W) c.loop-count.window W behind c.is_over_limits.result
+    let over : (later : List ℕ) → OfEach m.rules now (λ present. Prints m.rules met present (lines_of (c.loop-count.window ++ later)) m.rules.too_long Ended) =
+    λ later. window-over m.rules now met (length W) c.loop-count.window W later c.is_over_limits.result
     (c.octets-waiting.ensures ∙ c.find_line.ensures.same) refl c.if-waiting-gt0.true (none-at c.octets-waiting.ensures c.in-None.ensures.none)
     c.is_over_limits.ensures c.if-is_over_limits.true in
     at-given c.end_too_long.result Ended _ _ c.end_too_long.ensures.done (c.end_too_long.ensures.given ko)
@@ -231,8 +231,8 @@ returns-then-is_over_limits-clause-front g c = λ ki ko.
     let left = c.loop-count.window ++ rest in
     let goes = c.loop-count.invariant.goes in
     let W = c.octets-waiting.result.now in
-    let over : (behind : List ℕ) → OfEach m.rules now (λ present. Prints m.rules met present (lines_of (c.loop-count.window ++ behind)) m.rules.too_long Ended) =
-    λ behind. window-over m.rules now met (length W) c.loop-count.window W behind c.is_over_limits.result
+    let over : (later : List ℕ) → OfEach m.rules now (λ present. Prints m.rules met present (lines_of (c.loop-count.window ++ later)) m.rules.too_long Ended) =
+    λ later. window-over m.rules now met (length W) c.loop-count.window W later c.is_over_limits.result
     (c.octets-waiting.ensures ∙ c.find_line.ensures.same) refl c.if-waiting-gt0.true (none-at c.octets-waiting.ensures c.in-None.ensures.none)
     c.is_over_limits.ensures c.if-is_over_limits.true in
     at-fault c.end_too_long.result _ _ (c.end_too_long.ensures.front ko)
@@ -253,8 +253,8 @@ returns-then-is_over_limits-clause-left g c = λ ki.
     let left = c.loop-count.window ++ rest in
     let goes = c.loop-count.invariant.goes in
     let W = c.octets-waiting.result.now in
-    let over : (behind : List ℕ) → OfEach m.rules now (λ present. Prints m.rules met present (lines_of (c.loop-count.window ++ behind)) m.rules.too_long Ended) =
-    λ behind. window-over m.rules now met (length W) c.loop-count.window W behind c.is_over_limits.result
+    let over : (later : List ℕ) → OfEach m.rules now (λ present. Prints m.rules met present (lines_of (c.loop-count.window ++ later)) m.rules.too_long Ended) =
+    λ later. window-over m.rules now met (length W) c.loop-count.window W later c.is_over_limits.result
     (c.octets-waiting.ensures ∙ c.find_line.ensures.same) refl c.if-waiting-gt0.true (none-at c.octets-waiting.ensures c.in-None.ensures.none)
     c.is_over_limits.ensures c.if-is_over_limits.true in
     let none : length {A = ℕ} [] ≤ most_ahead = omega arith in

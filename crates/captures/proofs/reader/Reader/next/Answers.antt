@@ -4,12 +4,12 @@ use Rattle.captures.proofs.reader.Reader.next.Goals as goal
 
 pub returns-in_default-framed : goal.returns-in_default-framed
 returns-in_default-framed c =
-    let some : 0 < c.in-Ok.own = omega (arith, c.in-Ok.ensures.least, head_some c.args.self.now.format) in
+    let some : 0 < c.in-Ok.size = omega (arith, c.in-Ok.ensures.least, head_some c.args.self.now.format) in
     takes_frame
     c.args.self.now
     _
     c.args.octets.now
-    c.in-Ok.own
+    c.in-Ok.size
     c.in-Ok-held_in.held.after
     None
     None
@@ -27,12 +27,12 @@ returns-in_default-framed c =
 
 pub returns-in-Ok-place_of : goal.returns-in-Ok-place_of
 returns-in-Ok-place_of c =
-    let some : 0 < c.in-Ok.own = omega (arith, c.in-Ok.ensures.least, head_some c.args.self.now.format) in
+    let some : 0 < c.in-Ok.size = omega (arith, c.in-Ok.ensures.least, head_some c.args.self.now.format) in
     takes_frame
     c.args.self.now
     _
     c.args.octets.now
-    c.in-Ok.own
+    c.in-Ok.size
     c.in-Ok-held_in.held.after
     (Some c.in-Some-framed.framed.now)
     (Some c.record_of.result)
@@ -50,12 +50,12 @@ returns-in-Ok-place_of c =
 
 pub returns-in-Err-place_of : goal.returns-in-Err-place_of
 returns-in-Err-place_of c =
-    let some : 0 < c.in-Ok.own = omega (arith, c.in-Ok.ensures.least, head_some c.args.self.now.format) in
+    let some : 0 < c.in-Ok.size = omega (arith, c.in-Ok.ensures.least, head_some c.args.self.now.format) in
     takes_frame
     c.args.self.now
     _
     c.args.octets.now
-    c.in-Ok.own
+    c.in-Ok.size
     c.in-Ok-held_in.held.after
     (Some c.in-Some-framed.framed.now)
     (Some c.record_of-in-Err-place_of.result)

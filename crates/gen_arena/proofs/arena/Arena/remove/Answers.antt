@@ -6,7 +6,7 @@ use Rattle.gen_arena.specs.declared.place.Place.{Place}
 use Rattle.gen_arena.specs.inner.PlaceRow.{IsReached}
 use Rattle.gen_arena.specs.inner.Chain.{slot_of, IsSoundArena}
 use Rattle.gen_arena.proofs.PastLemmas.{Removes-past, Removes-is_past}
-use Rattle.gen_arena.proofs.ChainLemmas.{IsHeld, held_by, emptied_place, emptied_slot, stood_there, Removes-emptied, IsSound-relisted, IsSound-worn, IfSome-at, room_for_one}
+use Rattle.gen_arena.proofs.ChainLemmas.{IsHeld, held_by, emptied_place, emptied_slot, held_there, Removes-emptied, IsSound-relisted, IsSound-worn, IfSome-at, room_for_one}
 use Rattle.gen_arena.proofs.arena.Arena.remove.Given as given
 use Rattle.gen_arena.proofs.arena.Arena.remove.Goals as goal
 
@@ -85,9 +85,9 @@ returns-clause-removed g c = IfSome-at _ _ (held g c).value (taken g c) (removes
 
 pub returns-clause-past : goal.returns-clause-past
 returns-clause-past g c =
-    let stands = held g c in
-    let given = (c.self.invariant.0.lawful c.args.id.slot _ (stood_there c.self.inside.places.places c.args.id.slot c.args.id.generation stands.value stands.was)).1 refl in
-    IfSome-at _ _ stands.value (taken g c) (Removes-is_past _ _ _ _ (removes g c) given)
+    let holds = held g c in
+    let given = (c.self.invariant.0.lawful c.args.id.slot _ (held_there c.self.inside.places.places c.args.id.slot c.args.id.generation holds.value holds.was)).1 refl in
+    IfSome-at _ _ holds.value (taken g c) (Removes-is_past _ _ _ _ (removes g c) given)
 
 pub returns-clause-stays_past : goal.returns-clause-stays_past
 returns-clause-stays_past g c = Removes-past _ _ _ _ (removes g c)

@@ -27,9 +27,9 @@ returns-clause-run c =
       opens = c.requires.one_each;
       closes = c.judge_named-verdict.ensures.sized ∙ c.requires.one_each;
       moments = (c.requires.later, tt);
-      verdicts = λ opening stands.
-          ap (λ given. entry_of cell given ∷ []) (Judges-verdict contracts before after cell verdict judges opening stands);
-      levels = λ opening stands. Judges-levels contracts before after cell verdict judges opening stands;
+      verdicts = λ opening holds.
+          ap (λ given. entry_of cell given ∷ []) (Judges-verdict contracts before after cell verdict judges opening holds);
+      levels = λ opening holds. Judges-levels contracts before after cell verdict judges opening holds;
       last = refl;
       counts = c.count.ensures;
     }

@@ -4,8 +4,8 @@ use Rattle.rules_text.specs.TextFaults.{IsFaultOf}
 use Rattle.rules_text.specs.TextOfRules.{TextReading, text_with_line}
 use Rattle.rules_text.specs.declared.fault.RuleFault.{RuleFault}
 use Rattle.rules_text.specs.inner.Seen.{found_seen}
-use Rattle.rules_text.specs.inner.SeenReading.{rule_statement_seen, text_seen}
-use Rattle.rules_text.proofs.ReadingSteps.{line_empty, line_closed, line_statement, line_fault, fault_onward, returned_fault}
+use Rattle.rules_text.specs.inner.SeenReading.{line_statement_seen, text_seen}
+use Rattle.rules_text.proofs.ReadingSteps.{line_empty, line_closed, line_with_statement, line_fault, fault_onward, returned_fault}
 use Rattle.rules_text.proofs.reader.TextReader.read_line.Goals as goal
 
 pub returns-in_default-clause-ok : goal.returns-in_default-clause-ok
@@ -28,5 +28,5 @@ pub returns-in-Ok-clause-ok : goal.returns-in-Ok-clause-ok
 returns-in-Ok-clause-ok c =
     let first = c.in-Some.first in
     let text = text_seen c.args.self.now in
-    line_statement text c.args.number c.args.line.now (found_seen first) (tokens_from (first.end + 1) 0 (drop first.end c.args.line.now)) (rule_statement_seen c.in_ok-statement.statement) c.in-Some.ensures.tokens c.if-self.false c.in_ok-statement.ensures.ok
+    line_with_statement text c.args.number c.args.line.now (found_seen first) (tokens_from (first.end + 1) 0 (drop first.end c.args.line.now)) (line_statement_seen c.in_ok-statement.statement) c.in-Some.ensures.tokens c.if-self.false c.in_ok-statement.ensures.ok
     ∙ ap (λ (next : TextReading). Ok next) c.in-Ok.ensures.ok

@@ -23,11 +23,11 @@ invariant_of-self-2 g c =
           subst AtFront (sym w.self-inside-is) (subst P begins c.self.invariant, begins)
     ] in
     let f = c.if-self-gt0.self-inside in
-    let sized : length c.take_behind.new.room ≡ length f.buffer.items =
-    c.take_behind.auto.room ∙ ap length c.deref_mut.ensures.value in
-    let same : take f.end c.take_behind.new.room ≡ take f.end f.buffer.items =
-    c.take_behind.ensures.front ∙ ap (λ xs. take f.end xs) c.deref_mut.ensures.value in
-    let over = written-over c.take_behind.new.room f.buffer.items f.buffer.len sized f.buffer.ok.0 in
-    let now : IsWindow c.take_behind.new.room f.spare.items 0 f.looked (f.end + c.in_ok-count.count) =
-    refilled f.buffer.items f.spare.items c.take_behind.new.room f.looked f.end c.in_ok-count.count front.0 sized same c.in_ok-count.ensures.within in
+    let sized : length c.read_after.new.room ≡ length f.buffer.items =
+    c.read_after.auto.room ∙ ap length c.deref_mut.ensures.value in
+    let same : take f.end c.read_after.new.room ≡ take f.end f.buffer.items =
+    c.read_after.ensures.front ∙ ap (λ xs. take f.end xs) c.deref_mut.ensures.value in
+    let over = written-over c.read_after.new.room f.buffer.items f.buffer.len sized f.buffer.ok.0 in
+    let now : IsWindow c.read_after.new.room f.spare.items 0 f.looked (f.end + c.in_ok-count.count) =
+    refilled f.buffer.items f.spare.items c.read_after.new.room f.looked f.end c.in_ok-count.count front.0 sized same c.in_ok-count.ensures.within in
     rw (over, front.1) now

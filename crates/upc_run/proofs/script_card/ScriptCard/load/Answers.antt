@@ -16,6 +16,6 @@ returns-in-Some-2 c =
     let spelled : octets_of_digits digits ≡ Some c.deref.result.now =
     c.in_ok-octets.ensures ∙ ap (λ found. option_map (λ octets. octets.items) found) c.in-Some.is ∙ ap Some (sym c.deref.ensures.value) in
     let found = subst (λ code. Finds (ReadsAs c.deref.result.now) (option_map (λ code. code.items) code) c.args.answers.now.items c.read_code.new.answers.items) c.in-Some-2.is c.in_ok-code.ensures.found in
-    on-ok c.put.result c.put.ensures (λ moves.
-    moves-load digits c.deref.result.now c.in-Some-2.code.items c.args.self.now c.put.new.self c.args.answers.now.items c.put.new.answers.items spelled found.0
-    (subst (λ old. Moves (λ before. TakesCommand before (load digits) (Load c.in-Some-2.code.items)) c.args.self.now c.put.new.self old c.put.new.answers.items) found.1 moves))
+    on-ok c.load_code.result c.load_code.ensures (λ moves.
+    moves-load digits c.deref.result.now c.in-Some-2.code.items c.args.self.now c.load_code.new.self c.args.answers.now.items c.load_code.new.answers.items spelled found.0
+    (subst (λ old. Moves (λ before. TakesCommand before (load digits) (Load c.in-Some-2.code.items)) c.args.self.now c.load_code.new.self old c.load_code.new.answers.items) found.1 moves))

@@ -21,8 +21,8 @@ returns-in-Retire c =
 
 pub returns-in-Setup : goal.returns-in-Setup
 returns-in-Setup c =
-    subst (λ command. OnOk c.ask.result (Moves (λ before. ObeysSeen before (command_seen command)) c.args.self.now c.ask.new.self c.args.answers.now.items c.ask.new.answers.items))
-    (sym c.in-Setup.is) c.ask.ensures
+    subst (λ command. OnOk c.setup_from_words.result (Moves (λ before. ObeysSeen before (command_seen command)) c.args.self.now c.setup_from_words.new.self c.args.answers.now.items c.setup_from_words.new.answers.items))
+    (sym c.in-Setup.is) c.setup_from_words.ensures
 
 pub returns-in-Reload : goal.returns-in-Reload
 returns-in-Reload c =
