@@ -1,7 +1,6 @@
 -- The core after a refusal, for each step.
-use Rattle.std.proofs.Common.{◌≡◌, ℕ, Option, Some, None, List, length-set, set, refl, sym, ap, subst, ◌∙◌, inl, inr}
+use Rattle.std.proofs.Common.{◌≡◌, ℕ, Option, Some, None, List, length-set, refl, sym, ap, subst, ◌∙◌, inl}
 use Rattle.std.specs.Prelude.{slice_get, slice_set, MatchOption, Result, Err}
-use Rattle.std.proofs.lemmas.Bool.{cases_eq}
 use Rattle.upc_cell.specs.declared.vc.Vc.{Vc}
 use Rattle.bpf_code.specs.declared.instr.Instr.{Instr}
 use Rattle.gen_arena.specs.Slot.{Slot}
@@ -79,7 +78,9 @@ setup-same NoMemory old new same =
     subst (λ (core : CoreView). KeepsButRoom old core) (sym same) (record {
       rest = refl;
       sized = refl;
-      lines = λ number line next there now. inl (same_some next line (sym now ∙ there));
+      number = 0;
+      others = λ other apart. refl;
+      room = λ line next there now. inl (same_some next line (sym now ∙ there));
     })
 
 -- One line may have become ready.
@@ -90,15 +91,12 @@ room-alone old new number line next there ready same =
     subst (λ (core : CoreView). KeepsButRoom old core) (sym same) (record {
       rest = refl;
       sized = length-set old.lines number next;
-      lines = λ k before after was now. elim (cases_eq k number) [
-        | inl here ↦
-            let is_line : line ≡ before = same_some line before (sym there ∙ ap (slice_get old.lines) (sym here) ∙ was) in
-            let is_next : next ≡ after =
-            same_some next after (sym (get-set_same old.lines number next line there)
-            ∙ ap (slice_get (set old.lines number next)) (sym here) ∙ now) in
-            subst (λ (l : LineView). MayBecomeReady l after) is_line (subst (MayBecomeReady line) is_next ready)
-        | inr apart ↦ inl (same_some after before (sym now ∙ slice_get-set_other old.lines number k next apart ∙ was))
-      ];
+      number = number;
+      others = λ other apart. slice_get-set_other old.lines number other next apart;
+      room = λ before after was now.
+          let is_line : line ≡ before = same_some line before (sym there ∙ was) in
+          let is_next : next ≡ after = same_some next after (sym (get-set_same old.lines number next line there) ∙ now) in
+          subst (λ (l : LineView). MayBecomeReady l after) is_line (subst (MayBecomeReady line) is_next ready);
     })
 
 -- A setup that is refused on the line that is passed.

@@ -13,6 +13,7 @@ pub mod Inspecting
 pub mod JudgeLemmas
 pub mod JudgeSteps
 pub mod Keeping
+pub mod Reserving
 pub mod Knows
 pub mod KnowsCodes
 pub mod LeftLemmas

@@ -1,5 +1,5 @@
 -- The space that a step reserves on lines.
-use Rattle.std.proofs.Common.{◌≡◌, ℕ, true, false, Option, Some, None, List, Result, Ok, Err, refl, sym, ap, subst, ◌∙◌}
+use Rattle.std.proofs.Common.{◌≡◌, ℕ, true, false, Option, Some, None, List, Result, Ok, Err, refl, sym, ap, ◌∙◌}
 use Rattle.std.specs.Prelude.{slice_get, slice_set, MatchOption}
 use Rattle.line_record.specs.declared.directory.Seating.{Seating}
 use Rattle.line_record.specs.declared.owner.Owner.{Owner}
@@ -16,7 +16,7 @@ use Rattle.card_core.specs.declared.reply.Reply.{Reply}
 use Rattle.card_core.specs.declared.reply.Reply.TheVariants.{NotNow, Entered, Picked, Answered, Loaded, NotLoaded, Retired, SetUp, NotSetUp, Reloaded, Released, Cut as CutOff, Refused}
 use Rattle.card_core.specs.Agreement.{CoreView}
 use Rattle.card_core.specs.Kept.{ReservesNothing, SetupReserves, StepReserves}
-use Rattle.card_core.specs.Sections.{judging_refusal, JudgesAt, IsUnready, MayBecomeReady}
+use Rattle.card_core.specs.Sections.{judging_refusal, JudgesAt, IsUnready}
 use Rattle.card_core.specs.inner.Parts.{ChangesLine, JudgesOrRefuses, SetsUpOrRefuses, ReleasesOrRefuses, CutsOrRefuses}
 use Rattle.gen_arena.proofs.Public.{slice_get-set_other}
 use Rattle.card_core.proofs.LineLemmas.{get-set_same}

@@ -2,4 +2,5 @@
 pub mod Sound
 pub mod Ports
 pub mod Parts
+pub mod ArrivalWays
 pub mod Listing

@@ -2,7 +2,7 @@
 
 use crate::connection_state::{ConnectionState, next_among, state_of};
 use crate::fault::DeskFault;
-use crate::picking::find_seating;
+use crate::picking::pick;
 use crate::port::are_outside;
 use crate::serial::Core;
 use crate::sums::{Totals, totals_of};
@@ -25,7 +25,7 @@ impl Core {
     pub fn line_of(&self, vc: Vc) -> Option<&Line>
         ensures line { option_copied result ≡ line_at self.now vc }
     {
-        let seating = find_seating(&self.directory, vc)?;
+        let seating = pick(&self.directory, vc)?;
         Some(&self.lines[usize::from(seating.line)])
     }
 
@@ -38,7 +38,7 @@ impl Core {
             (IsStateIn world vc) }
         ensures sized { IfSome result HasLevelsForEach }
     {
-        let seating = find_seating(&self.directory, vc)?;
+        let seating = pick(&self.directory, vc)?;
         Some(state_of(&seating, &self.lines[usize::from(seating.line)]))
     }
 

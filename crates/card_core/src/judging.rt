@@ -1,10 +1,10 @@
 //! The judgement of a cell whose program named a contract, on the line that the caller passes.
 
-ghost use Rattle.std.specs.Prelude.{◌≡◌, ◌≢◌, ◌+◌, ◌↔◌, IsTrue, IfOk, OnErr, MatchOption, Some};
+ghost use Rattle.std.specs.Prelude.{◌≡◌, ◌≢◌, ◌+◌, ◌↔◌, IsTrue, IfOk, IfSome, OnErr, MatchOption, Some, None};
 ghost use Rattle.line_record.specs.History.{IsNoNumber};
 ghost use Rattle.line_record.specs.Line.{IsLine};
 ghost use Rattle.line_record.specs.Tally.{counted, count_of};
-ghost use Rattle.card_core.specs.Sections.{holder, is_owned_by, answer_to, judging_refusal, JudgesAt};
+ghost use Rattle.card_core.specs.Sections.{holder, is_owned_by, answer_to, judging_refusal, judged_in_answer, JudgesAt};
 
 use crate::answer::{Answer, Judgement, Unjudged};
 use crate::picking::Named;
@@ -12,15 +12,15 @@ use leaky::Verdict;
 use line_record::{Line, Seating};
 use upc_cell::{Vc, same_vc};
 
-/// Judges a cell on the line of its connection, by the contract that its program named. Doesn't allocate, and copies no
-/// cell: [`Judgement::answer`] adds the leaving cell.
+/// Judges a cell as [`judge_at`] does, and copies no cell: [`Judgement::answer`] adds the leaving cell. Doesn't allocate.
+/// Every cell of a card runs this form.
 ///
 /// # Errors
 ///
 /// `Released` if the line doesn't serve the picked connection; otherwise the error of [`Line::judge`]. Then nothing
 /// changes.
 #[inline(always)]
-pub fn judge_at(
+pub fn judge_without_cell(
     line: &mut Line,
     vc: Vc,
     seating: &Seating,
@@ -69,6 +69,37 @@ pub fn judge_at(
             verdict: entry.verdict,
         }),
         Err(fault) => Err(Unjudged::LineFault(fault)),
+    }
+}
+
+/// Judges a cell on the line of its connection, by the contract that its program named, and returns the answer with the
+/// leaving cell. Doesn't allocate. [`judge_without_cell`] judges the same, and copies no cell.
+#[inline]
+pub fn judge_at(line: &mut Line, vc: Vc, seating: &Seating, named: &Named, moment: u64) -> Answer
+    // It is judged if and only if there is no reason to refuse it.
+    ensures judged { MatchOption (judging_refusal line.old vc seating.now moment)
+        (JudgesAt line.old seating.now named.now moment result line.new)
+        (λ refused. (result ≡ refused) × (line.new ≡ line.old)) }
+
+    // The line's invariant holds before. Its owner is unchanged, and it counts the cell exactly if the cell was judged.
+    ensures kept { IsLine line.old }
+    ensures owner { line.new.owner ≡ line.old.owner }
+    ensures counts { IfSome (judged_in_answer result) (λ judged.
+        line.new.state.counts ≡ counted line.old.state.counts judged.verdict) }
+    ensures unchanged { judged_in_answer result ≡ None → line.new ≡ line.old }
+
+    // A connection has at most four contracts.
+    ensures unnamed { IfSome (judged_in_answer result) (λ judged.
+        IsNoNumber judged.value → judged.verdict ≡ Verdict.Refuse) }
+
+    // The answer is never NoMemory, Stale or NoConnection: nothing is allocated, and nothing is looked up.
+    ensures memory { result ≢ Answer.NoMemory }
+    ensures program_live { result ≢ Answer.Stale }
+    ensures connection { result ≢ Answer.NoConnection }
+{
+    match judge_without_cell(line, vc, seating, named, moment) {
+        Ok(judgement) => judgement.answer(&named.cell()),
+        Err(reason) => reason.answer(),
     }
 }
 

@@ -10,7 +10,7 @@ use upc_cell::{Cell, Vc};
 /// The programs of a card, by id.
 pub type Store = Arena<Program>;
 
-/// A cell, a program, and the number of a contract that the program gave for the cell. Only [`name_contract`] makes
+/// A cell, a program, and the number of a contract that the program gave for the cell. Only [`name`] makes
 /// one, so a number that no program gave is never judged.
 #[derive(Clone, Copy, Debug)]
 pub struct Named {
@@ -66,7 +66,7 @@ ghost use Rattle.card_core.specs.Sections.{IsNaming};
 
 /// Returns the seating of the connection, if there is one. Doesn't allocate.
 #[inline]
-pub fn find_seating(directory: &Directory, vc: Vc) -> Option<Seating>
+pub fn pick(directory: &Directory, vc: Vc) -> Option<Seating>
     ensures seating { result ≡ seating_at directory.now vc }
     ensures directory { IsDirectory directory.now }
 {
@@ -76,7 +76,7 @@ pub fn find_seating(directory: &Directory, vc: Vc) -> Option<Seating>
 /// Runs the program of this id on the cell and returns the value that it gives. None if and only if the id isn't live.
 /// Doesn't allocate.
 #[inline]
-pub fn name_contract(store: &Store, program: Id, cell: &Cell) -> Option<Named>
+pub fn name(store: &Store, program: Id, cell: &Cell) -> Option<Named>
     ensures live { IsSome result ↔ IsLive store.now program }
     ensures named { IfSome result (λ named. IsNaming store.now program cell.now named) }
     ensures accepted { (code : List Instr) → live_value store.now program ≡ Some code → IsAccepted code }

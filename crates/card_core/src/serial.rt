@@ -6,8 +6,8 @@ use crate::answer::{Answer, Judgement, Unjudged};
 use crate::ask::Ask;
 use crate::desk;
 use crate::fault::{CardFault, DeskFault};
-use crate::judging::judge_at;
-use crate::picking::{Store, find_seating, name_contract};
+use crate::judging::judge_without_cell;
+use crate::picking::{Store, name, pick};
 use crate::port::{
     Came, Found, Port, are_outside, entered_at, is_idle_at, move_port, outside_ports, picked_at,
 };
@@ -58,7 +58,7 @@ impl Core {
     ghost use Rattle.card_core.specs.Agreement.{CoreAgrees, Follows, FollowsAll};
     ghost use Rattle.card_core.specs.Arrival.{AnswersArrival};
     ghost use Rattle.card_core.specs.Inspection.{load_fault_of, IsRetireFault, PutsIn, TakesOut};
-    ghost use Rattle.card_core.specs.Kept.{RefusalKeeps, AnswersSteps};
+    ghost use Rattle.card_core.specs.Kept.{RefusalKeeps, ReservesNothing, StepReserves, AnswersSteps};
     ghost use Rattle.card_core.specs.Sections.{answer_to};
     ghost use Rattle.card_core.specs.PortReplies.{reply_of};
     ghost use Rattle.card_core.specs.DeskReplies.{load_reply, retire_reply, setup_reply, reload_reply, release_reply, cut_reply};
@@ -112,6 +112,7 @@ impl Core {
     pub fn step(&mut self, step: Step) -> Reply
         ensures follows { Follows self.old step result self.new }
         ensures unchanged { RefusalKeeps result step self.old self.new }
+        ensures reserves { StepReserves result self.old self.new }
 
         // The steps of a cell don't allocate, and a picked cell keeps the values that the pick found.
         ensures judged { (port : ℕ) → step ≡ Judge port → result ≢ Reply.Answered Answer.NoMemory }
@@ -124,6 +125,7 @@ impl Core {
     fn take(&mut self, step: Step) -> Reply
         ensures follows { Follows self.old step result self.new }
         ensures unchanged { RefusalKeeps result step self.old self.new }
+        ensures reserves { StepReserves result self.old self.new }
         ensures judged { (port : ℕ) → step ≡ Judge port → result ≢ Reply.Answered Answer.NoMemory }
     {
         match step {
@@ -203,6 +205,7 @@ impl Core {
     pub fn judge(&mut self, port: u8) -> PortReply
         ensures follows { Follows self.old (Judge port) (reply_of result) self.new }
         ensures unchanged { RefusalKeeps (reply_of result) (Judge port) self.old self.new }
+        ensures reserves { StepReserves (reply_of result) self.old self.new }
         ensures rest { self.new ≡ record self.old { lines = self.new.lines; ports = self.new.ports } }
         ensures memory { reply_of result ≢ Reply.Answered Answer.NoMemory }
     {
@@ -228,6 +231,7 @@ impl Core {
             AnswersArrival self.old port cell.now moment (answer_to cell.now decision) self.new) }
         ensures not_now { IfNone result (Follows self.old (Enter port cell.now moment) Reply.NotNow self.new) }
         ensures rest { self.new ≡ record self.old { lines = self.new.lines } }
+        ensures reserves { ReservesNothing self.old self.new }
         ensures unchanged { IfNone result (self.new ≡ self.old) }
         ensures refused { IfSome result (λ decision. OnErr decision (self.new ≡ self.old)) }
         ensures memory { IfSome result (λ decision. answer_to cell.now decision ≢ Answer.NoMemory) }
@@ -253,6 +257,7 @@ impl Core {
     pub fn load(&mut self, program: Program) -> Result<Id, (DeskFault, Program)>
         ensures follows { Follows self.old (Load program) (load_reply result) self.new }
         ensures unchanged { RefusalKeeps (load_reply result) (Load program) self.old self.new }
+        ensures rest { self.new ≡ record self.old { store = self.new.store } }
 
         // It is refused if and only if there is a fault. Then nothing changes, and the program is returned.
         ensures fault { MatchResult result
@@ -277,6 +282,7 @@ impl Core {
     pub fn retire(&mut self, id: Id) -> Result<Program, DeskFault>
         ensures follows { Follows self.old (Retire id) (retire_reply result) self.new }
         ensures unchanged { RefusalKeeps (retire_reply result) (Retire id) self.old self.new }
+        ensures rest { self.new ≡ record self.old { store = self.new.store } }
 
         // It is refused if and only if there is a fault. Then nothing changes.
         ensures fault { MatchResult result
@@ -300,6 +306,7 @@ impl Core {
     pub fn setup(&mut self, ask: Ask) -> Result<Owner, (DeskFault, Ask)>
         ensures follows { Follows self.old (Setup ask) (setup_reply result) self.new }
         ensures unchanged { RefusalKeeps (setup_reply result) (Setup ask) self.old self.new }
+        ensures reserves { StepReserves (setup_reply result) self.old self.new }
         ensures returned { IfErr result (λ refused. refused.1 ≡ ask) }
         ensures rest { self.new ≡ record self.old { directory = self.new.directory; lines = self.new.lines } }
     {
@@ -331,9 +338,10 @@ impl Core {
     pub fn release(&mut self, vc: Vc) -> Result<Piece, DeskFault>
         ensures follows { Follows self.old (Release vc) (release_reply result) self.new }
         ensures unchanged { RefusalKeeps (release_reply result) (Release vc) self.old self.new }
+        ensures reserves { StepReserves (release_reply result) self.old self.new }
         ensures rest { self.new ≡ record self.old { directory = self.new.directory; lines = self.new.lines } }
     {
-        let Some(seating) = find_seating(&self.directory, vc) else {
+        let Some(seating) = pick(&self.directory, vc) else {
             return Err(DeskFault::NoConnection);
         };
         release_line(&mut self.directory, &mut self.lines, vc, &seating)
@@ -347,9 +355,10 @@ impl Core {
     pub fn cut(&mut self, vc: Vc) -> Result<Piece, DeskFault>
         ensures follows { Follows self.old (Cut vc) (cut_reply result) self.new }
         ensures unchanged { RefusalKeeps (cut_reply result) (Cut vc) self.old self.new }
+        ensures reserves { StepReserves (cut_reply result) self.old self.new }
         ensures rest { self.new ≡ record self.old { lines = self.new.lines } }
     {
-        let Some(seating) = find_seating(&self.directory, vc) else {
+        let Some(seating) = pick(&self.directory, vc) else {
             return Err(DeskFault::NoConnection);
         };
         cut_line(&mut self.lines, vc, &seating)
@@ -398,10 +407,10 @@ fn find_contract(
     ensures within { IfOk result (λ found. found.seating.line < directory.now.lines) }
 {
     let vc = cell.vc_at(side);
-    let Some(seating) = find_seating(directory, vc) else {
+    let Some(seating) = pick(directory, vc) else {
         return Err(Unjudged::NoConnection);
     };
-    let Some(named) = name_contract(store, seating.program, cell) else {
+    let Some(named) = name(store, seating.program, cell) else {
         return Err(Unjudged::Stale);
     };
     Ok(Found {
@@ -420,9 +429,11 @@ fn judge_line_without_cell(lines: &mut Vec<Line>, found: &Found) -> Result<Judge
         (JudgesOrRefuses found.now (answer_to found.now.named.cell result)) lines.new.items }
     ensures unchanged { OnErr result (lines.new.items ≡ lines.old.items) }
     ensures memory { answer_to found.now.named.cell result ≢ Answer.NoMemory }
+    ensures program_live { answer_to found.now.named.cell result ≢ Answer.Stale }
+    ensures connection { answer_to found.now.named.cell result ≢ Answer.NoConnection }
 {
     let line = &mut lines[usize::from(found.seating.line)];
-    judge_at(line, found.vc, &found.seating, &found.named, found.moment)
+    judge_without_cell(line, found.vc, &found.seating, &found.named, found.moment)
 }
 
 /// Judges a picked cell on its line.

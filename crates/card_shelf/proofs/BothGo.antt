@@ -1,5 +1,5 @@
 -- Two cards that have the same account of a connection answer a cell of it alike, and have the same account afterwards.
-use Rattle.std.proofs.Common.{◌≡◌, ◌+◌, ◌≤◌, ◌^◌, true, false, List, [], ◌∷◌, ◌++◌, length, refl, inl, inr, arith}
+use Rattle.std.proofs.Common.{◌⊎◌, ◌≡◌, ◌+◌, ◌≤◌, ◌^◌, true, false, List, [], ◌∷◌, ◌++◌, length, refl, inl, inr, arith}
 use Rattle.upc_cell.specs.declared.vc.Vc.{Vc}
 use Rattle.upc_cell.specs.Connection.{vc_of, is_same_vc}
 use Rattle.upc_cell.proofs.Public.{vc_itself}
@@ -9,6 +9,8 @@ use Rattle.card_core.specs.declared.shape.Shape.{Shape}
 use Rattle.card_core.specs.declared.step.Step.TheVariants.{Enter, Pick}
 use Rattle.card_core.specs.Agreement.{CoreView, GoneAll, events_of}
 use Rattle.card_core.specs.Arrival.{AnswersArrival}
+use Rattle.card_core.specs.inner.ArrivalWays.{AnsweredByPick, AnsweredByJudgement}
+use Rattle.card_core.proofs.Public.{arrival-ways}
 use Rattle.card_core.specs.Log.{Event, IsLog, Leads}
 use Rattle.card_core.specs.Sections.{answer_to}
 use Rattle.card_core.specs.World.{World, opening_world}
@@ -75,14 +77,14 @@ pub record BothGo (one shape : Shape) (log another : List Event) (arrival : Arri
   pub own : (vc : Vc) → is_same_vc vc (vc_of one.side arrival.cell) ≡ true → account_of one.side vc (log ++ way) ≡ account_of shape.side vc (another ++ way_too)
 
 module _ (one shape : Shape) (side : one.side ≡ shape.side) (journal : one.journal ≡ shape.journal) where
-  pub both-go : (log another : List Event) (arrival : Arrival) (answer decision : Decision) (card next core after : CoreView)
+  both-go_by : (log another : List Event) (arrival : Arrival) (answer decision : Decision) (card next core after : CoreView)
       → length log + 3 ≤ 2 ^ 62 → length another + 3 ≤ 2 ^ 62
       → IsLogOf one log card → IsLogOf shape another core
       → ((vc : Vc) → is_same_vc vc (vc_of one.side arrival.cell) ≡ true → account_of one.side vc log ≡ account_of shape.side vc another)
-      → AnswersArrival card 0 arrival.cell arrival.moment (answer_to arrival.cell answer) next
-      → AnswersArrival core 0 arrival.cell arrival.moment (answer_to arrival.cell decision) after
+      → AnsweredByPick card 0 arrival.cell arrival.moment (answer_to arrival.cell answer) next ⊎ AnsweredByJudgement card 0 arrival.cell arrival.moment (answer_to arrival.cell answer) next
+      → AnsweredByPick core 0 arrival.cell arrival.moment (answer_to arrival.cell decision) after ⊎ AnsweredByJudgement core 0 arrival.cell arrival.moment (answer_to arrival.cell decision) after
       → BothGo one shape log another arrival (answer_to arrival.cell answer) (answer_to arrival.cell decision) next after
-  both-go log another arrival answer decision card next core after few few_too is is_too accounts (inl here) (inl there) =
+  both-go_by log another arrival answer decision card next core after few few_too is is_too accounts (inl here) (inl there) =
       let a = answer_to arrival.cell answer in
       let t = answer_to arrival.cell decision in
       let gone = here one log is.world is.leads is.agrees in
@@ -100,7 +102,7 @@ module _ (one shape : Shape) (side : one.side ≡ shape.side) (journal : one.jou
         alike = (both mine (vc_itself mine)).1;
         own = λ vc own. (both vc own).0;
       }
-  both-go log another arrival answer decision card next core after few few_too is is_too accounts (inr here) (inr there) =
+  both-go_by log another arrival answer decision card next core after few few_too is is_too accounts (inr here) (inr there) =
       let a = answer_to arrival.cell answer in
       let t = answer_to arrival.cell decision in
       let gone = here one log is.world is.leads is.agrees in
@@ -118,17 +120,29 @@ module _ (one shape : Shape) (side : one.side ≡ shape.side) (journal : one.jou
         alike = (both mine (vc_itself mine)).1;
         own = λ vc own. (both vc own).0;
       }
-  both-go log another arrival answer decision card next core after few few_too is is_too accounts (inl here) (inr there) =
+  both-go_by log another arrival answer decision card next core after few few_too is is_too accounts (inl here) (inr there) =
       let mine = vc_of one.side arrival.cell in
       let gone = here one log is.world is.leads is.agrees in
       let gone_too = there shape another is_too.world is_too.leads is_too.agrees in
       absurd (missed-here-alone one shape log another mine arrival.cell arrival.moment side journal few few_too (vc_itself mine)
       (accounts mine (vc_itself mine)) (answer_to arrival.cell answer) (gone.after, gone.leads)
       (picked-log shape another arrival after is_too.world (answer_to arrival.cell decision) is_too.leads gone_too))
-  both-go log another arrival answer decision card next core after few few_too is is_too accounts (inr here) (inl there) =
+  both-go_by log another arrival answer decision card next core after few few_too is is_too accounts (inr here) (inl there) =
       let mine = vc_of one.side arrival.cell in
       let gone = here one log is.world is.leads is.agrees in
       let gone_too = there shape another is_too.world is_too.leads is_too.agrees in
       absurd (missed-there-alone one shape log another mine arrival.cell arrival.moment side journal few few_too (vc_itself mine)
       (accounts mine (vc_itself mine)) (answer_to arrival.cell decision)
       (picked-log one log arrival next is.world (answer_to arrival.cell answer) is.leads gone) (gone_too.after, gone_too.leads))
+
+  pub both-go : (log another : List Event) (arrival : Arrival) (answer decision : Decision) (card next core after : CoreView)
+      → length log + 3 ≤ 2 ^ 62 → length another + 3 ≤ 2 ^ 62
+      → IsLogOf one log card → IsLogOf shape another core
+      → ((vc : Vc) → is_same_vc vc (vc_of one.side arrival.cell) ≡ true → account_of one.side vc log ≡ account_of shape.side vc another)
+      → AnswersArrival card 0 arrival.cell arrival.moment (answer_to arrival.cell answer) next
+      → AnswersArrival core 0 arrival.cell arrival.moment (answer_to arrival.cell decision) after
+      → BothGo one shape log another arrival (answer_to arrival.cell answer) (answer_to arrival.cell decision) next after
+  both-go log another arrival answer decision card next core after few few_too is is_too accounts here there =
+      both-go_by log another arrival answer decision card next core after few few_too is is_too accounts
+      (arrival-ways card next 0 arrival.cell arrival.moment (answer_to arrival.cell answer) here)
+      (arrival-ways core after 0 arrival.cell arrival.moment (answer_to arrival.cell decision) there)

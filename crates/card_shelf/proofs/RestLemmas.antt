@@ -3,6 +3,8 @@ use Rattle.std.proofs.Common.{◌≡◌, ◌⊎◌, ℕ, zero, suc, ◌≤◌, L
 use Rattle.std.specs.Prelude.{slice_get, slice_set, MatchOption}
 use Rattle.card_core.specs.Agreement.{CoreView, CoreAgrees, Follows, events_of}
 use Rattle.card_core.specs.Arrival.{AnswersArrival}
+use Rattle.card_core.specs.inner.ArrivalWays.{AnsweredByPick, AnsweredByJudgement}
+use Rattle.card_core.proofs.Public.{arrival-ways}
 use Rattle.card_core.specs.World.{World, Picking, PortState, outside, entered, picked, opening_world}
 use Rattle.card_core.specs.Refusals.{refusal, enter_refusal, pick_refusal, judge_refusal}
 use Rattle.card_core.specs.Steps.{Succeeds, FindsNoMemory, IsRefused, left_by_pick, left_by_judge}
@@ -118,9 +120,9 @@ judge-frees before port answer after (Some (entered cell moment)) e goes = let n
 judge-frees before port answer after (Some (picked picking)) e goes =
     judged-picked before port answer after picking e (judge_refusal before (Some (picked picking))) goes
 
-pub serving-rests : (old new : CoreView) (cell : List ℕ) (moment : ℕ) (answer : Answer) → IsAtRest old
-    → AnswersArrival old 0 cell moment answer new → IsAtRest new
-serving-rests old new cell moment answer rest (inl goes) =
+serving-rests_by : (old new : CoreView) (cell : List ℕ) (moment : ℕ) (answer : Answer) → IsAtRest old
+    → AnsweredByPick old 0 cell moment answer new ⊎ AnsweredByJudgement old 0 cell moment answer new → IsAtRest new
+serving-rests_by old new cell moment answer rest (inl goes) =
     let gone = goes rest.shape rest.log rest.world rest.leads rest.agrees in
     let run = gone.stepped in
     let before = run.2.0 in
@@ -133,7 +135,7 @@ serving-rests old new cell moment answer rest (inl goes) =
       free = ap (λ (w : World). slice_get w.ports 0) run.2.2
           ∙ pick-frees run.0 0 answer before (slice_get run.0.ports 0) refl run.2.1;
     }
-serving-rests old new cell moment answer rest (inr goes) =
+serving-rests_by old new cell moment answer rest (inr goes) =
     let gone = goes rest.shape rest.log rest.world rest.leads rest.agrees in
     let run = gone.stepped in
     let picked_world = run.2.0 in
@@ -163,3 +165,8 @@ pub resting-takes : (old new : CoreView) (cell : List ℕ) (moment : ℕ) → Is
 resting-takes old new cell moment rest follows =
     let gone = follows rest.shape rest.log rest.world rest.leads rest.agrees in
     not-now rest.world cell moment gone.after (slice_get rest.world.ports 0) rest.free gone.stepped
+
+pub serving-rests : (old new : CoreView) (cell : List ℕ) (moment : ℕ) (answer : Answer) → IsAtRest old
+    → AnswersArrival old 0 cell moment answer new → IsAtRest new
+serving-rests old new cell moment answer rest goes =
+    serving-rests_by old new cell moment answer rest (arrival-ways old new 0 cell moment answer goes)

@@ -6,6 +6,8 @@ use Rattle.std.specs.Prelude.{slice_get, slice_set, if◌then◌else◌, is_none
 use mathlib.Core.Logic.{∥∥₁_elim, ∥∥₁_map}
 use Rattle.card_core.specs.Agreement.{CoreView, CoreAgrees, Follows}
 use Rattle.card_core.specs.Arrival.{AnswersArrival}
+use Rattle.card_core.specs.inner.ArrivalWays.{AnsweredByPick, AnsweredByJudgement}
+use Rattle.card_core.proofs.Public.{arrival-ways}
 use Rattle.card_core.specs.Log.{Event, Run}
 use Rattle.card_core.specs.Refusals.{enter_refusal, pick_refusal, judge_refusal, picking_refusal}
 use Rattle.card_core.specs.Shapes.{is_beyond, shape_fault}
@@ -175,9 +177,9 @@ quiet-left : (before after : World) → is_busy before ≡ false → With before
 quiet-left before after quiet left = ap (λ (ports : List PortState). not (list_all is_outside ports)) left ∙ still-quiet before.ports quiet
 
 -- The log with the events of the cell.
-pub answers-reached : (old new : CoreView) (cell : List ℕ) (moment : ℕ) (answer : Answer) → IsReachedCore old
-    → AnswersArrival old 0 cell moment answer new → IsReachedCore new
-answers-reached old new cell moment answer reached (inl follows) = ∥∥₁_map reached (λ r.
+answers-reached_by : (old new : CoreView) (cell : List ℕ) (moment : ℕ) (answer : Answer) → IsReachedCore old
+    → AnsweredByPick old 0 cell moment answer new ⊎ AnsweredByJudgement old 0 cell moment answer new → IsReachedCore new
+answers-reached_by old new cell moment answer reached (inl follows) = ∥∥₁_map reached (λ r.
     let gone = follows r.shape r.log r.world r.leads r.agrees in
     record {
       shape = r.shape;
@@ -188,7 +190,7 @@ answers-reached old new cell moment answer reached (inl follows) = ∥∥₁_map
       idle = idle-left r.world gone.after r.idle (pick-leaves r.world gone.after cell moment answer r.idle gone.stepped);
       quiet = quiet-left r.world gone.after r.quiet (pick-leaves r.world gone.after cell moment answer r.idle gone.stepped);
     })
-answers-reached old new cell moment answer reached (inr follows) = ∥∥₁_map reached (λ r.
+answers-reached_by old new cell moment answer reached (inr follows) = ∥∥₁_map reached (λ r.
     let gone = follows r.shape r.log r.world r.leads r.agrees in
     record {
       shape = r.shape;
@@ -199,6 +201,11 @@ answers-reached old new cell moment answer reached (inr follows) = ∥∥₁_map
       idle = idle-left r.world gone.after r.idle (judging-leaves r.world gone.after cell moment answer r.idle gone.stepped);
       quiet = quiet-left r.world gone.after r.quiet (judging-leaves r.world gone.after cell moment answer r.idle gone.stepped);
     })
+
+pub answers-reached : (old new : CoreView) (cell : List ℕ) (moment : ℕ) (answer : Answer) → IsReachedCore old
+    → AnswersArrival old 0 cell moment answer new → IsReachedCore new
+answers-reached old new cell moment answer reached goes =
+    answers-reached_by old new cell moment answer reached (arrival-ways old new 0 cell moment answer goes)
 
 -- NotNow is never the answer.
 pub always-now : (old new : CoreView) (cell : List ℕ) (moment : ℕ) → IsReachedCore old → Follows old (Enter 0 cell moment) NotNow new → ⊥

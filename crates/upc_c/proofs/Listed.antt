@@ -5,7 +5,8 @@ use Rattle.std.specs.Option.{MatchOption, option_map}
 use Rattle.std.specs.Prelude.{slice_get}
 use mathlib.Core.Logic.{∥∥₁_elim}
 use Rattle.card_core.specs.Agreement.{CoreView}
-use Rattle.card_core.specs.Arrival.{AnswersArrival}
+use Rattle.card_core.specs.inner.ArrivalWays.{AnsweredByPick, AnsweredByJudgement}
+use Rattle.card_core.proofs.Public.{arrival-ways}
 use Rattle.card_core.specs.Log.{Run}
 use Rattle.card_core.specs.Refusals.{refusal, enter_refusal, pick_refusal, judge_refusal, picking_refusal, cell_refusal, load_fault, retire_fault, setup_fault, reload_fault, missing_fault}
 use Rattle.card_core.specs.Steps.{FindsNoMemory, IsRefused, Succeeds, WorldStep, without_memory}
@@ -267,7 +268,7 @@ at-judging-answers before after cell moment answer fault idle reported run =
     (subst P had run.2.2.1)
 
 arrival-answers : (old new : CoreView) (cell : List ℕ) (moment : ℕ) (answer : Answer) (fault : UpcFault) → IsReachedCore old
-    → reason_of_answer answer ≡ Some fault → AnswersArrival old 0 cell moment answer new → MayAnswer answer
+    → reason_of_answer answer ≡ Some fault → AnsweredByPick old 0 cell moment answer new ⊎ AnsweredByJudgement old 0 cell moment answer new → MayAnswer answer
 arrival-answers old new cell moment answer fault reached reported (inl follows) = by-log (may_answer answer) old reached (λ r.
     let gone = follows r.shape r.log r.world r.leads r.agrees in
     at-pick-answers r.world gone.after cell moment answer r.idle gone.stepped)
@@ -280,5 +281,6 @@ reports-no-others = record {
   desk = desk-listed;
   cells = λ before after cell moment fault refused.
       let arrives = refused.arrives in
-      arrival-answers arrives.old arrives.new cell moment refused.answer fault (before.reached arrives.old arrives.had) refused.reported arrives.answers;
+      arrival-answers arrives.old arrives.new cell moment refused.answer fault (before.reached arrives.old arrives.had) refused.reported
+      (arrival-ways arrives.old arrives.new 0 cell moment refused.answer arrives.answers);
 }

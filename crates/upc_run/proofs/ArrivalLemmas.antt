@@ -1,5 +1,5 @@
 -- How a cell goes through the stored card: it enters the port, is picked and judged.
-use Rattle.std.proofs.Common.{◌≡◌, ◌==◌, ℕ, inl, inr, true, List, length, [], ◌++◌, Option, Some, None, option_map, Result, refl, sym, ap, ◌∙◌, subst}
+use Rattle.std.proofs.Common.{◌⊎◌, ◌≡◌, ◌==◌, ℕ, inl, inr, true, List, length, [], ◌++◌, Option, Some, None, option_map, Result, refl, sym, ap, ◌∙◌, subst}
 use Rattle.std.specs.Bool.{MatchBool}
 use Rattle.std.specs.Option.{IfNone, IfSome, MatchOption}
 use Rattle.std.proofs.lemmas.List.{append-nil}
@@ -8,6 +8,8 @@ use Rattle.upc_cell.specs.Connection.{vc_of}
 use Rattle.upc_cell.specs.declared.side.Side.{Side}
 use Rattle.card_core.specs.Agreement.{Follows}
 use Rattle.card_core.specs.Arrival.{AnswersArrival}
+use Rattle.card_core.specs.inner.ArrivalWays.{AnsweredByPick, AnsweredByJudgement}
+use Rattle.card_core.proofs.Public.{arrival-ways}
 use Rattle.card_core.specs.Steps.{WorldStep}
 use Rattle.card_core.specs.World.{World}
 use Rattle.card_core.specs.Sections.{answer_to, unjudged_answer}
@@ -29,9 +31,10 @@ use Rattle.upc_run.specs.inner.Policing.{AnswersCell, Moves}
 use Rattle.upc_run.specs.inner.PortZero.{enter-goes}
 
 -- A cell that takes all its steps is answered by the pick or by the judgement.
-pub arrives-answered : (held held' : Held) (octets : List ℕ) (moment : ℕ) (given : Answer) → held'.names ≡ held.names
-    → AnswersArrival held.core 0 octets moment given held'.core → AnswersCell held octets moment (Some given) held'
-arrives-answered held held' octets moment given names (inl way) = (
+arrives-answered_by : (held held' : Held) (octets : List ℕ) (moment : ℕ) (given : Answer) → held'.names ≡ held.names
+    → AnsweredByPick held.core 0 octets moment given held'.core ⊎ AnsweredByJudgement held.core 0 octets moment given held'.core
+    → AnswersCell held octets moment (Some given) held'
+arrives-answered_by held held' octets moment given names (inl way) = (
   names,
   λ before led shows.
       let on = way led.shape led.log before.world led.leads shows.agrees in
@@ -40,7 +43,7 @@ arrives-answered held held' octets moment given names (inl way) = (
       subst (λ (world : World). WorldStep on.stepped.0 (Pick 0) (Answered given) world) (sym picks.2) picks.1 in
       (given, refl, on.after, (on.stepped.0, on.stepped.1, inl last), on.agrees),
 )
-arrives-answered held held' octets moment given names (inr way) = (
+arrives-answered_by held held' octets moment given names (inr way) = (
   names,
   λ before led shows.
       let on = way led.shape led.log before.world led.leads shows.agrees in
@@ -50,6 +53,11 @@ arrives-answered held held' octets moment given names (inr way) = (
       subst (λ (world : World). WorldStep picks.0 (Judge 0) (Answered given) world) (sym judges.2) judges.1 in
       (given, refl, on.after, (on.stepped.0, on.stepped.1, inr (picks.0, picks.1, last)), on.agrees),
 )
+
+pub arrives-answered : (held held' : Held) (octets : List ℕ) (moment : ℕ) (given : Answer) → held'.names ≡ held.names
+    → AnswersArrival held.core 0 octets moment given held'.core → AnswersCell held octets moment (Some given) held'
+arrives-answered held held' octets moment given names way =
+    arrives-answered_by held held' octets moment given names (arrival-ways held.core held'.core 0 octets moment given way)
 
 -- A cell is not let in only if no card is represented.
 pub arrives-not : (held held' : Held) (octets : List ℕ) (moment : ℕ) → held'.names ≡ held.names

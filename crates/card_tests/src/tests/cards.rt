@@ -240,7 +240,7 @@ fn incarnation_of(
 
 /// Whether the directory has the connection, and its line lets it go.
 fn is_released(directory: &mut Directory, line: &mut Line, vc: Vc) -> bool {
-    find_seating(directory, vc).is_some() && release(directory, line, vc).is_ok()
+    pick(directory, vc).is_some() && release(directory, line, vc).is_ok()
 }
 
 /// Expects that 1/100 is set up as the last incarnation, and that there is none after its release.
@@ -253,7 +253,7 @@ fn expect_one_incarnation(
 ) -> Result<(), Fail> {
     let first = incarnation_of(store, directory, line, ask(program)?);
     let second = incarnation_of(store, directory, line, ask(program)?);
-    let is_other_there = find_seating(directory, Vc::new(1, 101)?).is_some();
+    let is_other_there = pick(directory, Vc::new(1, 101)?).is_some();
     let is_released = is_released(directory, line, Vc::new(1, 100)?);
     let third = incarnation_of(store, directory, line, ask(program)?);
     assert!(rt; !is_other_there && is_released);

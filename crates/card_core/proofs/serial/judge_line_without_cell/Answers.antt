@@ -12,7 +12,7 @@ returns-clause-line c =
       line = line;
       there = subst (λ (n : ℕ). slice_get lines n ≡ Some line) c.from.ensures
           (slice_get_read lines (length lines) c.from.result line refl within c.index_mut-line.ensures.value);
-      next = c.judge_at.new.line;
-      did = c.judge_at.ensures.judged;
-      after = ap (λ (n : ℕ). slice_set lines n c.judge_at.new.line) c.from.ensures;
+      next = c.judge_without_cell.new.line;
+      did = c.judge_without_cell.ensures.judged;
+      after = ap (λ (n : ℕ). slice_set lines n c.judge_without_cell.new.line) c.from.ensures;
     }

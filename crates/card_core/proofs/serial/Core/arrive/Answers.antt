@@ -9,6 +9,8 @@ use Rattle.card_core.specs.inner.Ports.{is_idle}
 use Rattle.card_core.proofs.ArrivalSteps.{arrives-judged, arrives-missed}
 use Rattle.card_core.proofs.PortLemmas.{core_of}
 use Rattle.card_core.proofs.PortSteps.{enter-not}
+use Rattle.card_core.specs.Kept.{ReservesNothing}
+use Rattle.card_core.proofs.Reserving.{judge-reserves}
 use Rattle.card_core.proofs.serial.Core.arrive.Goals as goal
 
 pub returns-then-not-is_idle_at-clause-not_now : goal.returns-then-not-is_idle_at-clause-not_now
@@ -32,7 +34,8 @@ returns-in-Ok-clause-answered c =
     (subst (λ (octets : List ℕ). AnswersArrival (core_of l.shape l.store l.directory l.lines.items l.ports.items) c.args.port c.args.cell.now c.args.moment (answer_to octets decision) New)
     c.in-Ok.ensures.found.naming.same
     (arrives-judged l.shape l.store l.directory l.lines.items l.ports.items c.args.port (record { cell = c.args.cell.now; moment = c.args.moment }) free
-    found c.in-Ok.ensures.found (answer_to found.named.cell decision) after c.judge_line_without_cell.ensures.line))
+    found c.in-Ok.ensures.found (answer_to found.named.cell decision) after
+    c.judge_line_without_cell.ensures.connection c.judge_line_without_cell.ensures.program_live c.judge_line_without_cell.ensures.line))
 
 pub returns-in-Err-clause-answered : goal.returns-in-Err-clause-answered
 returns-in-Err-clause-answered c =
@@ -42,3 +45,11 @@ returns-in-Err-clause-answered c =
     subst (λ (core : CoreView). AnswersArrival core c.args.port c.args.cell.now c.args.moment (unjudged_answer c.in-Err.reason) core) c.self.view_is
     (arrives-missed l.shape l.store l.directory l.lines.items l.ports.items c.args.port (record { cell = c.args.cell.now; moment = c.args.moment }) free
     (unjudged_answer c.in-Err.reason) c.in-Err.ensures.found)
+
+pub returns-in-Ok-clause-reserves : goal.returns-in-Ok-clause-reserves
+returns-in-Ok-clause-reserves c =
+    let l = c.self.inside in
+    let New : CoreView = core_of l.shape l.store l.directory c.judge_line_without_cell.new.lines.items l.ports.items in
+    subst (λ (old : CoreView). ReservesNothing old New) c.self.view_is
+    (judge-reserves (core_of l.shape l.store l.directory l.lines.items l.ports.items) New c.in-Ok.found
+    (answer_to c.in-Ok.found.named.cell c.judge_line_without_cell.result) c.judge_line_without_cell.ensures.line)

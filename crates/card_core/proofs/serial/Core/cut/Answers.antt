@@ -13,6 +13,8 @@ use Rattle.card_core.proofs.PortLemmas.{core_of, IsCore-kept}
 use Rattle.card_core.proofs.DeskSteps.{cut-missing, cut-goes, cut-refused}
 use Rattle.card_core.proofs.Keeping.{cut_line-keeps}
 use Rattle.card_core.specs.Kept.{RefusalKeeps}
+use Rattle.card_core.specs.Kept.{StepReserves}
+use Rattle.card_core.proofs.Reserving.{cut_line-reserves, step-reserves}
 use Rattle.card_core.proofs.serial.Core.cut.Goals as goal
 
 pub cut_line-requires : goal.cut_line-requires
@@ -60,3 +62,11 @@ returns-clause-unchanged c =
     (cut_line-keeps l.shape l.store l.directory l.lines.items l.ports.items c.args.vc c.in-Some.seating
     c.cut_line.result c.cut_line.new.lines.items fault
     c.cut_line.ensures is))
+
+pub returns-clause-reserves : goal.returns-clause-reserves
+returns-clause-reserves c =
+    let l = c.self.inside in
+    let New : CoreView = core_of l.shape l.store l.directory c.cut_line.new.lines.items l.ports.items in
+    subst (λ (old : CoreView). StepReserves (cut_reply c.cut_line.result) old New) c.self.view_is
+    (step-reserves (cut_reply c.cut_line.result) (core_of l.shape l.store l.directory l.lines.items l.ports.items) New
+    (cut_line-reserves (core_of l.shape l.store l.directory l.lines.items l.ports.items) New c.args.vc c.in-Some.seating c.cut_line.result c.cut_line.ensures))

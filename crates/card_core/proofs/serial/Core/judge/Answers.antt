@@ -11,6 +11,8 @@ use Rattle.card_core.proofs.PortSteps.{judge-not}
 use Rattle.card_core.proofs.JudgeSteps.{judge-goes}
 use Rattle.card_core.proofs.Keeping.{judge-keeps, left-outside}
 use Rattle.card_core.specs.Kept.{AnswerKeeps}
+use Rattle.card_core.specs.Kept.{ReservesNothing}
+use Rattle.card_core.proofs.Reserving.{judge-reserves}
 use Rattle.card_core.proofs.serial.Core.judge.Goals as goal
 
 pub judge_line-answer-requires : goal.judge_line-answer-requires
@@ -59,3 +61,11 @@ returns-clause-unchanged c =
     (judge-keeps l.lines.items after c.in-Some.found.now c.judge_line-answer.result c.args.port
     (core_of l.shape l.store l.directory l.lines.items l.ports.items) New c.judge_line-answer.ensures.line
     (λ same. left-outside l.shape l.store l.directory l.lines.items l.ports.items after moved c.args.port same c.move_port.ensures))
+
+pub returns-clause-reserves : goal.returns-clause-reserves
+returns-clause-reserves c =
+    let l = c.self.inside in
+    let New : CoreView = core_of l.shape l.store l.directory c.judge_line-answer.new.lines.items c.move_port.new.ports.items in
+    subst (λ (old : CoreView). ReservesNothing old New) c.self.view_is
+    (judge-reserves (core_of l.shape l.store l.directory l.lines.items l.ports.items) New c.in-Some.found.now c.judge_line-answer.result
+    c.judge_line-answer.ensures.line)

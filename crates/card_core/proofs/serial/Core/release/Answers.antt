@@ -13,6 +13,8 @@ use Rattle.card_core.proofs.PortLemmas.{core_of, IsCore-kept}
 use Rattle.card_core.proofs.DeskSteps.{release-missing, release-goes, release-never}
 use Rattle.card_core.proofs.Keeping.{release_line-keeps}
 use Rattle.card_core.specs.Kept.{RefusalKeeps}
+use Rattle.card_core.specs.Kept.{StepReserves}
+use Rattle.card_core.proofs.Reserving.{release_line-reserves, step-reserves}
 use Rattle.card_core.proofs.serial.Core.release.Goals as goal
 
 pub release_line-requires-clause-there : goal.release_line-requires-clause-there
@@ -60,3 +62,12 @@ returns-clause-unchanged c =
     (release_line-keeps l.shape l.store l.directory l.lines.items l.ports.items c.args.vc c.in-Some.seating
     c.release_line.new.directory c.release_line.result c.release_line.new.lines.items fault
     c.release_line.ensures.line is))
+
+pub returns-clause-reserves : goal.returns-clause-reserves
+returns-clause-reserves c =
+    let l = c.self.inside in
+    let Old : CoreView = core_of l.shape l.store l.directory l.lines.items l.ports.items in
+    let New : CoreView = core_of l.shape l.store c.release_line.new.directory c.release_line.new.lines.items l.ports.items in
+    subst (λ (old : CoreView). StepReserves (release_reply c.release_line.result) old New) c.self.view_is
+    (step-reserves (release_reply c.release_line.result) Old New
+    (release_line-reserves Old New l.directory c.release_line.new.directory c.args.vc c.in-Some.seating c.release_line.result c.release_line.ensures.line))

@@ -21,5 +21,5 @@ loop-step-preserved c =
           c.loop-step.invariant.one_each c.loop-step.invariant.follows c.step.ensures.follows);
       each = subst (λ (list : List Reply). AnswersSteps c.args.self.now (yielded ++ c.in-Some.step ∷ []) list c.step.new.self) (sym items)
           (takes-next c.args.self.now c.loop-step.self c.step.new.self yielded replies c.in-Some.step c.step.result
-          c.loop-step.invariant.each (record { follows = c.step.ensures.follows; unchanged = c.step.ensures.unchanged; judged = c.step.ensures.judged; fresh = c.step.ensures.fresh }));
+          c.loop-step.invariant.each (record { follows = c.step.ensures.follows; unchanged = c.step.ensures.unchanged; reserves = c.step.ensures.reserves; judged = c.step.ensures.judged; fresh = c.step.ensures.fresh }));
     }

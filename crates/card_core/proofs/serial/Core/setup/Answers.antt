@@ -1,4 +1,4 @@
-use Rattle.std.proofs.Common.{Result, subst}
+use Rattle.std.proofs.Common.{◌≡◌, Result, Ok, Err, subst}
 use Rattle.line_record.specs.declared.owner.Owner.{Owner}
 use Rattle.card_core.specs.declared.ask.Ask.{Ask}
 use Rattle.card_core.specs.declared.fault.DeskFault.{DeskFault}
@@ -12,6 +12,9 @@ use Rattle.card_core.proofs.PortLemmas.{core_of, IsCore-kept}
 use Rattle.card_core.proofs.SetupSteps.{setup-unfit, setup-goes, setup-refused}
 use Rattle.card_core.proofs.Keeping.{setup_line-keeps}
 use Rattle.card_core.specs.Kept.{RefusalKeeps, SetupKeeps}
+use Rattle.card_core.specs.Kept.{StepReserves}
+use Rattle.card_core.specs.inner.Parts.{ChangesLine, SetsUpOrRefuses}
+use Rattle.card_core.proofs.Reserving.{setup_line-reserves, setup_refused-reserves}
 use Rattle.card_core.proofs.serial.Core.setup.Goals as goal
 
 pub returns-in-Err-clause-follows : goal.returns-in-Err-clause-follows
@@ -52,3 +55,18 @@ returns-clause-unchanged c =
     (setup_line-keeps l.shape l.store l.directory l.lines.items l.ports.items c.args.ask refused.1 c.in-Ok.number
     c.setup_line.new.directory c.setup_line.result c.setup_line.new.lines.items refused.0
     c.setup_line.ensures.line is))
+
+pub returns-clause-reserves : goal.returns-clause-reserves
+returns-clause-reserves c =
+    let l = c.self.inside in
+    let Old : CoreView = core_of l.shape l.store l.directory l.lines.items l.ports.items in
+    let New : CoreView = core_of l.shape l.store c.setup_line.new.directory c.setup_line.new.lines.items l.ports.items in
+    let changed : (r : Result Owner (DeskFault × Ask)) → c.setup_line.result ≡ r
+    → ChangesLine l.lines.items c.in-Ok.number (SetsUpOrRefuses l.directory c.setup_line.new.directory c.in-Ok.number c.args.ask r) c.setup_line.new.lines.items =
+    λ r is. subst (λ (r : Result Owner (DeskFault × Ask)).
+    ChangesLine l.lines.items c.in-Ok.number (SetsUpOrRefuses l.directory c.setup_line.new.directory c.in-Ok.number c.args.ask r) c.setup_line.new.lines.items)
+    is c.setup_line.ensures.line in
+    subst (λ (old : CoreView). StepReserves (setup_reply c.setup_line.result) old New) c.self.view_is
+    (by_result (λ (r : Result Owner (DeskFault × Ask)). StepReserves (setup_reply r) Old New) c.setup_line.result
+    (λ owner is. setup_line-reserves Old New l.directory c.setup_line.new.directory c.in-Ok.number c.args.ask owner (changed (Ok owner) is))
+    (λ refused is. setup_refused-reserves Old New l.directory c.setup_line.new.directory c.in-Ok.number c.args.ask refused.1 refused.0 (changed (Err refused) is)))
