@@ -9,6 +9,7 @@ use Rattle.card_core.specs.declared.answer.Answer.{Answer}
 use Rattle.card_core.specs.declared.reply.Reply.TheVariants.{Entered, Picked, Answered}
 use Rattle.card_core.specs.declared.shape.Shape.{Shape}
 use Rattle.card_core.specs.declared.step.Step.TheVariants.{Enter, Pick, Judge}
+use Rattle.card_core.proofs.Public.{arrival-ways}
 use Rattle.card_shelf.specs.declared.arrival.Arrival.{Arrival}
 use Rattle.card_shelf.specs.Logs.{IsWayOf, GoesOnBy, CardsGoOnByTheirArrivals, WaysAreShort}
 use Rattle.card_shelf.proofs.OwnLemmas.{Decision}
@@ -46,7 +47,7 @@ goes-on old new [] (decision ∷ more) served shape log before leads agrees = ab
 goes-on old new (arrival ∷ later) [] served shape log before leads agrees = absurd served
 goes-on old new (arrival ∷ later) (decision ∷ more) served shape log before leads agrees =
     let answer = answer_to arrival.cell decision in
-    elim served.1.answers [
+    elim (arrival-ways old served.0 0 arrival.cell arrival.moment answer served.1.answers) [
       | inl missed ↦
           let first = events_of (Enter 0 arrival.cell arrival.moment ∷ Pick 0 ∷ []) (Entered ∷ Answered answer ∷ []) in
           let gone = missed shape log before leads agrees in
