@@ -13,11 +13,11 @@ from captures.fit_cases import case_of, edges
 
 
 def ran(program, case):
-    """Returns what the program prints for a case, and its status."""
+    """Returns what the program prints for a case, with its messages, and its status."""
     words = [program, "fit", "--increment", str(case.increment), "--tick", f"{case.tick}ns", "--side", case.side]
     words += [] if case.interface is None else ["--interface", str(case.interface)]
     it = subprocess.run(words, input=case.octets, stdout=subprocess.PIPE, stderr=subprocess.PIPE)
-    return it.stdout.decode(), it.returncode
+    return it.stdout.decode() + it.stderr.decode(), it.returncode
 
 
 def main(program, count="200", seed="1"):

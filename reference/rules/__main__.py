@@ -1,5 +1,5 @@
 """Compares the compiled code of random rules with the evaluator, on cells at the bounds of their comparisons, and the
-answers of `why`, which name the rule that decides each.
+answers of `why`, which name the rule that decides each. Each ends with the status 1 if its text has a fault, else with 0.
 
     python3 -m rules PROGRAM [COUNT] [SEED]      PROGRAM is upc-lab
 
@@ -18,10 +18,28 @@ from rules.meaning import decision_of, value_of
 from rules.reader import Fault, read_rules
 
 
+# A code has at most so many instructions, and far fewer than this for a comparison, a number of a list, or a rule.
+MOST_CODE = 4096
+MOST_OF_ONE = 8
+
+
 def answered(program, text, subcommand="rules"):
-    """Returns what a subcommand of the program answers to a text."""
-    run = subprocess.run([program, subcommand], input=text, stdout=subprocess.PIPE, check=False)
-    return run.stdout.decode()
+    """Returns what a subcommand of the program answers to a text, and its status. It prints no message."""
+    run = subprocess.run([program, subcommand], input=text, stdout=subprocess.PIPE, stderr=subprocess.PIPE, check=False)
+    return run.stdout.decode() + run.stderr.decode(), run.returncode
+
+
+def comparisons_in(test):
+    """Returns how many comparisons, words and numbers of lists a test has."""
+    if test[0] in ("and", "or", "not"):
+        return sum(comparisons_in(it) for it in test[1:])
+    return 1 + len(test[3]) if test[0] == "among" else 1
+
+
+def may_be_too_long(reader):
+    """Returns whether the code of the rules may have too many instructions."""
+    tests = [line[1] for line in reader.rules if line[0] in ("rule", "block")]
+    return sum(MOST_OF_ONE * (1 + comparisons_in(it)) for it in tests) > MOST_CODE
 
 
 def shown(decision):
@@ -37,30 +55,32 @@ def difference_of_why(program, text, random_source):
     try:
         reader = read_rules(text)
     except Fault as fault:
-        cells, wanted = [], fault.shown()
+        cells, wanted, status = [], fault.shown(), 1
     else:
-        cells = cells_for(reader, random_source)
+        cells, status = cells_for(reader, random_source), 0
         wanted = "".join(shown(decision_of(reader, cell)) for cell in cells)
     lines = "".join(f"{cell.hex()}\n" for cell in cells)
-    answer = answered(program, text + b" cells # of the rules\n" + lines.encode(), "why")
+    answer, ended = answered(program, text + b" cells # of the rules\n" + lines.encode(), "why")
     if answer == wanted:
-        return None
+        return None if ended == status else f"the status {ended} of why"
     at = next((at for at, (one, other) in enumerate(zip(answer.split("\n"), wanted.split("\n"))) if one != other), 0)
     return f"{answer.split(chr(10))[at]!r} and not {wanted.split(chr(10))[at]!r}" + (f" on {cells[at].hex()}" if at < len(cells) else "")
 
 
 def difference(program, text, random_source):
     """Returns what differs between the program and the reference, or None."""
-    answer = answered(program, text)
+    answer, ended = answered(program, text)
     try:
         reader = read_rules(text)
     except Fault as fault:
-        return None if answer == fault.shown() else f"{answer!r} and not {fault.shown()!r}"
-    if not answer.startswith("accepted "):
-        if answer == "fault rules 8 TooLong 0 0\n":
-            return None
-        return f"{answer!r}"
-    code = decoded(bytes.fromhex(answer.split("\n")[1]))
+        return None if (answer, ended) == (fault.shown(), 1) else f"{answer!r} with status {ended} and not {fault.shown()!r}"
+    if ended or not answer.startswith("accepted "):
+        is_right = (answer, ended) == ("fault rules 8 TooLong 0 0\n", 1) and may_be_too_long(reader)
+        return None if is_right else f"{answer!r} with status {ended}"
+    digits = answer.split("\n")[1]
+    code = decoded(bytes.fromhex(digits))
+    if answer != f"accepted {len(code)}\n{digits}\n":
+        return f"{answer!r} about {len(code)} instructions"
     for cell in cells_for(reader, random_source):
         value, wanted = value_and_steps(code, cell)[0], value_of(reader, cell)
         if value != wanted:

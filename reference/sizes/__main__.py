@@ -27,11 +27,11 @@ def compare(program, count, seed):
     failed = 0
     for number in range(count):
         text = text_of(random.Random(f"{seed} {number}"), AT_ONCE)
-        run = subprocess.run([program, "size"], input=text, stdout=subprocess.PIPE, check=False)
-        if run.stdout.decode() != shown(text):
+        run = subprocess.run([program, "size"], input=text, stdout=subprocess.PIPE, stderr=subprocess.PIPE, check=False)
+        if (run.stdout.decode(), run.stderr, run.returncode) != (shown(text), b"", 0):
             failed += 1
             wanted, given = shown(text).split("\n"), run.stdout.decode().split("\n")
-            found = next((pair for pair in zip(given, wanted) if pair[0] != pair[1]), ("another number of lines", ""))
+            found = next((pair for pair in zip(given, wanted) if pair[0] != pair[1]), (f"another number of lines, or the status {run.returncode}", ""))
             print(f"{seed} {number}: {found[0]!r} and not {found[1]!r}")
     print(f"{count - failed} passed, {failed} failed")
     return 1 if failed else 0
