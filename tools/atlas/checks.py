@@ -7,7 +7,8 @@ from . import definitions, history, memory, places
 from .definitions import reached
 from .files import ROOT, exists, files_below, text_of
 
-LINK = re.compile(r"\]\(([^)#\s]+)(?:#([^)]*))?\)")
+LINK = re.compile(r"\]\(([^)#\s]*)(?:#([^)]*))?\)")
+HEADING = re.compile(r"^#+ (.*)$", re.M)
 # A name in a page that reads like a function or a definition: of one word with an underscore or a `::`, or of two capitals.
 NAME = re.compile(r"`([A-Za-z_][\w]*(?:::[\w]+)+|[a-z]+(?:_[a-z0-9]+)+|[A-Z][a-z]+[A-Z]\w*)(?:\(\))?`")
 
@@ -63,16 +64,25 @@ def pages_of(sources):
     return [it for it in [*pages, *(f"crates/{crate}/README.md" for crate in sources.crates)] if exists(it)]
 
 
+def anchors_of(text):
+    """Returns how links name the headings of a page."""
+    return {re.sub(r"[^\w -]", "", it.lower()).replace(" ", "-") for it in HEADING.findall(text)}
+
+
 def linked(sources):
-    """Yields each link of a page to a file that doesn't exist, or to a planted bug that its file doesn't have."""
+    """Yields each link of a page to a file that doesn't exist, or to a planted bug or a heading that its file doesn't have."""
     bugs = {(it.path, it.name) for it in sources.edits}
     for page in pages_of(sources):
         for target, part in LINK.findall(text_of(page)):
-            path = os.path.normpath(f"{os.path.dirname(page)}/{target}")
-            if not re.match(r"https?:", target) and not exists(path):
+            path = os.path.normpath(f"{os.path.dirname(page)}/{target}") if target else page
+            if re.match(r"https?:", target):
+                continue
+            if not exists(path):
                 yield f"{page}: no file {target}"
             elif path.endswith(".edits") and (path, part) not in bugs:
                 yield f"{page}: {target} has no bug {part}"
+            elif path.endswith(".md") and part and part not in anchors_of(text_of(path)):
+                yield f"{page}: {path} has no heading {part}"
 
 
 def named(sources):

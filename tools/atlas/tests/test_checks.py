@@ -2,7 +2,7 @@
 import unittest
 from types import SimpleNamespace
 
-from atlas.checks import meant
+from atlas.checks import anchors_of, meant
 
 
 def specs(**modules):
@@ -19,6 +19,11 @@ class OneMeaning(unittest.TestCase):
 
     def test_a_name_twice(self):
         self.assertEqual(list(meant(specs(one=["IsRun"], other=["IsRun"]))), ["one:1: IsRun is also defined in other:1"])
+
+
+class Anchors(unittest.TestCase):
+    def test_headings(self):
+        self.assertEqual(anchors_of("# The `upc` gate\ntext\n## A jump, if not\n"), {"the-upc-gate", "a-jump-if-not"})
 
 
 if __name__ == "__main__":
