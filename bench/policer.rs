@@ -319,7 +319,10 @@ impl Card {
             }
             b"retire" => {
                 let stored = &mut self.programs[program(words[0]) as usize];
-                if stored.uses > 0 || stored.code.take().is_none() {
+                if stored.uses > 0 {
+                    return answers.text(b"fault desk 5 InUse\n");
+                }
+                if stored.code.take().is_none() {
                     exit(1);
                 }
                 answers.text(b"retired ");
