@@ -37,6 +37,11 @@ add() {
   fi
 }
 
+# needs PACKAGE WHAT..: is this package of tools/packages there? Without it WHAT is left out. A line says so, and bin/test repeats it.
+needs() {
+  "$root/tools/needs" "$@"
+}
+
 # Prints the counts. The status is 0 if nothing failed.
 finish() {
   echo "$passed passed, $failed failed"

@@ -158,7 +158,26 @@ def applied(sources):
                 yield f"{path}: it can't be applied"
 
 
-CHECKS = (comments, turned, defined, meant, linked, named, placed, failed, coded, explained, applied)
+def differing(listed, asked):
+    """Yields each package that a check asks for and that isn't listed for it, and the other way round. Both are sets of a package and a check."""
+    for package, check in sorted(asked - listed):
+        yield f"{check}: tools/packages doesn't list {package} for it"
+    for package, check in sorted(listed - asked):
+        yield f"tools/packages: {check} doesn't ask for {package}"
+
+
+def packaged(sources):
+    """Yields what is wrong with tools/packages. Scripts of tests/ ask for a package by `needs`, pages by a mark of tests/pages."""
+    lines = [line.split(None, 2) for line in text_of("tools/packages").split("\n") if line and not line.startswith("#")]
+    listed = {(package, check) for package, _, checks in lines for check in checks.split(", ")}
+    asked = {(package, "tests/pages") for page in pages_of(sources) for package in re.findall(r"<!-- needs (\S+) -->", text_of(page))}
+    for name in os.listdir(f"{ROOT}/tests"):
+        if os.path.isfile(f"{ROOT}/tests/{name}"):
+            asked |= {(package, f"tests/{name}") for package in re.findall(r"(?:if|!|&&|\|\|) needs ([a-z0-9.+-]+) ", text_of(f"tests/{name}"))}
+    yield from differing(listed, asked)
+
+
+CHECKS = (comments, turned, defined, meant, linked, named, placed, failed, coded, explained, applied, packaged)
 
 
 def checked(sources):

@@ -2,7 +2,7 @@
 import unittest
 from types import SimpleNamespace
 
-from atlas.checks import anchors_of, meant
+from atlas.checks import anchors_of, differing, meant
 
 
 def specs(**modules):
@@ -24,6 +24,13 @@ class OneMeaning(unittest.TestCase):
 class Anchors(unittest.TestCase):
     def test_headings(self):
         self.assertEqual(anchors_of("# The `upc` gate\ntext\n## A jump, if not\n"), {"the-upc-gate", "a-jump-if-not"})
+class Packages(unittest.TestCase):
+    def test_each_is_listed_and_asked_for(self):
+        self.assertEqual(list(differing({("mandoc", "tests/manual")}, {("mandoc", "tests/manual")})), [])
+
+    def test_one_for_another_check(self):
+        wrong = ["tests/pages: tools/packages doesn't list mandoc for it", "tools/packages: tests/manual doesn't ask for mandoc"]
+        self.assertEqual(list(differing({("mandoc", "tests/manual")}, {("mandoc", "tests/pages")})), wrong)
 
 
 if __name__ == "__main__":
