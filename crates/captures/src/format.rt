@@ -23,7 +23,7 @@ pub enum Order {
     LowestFirst,
 }
 
-/// What a file has of records.
+/// The container format.
 #[derive(Clone, Copy, PartialEq, Eq, Debug)]
 pub enum Format {
     /// Records, one after the other.

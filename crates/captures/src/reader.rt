@@ -122,7 +122,7 @@ impl Reader {
         }
     }
 
-    /// Returns what comes next if the octets at this place are no record for this reason.
+    /// `Broken` at the current place.
     #[inline(always)]
     fn broken<'a>(&self, reason: RecordFault) -> Next<'a>
         ensures { result ≡ Next.Broken (record { at = self.now.at; reason = reason }) }

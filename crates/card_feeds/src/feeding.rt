@@ -1,4 +1,4 @@
-//! Each card on a thread of its own.
+//! Each card on one thread, side by side with the others.
 
 ghost use Rattle.std.specs.Prelude.{◌≡◌, ℕ, Some, length, slice_get};
 ghost use Rattle.card_feeds.specs.Feeding.{IsFed};
@@ -9,8 +9,8 @@ use crate::lane::Lane;
 use std::thread;
 use std::thread::Threads;
 
-/// Lends each lane to a thread of its own, which answers the arrivals of the lane's feeder until there are no more. Returns
-/// when all threads have. The threads share nothing.
+/// Answers the arrivals of each lane's feeder until there are no more. The caller's thread runs one lane, and each other one has a
+/// thread where one can be made. Returns when all lanes have ended. The threads share nothing.
 pub fn each_card<R: Threads + Sync, F: Feeder + Send>(rt: &R, lanes: &mut [Lane<F>])
     ensures fed { (number : ℕ) (lane next : _) → slice_get lanes.old number ≡ Some lane
         → slice_get lanes.new number ≡ Some next

@@ -49,7 +49,7 @@ fn cut_at_point(text: &[u8]) -> Option<(&[u8], &[u8])>
     }
 }
 
-/// Returns the millionths of a unit of the last of this number of decimals.
+/// Weight, in millionths, of the last decimal.
 fn millionths_of_last(decimals: usize) -> u64
     requires { decimals ≤ 6 }
     ensures { result ≡ 10 ^ (6 - decimals) }

@@ -32,7 +32,7 @@ fn add_moment_back(answers: &mut Vec<u8>, last: u64) -> Result<(), AllocError>
     Ok(())
 }
 
-/// Adds the answer to a cell that arrived in this form and has this verdict.
+/// Appends a judged cell's line.
 #[inline(never)]
 fn add_judged_line(
     answers: &mut Vec<u8>,
