@@ -33,9 +33,9 @@ def pages():
 
 
 def parts_of(path, text):
-    """Yields the parts of a page: rows, items and paragraphs. Indented lines of code below a paragraph belong to it."""
+    """Yields the parts of a page: rows, items and paragraphs. Indented lines of code below a paragraph belong to it. The marks of tests/pages don't."""
     heading, columns, open_part, lead = "", [], None, ""
-    for number, line in enumerate(text.split("\n"), 1):
+    for number, line in enumerate(re.sub(r" *<!-- .* -->$", "", text, flags=re.M).split("\n"), 1):
         plain = re.sub(r"`|\*\*|\]\([^)]*\)|\[(?=\w+\]\()", "", line).strip()
         is_row, goes_on = line.startswith("|"), open_part and not re.match(r"[#|]|- |\d+\. ", line)
         if goes_on and (not line or not open_part.is_ended or line.startswith("    ")):

@@ -20,7 +20,7 @@ A door is **open**, or it is shut. See [Door](../specs/Door.antt):
 
 ## Locks
 
-The form is:
+The form is: <!-- not run: a form -->
 
     lock = key
 
