@@ -24,6 +24,8 @@ class OneMeaning(unittest.TestCase):
 class Anchors(unittest.TestCase):
     def test_headings(self):
         self.assertEqual(anchors_of("# The `upc` gate\ntext\n## A jump, if not\n"), {"the-upc-gate", "a-jump-if-not"})
+
+
 class Packages(unittest.TestCase):
     def test_each_is_listed_and_asked_for(self):
         self.assertEqual(list(differing({("mandoc", "tests/manual")}, {("mandoc", "tests/manual")})), [])
