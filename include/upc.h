@@ -4,10 +4,10 @@
  * *fault with zeros, or with that fault. A call that refuses writes nothing else, except upc_card_arrive_many.
  *
  * Each call first looks for null pointers. A fault may be null: then only the result reports it. Octets, moments, contracts,
- * meters, entries and answers may be at null if the length next to them is 0. Any other null pointer is refused as
+ * meters, entries and answers may be null if the length next to them is 0. Any other null pointer is refused as
  * UPC_NULL_POINTER, and nothing is read. The two calls that free do nothing with null. These tests are C, made by a script and tested.
  *
- * What a call does after these tests is proved (crates/upc_c/README.md) if its caller keeps these rules, which nothing checks:
+ * After these tests, what each call does is proved (crates/upc_c/README.md), if its caller keeps these rules. Nothing checks them:
  *
  *  - Each pointer that isn't null points to memory of its type, aligned for it; octets, moments, contracts, meters, entries
  *    and answers to as many as the length next to them, which take at most PTRDIFF_MAX octets. The call may read them,
@@ -25,7 +25,8 @@
  *
  * Any number of threads may call at once. The library stores nothing between calls except in its caller's objects. A
  * upc_program or upc_card may be made on one thread and used on another (proved), by one at a time. Calls that take it as
- * const may be made on one handle by any number of threads at once, while no other call is (tested, not proved).
+ * const may be made on one handle by any number of threads at once, while no other call is, as in examples/c/threads.c and
+ * examples/c/readers.c (tested, not proved).
  */
 #ifndef UPC_H
 #define UPC_H
@@ -480,7 +481,7 @@ uint32_t upc_card_arrive(upc_card *card, uint8_t *octets, size_t length, uint64_
  * that is refused: that cell and the later ones change nothing. *done becomes the number of judged cells, also if the call
  * refuses, unless a pointer is null. It doesn't allocate.
  * Faults: UPC_NO_ROOM if there are fewer than `count` answers, and then no cell is judged; else those of upc_card_arrive for cell
- * *done. If some of its octets are beyond the end of the buffer, that is UPC_CELL_WRONG_LENGTH, with the number of the others. */
+ * *done. If some of its octets are beyond the end of the buffer, that is UPC_CELL_WRONG_LENGTH, with the number of octets that remain. */
 uint32_t upc_card_arrive_many(upc_card *card, uint8_t *octets, size_t length, size_t stride, const uint64_t *moments, size_t count,
                               upc_answer *answers, size_t answers_length, size_t *done, upc_fault *fault) UPC_RESULT;
 
