@@ -1,5 +1,5 @@
 -- Hints about a source without a fault.
-use Rattle.std.specs.Prelude.{◌≡◌, ℕ, ◌+◌, Bool, true, nat_lt, if◌then◌else◌, List, [], ◌∷◌, ◌++◌, codes, length, slice_get, slice_index, Option}
+use Rattle.std.specs.Prelude.{◌≡◌, ℕ, ◌+◌, Bool, true, nat_lt, if◌then◌else◌, List, [], ◌∷◌, ◌++◌, codes, drop, length, slice_get, Option}
 use Rattle.bpf_asm.specs.SourceLines.{without_comment}
 use Rattle.bpf_code.specs.declared.instr.Instr.{Instr}
 use Rattle.bpf_code.specs.declared.instr.Instr.TheVariants.{LoadAbs, LoadInd, LdxMsh}
@@ -7,7 +7,7 @@ use Rattle.bpf_interp.specs.Packet.{octets_loaded}
 use Rattle.bpf_interp.specs.State.{State, Ended}
 use Rattle.bpf_interp.specs.Step.{Does}
 use Rattle.lab_faults.specs.BadLines.{column_of, first_number}
-use Rattle.lab_faults.specs.LinesFound.{instruction_lines, instruction_tokens, line_numbered}
+use Rattle.lab_faults.specs.LinesFound.{has_token, instruction_tokens}
 use Rattle.lab_faults.specs.declared.tokens.FoundToken.{FoundToken}
 use Rattle.lab_scripts.specs.Places.{place_words}
 use Rattle.upc_words.specs.FaultLines.{line}
@@ -34,21 +34,24 @@ abbrev pub hinted_token : Instr → List ℕ → Option FoundToken
 hinted_token (LdxMsh k) content = slice_get (instruction_tokens content) 0
 hinted_token _ content = first_number (without_comment content) (instruction_tokens content)
 
--- The hint about such an instruction on a line of this number.
-abbrev pub outside_hint : List (List ℕ) → ℕ → Instr → List ℕ
-outside_hint lines number i =
-    codes "hint " ++ (place_words number (column_of (hinted_token i (line_numbered lines number)))
+-- The hint about such an instruction on a line of this number and content.
+abbrev pub outside_hint : ℕ → List ℕ → Instr → List ℕ
+outside_hint number content i =
+    codes "hint " ++ (place_words number (column_of (hinted_token i content))
     ++ line (codes "a cell has the octets 0 to 51, so this load always ends the program with 0"))
 
--- The hint about an instruction, or nothing.
-abbrev pub hint_at : List (List ℕ) → ℕ → Instr → List ℕ
-hint_at lines number i = if is_past_cell i then outside_hint lines number i else []
+-- The hint about the first instruction of a code, which is on a line of this number and content, or nothing.
+abbrev pub first_hint : ℕ → List ℕ → List Instr → List ℕ
+first_hint number content [] = []
+first_hint number content (i ∷ code) = if is_past_cell i then outside_hint number content i else []
 
--- The hints about the instructions of a code from this place on, if these are the numbers of the lines of instructions.
-abbrev pub hints_from : List (List ℕ) → List ℕ → ℕ → List Instr → List ℕ
-hints_from lines numbers place [] = []
-hints_from lines numbers place (i ∷ code) = hint_at lines (slice_index numbers place) i ++ hints_from lines numbers (place + 1) code
+-- The hints about the instructions of a code, which are on these lines in order. The first line has this number.
+abbrev pub hints_from : ℕ → List (List ℕ) → List Instr → List ℕ
+hints_from number [] code = []
+hints_from number (content ∷ lines) code =
+    if has_token (instruction_tokens content) then first_hint number content code ++ hints_from (number + 1) lines (drop 1 code)
+    else hints_from (number + 1) lines code
 
--- The hints about a code.
+-- The hints about the code that these lines mean.
 unfoldable pub hints_of : List (List ℕ) → List Instr → List ℕ
-hints_of lines code = hints_from lines (instruction_lines 1 lines) 0 code
+hints_of lines code = hints_from 1 lines code

@@ -124,7 +124,7 @@ fn add_code_place(
 }
 
 /// Returns the number at a place, or 0 if there is none.
-pub(crate) fn number_at(numbers: &[usize], place: usize) -> usize
+fn number_at(numbers: &[usize], place: usize) -> usize
     ensures { result ≡ slice_index numbers.now place }
 {
     match numbers.get(place) {

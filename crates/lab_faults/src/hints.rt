@@ -1,15 +1,14 @@
 //! Hints about a source without a fault.
 
-ghost use Rattle.std.specs.Prelude.{◌≡◌, ◌++◌, slice_index, IfOk, OnOk};
+ghost use Rattle.std.specs.Prelude.{◌≡◌, ◌++◌, drop, IfOk, OnOk};
 ghost use Rattle.bpf_asm.specs.SourceLines.{source_lines};
 ghost use Rattle.bpf_interp.specs.Packet.{octets_loaded};
-ghost use Rattle.lab_faults.specs.Hints.{hint_at, hinted_token, hints_from, hints_of, is_past_cell, outside_hint};
-ghost use Rattle.lab_faults.specs.LinesFound.{instruction_lines};
+ghost use Rattle.lab_faults.specs.Hints.{first_hint, hinted_token, hints_of, is_past_cell, outside_hint};
 
 use crate::bad_lines::{column_of, first_number, token_at};
-use crate::code_faults::number_at;
-use crate::lines_found::{instruction_lines, line_numbered};
+use crate::lines_found::has_instruction;
 use crate::tokens::{FoundToken, after_label, before_comment, tokens_of};
+use bpf_asm::next_line;
 use bpf_code::{Instr, Size};
 use lab_scripts::add_place;
 use std::alloc::{AllocError, Global};
@@ -54,18 +53,18 @@ fn hinted_token(
     }
 }
 
-/// Appends the hint about an instruction that loads from outside of each cell.
+/// Appends the hint about an instruction that loads from outside of each cell, on a line of this number and content.
 #[tactic(auto, using(std::proofs::lemmas::List::append_assoc))]
 fn add_outside(
     alloc: Global,
     answers: &mut Vec<u8>,
-    source: &[u8],
     number: usize,
+    content: &[u8],
     instr: Instr,
 ) -> Result<(), AllocError>
-    ensures { OnOk result (answers.new.items ≡ answers.old.items ++ outside_hint (source_lines source.now) number instr) }
+    ensures { OnOk result (answers.new.items ≡ answers.old.items ++ outside_hint number content.now instr) }
 {
-    let token = hinted_token(alloc, instr, line_numbered(source, number))?;
+    let token = hinted_token(alloc, instr, content)?;
     add_text(answers, b"hint ")?;
     add_place(answers, number, column_of(token))?;
     add_text(
@@ -76,23 +75,39 @@ fn add_outside(
     Ok(())
 }
 
-/// Appends the hint about an instruction, or nothing.
-fn add_hint(
+/// Appends the hint about the first instruction of a code, which is on a line of this number and content, or nothing.
+fn add_first_hint(
     alloc: Global,
     answers: &mut Vec<u8>,
-    source: &[u8],
     number: usize,
-    instr: Instr,
+    content: &[u8],
+    code: &[Instr],
 ) -> Result<(), AllocError>
-    ensures { OnOk result (answers.new.items ≡ answers.old.items ++ hint_at (source_lines source.now) number instr) }
+    ensures { OnOk result (answers.new.items ≡ answers.old.items ++ first_hint number content.now code.now) }
 {
-    if is_past_cell(instr) {
-        add_outside(alloc, answers, source, number, instr)?;
+    match code {
+        [] => Ok(()),
+        [instr, ..] => {
+            if is_past_cell(*instr) {
+                add_outside(alloc, answers, number, content, *instr)
+            } else {
+                Ok(())
+            }
+        }
     }
-    Ok(())
 }
 
-/// Appends the hints about a code that a source means.
+/// Returns a code without its first instruction.
+fn after_first(code: &[Instr]) -> &[Instr]
+    ensures { result.now ≡ drop 1 code.now }
+{
+    match code {
+        [] => &[],
+        [_, rest @ ..] => rest,
+    }
+}
+
+/// Appends the hints about the code that a source means. Lines and instructions are in one order, so one pass finds the line of each.
 #[tactic(auto, unfolding(crate::specs::Hints::hints_of))]
 pub(crate) fn add_hints(
     alloc: Global,
@@ -102,12 +117,15 @@ pub(crate) fn add_hints(
 ) -> Result<(), AllocError>
     ensures { OnOk result (answers.new.items ≡ answers.old.items ++ hints_of (source_lines source.now) code.now) }
 {
-    let numbers = instruction_lines(alloc, source)?;
-    let mut place = 0;
-    let mut left = code;
-    while let [instr, rest @ ..] = left {
-        add_hint(alloc, answers, source, number_at(&numbers, place), *instr)?;
-        place += 1;
+    let mut left = source;
+    let mut later = code;
+    let mut count = 0;
+    while let Some((line, rest)) = next_line(left) {
+        if has_instruction(alloc, line)? {
+            add_first_hint(alloc, answers, count + 1, line, later)?;
+            later = after_first(later);
+        }
+        count += 1;
         left = rest;
     }
     Ok(())

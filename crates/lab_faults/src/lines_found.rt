@@ -26,7 +26,7 @@ pub(crate) fn line_numbered(source: &[u8], number: usize) -> &[u8]
 }
 
 /// Returns whether a line has an instruction.
-fn has_instruction(alloc: Global, line: &[u8]) -> Result<bool, AllocError>
+pub(crate) fn has_instruction(alloc: Global, line: &[u8]) -> Result<bool, AllocError>
     ensures { IfOk result (λ has. has ≡ has_token (instruction_tokens line.now)) }
 {
     let text = before_comment(line);
