@@ -18,6 +18,9 @@ from policer.eval_dialogue import EvalDialogue
 from policer.hexadecimal import octets_of
 from trials.comparing import edges_of, first_difference, input_of, of_program
 
+# First lines after which a source follows.
+FIRST_LINES = [b"source\n", b"source\r\n", b"source \t\n", b"\t source \r\n"]
+
 
 def without_spelling(output):
     """Returns the output of `trace` without the instructions, and its status."""
@@ -47,7 +50,7 @@ def explanations(lab, count, seed):
     failed, numbers = 0, range(-len(edges_of("check")), count)
     for number in numbers:
         source = input_of("check", seed, number)
-        wrong = wrong_explanation(source, of_program(lab, "explain", b"source\n" + source))
+        wrong = wrong_explanation(source, of_program(lab, "explain", FIRST_LINES[number % len(FIRST_LINES)] + source))
         if wrong:
             failed += 1
             print(f"explain, input {number} of seed {seed}: {wrong}")

@@ -1,20 +1,27 @@
 -- The answer to an input is that to the source after its first line, or that to a script.
-use Rattle.std.proofs.Common.{◌≡◌, inl, inr, ℕ, List, [], ◌∷◌, ◌++◌, Option, Some, None, Result, codes, option_map, refl, sym, ap, ◌∙◌, subst, append_assoc, append-nil}
+use Rattle.std.proofs.Common.{◌≡◌, inl, inr, ℕ, true, false, nat_le, List, [], ◌∷◌, ◌++◌, Option, Some, None, Result, codes, length, option_map, refl, sym, ap, ◌∙◌, subst, append_assoc, append-nil}
+use Rattle.std.proofs.lemmas.Bool.{MatchBool-at_false, and_parts, le-ltb, leb-true}
 use Rattle.std.proofs.lemmas.Result.{IfOk-weaker, on_err_weaker}
+use Rattle.std.proofs.lemmas.Slice.Eq.{bytes_eq-Decides}
+use Rattle.std.specs.Bool.{MatchBool}
 use Rattle.std.specs.Option.{MatchOption}
 use Rattle.text_io.specs.Devices.{Adds}
 use Rattle.text_io.specs.Failures.{read_failures}
-use Rattle.text_io.specs.Printing.{IsFront}
+use Rattle.text_io.specs.Limits.{is_over, most_line_octets}
+use Rattle.text_io.specs.Lines.{Line, line_content, lines_of}
+use Rattle.text_io.specs.Printing.{IsFront, Prints}
 use Rattle.text_io.specs.Serving.{IsServed}
+use Rattle.text_io.specs.Words.{is_silent, words_of}
 use Rattle.text_io.specs.declared.device.Input.{Ghosts as InputView}
 use Rattle.text_io.specs.declared.device.Output.{Ghosts as OutputView}
 use Rattle.text_io.specs.declared.ending.Done.{Done}
 use Rattle.text_io.specs.declared.ending.Done.TheVariants.{Ended}
 use Rattle.text_io.specs.declared.ending.RunFault.{RunFault}
-use Rattle.lab_faults.specs.Explained.{IsExplainText, IsSourceText, source_after}
+use Rattle.lab_faults.specs.Explained.{IsExplainText, IsSourceText, is_source, is_source_line, source_after}
 use Rattle.lab_faults.proofs.Answered.{empty-source_answer}
-use Rattle.lab_faults.proofs.SourceFront.{SourceFront, source_front}
-use Rattle.lab_scripts.specs.ScriptText.{IsScriptExplained, ScriptWorld, after_answer, before_script}
+use Rattle.lab_faults.proofs.SourceFront.{SourceFront, last_line, source_front}
+use Rattle.lab_scripts.specs.ScriptText.{ExplainsLine, IsScriptExplained, ScriptWorld, after_answer, before_script, script_rules}
+use Rattle.upc_run.specs.RunText.{OpensOrObeys, RunWorld}
 
 -- The text of an input that begins with the line `source`, and of one that doesn't.
 of_source : (octets source text : List ℕ) (done : Done) → source_after octets ≡ Some source → IsSourceText source text done → IsExplainText octets text done
@@ -37,10 +44,6 @@ none_before : (x y : List ℕ) → [] ≡ x ++ y → x ≡ []
 none_before [] y e = refl
 none_before (octet ∷ x) y e = let no = e in cc
 
-only_source : source_after (codes "source") ≡ Some []
-unfolding source_after
-only_source = refl
-
 -- Enough of the source is enough of the input.
 enough_source : (octets source left needed ahead : List ℕ) → SourceFront octets source → source ≡ needed ++ (ahead ++ left)
     → (whole : List ℕ) × (octets ≡ whole ++ (ahead ++ left)) × (source_after whole ≡ Some needed)
@@ -51,19 +54,38 @@ enough_source octets source left needed ahead begins cut = (
     | inl any ↦ any needed
     | inr alone ↦
         let none : needed ≡ [] = none_before needed (ahead ++ left) (sym alone.1 ∙ cut) in
-        ap source_after (ap (λ (xs : List ℕ). begins.front ++ xs) none ∙ append-nil begins.front ∙ alone.0) ∙ only_source ∙ ap (λ (xs : List ℕ). Some xs) (sym none)
+        ap source_after (ap (λ (xs : List ℕ). begins.front ++ xs) none ∙ append-nil begins.front) ∙ alone.0 ∙ ap (λ (xs : List ℕ). Some xs) (sym none)
   ],
 )
 
--- A script that is the word `source` opens no card.
 ended_by : (done : Done) (more : List ℕ) (next : Option ScriptWorld) (Later : ScriptWorld → Type 0) → next ≡ None
     → MatchOption next ((more ≡ []) × (done ≡ Ended)) Later → done ≡ Ended
 ended_by done more None Later is ends = ends.1
 ended_by done more (Some world) Later is ends = let no = is in cc
 
-no_card_source : (text : List ℕ) (done : Done) → IsScriptExplained (codes "source") text done → done ≡ Ended
-no_card_source text done (here, more, next, is, (answer, after, steps, e, to), rest) =
-    ended_by done more next _ (to ∙ ap (option_map (after_answer before_script answer)) steps.1) rest
+source_word : (words : List (List ℕ)) → is_source words ≡ true → words ≡ codes "source" ∷ []
+source_word [] is = let no = is in cc
+source_word (word ∷ []) is = ap (λ (word : List ℕ). word ∷ []) ((bytes_eq-Decides word (codes "source")).0 is)
+source_word (word ∷ other ∷ words) is = let no = is in cc
+
+-- The word `source` opens no card.
+opens_none : (words : List (List ℕ)) (answer : List ℕ) (after : Option RunWorld) → words ≡ codes "source" ∷ []
+    → MatchBool (is_silent words) ((answer ≡ []) × (after ≡ Some None)) (OpensOrObeys None words answer after) → after ≡ None
+opens_none words answer after is steps =
+    let P : List (List ℕ) → Type 0 = λ (words : List (List ℕ)). MatchBool (is_silent words) ((answer ≡ []) × (after ≡ Some None)) (OpensOrObeys None words answer after) in
+    (subst P is steps).1
+
+source_stops : (line : Line) (text : List ℕ) (done : Done) → words_of (line_content line) ≡ codes "source" ∷ []
+    → (here : List ℕ) × (more : List ℕ) × (next : Option ScriptWorld) × (text ≡ here ++ more) × ExplainsLine before_script (line_content line) here next
+    × MatchOption next ((more ≡ []) × (done ≡ Ended)) (λ world. Prints script_rules 1 world [] more done) → done ≡ Ended
+source_stops line text done words (here, more, next, is, (answer, after, steps, e, to), rest) =
+    ended_by done more next _ (to ∙ ap (option_map (after_answer before_script answer)) (opens_none (words_of (line_content line)) answer after words steps)) rest
+
+no_card_source : (line : Line) (text : List ℕ) (done : Done) → is_source_line line ≡ true → Prints script_rules 0 before_script (line ∷ []) text done → done ≡ Ended
+no_card_source line text done is answered =
+    let both = and_parts (nat_le (length line.octets) most_line_octets) (is_source (words_of (line_content line))) is in
+    let within : is_over 0 line ≡ false = le-ltb most_line_octets (length line.octets) (leb-true (length line.octets) most_line_octets both.0) in
+    source_stops line text done (source_word (words_of (line_content line)) both.1) (MatchBool-at_false _ _ within answered)
 
 -- Octets that are a front of an input that doesn't begin with the line `source` don't either, unless they are the word alone.
 module _ (octets needed later : List ℕ) (cut : octets ≡ needed ++ later) (none : source_after octets ≡ None) (text : List ℕ) (done : Done) (answered : IsScriptExplained needed text done) where
@@ -77,8 +99,11 @@ module _ (octets needed later : List ℕ) (cut : octets ≡ needed ++ later) (no
             let no : Some (source ++ later) ≡ None = sym (any (source ++ later)) ∙ ap source_after (sym whole) ∙ none in
             absurd cc
         | inr alone ↦
-            let word : needed ≡ codes "source" = begins.cut ∙ ap (λ (xs : List ℕ). begins.front ++ xs) alone.1 ∙ append-nil begins.front ∙ alone.0 in
-            let ends : done ≡ Ended = no_card_source text done (subst (λ (xs : List ℕ). IsScriptExplained xs text done) word answered) in
+            let word : needed ≡ begins.front = begins.cut ∙ ap (λ (xs : List ℕ). begins.front ++ xs) alone.1 ∙ append-nil begins.front in
+            let lines : lines_of needed ≡ last_line begins.front ∷ [] = ap (λ (xs : List ℕ). lines_of xs) word ∙ alone.2 in
+            let ends : done ≡ Ended =
+            no_card_source (last_line begins.front) text done alone.3
+            (subst (λ (lines : List Line). Prints script_rules 0 before_script lines text done) lines answered) in
             let empty = subst (λ (xs : List ℕ). IsSourceText xs empty-source_answer.0 Ended) (sym alone.1) empty-source_answer.1 in
             (empty-source_answer.0, subst (λ (d : Done). IsExplainText needed empty-source_answer.0 d) (sym ends) (of_source needed source empty-source_answer.0 Ended is empty))
       ]

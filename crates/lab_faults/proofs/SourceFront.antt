@@ -1,98 +1,249 @@
 -- The first line of an input.
-use Rattle.std.proofs.Common.{◌≡◌, ◌⊎◌, inl, inr, ℕ, ◌<◌, ◌≤◌, Bool, true, false, if◌then◌else◌, List, [], ◌∷◌, ◌++◌, Option, Some, None, codes, get_or, length, slice_set, take, drop, option_map, refl, sym, ap, ◌∙◌, subst, arith, append-nil, length-append}
-use Rattle.std.specs.Str.{bytes_eq}
-use Rattle.std.proofs.lemmas.Slice.Eq.{bytes_eq-Decides}
-use Rattle.std.proofs.lemmas.List.{take-append-drop, take-append-le, drop-append-le}
-use Rattle.lab_faults.specs.Explained.{source_after}
+use Rattle.std.proofs.Common.{◌≡◌, ◌≢◌, ◌⊎◌, inl, inr, ℕ, zero, suc, ◌+◌, ◌<◌, ◌≤◌, ◌==◌, ◌||◌, Bool, true, false, nat_le, if◌then◌else◌, List, [], ◌∷◌, ◌++◌, Option, Some, None, get_or, length, take, drop, option_map, refl, sym, ap, ◌∙◌, subst, arith, append-nil, append_assoc, length-append}
+use Rattle.std.proofs.lemmas.Bool.{and_left, eqb-true, lt-leb, ne_eqb, or_parts, or_right}
+use Rattle.std.proofs.lemmas.List.{drop-drop, drop_all, drop_at, drop_more, length-take-le, take-append-drop, take_at}
+use Rattle.text_io.specs.Limits.{most_line_octets}
+use Rattle.text_io.specs.Lines.{Line, begun_with, line_content, lines_of}
+use Rattle.text_io.specs.Words.{words_of}
+use Rattle.lab_faults.specs.Explained.{after_source, is_source, is_source_line, source_after}
+use Rattle.lab_faults.specs.inner.FirstLines.{HoldsFirstLine, has_feed}
 
--- The octets begin with this front, which is the line `source`, and this source follows.
+-- A line that a line feed ended, and one that the octets end.
+abbrev pub ended_line : List ℕ → Line
+ended_line octets = record { octets = octets; ended = true }
+
+abbrev pub last_line : List ℕ → Line
+last_line octets = record { octets = octets; ended = false }
+
+-- The lines of octets of which the first is a line feed, or not.
+abbrev begun : Bool → ℕ → List Line → List Line
+begun is_feed octet lines = if is_feed then ended_line [] ∷ lines else begun_with octet lines
+
+-- Octets up to a line feed are the first line.
+pub lines_fed : (line rest : List ℕ) → has_feed line ≡ false → lines_of (line ++ 10 ∷ rest) ≡ ended_line line ∷ lines_of rest
+lines_fed [] rest none = refl
+lines_fed (octet ∷ line) rest none =
+    let parts = or_parts (octet == 10) (has_feed line) none in
+    ap (λ (b : Bool). begun b octet (lines_of (line ++ 10 ∷ rest))) parts.0 ∙ ap (λ (lines : List Line). begun_with octet lines) (lines_fed line rest parts.1)
+
+-- Octets without a line feed are the last line.
+lines_last : (octet : ℕ) (line : List ℕ) → has_feed (octet ∷ line) ≡ false → lines_of (octet ∷ line) ≡ last_line (octet ∷ line) ∷ []
+lines_last octet [] none = ap (λ (b : Bool). begun b octet []) (or_parts (octet == 10) false none).0
+lines_last octet (next ∷ line) none =
+    let parts = or_parts (octet == 10) (has_feed (next ∷ line)) none in
+    ap (λ (b : Bool). begun b octet (lines_of (next ∷ line))) parts.0 ∙ ap (λ (lines : List Line). begun_with octet lines) (lines_last next line parts.1)
+
+-- The octets are a line that a line feed ends, and others.
+record Fed (octets : List ℕ) : Type 0 where
+  pub line : List ℕ
+  pub rest : List ℕ
+  pub cut : octets ≡ line ++ 10 ∷ rest
+  pub free : has_feed line ≡ false
+
+fed_from : (octet : ℕ) (octets : List ℕ) (b : Bool) → (octet == 10) ≡ b → (has_feed octets ≡ true → Fed octets) → has_feed (octet ∷ octets) ≡ true → Fed (octet ∷ octets)
+fed_from octet octets true is later some =
+    record { line = []; rest = octets; cut = ap (λ (n : ℕ). n ∷ octets) (eqb-true octet 10 is); free = refl }
+fed_from octet octets false is later some =
+    let fed = later (sym (ap (λ (b : Bool). b || has_feed octets) is) ∙ some) in
+    record {
+      line = octet ∷ fed.line;
+      rest = fed.rest;
+      cut = ap (λ (xs : List ℕ). octet ∷ xs) fed.cut;
+      free = ap (λ (b : Bool). b || has_feed fed.line) is ∙ fed.free;
+    }
+
+fed : (octets : List ℕ) → has_feed octets ≡ true → Fed octets
+fed [] some = let no = some in cc
+fed (octet ∷ octets) some = fed_from octet octets (octet == 10) refl (fed octets) some
+
+-- Octets without a line feed are a part of the first line.
+record Part (octets all : List ℕ) : Type 0 where
+  pub line : Line
+  pub lines : List Line
+  pub cut : lines_of all ≡ line ∷ lines
+  pub long : length octets ≤ length line.octets
+
+part_begun : (octet : ℕ) (lines : List Line) → (line : Line) × (more : List Line) × (begun_with octet lines ≡ line ∷ more) × (1 ≤ length line.octets)
+part_begun octet [] = (last_line (octet ∷ []), [], refl, omega arith)
+part_begun octet (line ∷ lines) = (record { octets = octet ∷ line.octets; ended = line.ended }, lines, refl, omega arith)
+
+part : (octet : ℕ) (octets rest : List ℕ) → has_feed (octet ∷ octets) ≡ false → Part (octet ∷ octets) (octet ∷ (octets ++ rest))
+part octet [] rest none =
+    let here = part_begun octet (lines_of rest) in
+    record {
+      line = here.0;
+      lines = here.1;
+      cut = ap (λ (b : Bool). begun b octet (lines_of rest)) (or_parts (octet == 10) false none).0 ∙ here.2;
+      long = here.3;
+    }
+part octet (next ∷ octets) rest none =
+    let parts = or_parts (octet == 10) (has_feed (next ∷ octets)) none in
+    let after = part next octets rest parts.1 in
+    record {
+      line = record { octets = octet ∷ after.line.octets; ended = after.line.ended };
+      lines = after.lines;
+      cut = ap (λ (b : Bool). begun b octet (lines_of (next ∷ (octets ++ rest)))) parts.0 ∙ ap (λ (lines : List Line). begun_with octet lines) after.cut;
+      long = omega (arith, after.long);
+    }
+
+-- What a first line leaves, if it is `source`.
+abbrev left_by : Line → List ℕ → Option (List ℕ)
+left_by first rest = if is_source_line first then Some rest else None
+
+drop_line : (line rest : List ℕ) → drop (length line + 1) (line ++ 10 ∷ rest) ≡ rest
+drop_line line rest =
+    let sized : length (line ++ 10 ∷ []) ≡ length line + 1 = length-append line (10 ∷ []) in
+    ap (λ (xs : List ℕ). drop (length line + 1) xs) (sym (append_assoc line (10 ∷ []) rest)) ∙ drop_at (line ++ 10 ∷ []) rest (length line + 1) sized
+
+pub source_fed : (line rest : List ℕ) → has_feed line ≡ false → source_after (line ++ 10 ∷ rest) ≡ left_by (ended_line line) rest
+unfolding source_after
+source_fed line rest free =
+    ap (λ (lines : List Line). after_source (line ++ 10 ∷ rest) lines) (lines_fed line rest free)
+    ∙ ap (λ (xs : List ℕ). left_by (ended_line line) xs) (drop_line line rest)
+
+pub source_alone : (octet : ℕ) (octets : List ℕ) → has_feed (octet ∷ octets) ≡ false → source_after (octet ∷ octets) ≡ left_by (last_line (octet ∷ octets)) []
+unfolding source_after
+source_alone octet octets none =
+    ap (λ (lines : List Line). after_source (octet ∷ octets) lines) (lines_last octet octets none)
+    ∙ ap (λ (xs : List ℕ). left_by (last_line (octet ∷ octets)) xs) (drop_all (length (octet ∷ octets) + 1) (octet ∷ octets) (omega arith))
+
+pub source_none : source_after [] ≡ None
+unfolding source_after
+source_none = refl
+
+-- A line over the limit isn't `source`.
+long_line : (first : Line) (rest : List ℕ) → most_line_octets < length first.octets → left_by first rest ≡ None
+long_line first rest long =
+    ap (λ (b : Bool). if b then Some rest else None)
+    (and_left (nat_le (length first.octets) most_line_octets) (is_source (words_of (line_content first))) (lt-leb (length first.octets) most_line_octets long))
+
+source_long : (octets rest : List ℕ) → has_feed octets ≡ false → most_line_octets < length octets → source_after (octets ++ rest) ≡ None
+unfolding source_after
+source_long [] rest none long = absurd (omega (arith, long))
+source_long (octet ∷ octets) rest none long =
+    let first = part octet octets rest none in
+    let all = octet ∷ (octets ++ rest) in
+    ap (λ (lines : List Line). after_source all lines) first.cut
+    ∙ long_line first.line (drop (length first.line.octets + 1) all) (omega (arith, long, first.long))
+
+-- The octets begin with this front, which is the line `source`, and this source follows. Without its line feed, the line is all.
 pub record SourceFront (octets source : List ℕ) : Type 0 where
   pub front : List ℕ
   pub cut : octets ≡ front ++ source
-  pub starts : ((x : List ℕ) → source_after (front ++ x) ≡ Some x) ⊎ ((front ≡ codes "source") × (source ≡ []))
+  pub starts : ((x : List ℕ) → source_after (front ++ x) ≡ Some x)
+      ⊎ ((source_after front ≡ Some []) × (source ≡ []) × (lines_of front ≡ last_line front ∷ []) × (is_source_line (last_line front) ≡ true))
 
-line_feed_after : (x : List ℕ) → source_after (codes "source\n" ++ x) ≡ Some x
-unfolding source_after
-line_feed_after x = refl
-
-return_after : (x : List ℕ) → source_after (codes "source\r\n" ++ x) ≡ Some x
-unfolding source_after
-return_after x = refl
-
--- The octets begin with these.
-begins_so : (size : ℕ) (octets front : List ℕ) → bytes_eq (take size octets) front ≡ true → octets ≡ front ++ drop size octets
-begins_so size octets front is = sym (take-append-drop size octets) ∙ ap (λ (xs : List ℕ). xs ++ drop size octets) ((bytes_eq-Decides (take size octets) front).0 is)
-
--- What the three tests choose.
-abbrev chosen : Bool → List ℕ → Bool → List ℕ → Bool → Option (List ℕ)
-chosen first one second other third = if first then Some one else (if second then Some other else (if third then Some [] else None))
-
-front_of : (octets source : List ℕ) (first second third : Bool) → bytes_eq (take 7 octets) (codes "source\n") ≡ first
-    → bytes_eq (take 8 octets) (codes "source\r\n") ≡ second → bytes_eq octets (codes "source") ≡ third
-    → chosen first (drop 7 octets) second (drop 8 octets) third ≡ Some source → SourceFront octets source
-front_of octets source true second third p q r e =
-    let is : drop 7 octets ≡ source = cc in
-    record { front = codes "source\n"; cut = begins_so 7 octets (codes "source\n") p ∙ ap (λ (xs : List ℕ). codes "source\n" ++ xs) is; starts = inl line_feed_after }
-front_of octets source false true third p q r e =
-    let is : drop 8 octets ≡ source = cc in
-    record { front = codes "source\r\n"; cut = begins_so 8 octets (codes "source\r\n") q ∙ ap (λ (xs : List ℕ). codes "source\r\n" ++ xs) is; starts = inl return_after }
-front_of octets source false false true p q r e =
-    let is : [] ≡ source = cc in
+front_fed : (octets source : List ℕ) (it : Fed octets) (b : Bool) → is_source_line (ended_line it.line) ≡ b → source_after octets ≡ Some source → SourceFront octets source
+front_fed octets source it false is e =
+    let no : None ≡ Some source =
+    sym (ap (λ (xs : List ℕ). source_after xs) it.cut ∙ source_fed it.line it.rest it.free ∙ ap (λ (b : Bool). if b then Some it.rest else None) is) ∙ e in
+    absurd cc
+front_fed octets source it true is e =
+    let same : Some it.rest ≡ Some source =
+    sym (ap (λ (xs : List ℕ). source_after xs) it.cut ∙ source_fed it.line it.rest it.free ∙ ap (λ (b : Bool). if b then Some it.rest else None) is) ∙ e in
+    let left : it.rest ≡ source = cc in
     record {
-      front = codes "source";
-      cut = (bytes_eq-Decides octets (codes "source")).0 r ∙ sym (append-nil (codes "source")) ∙ ap (λ (xs : List ℕ). codes "source" ++ xs) is;
-      starts = inr (refl, sym is);
+      front = it.line ++ 10 ∷ [];
+      cut = it.cut ∙ sym (append_assoc it.line (10 ∷ []) it.rest) ∙ ap (λ (xs : List ℕ). (it.line ++ 10 ∷ []) ++ xs) left;
+      starts = inl
+          (λ x. ap (λ (xs : List ℕ). source_after xs) (append_assoc it.line (10 ∷ []) x) ∙ source_fed it.line x it.free
+          ∙ ap (λ (b : Bool). if b then Some x else None) is);
     }
-front_of octets source false false false p q r e = let no = e in cc
+
+front_alone : (octet : ℕ) (octets source : List ℕ) (b : Bool) → has_feed (octet ∷ octets) ≡ false → is_source_line (last_line (octet ∷ octets)) ≡ b
+    → source_after (octet ∷ octets) ≡ Some source → SourceFront (octet ∷ octets) source
+front_alone octet octets source false none is e =
+    let no : None ≡ Some source = sym (source_alone octet octets none ∙ ap (λ (b : Bool). if b then Some [] else None) is) ∙ e in
+    absurd cc
+front_alone octet octets source true none is e =
+    let alone : source_after (octet ∷ octets) ≡ Some [] = source_alone octet octets none ∙ ap (λ (b : Bool). if b then Some [] else None) is in
+    let same : Some [] ≡ Some source = sym alone ∙ e in
+    let left : [] ≡ source = cc in
+    record {
+      front = octet ∷ octets;
+      cut = sym (append-nil (octet ∷ octets)) ∙ ap (λ (xs : List ℕ). (octet ∷ octets) ++ xs) left;
+      starts = inr (alone, sym left, lines_last octet octets none, is);
+    }
+
+front_by : (octets source : List ℕ) (b : Bool) → has_feed octets ≡ b → source_after octets ≡ Some source → SourceFront octets source
+front_by octets source true some e =
+    let it = fed octets some in
+    front_fed octets source it (is_source_line (ended_line it.line)) refl e
+front_by [] source false none e = let no : None ≡ Some source = sym source_none ∙ e in absurd cc
+front_by (octet ∷ octets) source false none e = front_alone octet octets source (is_source_line (last_line (octet ∷ octets))) none refl e
 
 -- What follows the line `source`.
 pub source_front : (octets source : List ℕ) → source_after octets ≡ Some source → SourceFront octets source
-unfolding source_after
-source_front octets source e =
-    front_of octets source (bytes_eq (take 7 octets) (codes "source\n")) (bytes_eq (take 8 octets) (codes "source\r\n")) (bytes_eq octets (codes "source")) refl refl refl e
+source_front octets source e = front_by octets source (has_feed octets) refl e
 
--- Eight octets decide.
-longer : (octets : List ℕ) (b : Bool) → 8 ≤ length octets → bytes_eq octets (codes "source") ≡ b → b ≡ false
-longer octets false sized is = refl
-longer octets true sized is =
-    let same : length octets ≡ 6 = ap length ((bytes_eq-Decides octets (codes "source")).0 is) in absurd (omega (arith, same, sized))
+left_more : (b : Bool) (xs rest : List ℕ) → (if b then Some (xs ++ rest) else None) ≡ option_map (λ (xs : List ℕ). xs ++ rest) (if b then Some xs else None)
+left_more true xs rest = refl
+left_more false xs rest = refl
 
 option_append : (found : Option (List ℕ)) → option_map (λ (xs : List ℕ). xs ++ []) found ≡ found
 option_append None = refl
 option_append (Some xs) = ap (λ (ys : List ℕ). Some ys) (append-nil xs)
 
-more_after : (front rest : List ℕ) (first second : Bool) → chosen first (drop 7 front ++ rest) second (drop 8 front ++ rest) false ≡ option_map (λ (xs : List ℕ). xs ++ rest) (chosen first (drop 7 front) second (drop 8 front) false)
-more_after front rest true second = refl
-more_after front rest false true = refl
-more_after front rest false false = refl
+-- The first line decides.
+line_decides : (front rest : List ℕ) (b : Bool) → has_feed front ≡ b → HoldsFirstLine front → source_after (front ++ rest) ≡ option_map (λ (xs : List ℕ). xs ++ rest) (source_after front)
+line_decides front rest true some held =
+    let it = fed front some in
+    ap (λ (xs : List ℕ). source_after (xs ++ rest)) it.cut ∙ ap (λ (xs : List ℕ). source_after xs) (append_assoc it.line (10 ∷ it.rest) rest)
+    ∙ source_fed it.line (it.rest ++ rest) it.free ∙ left_more (is_source_line (ended_line it.line)) it.rest rest
+    ∙ ap (λ (found : Option (List ℕ)). option_map (λ (xs : List ℕ). xs ++ rest) found) (sym (ap (λ (xs : List ℕ). source_after xs) it.cut ∙ source_fed it.line it.rest it.free))
+line_decides front rest false none (inl some) = let no : false ≡ true = sym none ∙ some in absurd cc
+line_decides front rest false none (inr long) =
+    let alone : source_after front ≡ None = ap (λ (xs : List ℕ). source_after xs) (sym (append-nil front)) ∙ source_long front [] none long in
+    source_long front rest none long ∙ ap (λ (found : Option (List ℕ)). option_map (λ (xs : List ℕ). xs ++ rest) found) (sym alone)
 
-eight_decide : (front rest : List ℕ) → 8 ≤ length front → source_after (front ++ rest) ≡ option_map (λ (xs : List ℕ). xs ++ rest) (source_after front)
-unfolding source_after
-eight_decide front rest sized =
-    let seven : 7 ≤ length front = omega arith in
-    let whole : 8 ≤ length (front ++ rest) = omega (arith, length-append front rest) in
-    let first = bytes_eq (take 7 front) (codes "source\n") in
-    let second = bytes_eq (take 8 front) (codes "source\r\n") in
-    let after = front ++ rest in
-    ap (λ (xs : List ℕ). chosen (bytes_eq xs (codes "source\n")) (drop 7 after) (bytes_eq (take 8 after) (codes "source\r\n")) (drop 8 after) (bytes_eq after (codes "source"))) (take-append-le 7 front rest seven)
-    ∙ ap (λ (xs : List ℕ). chosen first (drop 7 after) (bytes_eq xs (codes "source\r\n")) (drop 8 after) (bytes_eq after (codes "source"))) (take-append-le 8 front rest sized)
-    ∙ ap (λ (xs : List ℕ). chosen first xs second (drop 8 after) (bytes_eq after (codes "source"))) (drop-append-le 7 front rest seven)
-    ∙ ap (λ (xs : List ℕ). chosen first (drop 7 front ++ rest) second xs (bytes_eq after (codes "source"))) (drop-append-le 8 front rest sized)
-    ∙ ap (λ (b : Bool). chosen first (drop 7 front ++ rest) second (drop 8 front ++ rest) b) (longer after (bytes_eq after (codes "source")) whole refl)
-    ∙ more_after front rest first second
-    ∙ ap (λ (b : Bool). option_map (λ (xs : List ℕ). xs ++ rest) (chosen first (drop 7 front) second (drop 8 front) b)) (sym (longer front (bytes_eq front (codes "source")) sized refl))
-
--- Eight octets of an input, or all of it, decide whether it begins with the line `source`.
-pub ahead_decides : (front rest : List ℕ) → (8 ≤ length front) ⊎ (rest ≡ []) → source_after (front ++ rest) ≡ option_map (λ (xs : List ℕ). xs ++ rest) (source_after front)
-ahead_decides front rest (inl sized) = eight_decide front rest sized
+-- The first line of an input, or all of it, decides whether it begins with the line `source`.
+pub ahead_decides : (front rest : List ℕ) → HoldsFirstLine front ⊎ (rest ≡ []) → source_after (front ++ rest) ≡ option_map (λ (xs : List ℕ). xs ++ rest) (source_after front)
+ahead_decides front rest (inl held) = line_decides front rest (has_feed front) refl held
 ahead_decides front rest (inr none) =
     let P : List ℕ → Type 0 = λ (rest : List ℕ). source_after (front ++ rest) ≡ option_map (λ (xs : List ℕ). xs ++ rest) (source_after front) in
     subst P (sym none) (ap source_after (append-nil front) ∙ sym (option_append (source_after front)))
 
--- The first of the octets that were looked at, in the first place of a room.
-pub taken : (front room others rest : List ℕ) (first or : ℕ) → 0 < length front → 0 < length room → first ≡ get_or front 0 or → others ≡ take 0 front ++ drop 1 front
-    → front ++ rest ≡ take 1 (slice_set room 0 first) ++ (others ++ rest)
-taken [] room others rest first or some wide is left = absurd (omega arith)
-taken (octet ∷ more) [] others rest first or some wide is left = absurd (omega arith)
-taken (octet ∷ more) (place ∷ room) others rest first or some wide is left =
-    ap (λ (n : ℕ). n ∷ (more ++ rest)) (sym is) ∙ ap (λ (xs : List ℕ). first ∷ (xs ++ rest)) (sym left)
+-- Places of line feeds.
+pub feed_there : (octets : List ℕ) (at : ℕ) → at < length octets → get_or octets at 0 ≡ 10 → has_feed octets ≡ true
+feed_there [] at within is = absurd (omega (arith, within))
+feed_there (octet ∷ octets) zero within is = ap (λ (n : ℕ). (n == 10) || has_feed octets) is
+feed_there (octet ∷ octets) (suc at) within is = or_right (octet == 10) (has_feed octets) (feed_there octets at (omega (arith, within)) is)
+
+pub feed_nowhere : (octets : List ℕ) → ((k : ℕ) → k < length octets → get_or octets k 0 ≢ 10) → has_feed octets ≡ false
+feed_nowhere [] none = refl
+feed_nowhere (octet ∷ octets) none =
+    ap (λ (b : Bool). b || has_feed octets) (ne_eqb octet 10 (none 0 (omega arith))) ∙ feed_nowhere octets (λ k within. none (suc k) (omega (arith, within)))
+
+pub feed_last : (octets : List ℕ) (octet : ℕ) → octet ≡ 10 → has_feed (octets ++ octet ∷ []) ≡ true
+feed_last [] octet is = ap (λ (n : ℕ). (n == 10) || false) is
+feed_last (first ∷ octets) octet is = or_right (first == 10) (has_feed (octets ++ octet ∷ [])) (feed_last octets octet is)
+
+-- No line feed comes before the first.
+free_before : (octets : List ℕ) (at : ℕ) → at < length octets → ((k : ℕ) → k < at → get_or octets k 0 ≢ 10) → has_feed (take at octets) ≡ false
+free_before [] at within none = absurd (omega (arith, within))
+free_before (octet ∷ octets) zero within none = refl
+free_before (octet ∷ octets) (suc at) within none =
+    ap (λ (b : Bool). b || has_feed (take at octets)) (ne_eqb octet 10 (none 0 (omega arith)))
+    ∙ free_before octets at (omega (arith, within)) (λ k less. none (suc k) (omega (arith, less)))
+
+-- What the first line leaves, by the place of its line feed.
+pub source_at : (octets : List ℕ) (at : ℕ) → at < length octets → get_or octets at 0 ≡ 10 → ((k : ℕ) → k < at → get_or octets k 0 ≢ 10)
+    → source_after octets ≡ left_by (ended_line (take at octets)) (drop (at + 1) octets)
+source_at octets at within feed before =
+    let cut : octets ≡ take at octets ++ 10 ∷ drop (at + 1) octets =
+    sym (take-append-drop at octets) ∙ ap (λ (xs : List ℕ). take at octets ++ xs) (drop_more octets at 0 within ∙ ap (λ (n : ℕ). n ∷ drop (at + 1) octets) feed) in
+    ap (λ (xs : List ℕ). source_after xs) cut ∙ source_fed (take at octets) (drop (at + 1) octets) (free_before octets at within before)
+
+-- And if it has none.
+pub source_whole : (octets : List ℕ) → ((k : ℕ) → k < length octets → get_or octets k 0 ≢ 10) → source_after octets ≡ left_by (last_line octets) []
+source_whole [] none = source_none
+source_whole (octet ∷ octets) none = source_alone octet octets (feed_nowhere (octet ∷ octets) none)
+
+-- Octets that were looked at, in the first places of a room.
+pub taken : (octets copy others later : List ℕ) (given count : ℕ) → count ≤ length (drop given octets) → copy ≡ take count (drop given octets)
+    → drop given octets ++ later ≡ take count (copy ++ others) ++ (drop (given + count) octets ++ later)
+taken octets copy others later given count within is =
+    let sized : length copy ≡ count = ap length is ∙ length-take-le count (drop given octets) within in
+    ap (λ (xs : List ℕ). xs ++ later) (sym (take-append-drop count (drop given octets))) ∙ append_assoc (take count (drop given octets)) (drop count (drop given octets)) later
+    ∙ ap (λ (xs : List ℕ). xs ++ (drop count (drop given octets) ++ later)) (sym is) ∙ ap (λ (xs : List ℕ). copy ++ (xs ++ later)) (drop-drop count given octets)
+    ∙ ap (λ (xs : List ℕ). xs ++ (drop (given + count) octets ++ later)) (sym (take_at copy others count sized))

@@ -1,6 +1,6 @@
--- The output of `upc-lab explain`. If the first line of the input is the word `source`, the rest is a source of assembly, and the
+-- The output of `upc-lab explain`. If the only word of the first line is `source`, the rest is a source of assembly, and the
 -- answer is the fault that `upc check` finds, and an explanation of it, or that there is none. Otherwise the input is a script.
-use Rattle.std.specs.Prelude.{◌≡◌, ◌⊎◌, ℕ, Bool, true, false, if◌then◌else◌, List, [], ◌++◌, take, drop, length, codes, decimal, Option, Some, None, MatchOption}
+use Rattle.std.specs.Prelude.{◌≡◌, ◌⊎◌, ℕ, ◌+◌, Bool, true, false, nat_le, ◌&&◌, if◌then◌else◌, List, [], ◌∷◌, ◌++◌, drop, length, codes, decimal, Option, Some, None, MatchOption}
 use Rattle.std.specs.Str.{bytes_eq}
 use Rattle.bpf_asm.specs.Faults.{IsFault}
 use Rattle.bpf_asm.specs.Meaning.{IsMeaning}
@@ -15,6 +15,9 @@ use Rattle.lab_faults.specs.Hints.{hints_of}
 use Rattle.lab_faults.specs.SourceReasons.{source_explanation}
 use Rattle.lab_scripts.specs.ScriptText.{IsScriptExplained}
 use Rattle.text_io.specs.Gathered.{gathered}
+use Rattle.text_io.specs.Limits.{most_line_octets}
+use Rattle.text_io.specs.Lines.{Line, line_content, lines_of}
+use Rattle.text_io.specs.Words.{words_of}
 use Rattle.text_io.specs.declared.ending.Done.{Done}
 use Rattle.text_io.specs.declared.ending.Done.TheVariants.{Whole, Ended}
 use Rattle.upc_codes.specs.CodeFaults.{verify_fault}
@@ -22,12 +25,24 @@ use Rattle.upc_programs.specs.Check.{most_source_octets}
 use Rattle.upc_programs.specs.SourceFaults.{asm_fault}
 use Rattle.upc_words.specs.FaultLines.{line, too_long}
 
--- The octets after the first line, if that is the word `source`.
+-- Whether these words are the word `source` alone.
+abbrev pub is_source : List (List ℕ) → Bool
+is_source [] = false
+is_source (word ∷ []) = bytes_eq word (codes "source")
+is_source (word ∷ other ∷ words) = false
+
+-- Whether the only word of a line is `source`, and the line is within the limit of a script's.
+abbrev pub is_source_line : Line → Bool
+is_source_line first = nat_le (length first.octets) most_line_octets && is_source (words_of (line_content first))
+
+-- The octets after the first of their lines, if its only word is `source`.
+abbrev pub after_source : List ℕ → List Line → Option (List ℕ)
+after_source octets [] = None
+after_source octets (first ∷ lines) = if is_source_line first then Some (drop (length first.octets + 1) octets) else None
+
+-- The octets after the first line, if its only word is `source`.
 unfoldable pub source_after : List ℕ → Option (List ℕ)
-source_after octets =
-    if bytes_eq (take 7 octets) (codes "source\n") then Some (drop 7 octets) else
-    (if bytes_eq (take 8 octets) (codes "source\r\n") then Some (drop 8 octets) else
-    (if bytes_eq octets (codes "source") then Some [] else None))
+source_after octets = after_source octets (lines_of octets)
 
 -- What is left of an input that begins with the line `source`, or not, once that line was read.
 abbrev pub PassesSource : Bool → List ℕ → List ℕ → Type 0

@@ -1,17 +1,23 @@
 //! An input whose first line is looked at before the rest is read.
 
-ghost use Rattle.std.specs.Prelude.{◌≡◌, ◌≢◌, ◌≤◌, ◌++◌, ◌⊎◌, [], length, option_map, Err, IfOk, OnOk};
+ghost use Rattle.std.specs.Prelude.{◌≡◌, ◌≢◌, ◌++◌, ◌⊎◌, ◌&&◌, [], drop, length, nat_le, option_map, Err, IfOk, OnOk};
 ghost use Rattle.text_io.specs.Failures.{read_failures};
-ghost use Rattle.lab_faults.specs.Explained.{PassesSource, source_after};
+ghost use Rattle.text_io.specs.Limits.{most_line_octets};
+ghost use Rattle.text_io.specs.Words.{words_of};
+ghost use Rattle.lab_faults.specs.Explained.{PassesSource, is_source, source_after};
+ghost use Rattle.lab_faults.specs.inner.FirstLines.{HoldsFirstLine};
 
-use crate::tokens::{after, front};
+use crate::tokens::after;
 use std::alloc::{AllocError, Global};
-use text_io::{Failed, Input, RunFault};
+use text_io::{Failed, Input, RunFault, before_return, first_feed, first_word};
+
+/// The maximum number of octets of a line, as in a script.
+const MOST_LINE_OCTETS: usize = 70000;
 
 /// An input that can be asked for its first line.
 pub trait Ahead: Input {
-    /// Reads the line `source`, if the octets that are left begin with it, and returns whether they do. Otherwise all octets are
-    /// left, although up to eight may have been read from the device.
+    /// Reads the first line, if its only word is `source`, and returns whether it is. Otherwise all octets are left, although the
+    /// first line was read from the device.
     ///
     /// # Errors
     ///
@@ -26,8 +32,10 @@ pub trait Ahead: Input {
 #[derive(Drop)]
 pub struct LookedAt<I> {
     alloc: Global,
-    /// The octets that come before those of the input.
+    /// Octets that were read from the input.
     front: Vec<u8>,
+    /// How many of them were given on.
+    given: usize,
     /// The input that is read.
     pub input: I,
 }
@@ -39,11 +47,13 @@ impl<I> LookedAt<I> {
     // no edit: it puts its arguments together
     pub fn new(alloc: Global, input: I) -> LookedAt<I>
         ensures front { result.front.items ≡ [] }
+        ensures given { result.given ≡ 0 }
         ensures input { result.input ≡ input }
     {
         LookedAt {
             alloc,
             front: Vec::new(alloc),
+            given: 0,
             input,
         }
     }
@@ -52,30 +62,34 @@ impl<I> LookedAt<I> {
 impl<I: Input> Input for LookedAt<I> {
     ghost is_known = { I.is_known };
 
-    ghost rest = { λ it. it.front.items ++ I.rest it.input };
+    ghost rest = { λ it. drop it.given it.front.items ++ I.rest it.input };
 
     ghost failures = { λ it. I.failures it.input };
 
     fn take(&mut self, room: &mut [u8]) -> Result<usize, Failed> {
-        if self.front.is_empty() {
+        let left = after(&self.front, self.given);
+        if left.is_empty() {
             return self.input.take(room);
         }
-        if room.is_empty() {
-            return Ok(0);
-        }
-        room[0] = self.front.remove(0);
-        Ok(1)
+        let count = left.len().min(room.len());
+        room[..count].copy_from_slice(&left[..count]);
+        self.given += count;
+        Ok(count)
     }
 }
 
-/// Reads octets until there are eight, or the input has ended.
+/// Reads octets until they hold the whole first line or more of it than a line may have, or the input has ended.
 fn look<I: Input>(input: &mut I, octets: &mut Vec<u8>) -> Result<(), RunFault>
     ensures same { I.is_known → OnOk result (octets.new.items ++ I.rest input.new ≡ octets.old.items ++ I.rest input.old) }
-    ensures enough { I.is_known → OnOk result ((8 ≤ length octets.new.items) ⊎ (I.rest input.new ≡ [])) }
+    ensures enough { I.is_known → OnOk result (HoldsFirstLine octets.new.items ⊎ (I.rest input.new ≡ [])) }
     ensures reading { I.failures input.new ≡ read_failures result (I.failures input.old) }
     ensures fault { result ≢ Err RunFault.WriteFailed }
 {
-    while octets.len() < 8 {
+    match first_feed(octets, 0) {
+        Some(_) => return Ok(()),
+        None => {}
+    }
+    while octets.len() <= MOST_LINE_OCTETS {
         let mut room = [0u8; 1];
         match input.take(&mut room) {
             Err(_) => return Err(RunFault::ReadFailed),
@@ -84,27 +98,52 @@ fn look<I: Input>(input: &mut I, octets: &mut Vec<u8>) -> Result<(), RunFault>
                 if octets.push(room[0]).is_err() {
                     return Err(RunFault::NoMemory);
                 }
+                if room[0] == b'\n' {
+                    return Ok(());
+                }
             }
         }
     }
     Ok(())
 }
 
-/// Returns the octets after the first line, if that is the word `source`.
-#[tactic(auto, unfolding(crate::specs::Explained::source_after))]
-fn source_after(octets: &[u8]) -> Option<&[u8]>
-    ensures { option_map (λ source. source.now) result ≡ source_after octets.now }
+/// Returns whether the only word of a line is `source`.
+fn is_source(line: &[u8]) -> bool
+    ensures { result ≡ is_source (words_of line.now) }
 {
-    if front(octets, 7) == b"source\n".as_slice() {
-        return Some(after(octets, 7));
+    match first_word(line) {
+        None => false,
+        Some((word, rest)) => word == b"source".as_slice() && first_word(rest).is_none(),
     }
-    if front(octets, 8) == b"source\r\n".as_slice() {
-        return Some(after(octets, 8));
-    }
-    if octets == b"source".as_slice() {
-        Some(&[])
-    } else {
-        None
+}
+
+/// Returns whether a line of these octets is within the limit, and the only word of its content is `source`.
+fn is_source_line(octets: &[u8], content: &[u8]) -> bool
+    ensures { result ≡ (nat_le (length octets.now) most_line_octets && is_source (words_of content.now)) }
+{
+    octets.len() <= MOST_LINE_OCTETS && is_source(content)
+}
+
+/// Returns the number of octets of the first line and its line feed, if its only word is `source`.
+fn source_line(octets: &[u8]) -> Option<usize>
+    ensures { option_map (λ size. drop size octets.now) result ≡ source_after octets.now }
+{
+    match first_feed(octets, 0) {
+        Some(at) => {
+            let line = &octets[..at];
+            if is_source_line(line, before_return(line)) {
+                Some(at + 1)
+            } else {
+                None
+            }
+        }
+        None => {
+            if is_source_line(octets, octets) {
+                Some(octets.len())
+            } else {
+                None
+            }
+        }
     }
 }
 
@@ -119,16 +158,18 @@ fn copied(alloc: Global, octets: &[u8]) -> Result<Vec<u8>, AllocError>
 
 impl<I: Input> Ahead for LookedAt<I> {
     fn pass_source(&mut self) -> Result<bool, RunFault> {
+        let Ok(left) = copied(self.alloc, after(&self.front, self.given)) else {
+            return Err(RunFault::NoMemory);
+        };
+        self.front = left;
+        self.given = 0;
         look(&mut self.input, &mut self.front)?;
-        match source_after(&self.front) {
+        match source_line(&self.front) {
             None => Ok(false),
-            Some(left) => match copied(self.alloc, left) {
-                Err(_) => Err(RunFault::NoMemory),
-                Ok(left) => {
-                    self.front = left;
-                    Ok(true)
-                }
-            },
+            Some(size) => {
+                self.given = size;
+                Ok(true)
+            }
         }
     }
 }

@@ -286,7 +286,7 @@ fn fitting(text: &[u8], slots: &[Slot], tokens: &[FoundToken]) -> usize
     count
 }
 
-/// Returns how many of the first tokens fit the shape of a mnemonic that most of them fit.
+/// Returns the length of the longest prefix of the tokens that fits a shape of a mnemonic.
 pub(crate) fn most_fitting(text: &[u8], form: Form, tokens: &[FoundToken]) -> usize
     ensures { result ≡ most_fitting text.now (shapes_of form) tokens.now }
 {

@@ -50,7 +50,7 @@ fn next_marked(marks: &[bool], at: usize, instr: Instr) -> Option<usize>
     }
 }
 
-/// Marks a place if it leads to a marked one in a step that stores nothing into the word.
+/// Marks a place that reaches a marked one without storing the word.
 fn mark(code: &[Instr], word: u32, at: usize, marks: &mut [bool], place: usize)
     requires sized { length code.now ≤ 4096 }
     requires within { at < length code.now }

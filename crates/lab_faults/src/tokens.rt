@@ -134,7 +134,7 @@ pub(crate) fn tokens_of(alloc: Global, text: &[u8]) -> Result<Vec<FoundToken>, A
 }
 
 /// Returns the first octets of a text, at most this many.
-pub(crate) fn front(text: &[u8], size: usize) -> &[u8]
+fn front(text: &[u8], size: usize) -> &[u8]
     ensures { result.now ≡ take size text.now }
 {
     if size < text.len() {

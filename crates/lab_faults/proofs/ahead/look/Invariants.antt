@@ -9,4 +9,4 @@ invariant-loop-room g l = record {
 }
 
 abbrev pub decreases-loop-room : goal.decreases-loop-room
-decreases-loop-room g l = 8 - length l.octets.items
+decreases-loop-room g l = 70001 - length l.octets.items

@@ -1,5 +1,5 @@
--- Eight octets, or the whole input, decide.
-use Rattle.std.proofs.Common.{◌≡◌, ◌++◌, ℕ, List, None, Some, option_map, ap, sym, ◌∙◌}
+-- The first line, or the whole input, decides.
+use Rattle.std.proofs.Common.{◌≡◌, ◌++◌, ℕ, List, None, Some, drop, option_map, ap, sym, ◌∙◌}
 use Rattle.lab_faults.specs.Explained.{source_after}
 use Rattle.lab_faults.proofs.SourceFront.{ahead_decides}
 use Rattle.lab_faults.proofs.ahead.LookedAtAhead.pass_source.Goals as goal
@@ -8,16 +8,19 @@ pub returns-in-None-clause-octets : goal.returns-in-None-clause-octets
 returns-in-None-clause-octets g c = λ known.
     let front = c.look.new.octets.items in
     let rest = g.I.Input.rest c.look.new.input in
-    let same = c.in_ok-look.ensures.same known in
-    let found : source_after front ≡ None = sym (c.in-None.ensures ∙ ap source_after c.deref.ensures.value) in
-    (ap source_after (sym same) ∙ ahead_decides front rest (c.in_ok-look.ensures.enough known) ∙ ap (option_map (λ (xs : List ℕ). xs ++ rest)) found, same)
+    let before = g.I.Input.rest c.args.self.now.input in
+    let start = c.in-Ok.ensures ∙ c.after.ensures ∙ ap (λ (xs : List ℕ). drop c.args.self.now.given xs) c.deref.ensures.value in
+    let whole = c.in_ok-look.ensures.same known ∙ ap (λ (xs : List ℕ). xs ++ before) start in
+    let found : source_after front ≡ None = sym (c.in-None.ensures ∙ ap source_after c.deref-2.ensures.value) in
+    (ap source_after (sym whole) ∙ ahead_decides front rest (c.in_ok-look.ensures.enough known) ∙ ap (option_map (λ (xs : List ℕ). xs ++ rest)) found, whole)
 
-pub returns-in-Ok-clause-octets : goal.returns-in-Ok-clause-octets
-returns-in-Ok-clause-octets g c = λ known.
+pub returns-in-Some-clause-octets : goal.returns-in-Some-clause-octets
+returns-in-Some-clause-octets g c = λ known.
     let front = c.look.new.octets.items in
     let rest = g.I.Input.rest c.look.new.input in
-    let same = c.in_ok-look.ensures.same known in
-    let left = c.in-Some.left.now in
-    let found : source_after front ≡ Some left = sym (c.in-Some.ensures ∙ ap source_after c.deref.ensures.value) in
-    ap source_after (sym same) ∙ ahead_decides front rest (c.in_ok-look.ensures.enough known) ∙ ap (option_map (λ (xs : List ℕ). xs ++ rest)) found
-    ∙ ap (λ (xs : List ℕ). Some (xs ++ rest)) (sym c.in-Ok.ensures)
+    let before = g.I.Input.rest c.args.self.now.input in
+    let start = c.in-Ok.ensures ∙ c.after.ensures ∙ ap (λ (xs : List ℕ). drop c.args.self.now.given xs) c.deref.ensures.value in
+    let whole = c.in_ok-look.ensures.same known ∙ ap (λ (xs : List ℕ). xs ++ before) start in
+    let found : source_after front ≡ Some (drop c.in-Some.size front) =
+    sym (c.in-Some.ensures ∙ ap source_after c.deref-2.ensures.value) ∙ ap (λ (xs : List ℕ). Some (drop c.in-Some.size xs)) c.deref-2.ensures.value in
+    ap source_after (sym whole) ∙ ahead_decides front rest (c.in_ok-look.ensures.enough known) ∙ ap (option_map (λ (xs : List ℕ). xs ++ rest)) found
