@@ -21,7 +21,7 @@ pub(crate) struct Subject {
     pub mask: Option<u32>,
 }
 
-/// The field of the header that a name is at this side.
+/// The field of the header that this name denotes at this side.
 pub(crate) fn header_field(side: Side, name: Field) -> Result<Field, RuleKind>
     ensures { field_found result ≡ header_read side (field_read name) }
 {
