@@ -81,17 +81,29 @@ static void compile_rules(void)
 	number = upc_rules_compile((const uint8_t *)rules, at, room, sizeof room, &count, &fault);
 }
 
-/* A test of 64 tests in each other: as many parentheses may be open at once. */
+/* A chain of as many `and`s as a test may have. */
+static void compile_chain(void)
+{
+	static char rules[TEXT];
+	size_t at = 0, k;
+
+	for (k = 0; k < 4096; k++)
+		at += (size_t)sprintf(rules + at, "%sany", k ? " and " : "");
+	at += (size_t)sprintf(rules + at, " -> 1\n");
+	number = upc_rules_compile((const uint8_t *)rules, at, room, sizeof room, &count, &fault);
+}
+
+/* A test of 64 tests in each other: as many parentheses may be open at once. In each there are an `or`, an `and` and a `not`. */
 static void compile_nested(void)
 {
 	static char rules[TEXT];
 	size_t at = 0, k;
 
 	for (k = 0; k < 64; k++)
-		at += (size_t)sprintf(rules + at, "%s", k % 2 ? "(clp 1 or " : "(not oam and ");
-	at += (size_t)sprintf(rules + at, "user");
+		at += (size_t)sprintf(rules + at, "clp 1 or vpi 3 and not (");
+	at += (size_t)sprintf(rules + at, "any");
 	for (k = 0; k < 64; k++)
-		at += (size_t)sprintf(rules + at, ")");
+		at += (size_t)sprintf(rules + at, " and vpi 3 or clp 0)");
 	at += (size_t)sprintf(rules + at, " -> 1\n");
 	number = upc_rules_compile((const uint8_t *)rules, at, room, sizeof room, &count, &fault);
 }
@@ -244,7 +256,8 @@ int main(int words, char **arguments)
 	                 {"upc_burst_tolerance", tolerance},
 	                 {"upc_cell_fields", fields}, {"upc_cell_tag", tag}, {"upc_check", check},
 	                 {"upc_listing", list}, {"upc_assemble", assemble}, {"upc_assemble, no source", assemble_program},
-	                 {"upc_rules_compile", compile_rules}, {"upc_rules_compile, nested", compile_nested},
+	                 {"upc_rules_compile", compile_rules}, {"upc_rules_compile, a chain", compile_chain},
+	                 {"upc_rules_compile, nested", compile_nested},
 	                 {"upc_check, no program", check_unknown}, {"upc_program_new", new_program},
 	                 {"upc_program_run", run_program}, {"upc_program_free", free_program}, {"upc_card_new", new_card}, {"upc_card_shape", get_shape},
 	                 {"upc_card_load", load}, {"upc_card_load, no program", load_unknown}, {"upc_card_setup", set_up},
@@ -265,7 +278,7 @@ int main(int words, char **arguments)
 		it = taken(&calls[k]);
 		if (words > 1)
 			printf("%6lu %s: %u\n", (unsigned long)it, calls[k].name, (unsigned)number);
-		if (calls[k].call == compile_rules || calls[k].call == compile_nested)
+		if (calls[k].call == compile_rules || calls[k].call == compile_chain || calls[k].call == compile_nested)
 			rules_most = it > rules_most ? it : rules_most;
 		else
 			most = it > most ? it : most;

@@ -1,5 +1,5 @@
 -- The parts of a chain, as the definitions go through them and as a loop does.
-use Rattle.std.proofs.Common.{◌≡◌, ℕ, ◌+◌, ◌<◌, List, [], ◌∷◌, ◌++◌, length, take, get_or, Vec, Global, refl, sym, ap, subst, ◌∙◌}
+use Rattle.std.proofs.Common.{◌≡◌, ℕ, ◌+◌, ◌<◌, List, [], ◌∷◌, ◌++◌, length, take, get_or, Vec, Global, Result, Ok, Err, IfOk, refl, sym, ap, subst, ◌∙◌}
 use Rattle.std.proofs.lemmas.List.{take_more}
 use mathlib.Core.Former.{Count}
 use Rattle.match_code.specs.Neighbours.{IsAllOf}
@@ -28,16 +28,19 @@ module _ (side : Side) where
       let row = row_of (AllOf of) in
       row_are row.0 row.1 tests (subst (λ (ts : List Test). ArePlainTests side ts tests) (same ∙ sym (items_hidden-the_row-Test-0 of)) are)
 
-  pub plain_all : (asked : Test) (of : Vec Test Global) (parts : List Test) (tests : List PlainTest) (test : PlainTest) → asked ≡ AllOf of → parts ≡ of.items → ArePlainTests side parts tests
-      → IsAllOf tests test → IsPlainOf side asked test
-  plain_all asked of parts tests test e same are is =
-      subst (λ (a : Test). IsPlainOf side a test) (sym e) (tests, all_are of parts tests same are, is)
+  -- What is returned for the parts is what the test becomes.
+  pub plain_all : {E : Type 0} (asked : Test) (of : Vec Test Global) (parts : List Test) (result : Result PlainTest E) → asked ≡ AllOf of → parts ≡ of.items
+      → IfOk result (λ test. (tests : List PlainTest) × ArePlainTests side parts tests × IsAllOf tests test) → IfOk result (IsPlainOf side asked)
+  plain_all asked of parts (Ok test) e same made =
+      subst (λ (a : Test). IsPlainOf side a test) (sym e) (made.0, all_are of parts made.0 same made.1, made.2)
+  plain_all asked of parts (Err fault) e same made = tt
 
-  pub plain_any : (asked : Test) (of : Vec Test Global) (parts : List Test) (tests : Vec PlainTest Global) → asked ≡ AnyOf of → parts ≡ of.items → ArePlainTests side parts tests.items
-      → IsPlainOf side asked (plain.AnyOf tests)
-  plain_any asked of parts tests e same are =
-      subst (λ (a : Test). IsPlainOf side a (plain.AnyOf tests)) (sym e)
-      (tests.items, all_are of parts tests.items same are, record { parts = tests; test_is = refl; parts_are = refl })
+  pub plain_any : {E : Type 0} (asked : Test) (of : Vec Test Global) (parts : List Test) (result : Result PlainTest E) → asked ≡ AnyOf of → parts ≡ of.items
+      → IfOk result (λ test. (tests : Vec PlainTest Global) × ArePlainTests side parts tests.items × (test ≡ plain.AnyOf tests)) → IfOk result (IsPlainOf side asked)
+  plain_any asked of parts (Ok test) e same made =
+      subst (λ (a : Test). IsPlainOf side a test) (sym e)
+      (made.0.items, all_are of parts made.0.items same made.1, record { parts = made.0; test_is = made.2; parts_are = refl })
+  plain_any asked of parts (Err fault) e same made = tt
 
   one_more : (parts : List Test) (tests : List PlainTest) (of : Test) (test : PlainTest) → ArePlainTests side parts tests → IsPlainOf side of test
       → ArePlainTests side (parts ++ of ∷ []) (tests ++ test ∷ [])

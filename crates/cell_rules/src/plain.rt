@@ -1,6 +1,10 @@
 //! The tests on the numbers in a packet that tests of cells become.
 
-ghost use Rattle.std.specs.Prelude.{◌≡◌, Some, [], ◌∷◌, map, IfOk};
+ghost use Rattle.std.specs.Global.{Vec};
+ghost use Rattle.std.specs.Prelude.{◌≡◌, List, Some, [], ◌∷◌, ◌++◌, map, IfOk, OnOk};
+ghost use Rattle.match_code.specs.Bounds.{IsNotOf};
+ghost use Rattle.match_code.specs.Neighbours.{IsAllOf};
+ghost use Rattle.match_code.specs.declared.plain_test.PlainTest.{AnyOf, PlainTest};
 ghost use Rattle.cell_rules.specs.declared.field.Field.TheVariants.{Pti};
 ghost use Rattle.cell_rules.specs.inner.PlainTests.{ArePlainTests};
 ghost use Rattle.cell_rules.specs.PlainOf.{IsAmongOf, IsCompareOf, IsListOf, some_spans, IsPlainLine, IsPartOf, IsPlainOf, span_below, in_place, most_of, span_of_one, placed_mask, placed_span, unit_of};
@@ -134,7 +138,8 @@ fn among(
     Ok(test)
 }
 
-/// The test that a field is in this span.
+/// The test that a field is in this span. It isn't inlined, as [`compared`] isn't.
+#[inline(never)]
 fn within(
     alloc: Global,
     side: Side,
@@ -200,7 +205,8 @@ fn listed(
     Ok(test)
 }
 
-/// The test of a field that is compared.
+/// The test of a field that is compared. It isn't inlined: `plain_of` calls itself, and each of its frames would have room for this.
+#[inline(never)]
 fn compared(
     alloc: Global,
     side: Side,
@@ -230,7 +236,8 @@ fn compared(
     }
 }
 
-/// The test that a test of cells becomes.
+/// The test that a test of cells becomes. For a test in a test it is called again by the functions below it: each keeps only what its own
+/// kind of test needs on the stack.
 #[cycle(plain_of)]
 fn plain_of(alloc: Global, side: Side, test: &Test) -> Result<PlainTest, AllocError>
     ensures { IfOk result (IsPlainOf side test.now) }
@@ -244,27 +251,61 @@ fn plain_of(alloc: Global, side: Side, test: &Test) -> Result<PlainTest, AllocEr
             mask,
             relation,
         } => compared(alloc, side, *field, *mask, relation),
-        Test::Not(test) => {
-            let plain = plain_of(alloc, side, test)?;
-            Ok(PlainTest::Not(Box::new(alloc, plain)?))
-        }
-        Test::AllOf(tests) => {
-            let plain = plain_tests(alloc, side, tests)?;
-            let test = all_of(alloc, plain)?;
-            Ok(test)
-        }
-        Test::AnyOf(tests) => Ok(PlainTest::AnyOf(plain_tests(alloc, side, tests)?)),
+        Test::Not(test) => denied(alloc, side, test),
+        Test::AllOf(tests) => all_plain(alloc, side, tests),
+        Test::AnyOf(tests) => any_plain(alloc, side, tests),
     }
+}
+
+/// The test that a test of cells doesn't hold.
+#[cycle(plain_of)]
+#[inline(never)]
+fn denied(alloc: Global, side: Side, test: &Test) -> Result<PlainTest, AllocError>
+    ensures { IfOk result (IsNotOf (IsPlainOf side test.now)) }
+{
+    let plain = plain_of(alloc, side, test)?;
+    Ok(PlainTest::Not(Box::new(alloc, plain)?))
+}
+
+/// The test that each of these tests of cells holds.
+#[cycle(plain_of)]
+#[inline(never)]
+fn all_plain(alloc: Global, side: Side, tests: &[Test]) -> Result<PlainTest, AllocError>
+    ensures { IfOk result (λ test. (plain : List PlainTest) × ArePlainTests side tests.now plain × IsAllOf plain test) }
+{
+    let plain = plain_tests(alloc, side, tests)?;
+    let test = all_of(alloc, plain)?;
+    Ok(test)
+}
+
+/// The test that one of these tests of cells holds.
+#[cycle(plain_of)]
+#[inline(never)]
+fn any_plain(alloc: Global, side: Side, tests: &[Test]) -> Result<PlainTest, AllocError>
+    ensures { IfOk result (λ test. (plain : Vec PlainTest) × ArePlainTests side tests.now plain.items × (test ≡ AnyOf plain)) }
+{
+    Ok(PlainTest::AnyOf(plain_tests(alloc, side, tests)?))
+}
+
+/// Adds a test after others. It isn't inlined, as [`compared`] isn't.
+#[inline(never)]
+fn add_plain(plain: &mut Vec<PlainTest>, test: PlainTest) -> Result<(), AllocError>
+    ensures { OnOk result (plain.new.items ≡ plain.old.items ++ test ∷ []) }
+{
+    plain.push(test)?;
+    Ok(())
 }
 
 /// The tests that tests of cells become.
 #[cycle(plain_of)]
+#[inline(never)]
 fn plain_tests(alloc: Global, side: Side, tests: &[Test]) -> Result<Vec<PlainTest>, AllocError>
     ensures { IfOk result (λ plain. ArePlainTests side tests.now plain.items) }
 {
     let mut plain = Vec::new(alloc);
     for test in tests {
-        plain.push(plain_of(alloc, side, test)?)?;
+        let one = plain_of(alloc, side, test)?;
+        add_plain(&mut plain, one)?;
     }
     Ok(plain)
 }

@@ -284,7 +284,9 @@ fn put_bits(draft: &mut Draft, test: BitTest, met: usize, unmet: usize) -> Resul
     })
 }
 
-/// Puts a comparison of a part in front: a test of bits where it is one.
+/// Puts a comparison of a part in front: a test of bits where it is one. It isn't inlined: `put_test` calls itself, and each of its
+/// frames would have room for this.
+#[inline(never)]
 #[tactic(auto, unfolding(crate::specs::TestCode::among_code, crate::specs::TestCode::with_load, crate::specs::TestCode::with_octets))]
 pub(crate) fn put_among(
     draft: &mut Draft,

@@ -119,7 +119,9 @@ fn parts_of(
 }
 
 /// The test that each of these tests holds. Comparisons of neighbouring bits, as those of a path and of a channel, become
-/// one. A test that is left alone is itself. If there is none, the test always holds.
+/// one. A test that is left alone is itself. If there is none, the test always holds. It isn't inlined: callers call themselves for tests
+/// in tests, and each of their frames would have room for this.
+#[inline(never)]
 pub fn all_of(alloc: Global, tests: Vec<PlainTest>) -> Result<PlainTest, AllocError>
     ensures { IfOk result (IsAllOf tests.items) }
 {

@@ -4,14 +4,13 @@ use Rattle.cell_rules.proofs.plain.+plain_of.Goals as goal
 
 pub plain_tests-loop-test-preserved : goal.plain_tests-loop-test-preserved
 plain_tests-loop-test-preserved t c =
-    tests_more c.args.side c.args.tests.now c.loop-test.test-index c.test-item.result c.loop-test.plain.items c.push.new.self.items c.in_ok-plain_of.field-0 (omega arith) c.test-item.is c.loop-test.invariant
-    c.in_ok-plain_of.ensures c.in_ok-push.ensures.items
+    tests_more c.args.side c.args.tests.now c.loop-test.test-index c.test-item.result c.loop-test.plain.items c.add_plain.new.plain.items c.in_ok-one.one (omega arith) c.test-item.is c.loop-test.invariant
+    c.in_ok-one.ensures c.in_ok-add_plain.ensures
 
-pub plain_of-returns-in_ok-test-in-AllOf : goal.plain_of-returns-in_ok-test-in-AllOf
-plain_of-returns-in_ok-test-in-AllOf t c =
-    plain_all c.args.side c.args.test.now c.in-AllOf.tests c.deref-in-AllOf.result.now c.in_ok-plain-in-AllOf.plain.items c.in_ok-test-in-AllOf.test c.in-AllOf.is c.deref-in-AllOf.ensures.value
-    c.in_ok-plain-in-AllOf.ensures c.in_ok-test-in-AllOf.ensures
+pub plain_of-returns-in-AllOf : goal.plain_of-returns-in-AllOf
+plain_of-returns-in-AllOf t c =
+    plain_all c.args.side c.args.test.now c.in-AllOf.tests c.deref-in-AllOf.result.now c.all_plain.result c.in-AllOf.is c.deref-in-AllOf.ensures.value c.all_plain.ensures
 
-pub plain_of-returns-in_ok-plain_tests-in-AnyOf : goal.plain_of-returns-in_ok-plain_tests-in-AnyOf
-plain_of-returns-in_ok-plain_tests-in-AnyOf t c =
-    plain_any c.args.side c.args.test.now c.in-AnyOf.tests c.deref-in-AnyOf.result.now c.in_ok-plain_tests-in-AnyOf.field-0 c.in-AnyOf.is c.deref-in-AnyOf.ensures.value c.in_ok-plain_tests-in-AnyOf.ensures
+pub plain_of-returns-in-AnyOf : goal.plain_of-returns-in-AnyOf
+plain_of-returns-in-AnyOf t c =
+    plain_any c.args.side c.args.test.now c.in-AnyOf.tests c.deref-in-AnyOf.result.now c.any_plain.result c.in-AnyOf.is c.deref-in-AnyOf.ensures.value c.any_plain.ensures
