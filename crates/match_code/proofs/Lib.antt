@@ -15,4 +15,5 @@ pub mod LinesAccepted
 pub mod Coding
 pub mod LengthSteps
 pub mod InOrder
+pub mod Bare
 pub mod Public

@@ -5,4 +5,5 @@ pub mod GrammarReads
 pub mod Chains
 pub mod DecisionsSame
 pub mod StatementNumbers
+pub mod OneCode
 pub mod Public

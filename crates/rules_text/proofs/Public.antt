@@ -1,11 +1,32 @@
 -- Lemmas for proofs of other crates.
 use Rattle.std.proofs.Common.{◌≡◌, ℕ, List}
+use Rattle.bpf_code.specs.declared.instr.Instr.{Instr}
+use Rattle.rules_text.specs.CodeOfText.{IsCodeOfText}
+use Rattle.rules_text.specs.NumberedText.{numbered_read}
+use Rattle.rules_text.specs.PlacesOfText.{IsNumberedCode}
+use Rattle.rules_text.specs.declared.compiler.NumberedCode.{NumberedCode}
+use Rattle.rules_text.proofs.ReadingSteps.{without_numbers}
 use Rattle.cell_rules.specs.Decisions.{decision_of}
 use Rattle.cell_rules.specs.declared.rules.Rules.{Rules}
 use Rattle.rules_text.specs.DecisionsRead.{rules_decide}
 use Rattle.rules_text.specs.RulesRead.{rules_read}
 use Rattle.rules_text.proofs.DecisionsSame as decisions
+use Rattle.rules_text.proofs.OneCode as codes
 
 -- Rules in memory decide as what they are written as.
 pub decision_same : (rules : Rules) (cell : List ℕ) → decision_of rules cell ≡ rules_decide (rules_read rules) cell
 decision_same = decisions.decision_same
+
+-- A code with numbers is the code of the text.
+pub code_of_numbered : (octets : List ℕ) (made : NumberedCode) → IsNumberedCode octets made → IsCodeOfText octets made.placed.code.items
+code_of_numbered octets made is = record {
+  rules = is.numbered.rules;
+  read = without_numbers octets (numbered_read is.numbered) is.read;
+  lines = is.lines;
+  plain = is.plain;
+  code_is = is.code;
+}
+
+-- Each text has one code.
+pub one_code : (octets : List ℕ) (code other : List Instr) → IsCodeOfText octets code → IsCodeOfText octets other → code ≡ other
+one_code = codes.one_code

@@ -17,9 +17,9 @@ use Rattle.cell_rules.specs.declared.test.Test as asked
 use Rattle.match_code.specs.PlainTests.{is_among, is_in, kept_bits}
 use Rattle.match_code.specs.declared.part.Span.{Span}
 use Rattle.upc_cell.specs.declared.side.Side.{Side}
-use Rattle.rules_text.specs.RulesRead.{TestRead, conjunction, disjunction, all_read, field_read, joined_by_and, joined_by_or, line_read, one_read, relation_read, rules_read, test_read}
-use Rattle.rules_text.specs.TextFaults.{HasRules}
-use Rattle.rules_text.specs.ValuesRead.{FollowsText, field_number, lines_give, relation_holds, rules_give, test_holds}
+use Rattle.rules_text.specs.RulesRead.{TestRead, field_read, line_read, relation_read, rules_read, test_read, tests_read}
+use Rattle.rules_text.specs.NumberedText.{HasRules}
+use Rattle.rules_text.specs.ValuesRead.{FollowsText, field_number, lines_give, one_test_holds, relation_holds, rules_give, test_holds, tests_all_hold}
 
 or_swap : (a b c : Bool) → a || (b || c) ≡ b || (a || c)
 or_swap true true c = refl
@@ -27,7 +27,7 @@ or_swap true false c = refl
 or_swap false true c = refl
 or_swap false false c = refl
 
-among_last : (span : Span) (spans : List Span) (number : ℕ) → is_among (span ∷ spans) number ≡ is_among (spans ++ span ∷ []) number
+pub among_last : (span : Span) (spans : List Span) (number : ℕ) → is_among (span ∷ spans) number ≡ is_among (spans ++ span ∷ []) number
 among_last span [] number = refl
 among_last span (first ∷ spans) number =
     or_swap (is_in span number) (is_in first number) (is_among spans number)
@@ -50,22 +50,6 @@ field_same side Pti cell = refl
 field_same side Clp cell = refl
 field_same side (Octets octets) cell = refl
 
-and_true : (x : Bool) → x ≡ (x && true)
-and_true true = refl
-and_true false = refl
-
-or_false : (x : Bool) → x ≡ (x || false)
-or_false true = refl
-or_false false = refl
-
-and_grouped : (x y z : Bool) → ((x && y) && z) ≡ (x && (y && z))
-and_grouped true y z = refl
-and_grouped false y z = refl
-
-or_grouped : (x y z : Bool) → ((x || y) || z) ≡ (x || (y || z))
-or_grouped true y z = refl
-or_grouped false y z = refl
-
 module _ (side : Side) (cell : List ℕ) where
   mutual
     pub test_same : (test : Test) → is_met side test cell ≡ test_holds side (test_read test) cell
@@ -79,27 +63,15 @@ module _ (side : Side) (cell : List ℕ) where
     test_same (asked.AllOf' shape tests) = all_same tests
     test_same (asked.AnyOf' shape tests) = one_same tests
 
-    all_same : {n : _} (row : Row_of-Test n) → all_are_met side row cell ≡ test_holds side (all_read row) cell
+    all_same : {n : _} (row : Row_of-Test n) → all_are_met side row cell ≡ tests_all_hold side (tests_read row) cell
     all_same end_of-Test = refl
-    all_same (more_of-Test test more) = ap (λ b. b && all_are_met side more cell) (test_same test) ∙ sym (and_same more (test_read test))
+    all_same (more_of-Test test more) =
+        ap (λ b. b && all_are_met side more cell) (test_same test) ∙ ap (λ b. test_holds side (test_read test) cell && b) (all_same more)
 
-    and_same : {n : _} (row : Row_of-Test n) (before : TestRead) → test_holds side (joined_by_and before row) cell ≡ (test_holds side before cell && all_are_met side row cell)
-    and_same end_of-Test before = and_true (test_holds side before cell)
-    and_same (more_of-Test test more) before =
-        and_same more (conjunction before (test_read test))
-        ∙ (and_grouped (test_holds side before cell) (test_holds side (test_read test) cell) (all_are_met side more cell)
-        ∙ ap (λ b. test_holds side before cell && (b && all_are_met side more cell)) (sym (test_same test)))
-
-    one_same : {n : _} (row : Row_of-Test n) → one_is_met side row cell ≡ test_holds side (one_read row) cell
+    one_same : {n : _} (row : Row_of-Test n) → one_is_met side row cell ≡ one_test_holds side (tests_read row) cell
     one_same end_of-Test = refl
-    one_same (more_of-Test test more) = ap (λ b. b || one_is_met side more cell) (test_same test) ∙ sym (or_same more (test_read test))
-
-    or_same : {n : _} (row : Row_of-Test n) (before : TestRead) → test_holds side (joined_by_or before row) cell ≡ (test_holds side before cell || one_is_met side row cell)
-    or_same end_of-Test before = or_false (test_holds side before cell)
-    or_same (more_of-Test test more) before =
-        or_same more (disjunction before (test_read test))
-        ∙ (or_grouped (test_holds side before cell) (test_holds side (test_read test) cell) (one_is_met side more cell)
-        ∙ ap (λ b. test_holds side before cell || (b || one_is_met side more cell)) (sym (test_same test)))
+    one_same (more_of-Test test more) =
+        ap (λ b. b || one_is_met side more cell) (test_same test) ∙ ap (λ b. test_holds side (test_read test) cell || b) (one_same more)
 
 chosen_same : (a b : Bool) (value other same : ℕ) → a ≡ b → other ≡ same → (if a then value else other) ≡ (if b then value else same)
 chosen_same a true value other same e f = rw e refl

@@ -5,6 +5,7 @@ use Rattle.bpf_code.specs.declared.instr.Instr.{Instr}
 use Rattle.bpf_interp.specs.Value.{Value}
 use Rattle.cell_rules.specs.Fields.{IsCell}
 use Rattle.cell_rules.specs.declared.deciding.Decision.{Decision}
+use Rattle.rules_text.specs.CodeOfText.{IsCodeOfText}
 use Rattle.rules_text.specs.DecisionsRead.{rules_decide}
 use Rattle.rules_text.specs.LineGrammar.{LineContext, nothing_read, line_statement}
 use Rattle.rules_text.specs.RuleGrammar.{TestFits, TestForm, test_count, test_tokens, test_written}
@@ -13,7 +14,7 @@ use Rattle.rules_text.specs.RuleTokens.{RuleFound, arrow_mark, number_word, open
 use Rattle.rules_text.specs.TextOfRules.{NumberedRead, numbered_in, rules_in, statement_from}
 use Rattle.rules_text.specs.ValuesRead.{FollowsText}
 
--- A line that has the tokens of a test of the grammar, `->` and a value is the rule with this test and value, wherever its
+-- A line that has the tokens of a test of the grammar, `->` and a number above 0 is the rule with this test and value, wherever its
 -- tokens are, if the numbers fit and the limits are kept.
 abbrev pub RulesAreReadAsTheyAreWritten : Type 0
 RulesAreReadAsTheyAreWritten =
@@ -64,3 +65,7 @@ abbrev pub CodeGivesWhatIsDecided : Type 0
 CodeGivesWhatIsDecided =
     (octets : List ℕ) (numbered : NumberedRead) (code : List Instr) (cell : List ℕ) → numbered_in octets ≡ Ok numbered → FollowsText octets code → IsCell cell
     → GivesDecided code cell (rules_decide numbered.rules cell)
+
+-- Each text has one code.
+abbrev pub TextsHaveOneCode : Type 0
+TextsHaveOneCode = (octets : List ℕ) (code other : List Instr) → IsCodeOfText octets code → IsCodeOfText octets other → code ≡ other

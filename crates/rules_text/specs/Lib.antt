@@ -3,8 +3,9 @@ pub mod RuleTokens
 pub mod Subjects
 pub mod LineGrammar
 pub mod TextOfRules
-pub mod TextFaults
 pub mod NumberedText
+pub mod CodeOfText
+pub mod TextFaults
 pub mod ValuesRead
 pub mod PlacesOfText
 pub mod DecisionsRead

@@ -5,7 +5,7 @@ use Rattle.bpf_code.specs.declared.instr.Size.{Size}
 use Rattle.match_code.specs.declared.part.Span.{Span}
 use Rattle.upc_cell.specs.declared.side.Side.{Side}
 use Rattle.upc_cell.specs.declared.side.Side.TheVariants as side_of
-use Rattle.rules_text.specs.RulesRead.{FieldRead, LineRead, SignRead, TestRead, any_cell, oam_cell, user_cell, comparing, negation, conjunction, disjunction, compared, listed, rule_line, block_line, end_line}
+use Rattle.rules_text.specs.RulesRead.{FieldRead, LineRead, SignRead, TestRead, any_cell, oam_cell, user_cell, comparing, negation, joined_by_and, joined_by_or, compared, listed, rule_line, block_line, end_line}
 use Rattle.rules_text.specs.RuleTokens.{RuleToken, any_word, oam_word, user_word, not_word, and_word, or_word, otherwise_word, side_word, uni_word, nni_word, field_word, size_word, bad_number, arrow_mark, open_brace, close_brace, open_parenthesis, close_parenthesis, mask_mark, comma_mark, dots_mark, sign_mark}
 use Rattle.rules_text.specs.Subjects.{header_read, most_of_field, number_within, octets_at_token, value_read}
 use Rattle.rules_text.specs.declared.fault.RuleKind.{RuleKind}
@@ -129,13 +129,13 @@ negated_if false test = test
 -- The parts of an alternative with one more.
 abbrev pub both_of : Option TestRead → TestRead → TestRead
 both_of None test = test
-both_of (Some parts) test = conjunction parts test
+both_of (Some parts) test = joined_by_and parts test
 
 -- The alternatives with one more.
 abbrev pub either_of : Option TestRead → Option TestRead → Option TestRead
 either_of None both = both
 either_of (Some either) None = Some either
-either_of (Some either) (Some both) = Some (disjunction either both)
+either_of (Some either) (Some both) = Some (joined_by_or either both)
 
 -- The group with one more part.
 abbrev pub group_with : GroupRead → TestRead → GroupRead

@@ -1,8 +1,13 @@
--- Rules in memory, with the numbers of the source lines that they are written in.
+-- When rules in memory are those of a text, and with the numbers of the source lines that they are written in.
 use Rattle.std.specs.Prelude.{◌≡◌, ℕ, List, Ok}
 use Rattle.rules_text.specs.RulesRead.{rules_read}
-use Rattle.rules_text.specs.TextOfRules.{NumberedRead, numbered_in}
+use Rattle.rules_text.specs.TextOfRules.{NumberedRead, numbered_in, rules_in}
+use Rattle.cell_rules.specs.declared.rules.Rules.{Rules}
 use Rattle.rules_text.specs.declared.reader.NumberedRules.{NumberedRules}
+
+-- The text has these rules.
+abbrev pub HasRules : List ℕ → Rules → Type 0
+HasRules octets rules = rules_in octets ≡ Ok (rules_read rules)
 
 -- The rules as they are written, and the numbers.
 abbrev pub numbered_read : NumberedRules → NumberedRead

@@ -3,7 +3,7 @@
 use Rattle.std.specs.Prelude.{◌≡◌, ◌+◌, ◌≤◌, ◌<◌, ℕ, Bool, not, false, List, [], ◌∷◌, ◌++◌, length, Option, Some, None, Ok}
 use Rattle.match_code.specs.declared.part.Span.{Span}
 use Rattle.rules_text.specs.LineGrammar.{LineContext, SubjectRead, negated_if}
-use Rattle.rules_text.specs.RulesRead.{FieldRead, octets_field, SignRead, TestRead, any_cell, oam_cell, user_cell, comparing, conjunction, disjunction, compared, listed}
+use Rattle.rules_text.specs.RulesRead.{FieldRead, octets_field, SignRead, TestRead, any_cell, oam_cell, user_cell, comparing, joined_by_and, joined_by_or, compared, listed}
 use Rattle.rules_text.specs.RuleTokens.{RuleToken, any_word, oam_word, user_word, not_word, and_word, or_word, field_word, size_word, number_word, open_parenthesis, close_parenthesis, mask_mark, comma_mark, dots_mark, sign_mark}
 use Rattle.rules_text.specs.Subjects.{header_read, most_of_field, octets_read}
 
@@ -102,12 +102,12 @@ abbrev mutual
   -- What a part means.
   pub part_written : PartForm → TestRead
   part_written (one_unit unit) = unit_written false unit
-  part_written (and_unit part unit) = conjunction (part_written part) (unit_written false unit)
+  part_written (and_unit part unit) = joined_by_and (part_written part) (unit_written false unit)
 
   -- What a test means.
   pub test_written : TestForm → TestRead
   test_written (one_part part) = part_written part
-  test_written (or_part test part) = disjunction (test_written test) (part_written part)
+  test_written (or_part test part) = joined_by_or (test_written test) (part_written part)
 
 -- The field can be named at this side, and its octets are in the cell.
 abbrev pub FieldFits : LineContext → FieldRead → Type 0

@@ -36,21 +36,47 @@ pub data RelationRead : Type 0 where
   compared : SignRead → ℕ → RelationRead
   listed : List Span → RelationRead
 
--- A test.
-pub data TestRead : Type 0 where
-  any_cell : TestRead
-  oam_cell : TestRead
-  user_cell : TestRead
-  comparing : FieldRead → Option ℕ → RelationRead → TestRead
-  negation : TestRead → TestRead
-  conjunction : TestRead → TestRead → TestRead
-  disjunction : TestRead → TestRead → TestRead
+mutual
+  -- A test. What `and` or `or` joins is one chain of tests.
+  pub data TestRead : Type 0 where
+    any_cell : TestRead
+    oam_cell : TestRead
+    user_cell : TestRead
+    comparing : FieldRead → Option ℕ → RelationRead → TestRead
+    negation : TestRead → TestRead
+    conjunction : TestsRead → TestRead
+    disjunction : TestsRead → TestRead
+
+  -- The tests of a chain, in order.
+  pub data TestsRead : Type 0 where
+    no_tests : TestsRead
+    more_tests : TestRead → TestsRead → TestsRead
 
 -- A line of rules.
 pub data LineRead : Type 0 where
   rule_line : TestRead → ℕ → LineRead
   block_line : TestRead → LineRead
   end_line : LineRead
+
+-- The tests of a chain, and one more after them.
+abbrev pub tests_with : TestsRead → TestRead → TestsRead
+tests_with no_tests last = more_tests last no_tests
+tests_with (more_tests test more) last = more_tests test (tests_with more last)
+
+-- Two tests as a chain.
+abbrev pub two_tests : TestRead → TestRead → TestsRead
+two_tests one other = more_tests one (more_tests other no_tests)
+
+-- A test, and one that `and` joins to it. A chain of `and` has one more test then; so parentheses around the beginning of a chain
+-- change nothing.
+abbrev pub joined_by_and : TestRead → TestRead → TestRead
+joined_by_and (conjunction tests) test = conjunction (tests_with tests test)
+joined_by_and before test = conjunction (two_tests before test)
+
+-- A test, and one that `or` joins to it, in the same way.
+abbrev pub joined_by_or : TestRead → TestRead → TestRead
+joined_by_or (disjunction tests) test = disjunction (tests_with tests test)
+joined_by_or before test = disjunction (two_tests before test)
 
 -- All rules of a text.
 pub record RulesRead : Type 0 where
@@ -85,28 +111,13 @@ abbrev mutual
   test_read asked.User = user_cell
   test_read (asked.Compare field mask relation) = comparing (field_read field) mask (relation_read relation)
   test_read (asked.Not' p test) = negation (test_read test)
-  test_read (asked.AllOf' shape tests) = all_read tests
-  test_read (asked.AnyOf' shape tests) = one_read tests
+  test_read (asked.AllOf' shape tests) = conjunction (tests_read tests)
+  test_read (asked.AnyOf' shape tests) = disjunction (tests_read tests)
 
-  -- Tests that each hold, as `and` joins them: the first two, that with the third, and so on. Of none it is `any`.
-  pub all_read : {n : _} → Row_of-Test n → TestRead
-  all_read end_of-Test = any_cell
-  all_read (more_of-Test test more) = joined_by_and (test_read test) more
-
-  -- A test and those that `and` joins to it.
-  pub joined_by_and : {n : _} → TestRead → Row_of-Test n → TestRead
-  joined_by_and before end_of-Test = before
-  joined_by_and before (more_of-Test test more) = joined_by_and (conjunction before (test_read test)) more
-
-  -- Tests of which one holds, as `or` joins them in the same way. Of none it is `not any`.
-  pub one_read : {n : _} → Row_of-Test n → TestRead
-  one_read end_of-Test = negation any_cell
-  one_read (more_of-Test test more) = joined_by_or (test_read test) more
-
-  -- A test and those that `or` joins to it.
-  pub joined_by_or : {n : _} → TestRead → Row_of-Test n → TestRead
-  joined_by_or before end_of-Test = before
-  joined_by_or before (more_of-Test test more) = joined_by_or (disjunction before (test_read test)) more
+  -- The tests of a chain as they are written.
+  pub tests_read : {n : _} → Row_of-Test n → TestsRead
+  tests_read end_of-Test = no_tests
+  tests_read (more_of-Test test more) = more_tests (test_read test) (tests_read more)
 
 -- A line as it is written.
 abbrev pub line_read : RuleLine → LineRead

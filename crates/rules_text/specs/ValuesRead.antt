@@ -1,6 +1,6 @@
 -- The value that rules give a cell, in the words in which they are written. It is that of cell_rules, which speaks of the
 -- rules in memory.
-use Rattle.std.specs.Prelude.{◌≡◌, ℕ, zero, suc, Bool, true, not, ◌&&◌, ◌||◌, ◌==◌, nat_le, nat_lt, if◌then◌else◌, List, [], ◌∷◌, drop, Ok}
+use Rattle.std.specs.Prelude.{◌≡◌, ℕ, zero, suc, Bool, true, false, not, ◌&&◌, ◌||◌, ◌==◌, nat_le, nat_lt, if◌then◌else◌, List, [], ◌∷◌, drop, Ok}
 use Rattle.bpf_code.specs.declared.instr.Instr.{Instr}
 use Rattle.bpf_interp.specs.Packet.{octets_loaded}
 use Rattle.bpf_interp.specs.Value.{Value}
@@ -10,7 +10,7 @@ use Rattle.match_code.specs.PlainTests.{is_among, kept_bits}
 use Rattle.upc_cell.specs.Header.{gfc_of, vci_of, pti_of, clp_of}
 use Rattle.upc_cell.specs.Side.{vpi_at}
 use Rattle.upc_cell.specs.declared.side.Side.{Side}
-use Rattle.rules_text.specs.RulesRead.{FieldRead, gfc_field, vpi_field, vci_field, pti_field, clp_field, octets_field, SignRead, equal_sign, unequal_sign, less_sign, at_most_sign, greater_sign, at_least_sign, RelationRead, compared, listed, TestRead, any_cell, oam_cell, user_cell, comparing, negation, conjunction, disjunction, LineRead, rule_line, block_line, end_line, RulesRead}
+use Rattle.rules_text.specs.RulesRead.{FieldRead, gfc_field, vpi_field, vci_field, pti_field, clp_field, octets_field, SignRead, equal_sign, unequal_sign, less_sign, at_most_sign, greater_sign, at_least_sign, RelationRead, compared, listed, TestRead, any_cell, oam_cell, user_cell, comparing, negation, conjunction, disjunction, TestsRead, no_tests, more_tests, LineRead, rule_line, block_line, end_line, RulesRead}
 use Rattle.rules_text.specs.TextOfRules.{rules_in}
 
 -- The number that a cell has in a field, its header read at this side.
@@ -36,15 +36,26 @@ abbrev pub relation_holds : RelationRead → ℕ → Bool
 relation_holds (compared sign k) number = sign_holds sign k number
 relation_holds (listed spans) number = is_among spans number
 
--- Whether a test holds of a cell.
-abbrev pub test_holds : Side → TestRead → List ℕ → Bool
-test_holds side any_cell cell = true
-test_holds side oam_cell cell = (pti_of cell == 4) || (pti_of cell == 5)
-test_holds side user_cell cell = nat_le (pti_of cell) 3
-test_holds side (comparing field mask relation) cell = relation_holds relation (kept_bits mask (field_number side field cell))
-test_holds side (negation test) cell = not (test_holds side test cell)
-test_holds side (conjunction one other) cell = test_holds side one cell && test_holds side other cell
-test_holds side (disjunction one other) cell = test_holds side one cell || test_holds side other cell
+abbrev mutual
+  -- Whether a test holds of a cell.
+  pub test_holds : Side → TestRead → List ℕ → Bool
+  test_holds side any_cell cell = true
+  test_holds side oam_cell cell = (pti_of cell == 4) || (pti_of cell == 5)
+  test_holds side user_cell cell = nat_le (pti_of cell) 3
+  test_holds side (comparing field mask relation) cell = relation_holds relation (kept_bits mask (field_number side field cell))
+  test_holds side (negation test) cell = not (test_holds side test cell)
+  test_holds side (conjunction tests) cell = tests_all_hold side tests cell
+  test_holds side (disjunction tests) cell = one_test_holds side tests cell
+
+  -- Whether each test of a chain holds.
+  pub tests_all_hold : Side → TestsRead → List ℕ → Bool
+  tests_all_hold side no_tests cell = true
+  tests_all_hold side (more_tests test more) cell = test_holds side test cell && tests_all_hold side more cell
+
+  -- Whether one test of a chain holds.
+  pub one_test_holds : Side → TestsRead → List ℕ → Bool
+  one_test_holds side no_tests cell = false
+  one_test_holds side (more_tests test more) cell = test_holds side test cell || one_test_holds side more cell
 
 -- The value of lines on a cell, after this many blocks whose test doesn't hold were entered and not yet left. Their lines
 -- are passed over. Where no rule gives a value, it is the one for all other cells.

@@ -5,7 +5,9 @@ ghost use Rattle.bpf_verify.specs.Accepted.{IsAccepted};
 ghost use Rattle.cell_rules.specs.Promise.{FollowsRules};
 ghost use Rattle.cell_rules.specs.declared.rules.Rules.{Rules};
 ghost use Rattle.rules_text.specs.PlacesOfText.{IsNumberedCode};
-ghost use Rattle.rules_text.specs.TextFaults.{HasRules, IsCompilingFault};
+ghost use Rattle.rules_text.specs.CodeOfText.{IsCodeOfText};
+ghost use Rattle.rules_text.specs.NumberedText.{HasRules};
+ghost use Rattle.rules_text.specs.TextFaults.{IsCompilingFault};
 ghost use Rattle.rules_text.specs.ValuesRead.{FollowsText};
 
 use crate::fault::{RuleFault, RuleKind, fault_at};
@@ -25,6 +27,7 @@ pub fn compile_text(alloc: Global, text: &[u8]) -> Result<Vec<Instr>, RuleFault>
     ensures accepted { IfOk result (λ code. IsAccepted code.items) }
     ensures value { IfOk result (λ code. (rules : Rules) × HasRules text.now rules × FollowsRules rules code.items) }
     ensures text { IfOk result (λ code. FollowsText text.now code.items) }
+    ensures code { IfOk result (λ code. IsCodeOfText text.now code.items) }
     ensures fault { IfErr result (IsCompilingFault text.now) }
 {
     let rules = read_rules(alloc, text)?;

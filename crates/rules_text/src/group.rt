@@ -3,7 +3,7 @@
 ghost use Rattle.std.specs.Prelude.{◌≡◌, [], ◌∷◌, ◌++◌, IfOk};
 ghost use Rattle.cell_rules.specs.declared.test.Test.{AllOf, AnyOf};
 ghost use Rattle.rules_text.specs.LineGrammar.{both_of, either_of, group_after_not, group_after_or, group_test, group_with, negated_if, no_group};
-ghost use Rattle.rules_text.specs.RulesRead.{conjunction, disjunction, test_read};
+ghost use Rattle.rules_text.specs.RulesRead.{conjunction, disjunction, joined_by_and, joined_by_or, test_read, two_tests};
 ghost use Rattle.rules_text.specs.inner.SeenReading.{group_seen, some_test_seen};
 
 use cell_rules::Test;
@@ -98,23 +98,31 @@ fn one_more(tests: Vec<Test>, test: Test) -> Result<Vec<Test>, AllocError>
     Ok(tests)
 }
 
-/// The test that each of these tests holds, and one more holds too.
-fn one_more_of_all(alloc: Global, tests: Vec<Test>, test: Test) -> Result<Test, AllocError>
-    ensures { IfOk result (λ both. test_read both ≡ conjunction (test_read (AllOf tests)) (test_read test)) }
+/// The test that both hold.
+fn all_of_two(alloc: Global, one: Test, other: Test) -> Result<Test, AllocError>
+    ensures { IfOk result (λ both. test_read both ≡ conjunction (two_tests (test_read one) (test_read other))) }
 {
-    if tests.is_empty() {
-        return Ok(Test::AllOf(two(alloc, Test::AllOf(tests), test)?));
-    }
+    Ok(Test::AllOf(two(alloc, one, other)?))
+}
+
+/// The test that one of the two holds.
+fn any_of_two(alloc: Global, one: Test, other: Test) -> Result<Test, AllocError>
+    ensures { IfOk result (λ either. test_read either ≡ disjunction (two_tests (test_read one) (test_read other))) }
+{
+    Ok(Test::AnyOf(two(alloc, one, other)?))
+}
+
+/// The test that each of these tests holds, and one more holds too.
+fn one_more_of_all(tests: Vec<Test>, test: Test) -> Result<Test, AllocError>
+    ensures { IfOk result (λ both. test_read both ≡ joined_by_and (test_read (AllOf tests)) (test_read test)) }
+{
     Ok(Test::AllOf(one_more(tests, test)?))
 }
 
 /// The test that one of these tests holds, or one more does.
-fn one_more_of_any(alloc: Global, tests: Vec<Test>, test: Test) -> Result<Test, AllocError>
-    ensures { IfOk result (λ either. test_read either ≡ disjunction (test_read (AnyOf tests)) (test_read test)) }
+fn one_more_of_any(tests: Vec<Test>, test: Test) -> Result<Test, AllocError>
+    ensures { IfOk result (λ either. test_read either ≡ joined_by_or (test_read (AnyOf tests)) (test_read test)) }
 {
-    if tests.is_empty() {
-        return Ok(Test::AnyOf(two(alloc, Test::AnyOf(tests), test)?));
-    }
     Ok(Test::AnyOf(one_more(tests, test)?))
 }
 
@@ -125,8 +133,34 @@ fn conjoined(alloc: Global, parts: Option<Test>, test: Test) -> Result<Test, All
 {
     match parts {
         None => Ok(test),
-        Some(Test::AllOf(tests)) => one_more_of_all(alloc, tests, test),
-        Some(part) => Ok(Test::AllOf(two(alloc, part, test)?)),
+        Some(parts) => joined(alloc, parts, test),
+    }
+}
+
+/// The test that the parts hold, and one more: of a chain of `and` that is one list, of any other test a list of two.
+fn joined(alloc: Global, parts: Test, test: Test) -> Result<Test, AllocError>
+    ensures { IfOk result (λ both. test_read both ≡ joined_by_and (test_read parts) (test_read test)) }
+{
+    match parts {
+        Test::AllOf(tests) => one_more_of_all(tests, test),
+        Test::Any => all_of_two(alloc, Test::Any, test),
+        Test::Oam => all_of_two(alloc, Test::Oam, test),
+        Test::User => all_of_two(alloc, Test::User, test),
+        Test::Compare {
+            field,
+            mask,
+            relation,
+        } => all_of_two(
+            alloc,
+            Test::Compare {
+                field,
+                mask,
+                relation,
+            },
+            test,
+        ),
+        Test::Not(denied) => all_of_two(alloc, Test::Not(denied), test),
+        Test::AnyOf(tests) => all_of_two(alloc, Test::AnyOf(tests), test),
     }
 }
 
@@ -145,12 +179,29 @@ fn disjoined(
     }
 }
 
-/// The test that one of the alternatives holds, or one more.
+/// The test that one of the alternatives holds, or one more does.
 fn alternated(alloc: Global, either: Test, both: Test) -> Result<Test, AllocError>
-    ensures { IfOk result (λ test. test_read test ≡ disjunction (test_read either) (test_read both)) }
+    ensures { IfOk result (λ test. test_read test ≡ joined_by_or (test_read either) (test_read both)) }
 {
     match either {
-        Test::AnyOf(tests) => one_more_of_any(alloc, tests, both),
-        either => Ok(Test::AnyOf(two(alloc, either, both)?)),
+        Test::AnyOf(tests) => one_more_of_any(tests, both),
+        Test::Any => any_of_two(alloc, Test::Any, both),
+        Test::Oam => any_of_two(alloc, Test::Oam, both),
+        Test::User => any_of_two(alloc, Test::User, both),
+        Test::Compare {
+            field,
+            mask,
+            relation,
+        } => any_of_two(
+            alloc,
+            Test::Compare {
+                field,
+                mask,
+                relation,
+            },
+            both,
+        ),
+        Test::Not(denied) => any_of_two(alloc, Test::Not(denied), both),
+        Test::AllOf(tests) => any_of_two(alloc, Test::AllOf(tests), both),
     }
 }

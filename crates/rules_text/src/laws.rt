@@ -1,8 +1,8 @@
 //! Laws of the definition of texts of rules. Each is the contract of a function that does nothing.
 
-ghost use Rattle.rules_text.specs.Laws.{CodeGivesWhatIsDecided, HeadsAreReadAsTheyAreWritten, NumbersAreThoseOfTheLines, RulesAreReadAsTheyAreWritten};
+ghost use Rattle.rules_text.specs.Laws.{CodeGivesWhatIsDecided, HeadsAreReadAsTheyAreWritten, NumbersAreThoseOfTheLines, RulesAreReadAsTheyAreWritten, TextsHaveOneCode};
 
-/// A line with the tokens of a test of the grammar, `->` and a value is read as this rule.
+/// A line with the tokens of a test of the grammar, `->` and a number above 0 is read as this rule.
 pub fn rules_are_read_as_they_are_written()
     ensures { RulesAreReadAsTheyAreWritten }
 {}
@@ -20,4 +20,9 @@ pub fn numbers_are_those_of_the_lines()
 /// A code that follows a text gives each cell the value that the text's rules decide.
 pub fn code_gives_what_is_decided()
     ensures { CodeGivesWhatIsDecided }
+{}
+
+/// Each text of rules has one code.
+pub fn texts_have_one_code()
+    ensures { TextsHaveOneCode }
 {}

@@ -4,8 +4,8 @@ ghost use Rattle.std.specs.Prelude.{◌≡◌, ◌+◌, ◌≤◌, ◌<◌, ◌^
 ghost use Rattle.rules_text.specs.LineGrammar.{nothing_read};
 ghost use Rattle.rules_text.specs.RulesRead.{line_read};
 ghost use Rattle.rules_text.specs.RuleTokens.{rule_tokens};
-ghost use Rattle.rules_text.specs.NumberedText.{HasNumbered, numbered_read};
-ghost use Rattle.rules_text.specs.TextFaults.{IsFaultOf, HasRules};
+ghost use Rattle.rules_text.specs.NumberedText.{HasNumbered, HasRules, numbered_read};
+ghost use Rattle.rules_text.specs.TextFaults.{IsFaultOf};
 ghost use Rattle.rules_text.specs.TextOfRules.{numbered_at_end, numbered_in, placed_fault, rules_in, statement_from, text_with, text_with_line, with_line};
 ghost use Rattle.rules_text.specs.declared.fault.RuleKind.TheVariants.{NoMemory};
 ghost use Rattle.rules_text.specs.inner.SeenReading.{context_seen, line_statement_seen, text_seen};

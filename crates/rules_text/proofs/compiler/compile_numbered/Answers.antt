@@ -1,4 +1,5 @@
 use Rattle.std.proofs.Common.{inl, inr, refl}
+use Rattle.match_code.specs.LineCode.{lines_code}
 use Rattle.rules_text.specs.NumberedText.{numbered_read}
 use Rattle.rules_text.specs.TextFaults.{IsCompilingFault}
 use Rattle.rules_text.proofs.ReadingSteps.{without_numbers, fault_without_numbers, fault_onward, returned_fault}
@@ -27,10 +28,14 @@ returns-in-Err-TooLong-clause-fault c =
     inr (
       c.fault_at.ensures,
       record {
-        rules = numbered.rules;
-        read = without_numbers c.args.text.now (numbered_read numbered) c.in_ok-numbered.ensures.rules;
-        lines = long.0;
-        plain = long.1;
+        code = lines_code long.0 numbered.rules.otherwise;
+        of_text = record {
+          rules = numbered.rules;
+          read = without_numbers c.args.text.now (numbered_read numbered) c.in_ok-numbered.ensures.rules;
+          lines = long.0;
+          plain = long.1;
+          code_is = refl;
+        };
         longer = long.2;
       },
     )

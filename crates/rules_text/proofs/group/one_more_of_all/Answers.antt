@@ -1,13 +1,5 @@
-use Rattle.std.proofs.Common.{◌<◌, length, arith}
-use Rattle.std.proofs.lemmas.Bool.Decides.{nat_tests}
-use Rattle.cell_rules.specs.declared.test.Test.{AllOf}
-use Rattle.rules_text.proofs.Chains.{all_more, all_two}
+use Rattle.rules_text.proofs.Chains.{all_more}
 use Rattle.rules_text.proofs.group.one_more_of_all.Goals as goal
 
 pub returns : goal.returns
-returns c =
-    let some : 0 < length c.args.tests.items = grind (arith, nat_tests) in
-    all_more c.args.tests c.in_ok-one_more.field-0 c.args.test some c.in_ok-one_more.ensures
-
-pub returns-then-is_empty : goal.returns-then-is_empty
-returns-then-is_empty c = all_two c.in_ok-two.field-0 (AllOf c.args.tests) c.args.test c.in_ok-two.ensures
+returns c = all_more c.args.tests c.in_ok-one_more.field-0 c.args.test c.in_ok-one_more.ensures

@@ -1,0 +1,16 @@
+-- The code that is defined for a text of rules.
+use Rattle.std.specs.Prelude.{◌≡◌, ℕ, List}
+use Rattle.bpf_code.specs.declared.instr.Instr.{Instr}
+use Rattle.cell_rules.specs.PlainOf.{ArePlainLines}
+use Rattle.cell_rules.specs.declared.rules.Rules.{Rules}
+use Rattle.match_code.specs.LineCode.{lines_code}
+use Rattle.match_code.specs.declared.lines.Line.{Line}
+use Rattle.rules_text.specs.NumberedText.{HasRules}
+
+-- The text has rules, and this is the code of the lines that they become.
+pub record IsCodeOfText (octets : List ℕ) (code : List Instr) : Type 0 where
+  pub rules : Rules
+  pub read : HasRules octets rules
+  pub lines : List Line
+  pub plain : ArePlainLines rules.side rules.lines.items lines
+  pub code_is : code ≡ lines_code lines rules.otherwise
