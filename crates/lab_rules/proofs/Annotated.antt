@@ -1,9 +1,9 @@
 -- What the loops of the annotated listing keep.
-use Rattle.std.proofs.Common.{◌≡◌, ◌≢◌, ℕ, ◌+◌, ◌<◌, ◌≤◌, ◌==◌, true, false, if◌then◌else◌, List, [], ◌∷◌, ◌++◌, codes, drop, take, length, get_or, refl, sym, ap, subst, ◌∙◌, arith, append-nil, append_assoc, take-append-drop}
+use Rattle.std.proofs.Common.{◌≡◌, ◌≢◌, ℕ, ◌+◌, ◌<◌, true, false, List, [], ◌∷◌, ◌++◌, drop, take, length, get_or, refl, sym, ap, subst, ◌∙◌, arith, append-nil, append_assoc, take-append-drop}
 use Rattle.std.proofs.lemmas.List.{drop_all, drop_more, get_or-take, length-take, take_more}
 use Rattle.text_io.specs.Lines.{Line, lines_of}
 use Rattle.text_io.proofs.LinesLemmas.{NoFeed, lines-at_feed, lines-of_rest}
-use Rattle.lab_rules.specs.AsmText.{comment_at, comments_from, comment_line, lines_with, next_length, whole_line}
+use Rattle.lab_rules.specs.AsmText.{lines_with, whole_line}
 
 -- The text begins with this line, and the rest follows.
 abbrev pub IsFirst : List ℕ → List ℕ → List ℕ → Type 0
@@ -28,24 +28,6 @@ first_last text some free = (
   lines-of_rest text some free ∙ ap (λ (r : List ℕ). record { octets = text; ended = false } ∷ lines_of r) (sym (drop_all (length text) text (omega arith))),
   refl,
 )
-
--- ---- comments from a place on
-
-pub comments_more : (lines : List (List ℕ)) (numbers lengths : List ℕ) (left place : ℕ) (old mid new all : List ℕ) → place < length lengths
-    → old ++ comments_from lines numbers left place (drop place lengths) ≡ all
-    → mid ≡ old ++ comment_at lines numbers left place (get_or lengths place 0) (next_length (drop (place + 1) lengths)) → new ≡ mid
-    → new ++ comments_from lines numbers left (place + 1) (drop (place + 1) lengths) ≡ all
-comments_more lines numbers lengths left place old mid new all lt rest made e =
-    let here = comment_at lines numbers left place (get_or lengths place 0) (next_length (drop (place + 1) lengths)) in
-    let after = comments_from lines numbers left (place + 1) (drop (place + 1) lengths) in
-    ap (λ (t : List ℕ). t ++ after) (e ∙ made) ∙ append_assoc old here after
-    ∙ ap (λ (ns : List ℕ). old ++ comments_from lines numbers left place ns) (sym (drop_more lengths place 0 lt)) ∙ rest
-
-pub comments_last : (lines : List (List ℕ)) (numbers lengths : List ℕ) (left place : ℕ) (old new all : List ℕ) → length lengths ≤ place
-    → old ++ comments_from lines numbers left place (drop place lengths) ≡ all
-    → new ≡ old ++ (if left == 1 then comment_line (codes "otherwise") else []) → new ≡ all
-comments_last lines numbers lengths left place old new all le rest made =
-    made ∙ ap (λ (ns : List ℕ). old ++ comments_from lines numbers left place ns) (sym (drop_all place lengths le)) ∙ rest
 
 -- ---- lines from a place on
 

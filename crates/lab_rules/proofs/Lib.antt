@@ -1,8 +1,10 @@
 pub mod WholeAnswers
 pub mod FaultLineText
+pub mod OneText
 pub mod Public
 pub mod WhySteps
 pub mod CommentsAdded
 pub mod Annotated
+pub mod CommentsKept
 pub mod CommentsPut
 pub mod Gathering

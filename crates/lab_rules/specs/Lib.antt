@@ -2,6 +2,7 @@
 pub mod RuleFaults
 pub mod RulesAnswers
 pub mod RulesText
+pub mod RulesLaws
 pub mod WhyText
 pub mod WhyGathering
 pub mod CommentLines

@@ -3,17 +3,18 @@
 use Rattle.std.specs.Prelude.{◌≡◌, ◌⊎◌, ℕ, List}
 use Rattle.bpf_code.specs.declared.instr.Instr.{Instr}
 use Rattle.bpf_verify.specs.Accepted.{IsAccepted}
+use Rattle.rules_text.specs.CodeOfText.{IsCodeOfText}
 use Rattle.rules_text.specs.ValuesRead.{FollowsText}
 use Rattle.text_io.specs.declared.ending.Done.{Done}
 use Rattle.text_io.specs.declared.ending.Done.TheVariants.{Whole}
 use Rattle.lab_rules.specs.RulesAnswers.{IsAnswerBy, MayBeAnswerBy, PrintsFault}
 use Rattle.upc_programs.specs.Check.{accepted_text}
 
--- The answer to a text of rules. If it is a program, that is accepted, and on every cell the machine gives the value of the
--- text's rules.
+-- The answer to a text of rules. If it is a program, that is the code that is defined for the text; it is accepted, and on every cell the
+-- machine gives the value of the text's rules.
 abbrev pub PrintsRules : List ℕ → List ℕ → Done → Type 0
 PrintsRules text answer done =
-    ((code : List Instr) × IsAccepted code × FollowsText text code × (answer ≡ accepted_text code) × (done ≡ Whole))
+    ((code : List Instr) × IsAccepted code × FollowsText text code × IsCodeOfText text code × (answer ≡ accepted_text code) × (done ≡ Whole))
     ⊎ PrintsFault text answer done
 
 -- The output for a whole input, and how the run ends.

@@ -1,18 +1,28 @@
 //! The listing of a code of rules, with the rules as comments.
 
-ghost use Rattle.std.specs.Prelude.{◌≡◌, ◌≤◌, ◌<◌, ◌-◌, ◌++◌, [], ◌∷◌, length, IfOk, IfSome, MatchOption, OnOk, drop, slice_index};
+ghost use Rattle.std.specs.Prelude.{◌≡◌, ◌≤◌, ◌<◌, ◌-◌, ◌++◌, ℕ, [], ◌∷◌, codes, decimal, length, IfOk, IfSome, MatchOption, OnOk, drop, slice_index};
 ghost use Rattle.bpf_asm.specs.Listing.{listing_of};
 ghost use Rattle.bpf_asm.specs.Meaning.{IsMeaning};
 ghost use Rattle.bpf_asm.specs.SourceLines.{source_lines};
 ghost use Rattle.text_io.specs.Lines.{Line, lines_of};
-ghost use Rattle.lab_rules.specs.AsmText.{asm_text, comment_at, comment_line, comments_from, line_after, lines_with, next_length, rule_comment, whole_line};
+ghost use Rattle.lab_rules.specs.AsmText.{asm_text, comment_line, comments_from, line_after, lines_with, next_length, whole_line};
+ghost use Rattle.lab_rules.specs.inner.Comments.{comment_if, otherwise_comment, written_at};
 
 use crate::deciding::number_at;
 use bpf_asm::next_line;
 use rules_text::NumberedCode;
-use std::alloc::AllocError;
+use std::alloc::{AllocError, Global};
 use text_io::first_feed;
 use upc_words::{add_number, add_text};
+
+/// The comment of a line of rules, and how many instructions the code has from that line's first on.
+#[derive(Drop)]
+pub(crate) struct Comment {
+    /// The number of instructions.
+    pub size: usize,
+    /// The comment line.
+    pub text: Vec<u8>,
+}
 
 /// The first line of a text with its line feed, and the rest.
 fn whole_line(text: &[u8]) -> Option<(&[u8], &[u8])>
@@ -29,20 +39,30 @@ fn whole_line(text: &[u8]) -> Option<(&[u8], &[u8])>
     }
 }
 
-/// The line of a text after this many others.
-fn line_after(text: &[u8], before: usize) -> &[u8]
-    ensures { result.now ≡ line_after (source_lines text.now) before }
+/// What is left of a text after this many lines.
+fn after_lines(text: &[u8], count: usize) -> &[u8]
+    ensures { source_lines result.now ≡ drop count (source_lines text.now) }
 {
     let mut left = text;
-    let mut more = before;
-    while let Some((line, rest)) = next_line(left) {
-        if more == 0 {
-            return line;
-        }
-        more -= 1;
+    let mut more = count;
+    while more > 0 {
+        let Some((_, rest)) = next_line(left) else {
+            return left;
+        };
         left = rest;
+        more -= 1;
     }
-    &text[..0]
+    left
+}
+
+/// The first line of a text; an empty one if there is none.
+fn first_line(text: &[u8]) -> &[u8]
+    ensures { result.now ≡ line_after (source_lines text.now) 0 }
+{
+    match next_line(text) {
+        Some((line, _)) => line,
+        None => &text[..0],
+    }
 }
 
 /// Appends a comment line.
@@ -56,17 +76,18 @@ fn add_comment(answers: &mut Vec<u8>, text: &[u8]) -> Result<(), AllocError>
     Ok(())
 }
 
-/// Appends the comment of a line of rules.
+/// The comment of a line of rules with this number.
 #[tactic(auto, using(std::proofs::lemmas::List::append_assoc))]
-fn add_rule_comment(answers: &mut Vec<u8>, text: &[u8], number: usize) -> Result<(), AllocError>
-    ensures { OnOk result (answers.new.items ≡ answers.old.items ++ rule_comment (source_lines text.now) number) }
+fn rule_comment(alloc: Global, line: &[u8], number: usize) -> Result<Vec<u8>, AllocError>
+    ensures { IfOk result (λ text. text.items ≡ comment_line (decimal number ++ (codes ": " ++ line.now))) }
 {
-    add_text(answers, b"; ")?;
-    add_number(answers, number as u64)?;
-    add_text(answers, b": ")?;
-    add_text(answers, line_after(text, number.saturating_sub(1)))?;
-    answers.push(b'\n')?;
-    Ok(())
+    let mut text = Vec::new(alloc);
+    add_text(&mut text, b"; ")?;
+    add_number(&mut text, number as u64)?;
+    add_text(&mut text, b": ")?;
+    add_text(&mut text, line)?;
+    text.push(b'\n')?;
+    Ok(text)
 }
 
 /// How many instructions the code has from the line of rules at a place on, or from the last return.
@@ -79,49 +100,87 @@ fn length_at(lengths: &[usize], place: usize) -> usize
     }
 }
 
-/// Appends the comment of the line of rules at a place, if its code begins where this many instructions are left.
-fn add_comment_at(
-    answers: &mut Vec<u8>,
+/// What is left of a text after this many lines. So many were passed over where `rest` begins: the search goes on there, if it can.
+fn rest_after<'t>(text: &'t [u8], rest: &'t [u8], passed: usize, before: usize) -> &'t [u8]
+    requires { source_lines rest.now ≡ drop passed (source_lines text.now) }
+    ensures { source_lines result.now ≡ drop before (source_lines text.now) }
+{
+    if before < passed {
+        return after_lines(text, before);
+    }
+    after_lines(rest, before - passed)
+}
+
+/// The comments of the lines of rules that have code of their own. They are found in one pass over the text, since the numbers of lines of
+/// rules rise.
+fn comments_of(
+    alloc: Global,
     text: &[u8],
     numbers: &[usize],
-    left: usize,
-    place: usize,
-    size: usize,
-    next: usize,
-) -> Result<(), AllocError>
-    ensures { OnOk result (answers.new.items ≡ answers.old.items ++ comment_at (source_lines text.now) numbers.now left place size next) }
+    lengths: &[usize],
+) -> Result<Vec<Comment>, AllocError>
+    ensures { IfOk result (λ comments. (left : ℕ) → written_at left comments.items ++ otherwise_comment left
+        ≡ comments_from (source_lines text.now) numbers.now left 0 lengths.now) }
 {
-    if size == left && size != next {
-        add_rule_comment(answers, text, number_at(numbers, place))?;
+    let mut comments = Vec::new(alloc);
+    let mut rest = text;
+    let mut passed = 0;
+    let mut place = 0;
+    while place < lengths.len() {
+        let size = lengths[place];
+        if size == length_at(lengths, place + 1) {
+            place += 1;
+            continue;
+        }
+        let number = number_at(numbers, place);
+        let before = number.saturating_sub(1);
+        rest = rest_after(text, rest, passed, before);
+        passed = before;
+        let comment = rule_comment(alloc, first_line(rest), number)?;
+        comments.push(Comment {
+            size,
+            text: comment,
+        })?;
+        place += 1;
+    }
+    Ok(comments)
+}
+
+/// Appends a comment, if this many instructions are left where its line's code begins.
+fn add_comment_if(answers: &mut Vec<u8>, comment: &Comment, left: usize) -> Result<(), AllocError>
+    ensures { OnOk result (answers.new.items ≡ answers.old.items ++ comment_if left comment.now) }
+{
+    if comment.size == left {
+        add_text(answers, &comment.text)?;
     }
     Ok(())
 }
 
-/// Appends the comments where this many instructions are left.
-fn add_comments(
-    answers: &mut Vec<u8>,
-    text: &[u8],
-    numbers: &[usize],
-    lengths: &[usize],
-    left: usize,
-) -> Result<(), AllocError>
-    ensures { OnOk result (answers.new.items ≡ answers.old.items ++ comments_from (source_lines text.now) numbers.now left 0 lengths.now) }
+/// Appends the comment of `otherwise`, if this many instructions are left before it.
+fn add_otherwise(answers: &mut Vec<u8>, left: usize) -> Result<(), AllocError>
+    ensures { OnOk result (answers.new.items ≡ answers.old.items ++ otherwise_comment left) }
 {
-    let mut place = 0;
-    while place < lengths.len() {
-        let size = lengths[place];
-        let next = length_at(lengths, place + 1);
-        add_comment_at(answers, text, numbers, left, place, size, next)?;
-        place += 1;
-    }
     if left == 1 {
         add_comment(answers, b"otherwise")?;
     }
     Ok(())
 }
 
+/// Appends the comments where this many instructions are left.
+#[tactic(auto, using(std::proofs::lemmas::List::append_assoc))]
+fn add_comments(answers: &mut Vec<u8>, comments: &[Comment], left: usize) -> Result<(), AllocError>
+    ensures { OnOk result (answers.new.items ≡ answers.old.items ++ (written_at left comments.now ++ otherwise_comment left)) }
+{
+    for comment in comments {
+        add_comment_if(answers, comment, left)?;
+    }
+    add_otherwise(answers, left)?;
+    Ok(())
+}
+
 /// Appends the listing of a code of rules with its comments.
 pub(crate) fn add_annotated(
+    alloc: Global,
     answers: &mut Vec<u8>,
     text: &[u8],
     made: &NumberedCode,
@@ -130,11 +189,12 @@ pub(crate) fn add_annotated(
     requires { listing.now ≡ listing_of made.now.placed.code.items }
     ensures { OnOk result (answers.new.items ≡ answers.old.items ++ asm_text (source_lines text.now) made.now) }
 {
+    let comments = comments_of(alloc, text, &made.numbers, &made.placed.lengths)?;
     let mut rest = listing;
     let mut place = 0usize;
     while let Some((line, after)) = whole_line(rest) {
         let left = made.placed.code.len().saturating_sub(place);
-        add_comments(answers, text, &made.numbers, &made.placed.lengths, left)?;
+        add_comments(answers, &comments, left)?;
         answers.extend_from_slice(line)?;
         place += 1;
         rest = after;

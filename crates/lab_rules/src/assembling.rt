@@ -26,7 +26,7 @@ fn add_source(
     ensures meaning { OnOk result (IsMeaning (asm_text (source_lines text.now) made.now) made.now.placed.code.items) }
 {
     match listing(alloc, &made.placed.code) {
-        Ok(lines) => add_annotated(answers, text, made, &lines),
+        Ok(lines) => add_annotated(alloc, answers, text, made, &lines),
         Err(_) => Err(AllocError),
     }
 }

@@ -2,6 +2,7 @@
 
 ghost use Rattle.lab_rules.specs.AsmLaws.{SourcesAreCheckedAlike};
 ghost use Rattle.lab_rules.specs.CommentLines.{CommentLinesMeanNothing};
+ghost use Rattle.lab_rules.specs.RulesLaws.{RulesHaveOneText};
 ghost use Rattle.lab_rules.specs.WhyGathering.{RulesAreGatheredAsWritten};
 
 /// A source of assembly means the same code with comment lines added.
@@ -17,4 +18,9 @@ pub fn sources_are_checked_alike()
 /// The text that `upc-lab why` gathers of the lines of rules has their rules, or their fault.
 pub fn rules_are_gathered_as_written()
     ensures { RulesAreGatheredAsWritten }
+{}
+
+/// An input of `upc-lab rules` has one text.
+pub fn rules_have_one_text()
+    ensures { RulesHaveOneText }
 {}

@@ -1,4 +1,5 @@
 use Rattle.std.proofs.Common.{inl, refl}
+use Rattle.rules_text.proofs.Public.{code_of_numbered}
 use Rattle.upc_codes.specs.Program.{is_program}
 use Rattle.lab_rules.specs.AsmLaws.{SourcesAreCheckedAlike}
 use Rattle.lab_rules.proofs.laws.sources_are_checked_alike.Goals as goal
@@ -8,7 +9,7 @@ checked_alike text answer made prints =
     let code = made.placed.code.items in
     record {
       checked = inl (code, prints.meaning, (is_program code, (prints.accepted, refl), (refl, refl)));
-      compiled = inl (code, prints.accepted, prints.follows, refl, refl);
+      compiled = inl (code, prints.accepted, prints.follows, code_of_numbered text made prints.places, refl, refl);
     }
 
 pub returns : goal.returns
