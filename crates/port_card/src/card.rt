@@ -7,10 +7,10 @@ use crate::gate::Gate;
 use crate::ledgers::Ledgers;
 use crate::marks::{LineMarks, SeatMarks};
 use crate::seat::PortSeat;
-use crate::seatings::Seatings;
-use card_core::{Answer, CardFault, Shape, Store, name_contract};
+use crate::seatings::{Found, Seatings};
+use card_core::{Answer, CardFault, Shape, Store};
 use gen_arena::Arena;
-use line_record::{Line, MOST_ENTRIES, Seating};
+use line_record::{Line, MOST_ENTRIES};
 use std::alloc::Global;
 use std::marker::Model;
 use std::sync::{Mutex, RwLock, Wait};
@@ -43,7 +43,7 @@ impl<S: Ledgers> Model for Card<S> {
 }
 
 impl<S: Ledgers> Card<S> {
-    ghost use Rattle.std.specs.Prelude.{◌≡◌, ◌≢◌, ◌<◌, ◌≤◌, ◌⊎◌, length, None, Some, IfOk, IfSome, MatchResult};
+    ghost use Rattle.std.specs.Prelude.{◌≡◌, ◌≢◌, ◌<◌, ◌≤◌, ◌⊎◌, ◌↔◌, length, None, Some, IfOk, IfSome, MatchResult};
     ghost use Rattle.card_core.specs.Shapes.{shape_fault};
     ghost use Rattle.card_core.specs.Sections.{judged_in_answer};
     ghost use Rattle.port_card.specs.Names.{AreFor};
@@ -83,12 +83,15 @@ impl<S: Ledgers> Card<S> {
         let Some(seatings) = Seatings::new(alloc, shape.lines as u16) else {
             return Err(CardFault::NoMemory);
         };
-        let Some(counted_lines) = free_lines(
+        let Some(free_lines) = free_lines(
             alloc,
             shape.lines as usize,
             shape.journal as u32,
             on_lines,
         ) else {
+            return Err(CardFault::NoMemory);
+        };
+        let Some(counted_lines) = each_locked(alloc, free_lines) else {
             return Err(CardFault::NoMemory);
         };
         let Some(seats) = new_seats(alloc, shape.ports as u8, shape.lines as usize, at_seats) else {
@@ -140,84 +143,109 @@ impl<S: Ledgers> Card<S> {
     {
         let store = self.store.read(rt);
         let vc = cell.vc_at(self.side());
-        let Some(seating) = self.find(rt, vc) else {
+        let Some(found) = self.find(rt, &store, vc) else {
             return Answer::NoConnection;
         };
-        self.judge_seated(rt, &store, &seating, seat, cell, moment, gate)
+        self.judge_found(rt, &found, seat, cell, moment, gate)
     }
 
-    /// Answers a cell of the connection with this seating, while the caller holds the read lock of these programs.
-    fn judge_seated<G: Gate, R: Wait>(
+    /// Answers a cell of the connection that was found.
+    fn judge_found<G: Gate, R: Wait>(
         &self,
         rt: &R,
-        store: &Store,
-        seating: &Seating,
+        found: &Found<'_>,
         seat: &mut PortSeat<S>,
         cell: &Cell,
         moment: u64,
         gate: &G,
     ) -> Answer
-        requires { seating.now.line < self.now.lines }
+        requires { found.now.seating.line < self.now.lines }
 
         // The value is what the connection's program, as it was looked up, gives for the cell.
-        ensures program { IfSome (judged_in_answer result) (λ judged. judged.program ≡ seating.now.program) }
-        ensures given { IfSome (judged_in_answer result) (λ judged. IsGivenBy store.now judged.program cell.now judged.value) }
-        ensures stale { live_value store.now seating.now.program ≡ None → result ≡ Answer.Stale }
+        ensures program { IfSome (judged_in_answer result) (λ judged. judged.program ≡ found.now.seating.program) }
+        ensures given { IfSome (judged_in_answer result) (λ judged.
+            IsGivenBy found.now.programs.now judged.program cell.now judged.value) }
+        ensures stale { (result ≡ Answer.Stale)
+            ↔ (live_value found.now.programs.now found.now.seating.program ≡ None) }
 
         // As `arrive`.
         ensures tallied { seat.new ≡ seat_after seat.old (judged_in_answer result) }
         ensures total { tally_of_seat seat.new ≡ counts_after (tally_of_seat seat.old) (judged_in_answer result) }
-        ensures there { IfSome (judged_in_answer result) (λ judged. judged.line ≡ seating.now.line) }
+        ensures there { IfSome (judged_in_answer result) (λ judged. judged.line ≡ found.now.seating.line) }
         ensures judged { IfSome (judged_in_answer result) (IsJudgedAnswer cell.now moment) }
         ensures blames { BlamesRightly moment result }
         ensures memory { result ≢ Answer.NoMemory }
     {
-        let Some(named) = name_contract(store, seating.program, cell) else {
+        let Some(named) = found.name(cell) else {
             return Answer::Stale;
         };
         gate.between(seat.port());
+        let seating = found.seating();
         let vc = cell.vc_at(self.side());
         let mut counted_line = self.counted_lines[usize::from(seating.line)].lock(rt);
         let mut books = self.books.lock(rt);
         counted_line.judge(&mut books, seat, vc, seating, &named, moment)
     }
 
-    /// Returns the seating of the connection, if there is one. The directory's lock is free again when this returns.
-    fn find<R: Wait>(&self, rt: &R, vc: Vc) -> Option<Seating>
-        ensures { IfSome result (λ seating. seating.line < self.now.lines) }
+    /// Looks up a connection, if there is one, while the caller reads these programs. The directory's lock is free again
+    /// when this returns.
+    fn find<'s, R: Wait>(&self, rt: &R, programs: &'s Store, vc: Vc) -> Option<Found<'s>>
+        ensures within { IfSome result (λ found. found.seating.line < self.now.lines) }
+        ensures programs { IfSome result (λ found. found.programs.now ≡ programs.now) }
     {
-        self.seatings.lock(rt).find(vc)
+        self.seatings.lock(rt).look_up(programs, vc)
     }
 }
 
-ghost use Rattle.std.specs.Prelude.{◌≡◌, ◌≤◌, IfSome, vec_len};
+ghost use Rattle.std.specs.Prelude.{◌≡◌, ◌≤◌, false, IfSome, length, map, replicate, vec_len};
+ghost use Rattle.line_record.specs.Line.{free_line};
+ghost use Rattle.line_record.specs.Tally.{nothing};
 ghost use Rattle.port_card.specs.Seats.{AreNewSeats};
 ghost use Rattle.port_card.specs.inner.Marks.{unused_marks};
 
-/// Makes `lines` free lines, each with a journal of `journal` entries, its marks and its lock. Returns none if an
-/// allocation fails.
+/// Makes `lines` free lines, each with a journal of `journal` entries and its marks. Returns none if an allocation
+/// fails.
 fn free_lines<S: Ledgers>(
     alloc: Global,
     lines: usize,
     journal: u32,
     all: LineMarks<S>,
-) -> Option<Vec<Mutex<CountedLine<S>>>>
+) -> Option<Vec<CountedLine<S>>>
     requires some { 1 ≤ journal }
     requires most { journal ≤ MOST_ENTRIES }
     requires marks { all ≡ unused_marks lines }
-    ensures { IfSome result (λ counted_lines. vec_len counted_lines ≡ lines) }
+    ensures count { IfSome result (λ made. length made.items ≡ lines) }
+    ensures each { IfSome result (λ made.
+        map (λ counted_line. counted_line.line) made.items ≡ replicate lines (free_line journal nothing false)) }
 {
     let mut rest = all;
-    let Ok(mut counted_lines) = Vec::with_capacity(alloc, lines) else {
+    let Ok(mut made) = Vec::with_capacity(alloc, lines) else {
         return None;
     };
     for _ in 0..lines {
         let Ok(line) = Line::new(alloc, journal) else {
             return None;
         };
-        counted_lines.push_reserved(Mutex::new(CountedLine::new(line, rest.split_off())));
+        made.push_reserved(CountedLine::new(line, rest.split_off()));
     }
-    Some(counted_lines)
+    Some(made)
+}
+
+/// Puts each line behind a lock of its own, in their order. Returns none if an allocation fails. No contract can see
+/// through the locks.
+fn each_locked<S: Ledgers>(
+    alloc: Global,
+    counted_lines: Vec<CountedLine<S>>,
+) -> Option<Vec<Mutex<CountedLine<S>>>>
+    ensures { IfSome result (λ locked. vec_len locked ≡ length counted_lines.items) }
+{
+    let Ok(mut locked) = Vec::with_capacity(alloc, counted_lines.len()) else {
+        return None;
+    };
+    for counted_line in counted_lines {
+        locked.push_reserved(Mutex::new(counted_line));
+    }
+    Some(locked)
 }
 
 /// Makes the seats of `ports` ports. Returns none if an allocation fails.

@@ -38,6 +38,7 @@ impl<S: Ledgers> CountedLine<S> {
     pub(crate) fn new(line: Line, marks: LineMarks<S>) -> Self
         requires line { line.state.counts ≡ nothing }
         requires marks { marks ≡ unused_marks 1 }
+        ensures { result.line ≡ line }
     {
         CountedLine { line, marks }
     }
@@ -84,6 +85,7 @@ impl<S: Ledgers> CountedLine<S> {
         ensures in_time { IsSome (judged_in_answer result) → moment ≤ 2 ^ 62 }
         ensures blames { BlamesRightly moment result }
         ensures memory { result ≢ Answer.NoMemory }
+        ensures live { result ≢ Answer.Stale }
     {
         if !books.has_room() {
             return Answer::JournalFull;

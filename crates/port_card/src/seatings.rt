@@ -4,12 +4,12 @@ ghost use Rattle.std.specs.Prelude.{◌≡◌};
 
 use crate::ledgers::Ledgers;
 use bpf_verify::Program;
-use card_core::{Ask, DeskFault, Store, admit, find_seating, reload, retire};
+use card_core::{Ask, DeskFault, Named, Store, admit, find_seating, name_contract, reload, retire};
 use gen_arena::Id;
 use line_record::{Directory, Seating};
 use std::alloc::Global;
 use std::marker::PhantomData;
-use upc_cell::Vc;
+use upc_cell::{Cell, Vc};
 
 /// The data behind the directory's lock: the directory of the card's lines.
 #[derive(Drop)]
@@ -19,8 +19,48 @@ pub(crate) struct Seatings<S: Ledgers> {
     ghost all_lines: { directory.lines ≡ S.names.lines },
 }
 
+/// A connection that was looked up for a cell, and the programs that were read before.
+///
+/// Only [`Seatings::look_up`] makes one, and it borrows the programs. So they were read before the look-up, and are read
+/// until the cell is answered: no program is retired between the two, and the connection's program is among them.
+#[derive(Clone, Copy)]
+pub(crate) struct Found<'s> {
+    seating: Seating,
+    programs: &'s Store,
+}
+
+impl Found<'_> {
+    ghost use Rattle.std.specs.Prelude.{◌≡◌, ◌↔◌, List, Some, IsSome, IfSome};
+    ghost use Rattle.bpf_code.specs.declared.instr.Instr.{Instr};
+    ghost use Rattle.bpf_verify.specs.Accepted.{IsAccepted};
+    ghost use Rattle.gen_arena.specs.Live.{live_value, IsLive};
+    ghost use Rattle.card_core.specs.Sections.{IsNaming};
+
+    /// The connection's place in the directory.
+    #[inline]
+    pub(crate) fn seating(&self) -> &Seating
+        ensures { result.now ≡ self.now.seating }
+    {
+        &self.seating
+    }
+
+    /// Runs the connection's program on the cell, and returns the number that it gives. None if and only if the program
+    /// isn't live.
+    #[inline]
+    pub(crate) fn name(&self, cell: &Cell) -> Option<Named>
+        // As the locked section of `card_core`, on the programs that were read.
+        ensures live { IsSome result ↔ IsLive self.now.programs.now self.now.seating.program }
+        ensures named { IfSome result (λ named.
+            IsNaming self.now.programs.now self.now.seating.program cell.now named) }
+        ensures accepted { (code : List Instr)
+            → live_value self.now.programs.now self.now.seating.program ≡ Some code → IsAccepted code }
+    {
+        name_contract(self.programs, self.seating.program, cell)
+    }
+}
+
 impl<S: Ledgers> Seatings<S> {
-    ghost use Rattle.std.specs.Prelude.{◌≡◌, ◌<◌, ◌≤◌, ◌↔◌, None, Some, MatchResult, IfSome, IfOk, IfErr, IsErrOf, OnErr};
+    ghost use Rattle.std.specs.Prelude.{◌≡◌, ◌<◌, ◌≤◌, ◌↔◌, None, Some, MatchResult, IfSome, IfOk, IfErr, IsErrOf, OnErr, option_map};
     ghost use Rattle.bpf_verify.specs.Accepted.{IsAccepted};
     ghost use Rattle.gen_arena.specs.Live.{live_value, IsLive};
     ghost use Rattle.gen_arena.specs.Remove.{Removes};
@@ -49,6 +89,20 @@ impl<S: Ledgers> Seatings<S> {
         ensures directory { IsDirectory self.now.directory }
     {
         find_seating(&self.directory, vc)
+    }
+
+    /// Looks up the connection of a cell, while the caller holds the read lock of these programs. None if there is no
+    /// such connection.
+    #[inline]
+    pub(crate) fn look_up<'s>(&self, programs: &'s Store, vc: Vc) -> Option<Found<'s>>
+        ensures seating { option_map (λ found. found.seating) result ≡ seating_at self.now.directory vc }
+        ensures within { IfSome result (λ found. found.seating.line < S.names.lines) }
+        ensures programs { IfSome result (λ found. found.programs.now ≡ programs.now) }
+    {
+        match self.find(vc) {
+            Some(seating) => Some(Found { seating, programs }),
+            None => None,
+        }
     }
 
     /// Retires a program that no connection names.
