@@ -7,7 +7,7 @@ use crate::ledgers::Ledgers;
 use crate::marks::LineMarks;
 use crate::seat::PortSeat;
 use crate::seatings::Seatings;
-use card_core::{Answer, Ask, DeskFault, Named, cut, judge_at, release, setup};
+use card_core::{Answer, Ask, DeskFault, Named, cut, judge_without_cell, release, setup};
 use leaky::Verdict;
 use line_record::{Line, Owner, Piece, Seating};
 use upc_cell::Vc;
@@ -90,7 +90,7 @@ impl<S: Ledgers> CountedLine<S> {
         if !books.has_room() {
             return Answer::JournalFull;
         }
-        match judge_at(&mut self.line, vc, seating, named, moment) {
+        match judge_without_cell(&mut self.line, vc, seating, named, moment) {
             Ok(judged) => {
                 seat.count(books, &mut self.marks, judged.line, judged.verdict);
                 judged.answer(&named.cell())

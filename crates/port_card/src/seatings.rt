@@ -4,7 +4,7 @@ ghost use Rattle.std.specs.Prelude.{◌≡◌};
 
 use crate::ledgers::Ledgers;
 use bpf_verify::Program;
-use card_core::{Ask, DeskFault, Named, Store, admit, find_seating, name_contract, reload, retire};
+use card_core::{Ask, DeskFault, Named, Store, admit, name, pick, reload, retire};
 use gen_arena::Id;
 use line_record::{Directory, Seating};
 use std::alloc::Global;
@@ -55,7 +55,7 @@ impl Found<'_> {
         ensures accepted { (code : List Instr)
             → live_value self.now.programs.now self.now.seating.program ≡ Some code → IsAccepted code }
     {
-        name_contract(self.programs, self.seating.program, cell)
+        name(self.programs, self.seating.program, cell)
     }
 }
 
@@ -88,7 +88,7 @@ impl<S: Ledgers> Seatings<S> {
         ensures within { IfSome result (λ seating. seating.line < S.names.lines) }
         ensures directory { IsDirectory self.now.directory }
     {
-        find_seating(&self.directory, vc)
+        pick(&self.directory, vc)
     }
 
     /// Looks up the connection of a cell, while the caller holds the read lock of these programs. None if there is no

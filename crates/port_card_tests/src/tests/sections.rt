@@ -1,9 +1,7 @@
 //! The locked sections, called without a card.
 
 use super::*;
-use card_core::{
-    Store, admit, judge_at, load as put_in, name_contract, release, reload, retire, setup,
-};
+use card_core::{Store, admit, judge_at, load as put_in, name, release, reload, retire, setup};
 use gen_arena::Arena;
 use line_record::{Directory, Owner, Seating};
 
@@ -36,12 +34,16 @@ fn police(store: &Store, directory: &Directory, line: &mut Line, vc: Vc) -> Resu
     let Some(seating) = directory.find(vc) else {
         return Err(Fail::from("not found"));
     };
-    let Some(named) = name_contract(store, seating.program, &cell(OTHER)) else {
+    let Some(named) = name(store, seating.program, &cell(OTHER)) else {
         return Err(Fail::from("not named"));
     };
     for moment in [3, 5] {
-        if judge_at(line, vc, &seating, &named, moment).is_err() {
+        let Answer::Judged { moment: judged, .. } = judge_at(line, vc, &seating, &named, moment)
+        else {
             return Err(Fail::from("not judged"));
+        };
+        if judged != moment {
+            return Err(Fail::from("judged at another moment"));
         }
     }
     Ok(())
@@ -115,6 +117,6 @@ fn a_worn_store_is_full_and_forgets_what_was_retired(rt: HostRuntime) -> Result<
         retire(&mut store, &directory, first).err(),
         Some(DeskFault::NoProgram)
     );
-    assert!(rt; name_contract(&store, first, &cell(DATA)).is_none());
+    assert!(rt; name(&store, first, &cell(DATA)).is_none());
     Ok(())
 }
