@@ -2,7 +2,9 @@
 
 mod changes;
 mod journals;
+mod many_lines;
 mod overlaps;
+mod reloads;
 mod sections;
 mod shapes;
 mod two_ports;

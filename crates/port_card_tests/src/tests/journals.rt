@@ -30,7 +30,8 @@ fn answered(answer: Answer) -> &'static str {
 /// The results for the cells of one connection, on a card with two ports and two lines.
 #[derive(Debug, Drop)]
 struct Outcome {
-    answers: [&'static str; 5],
+    /// The verdict on each cell, and its number among the line's cells with this verdict.
+    answers: [Option<(Verdict, u64)>; 5],
     /// The number of cells in the journal that the release returned.
     entries: usize,
     /// Both seats' tallies of the connection's line, and the counts of that line.
@@ -47,7 +48,14 @@ fn lines_count_what_seats_do(rt: HostRuntime) -> Result<(), Fail> {
     let shape = shape(2, 2, 2, 16);
     let blanks = Blanks::new(2, 2);
     let seen = policed::<Brand, HostRuntime>(&rt, rt.alloc(), shape, blanks)?;
-    assert_eq!(rt; seen.answers, ["pass", "pass", "discard", "pass", "refuse"]);
+    let answers = [
+        Some((Verdict::Pass, 1)),
+        Some((Verdict::Pass, 2)),
+        Some((Verdict::Discard, 1)),
+        Some((Verdict::Pass, 3)),
+        Some((Verdict::Refuse, 1)),
+    ];
+    assert_eq!(rt; seen.answers, answers);
     assert_eq!(rt; (seen.entries, seen.lines, seen.uneven), (5, 2, None));
     let own = [
         Some(tally(1, 0, 1, 1)),
@@ -84,11 +92,11 @@ fn policed<S: Ledgers, R: Wait>(
     let (mut first, mut second) = both(seats)?;
     let begun = card.arrive(rt, &mut first, &cell(DATA), 0, &NoWait);
     let answers = [
-        answered(begun),
-        answered(card.arrive(rt, &mut second, &cell(DATA), 6, &NoWait)),
-        answered(card.arrive(rt, &mut first, &cell(DATA), 14, &NoWait)),
-        answered(card.arrive(rt, &mut second, &cell(DATA), 15, &NoWait)),
-        answered(card.arrive(rt, &mut first, &cell(MANAGEMENT), 15, &NoWait)),
+        judged(begun),
+        judged(card.arrive(rt, &mut second, &cell(DATA), 6, &NoWait)),
+        judged(card.arrive(rt, &mut first, &cell(DATA), 14, &NoWait)),
+        judged(card.arrive(rt, &mut second, &cell(DATA), 15, &NoWait)),
+        judged(card.arrive(rt, &mut first, &cell(MANAGEMENT), 15, &NoWait)),
     ];
     let Answer::Judged { line, .. } = begun else {
         return Err(Fail::from("not judged"));
