@@ -1,7 +1,7 @@
 //! Scripts whose ports are threads, with gates; and the errors of a close.
 
 use port_card::{CloseFault, Gate};
-use std::alloc::Global;
+use std::alloc::{AllocError, Global};
 use std::sync::Wait;
 use std::sync::atomic::{AtomicU64, Ordering};
 use std::test::Fail;
@@ -125,6 +125,104 @@ fn cells_are_dealt_by_the_path_of_the_cards_side(rt: HostRuntime) -> Result<(), 
         let (text_printed, _) = printed(&rt, rt.alloc(), script, &gate)?;
         assert_eq!(rt; text_printed.as_slice(), text);
         assert_eq!(rt; gate.port.load(Ordering::SeqCst), port);
+    }
+    Ok(())
+}
+
+/// A gate: counts the cells that come to it, and lets each wait for a number of turns, so that the desk can act meanwhile.
+#[derive(Drop)]
+struct Slow {
+    cells: AtomicU64,
+    turns: u64,
+}
+
+impl Slow {
+    fn new(turns: u64) -> Slow {
+        Slow {
+            cells: AtomicU64::new(0),
+            turns,
+        }
+    }
+}
+
+impl Gate for Slow {
+    fn between(&self, _port: u8) {
+        self.cells.fetch_add(1, Ordering::SeqCst);
+        for _ in 0..self.turns {
+            thread::yield_now();
+        }
+    }
+}
+
+/// A script with one connection: this number of cells, then `lines` this number of times, then the release.
+fn one_connection(
+    alloc: Global,
+    cells: usize,
+    times: usize,
+    lines: &[u8],
+) -> Result<Vec<u8>, AllocError> {
+    let mut script = Vec::new(alloc);
+    script.extend_from_slice(b"card 1 1 1 4096\nload 0006000000000001\n")?;
+    script.extend_from_slice(b"setup 1 100 p1 cbr1:10/0\n")?;
+    for _ in 0..cells {
+        script.extend_from_slice(b"cell 0 00100640\n")?;
+    }
+    for _ in 0..times {
+        script.extend_from_slice(lines)?;
+    }
+    script.extend_from_slice(b"release 1 100\n")?;
+    Ok(script)
+}
+
+#[test]
+fn the_desk_releases_a_connection_while_its_cells_arrive(rt: HostRuntime) -> Result<(), Fail> {
+    let gate = Slow::new(1000);
+    let script = one_connection(rt.alloc(), 4000, 0, b"")?;
+    printed(&rt, rt.alloc(), &script, &gate)?;
+    assert!(rt; gate.cells.load(Ordering::SeqCst) < 4000);
+    Ok(())
+}
+
+/// A cut and a release of the connection, which is set up again. Before each of the two, the desk waits for the cell that is
+/// at its gate, since a load waits for it.
+const ROUND: &[u8] = b"load 0006000000000001
+cut 1 100
+load 0006000000000001
+release 1 100
+setup 1 100 p1 cbr1:10/0
+";
+
+/// The sum of the numbers of one column, over the lines of a text that begin with this word.
+fn sum_of(text: &str, word: &str, column: usize) -> u64 {
+    let mut sum = 0u64;
+    for line in text.lines() {
+        let mut words = line.split(' ');
+        if words.next() == Some(word) {
+            let number = match words.nth(column) {
+                Some(number) => number.parse::<u64>().unwrap_or(0),
+                None => 0,
+            };
+            sum = sum.wrapping_add(number);
+        }
+    }
+    sum
+}
+
+#[test]
+fn what_is_cut_and_released_adds_up_to_the_totals(rt: HostRuntime) -> Result<(), Fail> {
+    let gate = Slow::new(50);
+    let script = one_connection(rt.alloc(), 4000, 1000, ROUND)?;
+    let (text, _) = printed(&rt, rt.alloc(), &script, &gate)?;
+    let Ok(text) = str::from_utf8(&text) else {
+        return Err(Fail::from("no text"));
+    };
+    for verdict in 0..4 {
+        let pieces = sum_of(text, "cut", verdict + 2).wrapping_add(sum_of(
+            text,
+            "released",
+            verdict + 2,
+        ));
+        assert_eq!(rt; pieces, sum_of(text, "totals", verdict));
     }
     Ok(())
 }
