@@ -1,6 +1,8 @@
 //! Cards on threads beside cards that take the same arrivals one after another.
 
-use crate::{Lane, Queue, each_card};
+ghost use Rattle.std.specs.Prelude.{[], ⊤};
+
+use crate::{Feeder, Lane, Queue, each_card};
 use arrayvec::ArrayVec;
 use bpf_code::Instr;
 use bpf_verify::verify;
@@ -9,7 +11,9 @@ use card_shelf::{Arrival, Decision};
 use gen_arena::Id;
 use leaky::{Contract, Gcra, Verdict};
 use std::alloc::Global;
+use std::sync::atomic::{AtomicU64, Ordering};
 use std::test::Fail;
+use std::thread;
 use upc_cell::{Cell, Side, Vc};
 
 /// How many connections there are: 1/100, 1/101 and so on.
@@ -210,6 +214,66 @@ fn a_card_with_a_cell_at_its_port_answers_none(rt: HostRuntime) -> Result<(), Fa
         let answers = lane.feeder.answers();
         let none = answers.iter().all(|answer| answer.is_none());
         assert_eq!(rt; (answers.len(), none), (60, true));
+    }
+    Ok(())
+}
+
+/// The maximum number of turns that a feeder waits for another.
+const TURNS: u64 = 10_000_000;
+
+/// A feeder without arrivals. When it is asked for one, it sets its flag and waits for the other feeder's.
+#[derive(Drop)]
+struct Meeting<'a> {
+    own: &'a AtomicU64,
+    other: &'a AtomicU64,
+    has_met: bool,
+}
+
+impl Feeder for Meeting<'_> {
+    ghost coming = { λ _. [] };
+
+    ghost has_taken = { λ _ _. ⊤ };
+
+    ghost awaits = { λ _. ⊥ };
+
+    fn next_arrival(&mut self) -> Option<Arrival> {
+        self.own.store(1, Ordering::SeqCst);
+        for _ in 0..TURNS {
+            if self.other.load(Ordering::SeqCst) != 0 {
+                self.has_met = true;
+                return None;
+            }
+            thread::yield_now();
+        }
+        None
+    }
+
+    fn take_answer(&mut self, _answer: Option<Decision>) {}
+}
+
+/// A card whose feeder has these flags.
+fn meeting_card<'a>(
+    alloc: Global,
+    own: &'a AtomicU64,
+    other: &'a AtomicU64,
+) -> Result<Lane<Meeting<'a>>, Fail> {
+    let feeder = Meeting {
+        own,
+        other,
+        has_met: false,
+    };
+    Ok(Lane::new(card(alloc)?, feeder))
+}
+
+#[test]
+fn two_cards_are_fed_at_the_same_time(rt: HostRuntime) -> Result<(), Fail> {
+    let (one, other) = (AtomicU64::new(0), AtomicU64::new(0));
+    let mut lanes = Vec::new(rt.alloc());
+    lanes.push(meeting_card(rt.alloc(), &one, &other)?)?;
+    lanes.push(meeting_card(rt.alloc(), &other, &one)?)?;
+    each_card(&rt, &mut lanes);
+    for lane in &lanes {
+        assert!(rt; lane.feeder.has_met);
     }
     Ok(())
 }
