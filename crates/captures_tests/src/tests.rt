@@ -1,5 +1,6 @@
 //! One module for each crate.
 
+mod at_once;
 mod fit;
 mod link;
 mod options;

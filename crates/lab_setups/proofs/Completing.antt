@@ -1,12 +1,12 @@
 -- How the lines that are left complete a script.
-use Rattle.std.proofs.Common.{◌≡◌, ◌⊎◌, inr, ℕ, ◌+◌, List, [], ◌++◌, Option, Some, None, refl, sym, ap, subst, ◌∙◌, append-nil, append_assoc}
+use Rattle.std.proofs.Common.{◌≡◌, ◌⊎◌, inr, ℕ, ◌+◌, List, [], ◌++◌, Option, Some, None, refl, sym, ap, subst, ◌∙◌, append-nil, append_assoc, length}
 use Rattle.std.specs.Option.{MatchOption}
 use Rattle.bpf_code.specs.declared.instr.Instr.{Instr}
-use Rattle.text_io.specs.Lines.{Line, lines_of, line_content}
+use Rattle.text_io.specs.Lines.{Line, lines_of}
 use Rattle.lab_rules.specs.AsmText.{whole_line}
 use Rattle.lab_setups.specs.FaultyRules.{HasFaultIn, HasFaultyRules, IsRulesFaultAt}
 use Rattle.lab_setups.specs.RulesFiles.{IsFaultOfRules, IsProgramOfRules, later_texts, next_text}
-use Rattle.lab_setups.specs.RulesLines.{rules_name}
+use Rattle.lab_setups.specs.RulesLines.{name_within, named_rules}
 use Rattle.lab_setups.specs.SetupPrograms.{HasPrograms, HasProgramsIn, load_line}
 use Rattle.lab_setups.specs.inner.Expansion.{Completes, GrowsByProgram}
 use Rattle.lab_setups.specs.inner.ScriptLine.{BeginsWithLine}
@@ -31,23 +31,28 @@ module _ (script : List ℕ) (texts : List (List ℕ)) (made : List ℕ) (met : 
   made_whole none =
       subst (HasPrograms script texts) (append-nil made) (so.programs [] (subst (λ (ls : List Line). HasProgramsIn ls texts_left []) (sym none) refl))
 
-  module _ (content whole rest : List ℕ) (cut : BeginsWithLine left content whole rest) where
-    replaces : (name : Option (List ℕ)) (expanded : List ℕ) → rules_name content ≡ name → ReplacesAt name cut.line (lines_of rest) texts_left expanded
+  module _ (content : List ℕ) (size : ℕ) (whole rest : List ℕ) (cut : BeginsWithLine left content size whole rest) where
+    -- What the line names by its content and its size.
+    named_here : (name : Option (List ℕ)) → name_within size content ≡ name → named_rules cut.line ≡ name
+    named_here name named =
+        ap (λ (c : List ℕ). name_within (length cut.line.octets) c) (sym cut.says) ∙ ap (λ (n : ℕ). name_within n content) (sym cut.counted) ∙ named
+
+    replaces : (name : Option (List ℕ)) (expanded : List ℕ) → name_within size content ≡ name → ReplacesAt name cut.line (lines_of rest) texts_left expanded
         → HasPrograms script texts (made ++ expanded)
     replaces name expanded named is =
-        let here : rules_name (line_content cut.line) ≡ name = ap rules_name (sym cut.says) ∙ named in
+        let here : named_rules cut.line ≡ name = named_here name named in
         so.programs expanded (subst (λ (ls : List Line). HasProgramsIn ls texts_left expanded) (sym cut.lines)
         (subst (λ (n : Option (List ℕ)). ReplacesAt n cut.line (lines_of rest) texts_left expanded) (sym here) is))
 
-    fails : (name : Option (List ℕ)) (text : List ℕ) → rules_name content ≡ name → FailsAt IsFaultOfRules name met (lines_of rest) texts_left text
+    fails : (name : Option (List ℕ)) (text : List ℕ) → name_within size content ≡ name → FailsAt IsFaultOfRules name met (lines_of rest) texts_left text
         → HasFaultyRules IsFaultOfRules script texts text
     fails name text named is =
-        let here : rules_name (line_content cut.line) ≡ name = ap rules_name (sym cut.says) ∙ named in
+        let here : named_rules cut.line ≡ name = named_here name named in
         so.faults text (subst (λ (ls : List Line). HasFaultIn IsFaultOfRules met ls texts_left text) (sym cut.lines)
         (subst (λ (n : Option (List ℕ)). FailsAt IsFaultOfRules n met (lines_of rest) texts_left text) (sym here) is))
 
     -- A line that names no rules goes as it is after what was made.
-    pub kept_line : (new : List ℕ) → rules_name content ≡ None → new ≡ made ++ whole → Completes script texts new (met + 1) rest texts_left
+    pub kept_line : (new : List ℕ) → name_within size content ≡ None → new ≡ made ++ whole → Completes script texts new (met + 1) rest texts_left
     kept_line new named is = record {
       programs = λ more h.
           subst (HasPrograms script texts) (sym (ap (λ (t : List ℕ). t ++ more) (is ∙ ap (λ (w : List ℕ). made ++ w) cut.octets) ∙ append_assoc made (whole_line cut.line) more))
@@ -56,7 +61,7 @@ module _ (script : List ℕ) (texts : List (List ℕ)) (made : List ℕ) (met : 
     }
 
     -- The line that loads a program goes there in place of a line that names rules.
-    pub loaded_line : (name new : List ℕ) → rules_name content ≡ Some name → GrowsByProgram (next_text texts_left) made new
+    pub loaded_line : (name new : List ℕ) → name_within size content ≡ Some name → GrowsByProgram (next_text texts_left) made new
         → Completes script texts new (met + 1) rest (later_texts texts_left)
     loaded_line name new named (code, program, is) = record {
       programs = λ more h.

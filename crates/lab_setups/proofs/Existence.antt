@@ -5,7 +5,7 @@ use Rattle.rules_text.specs.TextOfRules.{placed_fault, rules_in}
 use Rattle.rules_text.specs.declared.fault.RuleFault.{RuleFault}
 use Rattle.rules_text.specs.declared.fault.RuleKind.TheVariants.{TooLong}
 use Rattle.text_io.specs.Gathered.{gathered}
-use Rattle.text_io.specs.Lines.{Line, lines_of, line_content}
+use Rattle.text_io.specs.Lines.{Line, lines_of}
 use Rattle.text_io.specs.declared.ending.Done.{Done}
 use Rattle.text_io.specs.declared.ending.Done.TheVariants.{Ended}
 use Rattle.lab_captures.specs.declared.cell_lines.CellLines.{CellLines}
@@ -17,7 +17,7 @@ use Rattle.upc_words.specs.FaultLines.{too_long}
 use Rattle.lab_rules.specs.AsmText.{whole_line}
 use Rattle.lab_setups.specs.FaultyRules.{HasFaultIn, rules_place}
 use Rattle.lab_setups.specs.RulesFiles.{IsFaultOfRules, MayBeFaultOfRules, later_texts, next_text}
-use Rattle.lab_setups.specs.RulesLines.{rules_name}
+use Rattle.lab_setups.specs.RulesLines.{named_rules}
 use Rattle.lab_setups.specs.SetupLaws.{PolicesEachSetup}
 use Rattle.lab_setups.specs.SetupPrograms.{HasProgramsIn}
 use Rattle.lab_setups.specs.SetupText.{IsSetupPoliced, MayBeSetupPoliced}
@@ -50,7 +50,7 @@ abbrev LeadsOn : ℕ → List Line → List (List ℕ) → Type 0
 LeadsOn met lines texts =
     ((text : List ℕ) × HasFaultIn MayBeFaultOfRules met lines texts text) ⊎ ((expanded : List ℕ) × HasProgramsIn lines texts expanded)
 
-line_leads : (name : Option (List ℕ)) (met : ℕ) (line : Line) (lines : List Line) (texts : List (List ℕ)) → rules_name (line_content line) ≡ name
+line_leads : (name : Option (List ℕ)) (met : ℕ) (line : Line) (lines : List Line) (texts : List (List ℕ)) → named_rules line ≡ name
     → LeadsOn (met + 1) lines texts → LeadsOn met (line ∷ lines) texts
 line_leads None met line lines texts named (inl on) =
     inl (on.0, subst (λ (n : Option (List ℕ)). FailsAt MayBeFaultOfRules n met lines texts on.0) (sym named) on.1)
@@ -63,7 +63,7 @@ line_leads (Some name) met line lines texts named on =
 
 leads_on : (lines : List Line) (met : ℕ) (texts : List (List ℕ)) → LeadsOn met lines texts
 leads_on [] met texts = inr ([], refl)
-leads_on (line ∷ lines) met texts = line_leads (rules_name (line_content line)) met line lines texts refl (leads_on lines (met + 1) texts)
+leads_on (line ∷ lines) met texts = line_leads (named_rules line) met line lines texts refl (leads_on lines (met + 1) texts)
 
 polices : (lines : CellLines) (tick : ℕ) (interface : Option ℕ) (setup : List ℕ) (texts : List (List ℕ)) (octets : List ℕ) → LeadsOn 0 (lines_of setup) texts
     → (text : List ℕ) × (done : Done) × MayBeSetupPoliced lines tick interface setup texts octets text done
@@ -90,7 +90,7 @@ fault_at_may (Some name) met lines texts text on (inr (code, program, is)) = inr
 fault_may : (lines : List Line) (met : ℕ) (texts : List (List ℕ)) (text : List ℕ) → HasFaultIn IsFaultOfRules met lines texts text → HasFaultIn MayBeFaultOfRules met lines texts text
 fault_may [] met texts text is = is
 fault_may (line ∷ lines) met texts text is =
-    fault_at_may (rules_name (line_content line)) met lines texts text (λ texts is. fault_may lines (met + 1) texts text is) is
+    fault_at_may (named_rules line) met lines texts text (λ texts is. fault_may lines (met + 1) texts text is) is
 
 pub may_be_policed : (lines : CellLines) (tick : ℕ) (interface : Option ℕ) (setup : List ℕ) (texts : List (List ℕ)) (octets text : List ℕ) (done : Done)
     → IsSetupPoliced lines tick interface setup texts octets text done → MayBeSetupPoliced lines tick interface setup texts octets text done

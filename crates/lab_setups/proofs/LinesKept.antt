@@ -8,7 +8,7 @@ use Rattle.hex.specs.Hex.{encode_lower, encode_with, lower_digits}
 use Rattle.text_io.specs.Lines.{Line, begun_with, lines_of, line_content, without_return}
 use Rattle.lab_rules.proofs.CommentsPut.{AllFree, AreCut, cut}
 use Rattle.lab_setups.specs.RulesFiles.{IsProgramOfRules, later_texts, next_text}
-use Rattle.lab_setups.specs.RulesLines.{rules_name}
+use Rattle.lab_setups.specs.RulesLines.{named_rules}
 use Rattle.lab_setups.specs.SetupLaws.{AreReplaced, ProgramsKeepLines}
 use Rattle.lab_setups.specs.SetupPrograms.{HasProgramsIn, load_command, load_line}
 use Rattle.lab_setups.proofs.Completing.{ReplacesAt}
@@ -107,7 +107,7 @@ replaced_one (Some name) line lines texts expanded f ends more (code, program, (
 replaced_all : (lines : List Line) (texts : List (List ℕ)) (expanded : List ℕ) → AreCut lines → HasProgramsIn lines texts expanded → AreReplaced lines texts (lines_of expanded)
 replaced_all [] texts expanded c is = ap lines_of is
 replaced_all (line ∷ lines) texts expanded c is =
-    let one = replaced_one (rules_name (line_content line)) line lines texts expanded c.0 c.1 (λ texts rest made. replaced_all lines texts rest c.2 made) is in
+    let one = replaced_one (named_rules line) line lines texts expanded c.0 c.1 (λ texts rest made. replaced_all lines texts rest c.2 made) is in
     subst (AreReplaced (line ∷ lines) texts) (sym one.2) one.3
 
 count_one : (name : Option (List ℕ)) (line : Line) (lines : List Line) (texts : List (List ℕ)) (other : Line) (others : List Line)
@@ -120,7 +120,7 @@ as_many : (lines : List Line) (texts : List (List ℕ)) (others : List Line) →
 as_many [] texts others is = ap length is
 as_many (line ∷ lines) texts [] is = absurd is
 as_many (line ∷ lines) texts (other ∷ others) is =
-    ap suc (count_one (rules_name (line_content line)) line lines texts other others (λ texts is. as_many lines texts others is) is)
+    ap suc (count_one (named_rules line) line lines texts other others (λ texts is. as_many lines texts others is) is)
 
 pub keep_lines : ProgramsKeepLines
 keep_lines script texts expanded is =

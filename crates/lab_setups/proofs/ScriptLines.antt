@@ -6,7 +6,7 @@ use Rattle.text_io.proofs.LinesLemmas.{NoFeed, lines-at_feed, lines-of_rest}
 use Rattle.lab_setups.specs.inner.ScriptLine.{BeginsWithLine}
 
 pub cut_ended : (text : List ℕ) (at : ℕ) → at < length text → get_or text at 0 ≡ 10 → ((k : ℕ) → k < at → get_or text k 0 ≢ 10)
-    → BeginsWithLine text (without_return (take at text)) (take (at + 1) text) (drop (at + 1) text)
+    → BeginsWithLine text (without_return (take at text)) at (take (at + 1) text) (drop (at + 1) text)
 cut_ended text at lt feed before =
     let front = take at text in
     let free : NoFeed front = λ k below.
@@ -18,13 +18,15 @@ cut_ended text at lt feed before =
       line = record { octets = front; ended = true };
       lines = ap lines_of parted ∙ lines-at_feed front (drop (at + 1) text) free;
       says = refl;
+      counted = omega (arith, length-take at text, lt);
       octets = take_more text at 0 lt ∙ ap (λ (o : ℕ). front ++ o ∷ []) feed;
     }
 
-pub cut_last : (text : List ℕ) → 0 < length text → ((k : ℕ) → k < length text → get_or text k 0 ≢ 10) → BeginsWithLine text text text (drop (length text) text)
+pub cut_last : (text : List ℕ) → 0 < length text → ((k : ℕ) → k < length text → get_or text k 0 ≢ 10) → BeginsWithLine text text (length text) text (drop (length text) text)
 cut_last text some free = record {
   line = record { octets = text; ended = false };
   lines = lines-of_rest text some free ∙ ap (λ (r : List ℕ). (record { octets = text; ended = false }) ∷ lines_of r) (sym (drop_all (length text) text (omega arith)));
   says = refl;
+  counted = refl;
   octets = refl;
 }

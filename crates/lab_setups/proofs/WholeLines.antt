@@ -3,7 +3,7 @@ use Rattle.std.proofs.Common.{◌≡◌, ℕ, ◌==◌, Bool, true, false, if◌
 use Rattle.std.proofs.lemmas.Bool.{eqb-true}
 use Rattle.text_io.specs.Lines.{Line, begun_with, lines_of, line_content}
 use Rattle.lab_rules.specs.AsmText.{whole_line}
-use Rattle.lab_setups.specs.RulesLines.{names_in, rules_name, rules_names, with_rules_name}
+use Rattle.lab_setups.specs.RulesLines.{named_rules, names_in, rules_names, with_rules_name}
 use Rattle.lab_setups.specs.SetupLaws.{ScriptsWithoutRulesStay}
 use Rattle.lab_setups.specs.SetupPrograms.{HasPrograms, HasProgramsIn}
 use Rattle.lab_setups.proofs.Completing.{ReplacesAt}
@@ -43,14 +43,14 @@ no_name (Some name) names e = cc
 stays : (lines : List Line) (texts : List (List ℕ)) → names_in lines ≡ [] → HasProgramsIn lines texts (all_whole lines)
 stays [] texts none = refl
 stays (line ∷ lines) texts none =
-    let both = no_name (rules_name (line_content line)) (names_in lines) none in
+    let both = no_name (named_rules line) (names_in lines) none in
     subst (λ (n : Option (List ℕ)). ReplacesAt n line lines texts (whole_line line ++ all_whole lines)) (sym both.0)
     (all_whole lines, stays lines texts both.1, refl)
 
 stays_alone : (lines : List Line) (texts : List (List ℕ)) (expanded : List ℕ) → names_in lines ≡ [] → HasProgramsIn lines texts expanded → expanded ≡ all_whole lines
 stays_alone [] texts expanded none is = is
 stays_alone (line ∷ lines) texts expanded none is =
-    let both = no_name (rules_name (line_content line)) (names_in lines) none in
+    let both = no_name (named_rules line) (names_in lines) none in
     let here = subst (λ (n : Option (List ℕ)). ReplacesAt n line lines texts expanded) both.0 is in
     here.2 ∙ ap (λ (t : List ℕ). whole_line line ++ t) (stays_alone lines texts here.0 both.1 here.1)
 

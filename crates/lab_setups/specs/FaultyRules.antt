@@ -1,10 +1,10 @@
 -- The text for a setup script that names a file of rules with a fault.
 use Rattle.std.specs.Prelude.{◌≡◌, ◌⊎◌, ℕ, ◌+◌, List, [], ◌∷◌, ◌++◌, codes, None, MatchOption}
 use Rattle.bpf_code.specs.declared.instr.Instr.{Instr}
-use Rattle.text_io.specs.Lines.{Line, lines_of, line_content}
+use Rattle.text_io.specs.Lines.{Line, lines_of}
 use Rattle.lab_scripts.specs.Places.{place_words, quoted}
 use Rattle.lab_setups.specs.RulesFiles.{IsProgramOfRules, later_texts, next_text}
-use Rattle.lab_setups.specs.RulesLines.{rules_name}
+use Rattle.lab_setups.specs.RulesLines.{named_rules}
 
 -- The line that says which line of the script names the rules.
 abbrev pub rules_place : ℕ → List ℕ → List ℕ
@@ -18,7 +18,7 @@ IsRulesFaultAt IsFault number name rules text = (fault : List ℕ) × IsFault ru
 -- are before these, and the texts are those that are left. `IsFault` says which line is the fault line of a text.
 abbrev pub HasFaultIn : (List ℕ → List ℕ → Type 0) → ℕ → List Line → List (List ℕ) → List ℕ → Type 0
 HasFaultIn IsFault met [] texts text = ⊥
-HasFaultIn IsFault met (line ∷ lines) texts text = MatchOption (rules_name (line_content line))
+HasFaultIn IsFault met (line ∷ lines) texts text = MatchOption (named_rules line)
     (HasFaultIn IsFault (met + 1) lines texts text)
     (λ name. IsRulesFaultAt IsFault (met + 1) name (next_text texts) text
     ⊎ ((code : List Instr) × IsProgramOfRules (next_text texts) code × HasFaultIn IsFault (met + 1) lines (later_texts texts) text))

@@ -3,6 +3,8 @@ pub mod RulesLines
 pub mod RulesFiles
 pub mod SetupPrograms
 pub mod FaultyRules
+pub mod FilesRead
+pub mod FileNames
 pub mod SetupText
 pub mod SetupLaws
 pub mod inner

@@ -1,5 +1,5 @@
 -- What the text of a file of rules leads to: a program, or a fault line.
-use Rattle.std.specs.Prelude.{◌≡◌, ℕ, List, [], ◌∷◌, Some}
+use Rattle.std.specs.Prelude.{◌≡◌, ℕ, List, [], ◌∷◌, map, Some}
 use Rattle.bpf_code.specs.Encoding.{code_octets}
 use Rattle.bpf_code.specs.OctetSpelling.{SpellsCode}
 use Rattle.bpf_code.specs.declared.instr.Instr.{Instr}
@@ -11,6 +11,7 @@ use Rattle.rules_text.specs.ValuesRead.{FollowsText}
 use Rattle.text_io.specs.Gathered.{gathered}
 use Rattle.text_io.specs.declared.ending.Done.TheVariants.{Ended}
 use Rattle.upc_words.specs.Hexadecimal.{octets_of_digits}
+use Rattle.lab_setups.specs.declared.shared_text.SharedText.{SharedText}
 
 -- The octets of a code in lower case hexadecimal digits, as `upc-lab rules` prints them.
 abbrev pub program_digits : List Instr → List ℕ
@@ -36,6 +37,14 @@ IsFaultOfRules text fault = IsRulesText text fault Ended
 -- The same, but that the code of any rules may be reported as too long.
 abbrev pub MayBeFaultOfRules : List ℕ → List ℕ → Type 0
 MayBeFaultOfRules text fault = MayBeRulesText text fault Ended
+
+-- The octets of a text.
+abbrev pub octets_of_text : SharedText → List ℕ
+octets_of_text text = text.octets.value.items
+
+-- The octets of each text.
+abbrev pub octets_of_texts : List SharedText → List (List ℕ)
+octets_of_texts texts = map octets_of_text texts
 
 -- The first of the texts that are left; a text that is missing counts as empty.
 abbrev pub next_text : List (List ℕ) → List ℕ

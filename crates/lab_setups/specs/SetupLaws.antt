@@ -11,7 +11,7 @@ use Rattle.upc_codes.specs.Program.{ProgramReading, ReadsAs, is_program}
 use Rattle.upc_script.specs.ScriptCommands.{command_of, load}
 use Rattle.upc_words.specs.Hexadecimal.{octets_of_digits}
 use Rattle.lab_setups.specs.RulesFiles.{IsProgramOfRules, later_texts, next_text, program_digits}
-use Rattle.lab_setups.specs.RulesLines.{rules_name, rules_names}
+use Rattle.lab_setups.specs.RulesLines.{named_rules, rules_names}
 use Rattle.lab_setups.specs.SetupPrograms.{HasPrograms, load_command}
 use Rattle.lab_setups.specs.SetupText.{MayBeSetupPoliced}
 
@@ -25,7 +25,7 @@ PolicesEachSetup = (lines : CellLines) (tick : ℕ) (interface : Option ℕ) (se
 abbrev pub AreReplaced : List Line → List (List ℕ) → List Line → Type 0
 AreReplaced [] texts others = others ≡ []
 AreReplaced (line ∷ lines) texts [] = ⊥
-AreReplaced (line ∷ lines) texts (other ∷ others) = MatchOption (rules_name (line_content line))
+AreReplaced (line ∷ lines) texts (other ∷ others) = MatchOption (named_rules line)
     ((other ≡ line) × AreReplaced lines texts others)
     (λ name. (code : List Instr) × IsProgramOfRules (next_text texts) code × (line_content other ≡ load_command code) × AreReplaced lines (later_texts texts) others)
 

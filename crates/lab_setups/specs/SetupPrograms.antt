@@ -5,7 +5,7 @@ use Rattle.text_io.specs.Lines.{Line, lines_of, line_content}
 use Rattle.lab_rules.specs.AsmText.{whole_line}
 use Rattle.upc_words.specs.FaultLines.{line as ended_by_feed}
 use Rattle.lab_setups.specs.RulesFiles.{IsProgramOfRules, later_texts, next_text, program_digits}
-use Rattle.lab_setups.specs.RulesLines.{rules_name}
+use Rattle.lab_setups.specs.RulesLines.{named_rules}
 
 -- The command that loads a code.
 abbrev pub load_command : List Instr → List ℕ
@@ -19,7 +19,7 @@ load_line code = ended_by_feed (load_command code)
 -- has the first of these texts, the next one the next. Every other line is as it is.
 abbrev pub HasProgramsIn : List Line → List (List ℕ) → List ℕ → Type 0
 HasProgramsIn [] texts expanded = expanded ≡ []
-HasProgramsIn (line ∷ lines) texts expanded = MatchOption (rules_name (line_content line))
+HasProgramsIn (line ∷ lines) texts expanded = MatchOption (named_rules line)
     ((rest : List ℕ) × HasProgramsIn lines texts rest × (expanded ≡ whole_line line ++ rest))
     (λ name. (code : List Instr) × IsProgramOfRules (next_text texts) code
     × ((rest : List ℕ) × HasProgramsIn lines (later_texts texts) rest × (expanded ≡ load_line code ++ rest)))

@@ -2,12 +2,13 @@
 
 ghost use Rattle.std.specs.Prelude.{◌≡◌, ◌++◌, IfOk, OnOk};
 ghost use Rattle.lab_setups.specs.FaultyRules.{rules_place};
-ghost use Rattle.lab_setups.specs.RulesFiles.{later_texts, next_text};
-ghost use Rattle.lab_setups.specs.inner.Expansion.{ExpandsTo, octets_of_texts};
+ghost use Rattle.lab_setups.specs.RulesFiles.{later_texts, next_text, octets_of_texts};
+ghost use Rattle.lab_setups.specs.inner.Expansion.{ExpandsTo};
 
 use crate::compiling::add_program_of;
-use crate::rules_lines::{has_rules, rules_name};
+use crate::rules_lines::{has_rules, name_within};
 use crate::script_lines::next_line;
+use crate::shared_text::SharedText;
 use lab_scripts::{add_place, add_quoted};
 use std::alloc::{AllocError, Global};
 use upc_words::add_text;
@@ -24,7 +25,7 @@ pub(crate) enum Expanded {
 }
 
 /// Returns the first of the texts that are left, or an empty one if none is.
-fn next_text(texts: &[Vec<u8>]) -> &[u8]
+fn next_text(texts: &[SharedText]) -> &[u8]
     ensures { result.now ≡ next_text (octets_of_texts texts.now) }
 {
     match texts {
@@ -34,7 +35,7 @@ fn next_text(texts: &[Vec<u8>]) -> &[u8]
 }
 
 /// Returns the texts that are left after the first of them.
-fn later_texts(texts: &[Vec<u8>]) -> &[Vec<u8>]
+fn later_texts(texts: &[SharedText]) -> &[SharedText]
     ensures { octets_of_texts result.now ≡ later_texts (octets_of_texts texts.now) }
 {
     match texts {
@@ -56,16 +57,16 @@ fn add_rules_place(answers: &mut Vec<u8>, number: usize, name: &[u8]) -> Result<
 
 /// Returns a script with the line that loads a program of its text in place of each line `rules NAME`. If a text has a fault, it returns
 /// the report about the first such text.
-fn replaced(alloc: Global, script: &[u8], texts: &[Vec<u8>]) -> Result<Expanded, AllocError>
+fn replaced(alloc: Global, script: &[u8], texts: &[SharedText]) -> Result<Expanded, AllocError>
     ensures { IfOk result (ExpandsTo script.now (octets_of_texts texts.now)) }
 {
     let mut made = Vec::new(alloc);
     let mut left = script;
     let mut texts_left = texts;
     let mut number = 0;
-    while let Some((line, octets, rest)) = next_line(left) {
+    while let Some((line, size, octets, rest)) = next_line(left) {
         number += 1;
-        match rules_name(line) {
+        match name_within(line, size) {
             None => add_text(&mut made, octets)?,
             Some(name) => {
                 if let Some(mut fault) = add_program_of(alloc, &mut made, next_text(texts_left))? {
@@ -84,7 +85,7 @@ fn replaced(alloc: Global, script: &[u8], texts: &[Vec<u8>]) -> Result<Expanded,
 pub(crate) fn expand_setup(
     alloc: Global,
     script: &[u8],
-    texts: &[Vec<u8>],
+    texts: &[SharedText],
 ) -> Result<Expanded, AllocError>
     ensures { IfOk result (ExpandsTo script.now (octets_of_texts texts.now)) }
 {

@@ -1,12 +1,14 @@
 //! The cells of a capture, policed by a setup script with files of rules.
 
-ghost use Rattle.std.specs.Prelude.{◌≡◌, ◌≢◌, ◌++◌, Err, map, IfOk, OnErr, OnOk};
+ghost use Rattle.std.specs.Prelude.{◌≡◌, ◌≢◌, ◌++◌, Err, IfOk, OnErr, OnOk};
 ghost use Rattle.text_io.specs.Devices.{Adds, IsPart};
 ghost use Rattle.text_io.specs.Failures.{write_failures};
 ghost use Rattle.text_io.specs.Serving.{IsServed};
+ghost use Rattle.lab_setups.specs.RulesFiles.{octets_of_texts};
 ghost use Rattle.lab_setups.specs.SetupText.{IsSetupPoliced, MayBeSetupPoliced};
 
 use crate::expanding::{Expanded, expand_setup};
+use crate::shared_text::SharedText;
 use captures::Tick;
 use lab_captures::CellLines;
 use lab_police::police_capture;
@@ -26,7 +28,7 @@ fn write_rules_fault<O: Output>(output: &mut O, mut text: Vec<u8>) -> Result<Don
 }
 
 /// Polices the cells of a capture, as [`police_capture`] does, by a setup script that may name files of rules. `texts` are the octets of
-/// these files, in the order of [`rules_names`](crate::rules_names). Each line `rules NAME` loads the program of its text, as the next
+/// these files, in the order of [`files_read`](crate::files_read). Each line `rules NAME` loads the program of its text, as the next
 /// program of the script. If a text has a fault, the output is its fault line, and the line of the script that names it; no cell is
 /// policed then. docs/LAB.md has the format.
 ///
@@ -42,17 +44,17 @@ pub fn police_setup<R: Threads, I: Input + Send, O: Output>(
     threads: usize,
     alloc: Global,
     setup: &[u8],
-    texts: &[Vec<u8>],
+    texts: &[SharedText],
     lines: CellLines,
     tick: Tick,
     interface: Option<u8>,
     input: &mut I,
     output: &mut O,
 ) -> Result<Done, RunFault>
-    ensures served { IsServed (MayBeSetupPoliced lines tick.nanoseconds interface setup.now (map (λ text. text.items) texts.now))
+    ensures served { IsServed (MayBeSetupPoliced lines tick.nanoseconds interface setup.now (octets_of_texts texts.now))
         I.Input input.old input.new O.Output output.old output.new result }
     ensures policed { I.is_known → O.is_known → IfOk result (λ done.
-        Adds (λ text. IsSetupPoliced lines tick.nanoseconds interface setup.now (map (λ text. text.items) texts.now) (I.rest input.old) text done)
+        Adds (λ text. IsSetupPoliced lines tick.nanoseconds interface setup.now (octets_of_texts texts.now) (I.rest input.old) text done)
         (O.held output.old) (O.held output.new)) }
 {
     match expand_setup(alloc, setup, texts) {

@@ -1,10 +1,14 @@
 -- What the program does with the files that the words name: a setup script, and the files of rules that it names.
-use Rattle.std.specs.Prelude.{◌≡◌, ◌⊎◌, ◌==◌, if◌then◌else◌, ℕ, List, [], ◌++◌, map, Option, Some, None, Result, Ok, Err, codes, length}
+use Rattle.std.specs.Prelude.{◌≡◌, ◌⊎◌, ◌==◌, IsTrue, if◌then◌else◌, ℕ, List, [], ◌++◌, Option, Some, None, Result, Ok, Err, codes, length}
 use Rattle.std.specs.Path.{path_with_file_name}
+use Rattle.std.specs.Str.{bytes_eq}
 use Rattle.std.specs.String.{string_bytes}
+use Rattle.lab_setups.specs.FileNames.{escaped_name}
+use Rattle.lab_setups.specs.RulesFiles.{octets_of_texts}
 use Rattle.text_io.specs.declared.device.Input.{Ghosts as InputView}
 use Rattle.text_io.specs.declared.device.Output.{Ghosts as OutputView}
 use Rattle.text_io.specs.declared.ending.RunFault.{RunFault}
+use Rattle.upc_choice.specs.ShownWords.{shown_word}
 use Rattle.upc_choice.specs.declared.choice.Stop.{Stop}
 use Rattle.upc_exit.specs.Invocation.{CarriesOut, IsStatusFor}
 use Rattle.upc_exit.specs.Messages.{IsIdle, WritesMessage}
@@ -19,9 +23,17 @@ abbrev pub setup_name : Result Asked Stop → Option (List ℕ)
 setup_name (Ok (Police options)) = Some (string_bytes options.setup)
 setup_name _ = None
 
--- The message that the file with this name can't be read, with the reason in the words of the system.
+-- The name of a file that the command line gives by a word that is shown as this.
+abbrev pub IsGivenAs : List ℕ → List ℕ → Type 0
+IsGivenAs name shown = (name ≡ shown) ⊎ IsTrue (bytes_eq (shown_word name) shown)
+
+-- The message that a file can't be read, with its name as it is shown and the reason, in the words of the system or of this program.
 abbrev pub unreadable_line : List ℕ → List ℕ → List ℕ
-unreadable_line name reason = codes "upc-lab: cannot read " ++ (name ++ (codes ": " ++ (reason ++ codes "\n")))
+unreadable_line shown reason = codes "upc-lab: cannot read " ++ (shown ++ codes ": " ++ (reason ++ codes "\n"))
+
+-- The line is this message about the file with this name.
+abbrev pub IsUnreadableLine : List ℕ → List ℕ → List ℕ → Type 0
+IsUnreadableLine name reason line = (line ≡ unreadable_line name reason) ⊎ (line ≡ unreadable_line (escaped_name name) reason)
 
 -- The message without the name and a reason, for which no allocation was left.
 abbrev pub plain_unreadable_line : List ℕ
@@ -29,19 +41,25 @@ plain_unreadable_line = codes "upc-lab: cannot read the files of the setup\n"
 
 -- The line is the message about the file with this name, or is empty because no allocation was left for it.
 abbrev pub IsUnreadable : List ℕ → Unreadable → Type 0
-IsUnreadable name unreadable = (unreadable.line.items ≡ []) ⊎ (unreadable.line.items ≡ unreadable_line name unreadable.reason.items)
+IsUnreadable name unreadable = (unreadable.line.items ≡ []) ⊎ IsUnreadableLine name unreadable.reason.items unreadable.line.items
 
--- The same, of the setup script with this name or of a file of rules beside it.
+-- The same, of the setup script with this name, of a file of rules beside it, or of one whose name stays as the script has it.
 abbrev pub IsUnreadableSetup : List ℕ → Unreadable → Type 0
-IsUnreadableSetup name unreadable = IsUnreadable name unreadable ⊎ ((rules : List ℕ) × IsUnreadable (path_with_file_name name rules) unreadable)
+IsUnreadableSetup name unreadable =
+    IsUnreadable name unreadable ⊎ ((rules : List ℕ) × (IsUnreadable rules unreadable ⊎ IsUnreadable (path_with_file_name name rules) unreadable))
+
+-- The same, of the setup script that is shown by this name.
+abbrev pub IsUnreadableShown : List ℕ → Unreadable → Type 0
+IsUnreadableShown shown unreadable =
+    IsUnreadable shown unreadable ⊎ ((name : List ℕ) × IsGivenAs name shown × IsUnreadableSetup name unreadable)
 
 -- The message.
 abbrev pub unreadable_message : Unreadable → List ℕ
 unreadable_message unreadable = if length unreadable.line.items == 0 then plain_unreadable_line else unreadable.line.items
 
--- The octets of each file of rules, in order.
+-- The octets of the file of rules of each line, in order.
 abbrev pub rules_in_files : SetupFiles → List (List ℕ)
-rules_in_files files = map (λ rules. rules.items) files.rules.items
+rules_in_files files = octets_of_texts files.rules.items
 
 -- The effect of the program for its words and for the octets of the files that they name, with these messages for failures. If a file
 -- couldn't be read, nothing is read or written but the message about it.

@@ -2,6 +2,7 @@
 #![tactic(auto)]
 
 mod choice;
+mod file_names;
 mod invocation;
 mod laws;
 mod notice;
@@ -33,11 +34,12 @@ use text_io::WriterOutput;
 use upc_choice::{OfProcess, Stop, words_after_name};
 
 fn main(rt: HostRuntime) -> ExitCode {
-    let chosen = match words_after_name(rt.alloc(), &OfProcess(&rt)) {
+    let line = OfProcess(&rt);
+    let chosen = match words_after_name(rt.alloc(), &line) {
         Ok(words) => choose(rt.alloc(), words),
         Err(_) => Err(Stop::NoMemory),
     };
-    let setup = read_setup(&rt, &chosen);
+    let setup = read_setup(&rt, &line, &chosen);
     if let Ok(asked) = &chosen
         && setup.is_ok()
         && rt.stdin().is_terminal()

@@ -1,6 +1,6 @@
 //! How much of a capture was read, for a terminal.
 
-ghost use Rattle.std.specs.Prelude.{◌≡◌, ◌+◌, ◌*◌, ◌/◌, ◌≤◌, ◌<◌, min, IfOk, codes};
+ghost use Rattle.std.specs.Prelude.{◌≡◌, ◌≢◌, ◌+◌, ◌*◌, ◌/◌, ◌≤◌, ◌<◌, min, IfOk, codes};
 ghost use Rattle.upc_lab.specs.Progress.{ShowsText, reads_capture};
 ghost use Rattle.upc_lab.specs.inner.ProgressText.{progress_text};
 
@@ -71,6 +71,8 @@ impl<I, E: Output> Counted<I, E> {
         ensures input { self.new.input ≡ self.old.input }
         ensures count { self.new.count ≡ min (self.old.count + octets) 18446744073709551615 }
         ensures unshown { self.new.count / 16777216 ≡ self.old.count / 16777216 → self.new.shown_on ≡ self.old.shown_on }
+        ensures shown { E.is_known → self.new.count / 16777216 ≢ self.old.count / 16777216
+            → ShowsText E.Output self.old.shown_on self.new.shown_on (progress_text (self.new.count / 16777216 * 16)) }
     {
         let before = self.count;
         self.count = before.saturating_add(octets as u64);

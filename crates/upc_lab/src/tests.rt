@@ -11,10 +11,11 @@ use crate::{
 use captures::Tick;
 use std::alloc::{AllocError, Global};
 use std::process::Abort;
+use std::rt::Files;
 use std::test::Fail;
 use std::thread::Threads;
 use text_io::{Failed, FaultyInput, FaultyOutput, Output};
-use upc_choice::Stop;
+use upc_choice::{InMemory, Stop, words_after_name};
 
 /// The exit status, the output and the messages of a run.
 #[derive(Drop)]
@@ -335,7 +336,7 @@ fn no_message_is_written_if_nobody_reads(rt: HostRuntime) -> Result<(), Fail> {
 #[test]
 fn a_setup_file_that_cannot_be_read_ends_with_status_3(rt: HostRuntime) -> Result<(), Fail> {
     let chosen = chosen_by(rt.alloc(), "police /nowhere/a.setup")?;
-    let setup = read_setup(&rt, &chosen);
+    let setup = read_setup(&rt, &InMemory(&[]), &chosen);
     let mut input = LookedAt::new(rt.alloc(), FaultyInput::new(b"ERF", 0));
     let mut output = FaultyOutput::new(rt.alloc(), 0);
     let mut errors = FaultyOutput::new(rt.alloc(), 1000);
@@ -354,11 +355,44 @@ fn a_setup_file_that_cannot_be_read_ends_with_status_3(rt: HostRuntime) -> Resul
     Ok(())
 }
 
+/// The message about the files of `police` with this name.
+fn message_about(rt: &(impl Files + AllocGlobal), name: &[u8]) -> Result<Vec<u8>, Fail> {
+    let alloc = rt.alloc();
+    let words: [&[u8]; 3] = [b"upc-lab", b"police", name];
+    let line = InMemory(&words);
+    let chosen = choose(alloc, words_after_name(alloc, &line)?);
+    match read_setup(rt, &line, &chosen) {
+        Ok(_) => Err(Fail::new("a file is read")),
+        Err(unreadable) => Ok(Vec::from_slice(alloc, unreadable.message())?),
+    }
+}
+
+#[test]
+fn a_name_is_that_of_the_command_line(rt: HostRuntime) -> Result<(), Fail> {
+    for (name, message) in [
+        (
+            b"/nowhere/z\xff\\".as_slice(),
+            b"upc-lab: cannot read /nowhere/z\\xff\\x5c: the name of a file must be UTF-8\n".as_slice(),
+        ),
+        (
+            b"/nowhere/\x1b",
+            b"upc-lab: cannot read /nowhere/\\x1b: No such file or directory (os error 2)\n",
+        ),
+        (
+            b"/nowhere/\xc3\xbc",
+            b"upc-lab: cannot read /nowhere/\xc3\xbc: No such file or directory (os error 2)\n",
+        ),
+    ] {
+        assert_eq!(rt; message_about(&rt, name)?.as_slice(), message);
+    }
+    Ok(())
+}
+
 #[test]
 fn words_without_a_file_have_no_files(rt: HostRuntime) -> Result<(), Fail> {
     for line in ["rules", "cells", "fit --increment 1", "police", "--help"] {
         let chosen = chosen_by(rt.alloc(), line)?;
-        let setup = read_setup(&rt, &chosen);
+        let setup = read_setup(&rt, &InMemory(&[]), &chosen);
         assert!(rt;
             matches!(&setup, Ok(files) if files.script.is_empty() && files.rules.is_empty()),
             "{line}"

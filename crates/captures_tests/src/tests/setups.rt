@@ -3,8 +3,8 @@
 use super::link::record_of;
 use captures::Tick;
 use lab_captures::CellLines;
-use lab_setups::{police_setup, rules_names};
-use std::alloc::Global;
+use lab_setups::{SharedText, files_read, police_setup};
+use std::alloc::{AllocError, Global};
 use std::test::Fail;
 use std::thread::Threads;
 use text_io::{Done, ReaderInput, RunFault, WriterOutput};
@@ -14,10 +14,13 @@ const SETUP: &[u8] =
     b"card 2 2 1 9\nrules first\n rules\tsecond\r\nsetup 1 5 p1 cbr1:4/1\nsetup 1 6 p2 cbr1:4/1";
 
 /// The octets of two texts.
-fn texts_of(alloc: Global, one: &[u8], other: &[u8]) -> Result<Vec<Vec<u8>>, RunFault> {
+fn texts_of(alloc: Global, one: &[u8], other: &[u8]) -> Result<Vec<SharedText>, RunFault> {
     let mut texts = Vec::new(alloc);
     for text in [one, other] {
         let Ok(text) = Vec::from_slice(alloc, text) else {
+            return Err(RunFault::NoMemory);
+        };
+        let Ok(text) = SharedText::new(alloc, text) else {
             return Err(RunFault::NoMemory);
         };
         if texts.push(text).is_err() {
@@ -31,7 +34,8 @@ fn texts_of(alloc: Global, one: &[u8], other: &[u8]) -> Result<Vec<Vec<u8>>, Run
 fn policed(
     rt: &impl Threads,
     alloc: Global,
-    texts: &[Vec<u8>],
+    setup: &[u8],
+    texts: &[SharedText],
 ) -> Result<(Vec<u8>, Done), RunFault> {
     let Some(tick) = Tick::new(1_000_000_000) else {
         return Err(RunFault::NoMemory);
@@ -51,7 +55,7 @@ fn policed(
         rt,
         1,
         alloc,
-        SETUP,
+        setup,
         texts,
         CellLines::All,
         tick,
@@ -62,14 +66,40 @@ fn policed(
     Ok((sink.writer, done))
 }
 
+/// The files that are read for a script, each with a blank after it: its name, or `-` if it isn't read.
+fn files_of(alloc: Global, setup: &[u8]) -> Result<Vec<u8>, AllocError> {
+    let mut all = Vec::new(alloc);
+    for file in files_read(alloc, setup)?.iter() {
+        match file {
+            Some(name) => all.extend_from_slice(name)?,
+            None => all.push(b'-')?,
+        }
+        all.push(b' ')?;
+    }
+    Ok(all)
+}
+
 #[test]
-fn names_by_hand(rt: HostRuntime) -> Result<(), Fail> {
-    let Ok(names) = rules_names(rt.alloc(), SETUP) else {
-        return Err(Fail::new("no names"));
-    };
-    assert_eq!(rt; names.len(), 2);
-    assert_eq!(rt; names[0].as_slice(), b"first".as_slice());
-    assert_eq!(rt; names[1].as_slice(), b"second".as_slice());
+fn files_that_are_read_by_hand(rt: HostRuntime) -> Result<(), Fail> {
+    for (setup, wanted) in [
+        (SETUP, b"first second ".as_slice()),
+        // A card with room for one program: the second line can't load one, until one is retired.
+        (
+            b"card 1 1 1 9\nrules a\nrules b\nretire p1\nrules c",
+            b"a - c ",
+        ),
+        // A program that is retired makes no more room than the card has.
+        (
+            b"card 1 1 1 9\nretire p1\nretire p1\nrules a\nrules b",
+            b"a - ",
+        ),
+        // Without a card nothing is loaded, and a card of no shape ends the run.
+        (b"# one\nrules a\ncard 1 1 1 9\nrules b", b"- - "),
+        (b"card 0 1 1 9\nrules a", b"- "),
+        (b"card 1025 1 1 9\nrules a", b"- "),
+    ] {
+        assert_eq!(rt; files_of(rt.alloc(), setup)?.as_slice(), wanted);
+    }
     Ok(())
 }
 
@@ -78,7 +108,7 @@ fn two_programs_by_hand(rt: HostRuntime) -> Result<(), Fail> {
     let Ok(texts) = texts_of(rt.alloc(), b"otherwise -> 1\n", b"otherwise -> refuse\n") else {
         return Err(Fail::new("no texts"));
     };
-    let Ok((text, done)) = policed(&rt, rt.alloc(), &texts) else {
+    let Ok((text, done)) = policed(&rt, rt.alloc(), SETUP, &texts) else {
         return Err(Fail::new("no text"));
     };
     assert_eq!(rt; done, Done::Whole);
@@ -101,7 +131,7 @@ fn a_faulty_file_by_hand(rt: HostRuntime) -> Result<(), Fail> {
     let Ok(texts) = texts_of(rt.alloc(), b"otherwise -> 1\n", b"# one\nothrewise -> 0\n") else {
         return Err(Fail::new("no texts"));
     };
-    let Ok((text, done)) = policed(&rt, rt.alloc(), &texts) else {
+    let Ok((text, done)) = policed(&rt, rt.alloc(), SETUP, &texts) else {
         return Err(Fail::new("no text"));
     };
     assert_eq!(rt; done, Done::Ended);
@@ -109,5 +139,26 @@ fn a_faulty_file_by_hand(rt: HostRuntime) -> Result<(), Fail> {
         text.as_slice(),
         b"fault rules 1 BadLine 2 1\nline 3: in the rules of `second`\n".as_slice()
     );
+    Ok(())
+}
+
+#[test]
+fn rules_without_room_are_refused_whatever_their_text(rt: HostRuntime) -> Result<(), Fail> {
+    let setup = b"card 1 1 1 9\nrules first\nrules second\n".as_slice();
+    for other in [b"vci 6 -> 7\n".as_slice(), b""] {
+        let Ok(texts) = texts_of(rt.alloc(), b"otherwise -> 1\n", other) else {
+            return Err(Fail::new("no texts"));
+        };
+        let Ok((text, done)) = policed(&rt, rt.alloc(), setup, &texts) else {
+            return Err(Fail::new("no text"));
+        };
+        assert_eq!(rt; done, Done::Ended);
+        assert_eq!(rt;
+            text.as_slice(),
+            b"fault desk 6 ProgramsFull\n\
+line 3 column 1: the card has no room for a program; `retire` makes some\n"
+                .as_slice()
+        );
+    }
     Ok(())
 }

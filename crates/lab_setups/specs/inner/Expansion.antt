@@ -1,6 +1,5 @@
 -- How the code replaces lines.
-use Rattle.std.specs.Prelude.{◌≡◌, ℕ, List, ◌++◌, map, Some}
-use Rattle.std.specs.Global.{Vec}
+use Rattle.std.specs.Prelude.{◌≡◌, ℕ, List, ◌++◌, Some}
 use Rattle.bpf_code.specs.declared.instr.Instr.{Instr}
 use Rattle.bpf_verify.specs.Accepted.{IsAccepted}
 use Rattle.lab_rules.specs.RulesAnswers.{most_rules_octets}
@@ -14,10 +13,6 @@ use Rattle.lab_setups.specs.declared.compiling.Compiled.{Compiled}
 use Rattle.lab_setups.specs.declared.compiling.Compiled.TheVariants.{Program, Faulty}
 use Rattle.lab_setups.specs.declared.expanding.Expanded.{Expanded}
 use Rattle.lab_setups.specs.declared.expanding.Expanded.TheVariants as expanded
-
--- The octets of each text.
-abbrev pub octets_of_texts : List (Vec ℕ) → List (List ℕ)
-octets_of_texts texts = map (λ text. text.items) texts
 
 -- The code is an accepted one for a text within the limit.
 pub record IsCodeOfRules (text : List ℕ) (code : List Instr) : Type 0 where

@@ -1,5 +1,5 @@
 use Rattle.lab_setups.proofs.WholeLines.{stays_itself}
-use Rattle.lab_setups.specs.inner.Expansion.{octets_of_texts}
+use Rattle.lab_setups.specs.RulesFiles.{octets_of_texts}
 use Rattle.lab_setups.proofs.expanding.expand_setup.Goals as goal
 
 pub returns-then-not-has_rules : goal.returns-then-not-has_rules

@@ -1,5 +1,6 @@
 use Rattle.std.proofs.Common.{◌≤◌, ◌+◌, length}
-use Rattle.lab_setups.specs.inner.Expansion.{Completes, octets_of_texts}
+use Rattle.lab_setups.specs.RulesFiles.{octets_of_texts}
+use Rattle.lab_setups.specs.inner.Expansion.{Completes}
 use Rattle.lab_setups.proofs.expanding.replaced.Given as goal
 
 abbrev pub invariant-loop-line : goal.invariant-loop-line

@@ -10,11 +10,11 @@ use Rattle.lab_police.proofs.PoliceLemmas.{served_as}
 use Rattle.lab_police.specs.PoliceText.{IsPoliceText}
 use Rattle.lab_setups.proofs.Existence.{may_be_policed, polices_each}
 use Rattle.lab_setups.specs.FaultyRules.{HasFaultyRules}
-use Rattle.lab_setups.specs.RulesFiles.{IsFaultOfRules}
+use Rattle.lab_setups.specs.RulesFiles.{IsFaultOfRules, octets_of_texts}
 use Rattle.lab_setups.specs.SetupPrograms.{HasPrograms}
 use Rattle.lab_setups.specs.SetupText.{MayBeSetupPoliced}
 use Rattle.lab_setups.specs.declared.expanding.Expanded.{Expanded}
-use Rattle.lab_setups.specs.inner.Expansion.{ExpandsTo, octets_of_texts}
+use Rattle.lab_setups.specs.inner.Expansion.{ExpandsTo}
 use Rattle.lab_setups.proofs.policing.police_setup.Goals as goal
 
 pub returns-in-Err-clause-served : goal.returns-in-Err-clause-served

@@ -1,6 +1,12 @@
--- Loop invariant: there is a text for each name so far.
-use Rattle.std.proofs.Common.{◌≡◌, length}
+-- Loop invariant: the texts so far, and any texts of the files that are left, are texts of all the files.
+use Rattle.std.proofs.Common.{List, ℕ, ◌++◌, length}
+use Rattle.lab_setups.specs.FilesRead.{AreTextsForFiles, octets_of_names}
+use Rattle.lab_setups.specs.RulesFiles.{octets_of_texts}
 use Rattle.upc_lab.proofs.setup_file.read_all_rules.Given as goal
 
-abbrev pub invariant-loop-name : goal.invariant-loop-name
-invariant-loop-name g l = length l.rules.items ≡ l.name-index
+abbrev pub invariant-loop-left : goal.invariant-loop-left
+invariant-loop-left g l = (more : List (List ℕ)) → AreTextsForFiles (octets_of_names l.left) more
+    → AreTextsForFiles (octets_of_names l.fn.files) (octets_of_texts l.rules.items ++ more)
+
+abbrev pub decreases-loop-left : goal.decreases-loop-left
+decreases-loop-left g l = length l.left

@@ -1,0 +1,102 @@
+//! The names of files: as the words of the command line give them, and as messages show them.
+
+ghost use Rattle.std.specs.Prelude.{◌≡◌, IfOk, IfSome, IsTrue, OnOk, map};
+ghost use Rattle.std.specs.Str.{bytes_eq};
+ghost use Rattle.std.specs.String.{string_bytes};
+ghost use Rattle.upc_choice.specs.ShownWords.{shown_word};
+ghost use Rattle.upc_lab.specs.SetupFile.{IsGivenAs};
+ghost use Rattle.upc_lab.specs.inner.NameAdded.{AddsName, is_only};
+
+use lab_setups::add_escaped_name;
+use std::alloc::{AllocError, Global};
+use std::env::FillError;
+use std::str;
+use upc_choice::{CommandLine, InMemory, words_after_name};
+
+/// The length limit of a name, in octets, above that of any name that the system takes.
+const ROOM: usize = 4096;
+
+/// Returns whether these words are this one alone.
+fn is_only(words: &[String], shown: &str) -> bool
+    ensures { result ≡ is_only shown.now (map string_bytes words.now) }
+{
+    match words {
+        [only] => only.as_bytes() == shown.as_bytes(),
+        _ => false,
+    }
+}
+
+/// Returns whether a word is shown as this.
+fn is_shown_as(alloc: Global, word: &[u8], shown: &str) -> Result<bool, AllocError>
+    ensures { IfOk result (λ is. is ≡ bytes_eq (shown_word word.now) shown.now) }
+{
+    let words = words_after_name(alloc, &InMemory(&[b"", word]))?;
+    Ok(is_only(words.as_slice(), shown))
+}
+
+/// Returns the first word of the command line that is shown as this, if one with at most 4096 octets is.
+fn word_shown_as<C: CommandLine>(
+    alloc: Global,
+    line: &C,
+    shown: &str,
+) -> Result<Option<Vec<u8>>, AllocError>
+    ensures { IfOk result (λ found. IfSome found (λ word. IsTrue (bytes_eq (shown_word word.items) shown.now))) }
+{
+    let mut room = [0; ROOM];
+    let mut number = 1;
+    while number < usize::MAX {
+        match line.word(number, &mut room) {
+            Ok(length) => {
+                if is_shown_as(alloc, &room[..length], shown)? {
+                    return Ok(Some(Vec::from_slice(alloc, &room[..length])?));
+                }
+            }
+            Err(FillError::TooLong) => {}
+            Err(FillError::NotPresent) => return Ok(None),
+        }
+        number += 1;
+    }
+    Ok(None)
+}
+
+/// Returns the name of the file that a word gives, as the command line has it. `shown` is the word as it is shown: with U+FFFD in place of
+/// what is no text for a terminal, so that the name of another file could be shown alike. None if the word is too long for a name.
+///
+/// # Errors
+///
+/// `AllocError` if an allocation failed.
+pub(crate) fn name_given<C: CommandLine>(
+    alloc: Global,
+    line: &C,
+    shown: &str,
+) -> Result<Option<Vec<u8>>, AllocError>
+    ensures { IfOk result (λ found. IfSome found (λ name. IsGivenAs name.items shown.now)) }
+{
+    if !shown.contains('\u{fffd}') {
+        return Ok(Some(Vec::from_slice(alloc, shown.as_bytes())?));
+    }
+    word_shown_as(alloc, line, shown)
+}
+
+/// Returns whether a name is UTF-8 without control characters.
+fn is_text(name: &[u8]) -> bool {
+    match str::from_utf8(name) {
+        Ok(text) => !text.chars().any(char::is_control),
+        Err(_) => false,
+    }
+}
+
+/// Appends a name as messages show it: as it is, or escaped if it isn't a text for a terminal.
+pub(crate) fn add_shown_name(
+    alloc: Global,
+    text: &mut Vec<u8>,
+    name: &[u8],
+) -> Result<(), AllocError>
+    ensures { OnOk result (AddsName name.now text.old.items text.new.items) }
+{
+    if is_text(name) {
+        text.extend_from_slice(name)?;
+        return Ok(());
+    }
+    add_escaped_name(alloc, text, name)
+}
