@@ -1,7 +1,7 @@
 -- What the words ask for is what their options or their name say.
 use Rattle.std.proofs.Common.{rules, map}
 use Rattle.std.specs.String.{string_bytes}
-use Rattle.upc_lab.proofs.LabChoosing.{granted_cells, granted_fit, granted_plain, granted_police}
+use Rattle.upc_lab.proofs.LabChoosing.{granted_plain}
 use Rattle.upc_lab.proofs.choice.choose.Goals as goal
 
 pub returns-in-Err-choose_plain-clause-granted : goal.returns-in-Err-choose_plain-clause-granted

@@ -1,4 +1,4 @@
-use Rattle.std.proofs.Common.{ℕ, ◌-◌}
+use Rattle.std.proofs.Common.{◌-◌}
 use Rattle.std.specs.Prelude.{⊤}
 use Rattle.upc_lab.proofs.file_names.word_shown_as.Given as goal
 
