@@ -267,7 +267,8 @@ fn meeting_card<'a>(
 
 #[test]
 fn two_cards_are_fed_at_the_same_time(rt: HostRuntime) -> Result<(), Fail> {
-    let (one, other) = (AtomicU64::new(0), AtomicU64::new(0));
+    let one = AtomicU64::new(0);
+    let other = AtomicU64::new(0);
     let mut lanes = Vec::new(rt.alloc());
     lanes.push(meeting_card(rt.alloc(), &one, &other)?)?;
     lanes.push(meeting_card(rt.alloc(), &other, &one)?)?;
