@@ -13,7 +13,7 @@ use leaky::{Contract, Gcra, Verdict};
 use std::alloc::Global;
 use std::sync::atomic::{AtomicU64, Ordering};
 use std::test::Fail;
-use std::thread;
+use std::thread::{self, Threads};
 use upc_cell::{Cell, Side, Vc};
 
 /// How many connections there are: 1/100, 1/101 and so on.
@@ -265,16 +265,24 @@ fn meeting_card<'a>(
     Ok(Lane::new(card(alloc)?, feeder))
 }
 
+/// Whether two cards, each with one of these flags, are fed at the same time.
+fn have_met<R: Threads + Sync>(
+    rt: &R,
+    alloc: Global,
+    one: &AtomicU64,
+    other: &AtomicU64,
+) -> Result<bool, Fail> {
+    let mut lanes = Vec::new(alloc);
+    lanes.push(meeting_card(alloc, one, other)?)?;
+    lanes.push(meeting_card(alloc, other, one)?)?;
+    each_card(rt, &mut lanes);
+    Ok(lanes.iter().all(|lane| lane.feeder.has_met))
+}
+
 #[test]
 fn two_cards_are_fed_at_the_same_time(rt: HostRuntime) -> Result<(), Fail> {
     let one = AtomicU64::new(0);
     let other = AtomicU64::new(0);
-    let mut lanes = Vec::new(rt.alloc());
-    lanes.push(meeting_card(rt.alloc(), &one, &other)?)?;
-    lanes.push(meeting_card(rt.alloc(), &other, &one)?)?;
-    each_card(&rt, &mut lanes);
-    for lane in &lanes {
-        assert!(rt; lane.feeder.has_met);
-    }
+    assert!(rt; have_met(&rt, rt.alloc(), &one, &other)?);
     Ok(())
 }
