@@ -234,7 +234,7 @@ impl Feeder for Meeting<'_> {
 
     ghost has_taken = { λ _ _. ⊤ };
 
-    ghost awaits = { λ _. ⊥ };
+    ghost awaits = { λ _. ⊤ };
 
     fn next_arrival(&mut self) -> Option<Arrival> {
         self.own.store(1, Ordering::SeqCst);
