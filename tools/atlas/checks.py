@@ -143,6 +143,52 @@ def coded(sources):
                 yield f"{page}: its code isn't in {source[2]}"
 
 
+def layers_of(text):
+    """Returns the layers of crates.txt, lowest first: of each its name, and its crates in their order, each with the libraries that it lists."""
+    found = [("", [])]
+    for line in text.split("\n"):
+        heading, crate = re.match(r"# Layer (\w[\w ]*):", line), re.match(r"([a-z]\w*)[^:]*:(.*)", line)
+        if heading:
+            found.append((heading[1], []))
+        elif crate:
+            found[-1][1].append((crate[1], crate[2].split()))
+    return [it for it in found if it[1]]
+
+
+def rising(layers):
+    """Yields each crate that uses a crate of a layer above its own, or one that comes after it in its own layer."""
+    at = {crate: (number, place) for number, (_, crates) in enumerate(layers) for place, (crate, _) in enumerate(crates)}
+    for number, (layer, crates) in enumerate(layers):
+        for place, (crate, uses) in enumerate(crates):
+            for it in uses:
+                if at.get(it, (0, -1)) > (number, place):
+                    other = layers[at[it][0]][0]
+                    yield f"crates.txt: {crate} of layer {layer} uses {it}, which comes after it{'' if other == layer else f', in layer {other}'}"
+
+
+def drawn(layers, page):
+    """Yields how the table of layers of a page differs from crates.txt. The page has the highest layer first, and tests, which nothing uses, at its end."""
+    layer, rows = "", []
+    for first, crates in re.findall(r"^\| ([^|]*) ?\| ((?:`\w+`(?:, )?)+) \|", page, re.M):
+        layer = first.strip() or layer
+        rows += [(layer, it) for it in re.findall(r"`(\w+)`", crates)]
+    listed = [(layer, crate) for layer, crates in layers for crate, _ in crates]
+    for layer, crate in sorted(set(listed) - set(rows)):
+        yield f"docs/ARCHITECTURE.md: the table lacks {crate} in layer {layer}"
+    for layer, crate in sorted(set(rows) - set(listed)):
+        yield f"docs/ARCHITECTURE.md: the table has {crate} in layer {layer}, and crates.txt hasn't"
+    order = list(dict.fromkeys(layer for layer, _ in rows))
+    if order != sorted((layer for layer, _ in reversed(layers)), key=lambda it: it == "tests"):
+        yield f"docs/ARCHITECTURE.md: the layers are in another order than those of crates.txt: {', '.join(order)}"
+
+
+def layered(sources):
+    """Yields each arrow between crates that goes up, and each difference between crates.txt and the table of layers."""
+    layers = layers_of(text_of("crates.txt"))
+    yield from rising(layers)
+    yield from drawn(layers, text_of("docs/ARCHITECTURE.md"))
+
+
 def explained(sources):
     """Yields each commit that changes a contract or a figure without a word about it."""
     yield from history.silent()
@@ -177,7 +223,7 @@ def packaged(sources):
     yield from differing(listed, asked)
 
 
-CHECKS = (comments, turned, defined, meant, linked, named, placed, failed, coded, explained, applied, packaged)
+CHECKS = (comments, turned, defined, meant, linked, named, placed, failed, coded, layered, explained, applied, packaged)
 
 
 def checked(sources):

@@ -2,7 +2,7 @@
 import unittest
 from types import SimpleNamespace
 
-from atlas.checks import anchors_of, differing, meant
+from atlas.checks import anchors_of, differing, drawn, layers_of, meant, rising
 
 
 def specs(**modules):
@@ -24,6 +24,33 @@ class OneMeaning(unittest.TestCase):
 class Anchors(unittest.TestCase):
     def test_headings(self):
         self.assertEqual(anchors_of("# The `upc` gate\ntext\n## A jump, if not\n"), {"the-upc-gate", "a-jump-if-not"})
+
+
+LAYERS = "# Layer text: lines\ntext_io: memchr\n# Layer base: instructions\nbpf_code: byteorder\nbpf_asm: bpf_code text_io\n"
+TABLE = "| Layer | Crate | What |\n|---|---|---|\n| base | `bpf_asm` | x |\n| | `bpf_code` | x |\n| text | `text_io` | x |\n"
+
+
+class Layers(unittest.TestCase):
+    def test_arrows_that_go_down(self):
+        self.assertEqual(list(rising(layers_of(LAYERS))), [])
+
+    def test_an_arrow_that_goes_up(self):
+        wrong = layers_of(LAYERS.replace("text_io: memchr", "text_io: memchr bpf_asm"))
+        self.assertEqual(list(rising(wrong)), ["crates.txt: text_io of layer text uses bpf_asm, which comes after it, in layer base"])
+
+    def test_an_arrow_to_a_later_crate_of_the_layer(self):
+        wrong = layers_of(LAYERS.replace("bpf_code: byteorder", "bpf_code: bpf_asm"))
+        self.assertEqual(list(rising(wrong)), ["crates.txt: bpf_code of layer base uses bpf_asm, which comes after it"])
+
+    def test_a_table_like_the_list(self):
+        self.assertEqual(list(drawn(layers_of(LAYERS), TABLE)), [])
+
+    def test_a_table_with_another_layer(self):
+        other = TABLE.replace("| base | `bpf_asm` | x |\n| | `bpf_code` | x |\n", "| base | `bpf_asm` | x |\n").replace("text |", "words |")
+        wrong = list(drawn(layers_of(LAYERS), other))
+        self.assertIn("docs/ARCHITECTURE.md: the table lacks bpf_code in layer base", wrong)
+        self.assertIn("docs/ARCHITECTURE.md: the table has text_io in layer words, and crates.txt hasn't", wrong)
+        self.assertEqual(len(wrong), 4)
 
 
 class Packages(unittest.TestCase):
