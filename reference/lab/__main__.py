@@ -4,13 +4,14 @@
     python3 -m lab UPC UPC_LAB [COUNT] [SEED]
 
 The steps of a trace are those of the reference's machine, and its other lines those of `upc eval`. A listing assembles to the
-program that is listed. The line, the column and the path of an explanation are those of the reference. The last line is 'N passed, M failed'.
+program that is listed, and ends with the comment of its longest run. The line, the column and the path of an explanation are those of the reference. The last line is 'N passed, M failed'.
 """
 import re
 import sys
 
 from lab.explaining import wrong_explanation
 from lab.explaining_scripts import wrong_script_explanation
+from lab.listing import longest_comment
 from lab.tracing import TraceDialogue
 from policer.decoding import decoded
 from policer.dialogue import answered
@@ -40,8 +41,11 @@ def wrong_list(upc, lab, text):
     ours, theirs = of_program(lab, "list", first), (*answered(first, EvalDialogue()), b"")
     if not theirs[0].startswith(b"accepted"):
         return None if ours == theirs else first_difference(ours, theirs)
+    program = decoded(octets_of(first.split()[0]))
+    if ours[0].split(b"\n")[-2:] != [longest_comment(program), b""]:
+        return f"the listing doesn't end with {longest_comment(program)}"
     again = of_program(upc, "check", ours[0])[0].split(b"\n")
-    is_same = again[0] + b"\n" == theirs[0] and decoded(octets_of(again[1])) == decoded(octets_of(first.split()[0]))
+    is_same = again[0] + b"\n" == theirs[0] and decoded(octets_of(again[1])) == program
     return None if is_same else f"upc check of the listing prints {again[0]}"
 
 

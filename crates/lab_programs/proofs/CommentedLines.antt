@@ -1,16 +1,18 @@
 -- A comment at the end of a line changes none of the line's tokens.
-use Rattle.std.proofs.Common.{◌≡◌, ℕ, zero, suc, ◌-◌, ◌/◌, ◌%◌, Bool, true, false, not, ◌&&◌, ◌==◌, List, [], ◌∷◌, ◌++◌, codes, length, get_or, refl, sym, ap, ◌∙◌, append-nil, append_assoc}
+use Rattle.std.proofs.Common.{◌≡◌, ℕ, zero, suc, ◌-◌, ◌/◌, ◌%◌, ◌^◌, ◌<◌, decimal, subst, Bool, true, false, not, ◌&&◌, ◌==◌, List, [], ◌∷◌, ◌++◌, codes, length, get_or, refl, sym, ap, ◌∙◌, append-nil, append_assoc}
 use Rattle.std.proofs.lemmas.Bool.{and_from, and_parts, and_right, not-true}
-use Rattle.bpf_asm.proofs.listings.Apart.{all_inline, inline_whole, is_inline}
+use Rattle.bpf_asm.proofs.listings.Apart.{all_inline, inline_whole, is_inline, parts_inline}
 use Rattle.bpf_asm.proofs.octets.Comments.{apart_comment, comment_first}
 use Rattle.bpf_asm.proofs.octets.LineCuts.{line_ended}
 use Rattle.bpf_asm.proofs.octets.Pieces.{ends_word, tokens_of-append}
 use Rattle.bpf_asm.specs.SourceLines.{source_lines, without_comment}
+use Rattle.bpf_asm.specs.StatementSpelling.{num}
 use Rattle.bpf_asm.specs.Tokens.{pieces_of, signed, tokens_in, tokens_of, tokens_read}
 use Rattle.bpf_asm.specs.inner.Feeds.{no_feed}
 use Rattle.hex.specs.Hex.{encode_lower, encode_with, lower_digits}
 use Rattle.text_io.specs.Lines.{without_return}
 use Rattle.lab_programs.specs.Comments.{commented}
+use Rattle.lab_programs.specs.ListedProgram.{longest_line}
 
 -- Before a comment, the line has its own octets and a blank.
 cut : (listed comment : List ℕ) → all_inline listed ≡ true → without_comment (listed ++ (codes " ; " ++ comment)) ≡ listed ++ 32 ∷ []
@@ -86,3 +88,15 @@ line_commented listed octets rest h =
     let parted : commented listed (encode_lower octets) ++ rest ≡ text ++ 10 ∷ rest =
     ap (λ (octets : List ℕ). (octets ++ 10 ∷ []) ++ rest) (append_assoc listed (codes " ; ") (encode_lower octets)) ∙ append_assoc text (10 ∷ []) rest in
     ap source_lines parted ∙ line_ended text rest (kept-free text kept) ∙ ap (λ (first : List ℕ). first ∷ source_lines rest) (whole_line text kept)
+
+digits_kept : (value : ℕ) → value < 2 ^ 32 → all_kept (decimal value) ≡ true
+digits_kept value h =
+    inline-kept (decimal value) (subst (λ (octets : List ℕ). all_inline octets ≡ true) (append-nil (decimal value)) (parts_inline (num value ∷ []) refl (h, tt)))
+
+-- The comment of the longest run is a line by itself.
+pub longest_commented : (most : ℕ) → most < 2 ^ 32 → source_lines (longest_line most) ≡ (codes "; longest " ++ decimal most) ∷ []
+unfolding source_lines
+longest_commented most h =
+    let text : List ℕ = codes "; longest " ++ decimal most in
+    let kept : all_kept text ≡ true = kept-append (codes "; longest ") (decimal most) refl (digits_kept most h) in
+    line_ended text [] (kept-free text kept) ∙ ap (λ (first : List ℕ). first ∷ []) (whole_line text kept)

@@ -6,7 +6,10 @@ pub mod OneTrace
 pub mod Fits
 pub mod CommentedLines
 pub mod ListSteps
+pub mod LastComment
 pub mod ListMeaning
 pub mod WholeListing
 pub mod OneListing
+pub mod LongestSteps
+pub mod LongestFound
 pub mod Public

@@ -18,7 +18,8 @@ use Rattle.bpf_code.specs.OctetSpelling.{SpellsCode}
 use Rattle.bpf_code.specs.Widths.{FitsFields}
 use Rattle.bpf_code.specs.declared.instr.Instr.{Instr}
 use Rattle.bpf_verify.specs.Accepted.{IsAccepted}
-use Rattle.lab_programs.proofs.CommentedLines.{line_commented, tokens_commented}
+use Rattle.lab_programs.proofs.CommentedLines.{line_commented, longest_commented, tokens_commented}
+use Rattle.lab_programs.proofs.LastComment.{blank, comment_blank, lines_mean, with_blank}
 use Rattle.hex.proofs.HexLemmas.{decode_of-ok}
 use Rattle.hex.specs.Hex.{IsBytes, decode_of}
 use Rattle.hex.specs.declared.error.FromHexError.{FromHexError}
@@ -31,7 +32,8 @@ use Rattle.upc_words.specs.Hexadecimal.{octets_of_digits}
 use Rattle.lab_programs.proofs.Fits.{fits_all}
 use Rattle.lab_programs.proofs.Lists.{drop_one}
 use Rattle.lab_programs.specs.Comments.{commented, listed_lines}
-use Rattle.lab_programs.specs.ListedProgram.{octet_lines, octets_text, program_listing}
+use Rattle.lab_programs.specs.ListedProgram.{IsProgramListing, longest_line, octet_lines, octets_text, program_listing}
+use Rattle.lab_programs.specs.inner.LongestRuns.{one-longest, some-longest}
 
 -- The line of an instruction in a listing.
 abbrev listed_at : ℕ → Instr → List ℕ
@@ -88,43 +90,52 @@ source_line : (listed comment : List ℕ) (line : SourceLine) → all_inline lis
 unfolding IsSourceLine
 source_line listed comment line h spelled = subst (λ (tokens : List Token). AreLineTokens tokens line) (sym (tokens_commented listed comment h)) spelled
 
--- The same lines with octets parse as the lines without them.
-commented_spelled : (listed : List (List ℕ)) (place : ℕ) (code : List Instr) (lines : List SourceLine) → HaveLines place code → listed_from place code ≡ drop place listed
-    → AreLines (listed_from place code) lines → AreLines (source_lines (octet_lines listed place code)) lines
-unfolding source_lines listed_from octet_lines
-commented_spelled listed place [] lines h left spelled = spelled
-commented_spelled listed place (i ∷ code) [] h left spelled = absurd spelled
-commented_spelled listed place (i ∷ code) (line ∷ lines) h left spelled =
-    let octets = code_octets (i ∷ []) in
-    let zero_more : place + 0 ≡ place = omega arith in
-    let found : listed_at place i ≡ get_or listed place [] =
-    ap (λ (ls : List (List ℕ)). get_or ls 0 []) left ∙ get_or-drop place listed 0 [] ∙ ap (λ (n : ℕ). get_or listed n []) zero_more in
-    let later = commented_spelled listed (place + 1) code lines h.1 (drop_one place listed (listed_at place i ∷ listed_from (place + 1) code) left) spelled.1 in
-    let parsed = source_line (listed_at place i) (octets_text i) line h.0 spelled.0 in
-    let P : List ℕ → Type 0 = λ first. AreLines (source_lines (commented first (octets_text i) ++ octet_lines listed (place + 1) code)) (line ∷ lines) in
-    let Q : List (List ℕ) → Type 0 = λ ls. AreLines ls (line ∷ lines) in
-    subst P found (subst Q (sym (line_commented (listed_at place i) octets (octet_lines listed (place + 1) code) h.0)) (parsed, later))
+module _ (rest : List ℕ) (last : List SourceLine) (parsed_last : AreLines (source_lines rest) last) where
+  -- The same lines with octets, before others, parse as the lines without them.
+  commented_spelled : (listed : List (List ℕ)) (place : ℕ) (code : List Instr) (lines : List SourceLine) → HaveLines place code → listed_from place code ≡ drop place listed
+      → AreLines (listed_from place code) lines → AreLines (source_lines (octet_lines listed place code ++ rest)) (lines ++ last)
+  unfolding source_lines listed_from octet_lines
+  commented_spelled listed place [] lines h left spelled = subst (λ (ls : List SourceLine). AreLines (source_lines rest) (ls ++ last)) (sym spelled) parsed_last
+  commented_spelled listed place (i ∷ code) [] h left spelled = absurd spelled
+  commented_spelled listed place (i ∷ code) (line ∷ lines) h left spelled =
+      let octets = code_octets (i ∷ []) in
+      let more = octet_lines listed (place + 1) code in
+      let zero_more : place + 0 ≡ place = omega arith in
+      let found : listed_at place i ≡ get_or listed place [] =
+      ap (λ (ls : List (List ℕ)). get_or ls 0 []) left ∙ get_or-drop place listed 0 [] ∙ ap (λ (n : ℕ). get_or listed n []) zero_more in
+      let later = commented_spelled listed (place + 1) code lines h.1 (drop_one place listed (listed_at place i ∷ listed_from (place + 1) code) left) spelled.1 in
+      let parsed = source_line (listed_at place i) (octets_text i) line h.0 spelled.0 in
+      let P : List ℕ → Type 0 = λ first. AreLines (source_lines (commented first (octets_text i) ++ (more ++ rest))) (line ∷ (lines ++ last)) in
+      let Q : List (List ℕ) → Type 0 = λ ls. AreLines ls (line ∷ (lines ++ last)) in
+      let whole = subst P found (subst Q (sym (line_commented (listed_at place i) octets (more ++ rest) h.0)) (parsed, later)) in
+      subst (λ (text : List ℕ). AreLines (source_lines text) (line ∷ (lines ++ last))) (sym (append_assoc (commented (get_or listed place []) (octets_text i)) more rest)) whole
 
 -- If each instruction of a code fits its fields and stays within the code, the listing with octets means the code.
-pub commented_means : (code : List Instr) → length code ≤ 2 ^ 64 → ((place : ℕ) (i : Instr) → IsInstrAt code place i → FitsFields i)
-    → ((place : ℕ) (i : Instr) → IsInstrAt code place i → StaysWithin (length code) place i) → IsMeaning (program_listing code) code
-commented_means code h wide stays =
+pub commented_means : (code : List Instr) (most : ℕ) → most < 2 ^ 32 → length code ≤ 2 ^ 64 → ((place : ℕ) (i : Instr) → IsInstrAt code place i → FitsFields i)
+    → ((place : ℕ) (i : Instr) → IsInstrAt code place i → StaysWithin (length code) place i) → IsMeaning (program_listing code ++ longest_line most) code
+commented_means code most small h wide stays =
     let means = listing_means code h wide stays in
     let have = have_lines 0 code (omega arith) (λ k i e.
     let z : k ≡ 0 + k = omega arith in
     (wide k i e, subst (λ (p : ℕ). StaysWithin (2 ^ 64) p i) z (λ target j. let t : target < length code = stays k i e target j in omega arith))) in
     let lines : source_lines (listing_of code) ≡ listed_from 0 code = lines_listed 0 code have in
+    let parsed_last = subst (λ (ls : List (List ℕ)). AreLines ls (blank ∷ [])) (sym (longest_commented most small)) (comment_blank _, refl) in
     record {
-      lines = means.lines;
-      spelled = commented_spelled (listed_lines code) 0 code means.lines have (sym lines) (subst (λ (ls : List (List ℕ)). AreLines ls means.lines) lines means.spelled);
-      mean = means.mean;
+      lines = with_blank means.lines;
+      spelled = commented_spelled (longest_line most) (blank ∷ []) parsed_last (listed_lines code) 0 code means.lines have (sym lines)
+          (subst (λ (ls : List (List ℕ)). AreLines ls means.lines) lines means.spelled);
+      mean = lines_mean means.lines code means.mean;
     }
 
 -- The listing of an accepted code with octets means the code.
-pub accepted_means : (code : List Instr) → IsAccepted code → ((place : ℕ) (i : Instr) → IsInstrAt code place i → FitsFields i) → IsMeaning (program_listing code) code
-accepted_means code accepted wide =
+pub accepted_means : (code : List Instr) (text : List ℕ) → IsAccepted code → ((place : ℕ) (i : Instr) → IsInstrAt code place i → FitsFields i) → IsProgramListing code text → IsMeaning text code
+accepted_means code text accepted wide listed =
     let sized = accepted.sized.most in
-    commented_means code (omega arith) wide (λ place i instr_there. (accepted.sound place i instr_there).targets)
+    let some = some-longest code accepted in
+    let same = one-longest code listed.0 some.0 listed.1 some.1 in
+    let within = some.2 in
+    let means = commented_means code listed.0 (omega arith) (omega arith) wide (λ place i instr_there. (accepted.sound place i instr_there).targets) in
+    subst (λ (source : List ℕ). IsMeaning source code) (sym listed.2) means
 
 ok-part : (d : Result (List ℕ) FromHexError) (xs : List ℕ) → result_ok d ≡ Some xs → d ≡ Ok xs
 ok-part (Ok ys) xs e = let same : ys ≡ xs = cc in ap Ok same
@@ -145,13 +156,15 @@ read-program octets code reads =
     ]
 
 -- The listing of the program of a line, with octets, means the program.
-pub listing-means : (word octets : List ℕ) (code : List Instr) → octets_of_digits word ≡ Some octets → ReadsAs octets (is_program code) → IsMeaning (program_listing code) code
-listing-means word octets code e reads =
+pub listing-means : (word octets : List ℕ) (code : List Instr) (text : List ℕ) → octets_of_digits word ≡ Some octets → ReadsAs octets (is_program code) → IsProgramListing code text
+    → IsMeaning text code
+listing-means word octets code text e reads listed =
     let read = read-program octets code reads in
-    accepted_means code read.1 (fits_all octets code (digits-bytes word octets e) read.0)
+    accepted_means code text read.1 (fits_all octets code (digits-bytes word octets e) read.0) listed
 
 -- So `upc check` answers it with the program.
-pub listing-checks : (word octets : List ℕ) (code : List Instr) → octets_of_digits word ≡ Some octets → ReadsAs octets (is_program code) → PrintsSource (program_listing code) (accepted_text code) Whole
-listing-checks word octets code e reads =
+pub listing-checks : (word octets : List ℕ) (code : List Instr) (text : List ℕ) → octets_of_digits word ≡ Some octets → ReadsAs octets (is_program code) → IsProgramListing code text
+    → PrintsSource text (accepted_text code) Whole
+listing-checks word octets code text e reads listed =
     let read = read-program octets code reads in
-    inl (code, listing-means word octets code e reads, (is_program code, (read.1, refl), (refl, refl)))
+    inl (code, listing-means word octets code text e reads listed, (is_program code, (read.1, refl), (refl, refl)))

@@ -1,9 +1,11 @@
 -- An input has one output of `list`.
-use Rattle.std.proofs.Common.{◌≡◌, ℕ, Bool, true, false, List, [], ◌∷◌, Option, Some, None, sym, ◌∙◌, subst}
+use Rattle.std.proofs.Common.{◌≡◌, ℕ, Bool, true, false, List, [], ◌∷◌, ◌++◌, Option, Some, None, sym, ap, ◌∙◌, subst}
 use Rattle.std.specs.Bool.{MatchBool}
 use Rattle.std.specs.Option.{MatchOption}
-use Rattle.lab_programs.specs.ListedProgram.{IsListAnswer, IsListText, ListCloses, ListSteps, ListedLine, ListsOrEnds, ListsProgram, list_rules}
+use Rattle.bpf_code.specs.declared.instr.Instr.{Instr}
+use Rattle.lab_programs.specs.ListedProgram.{IsListAnswer, IsListText, IsProgramListing, ListCloses, ListSteps, ListedLine, ListsOrEnds, ListsProgram, list_rules, longest_line, program_listing}
 use Rattle.lab_programs.specs.inner.ListLaws.{list-total}
+use Rattle.lab_programs.specs.inner.LongestRuns.{one-longest}
 use Rattle.text_io.proofs.Public.{one-text, some-text}
 use Rattle.text_io.specs.Answering.{EndsBy}
 use Rattle.text_io.specs.Lines.{lines_of}
@@ -19,8 +21,14 @@ use Rattle.upc_words.specs.Hexadecimal.{octets_of_digits}
 abbrev Same : List ℕ → List ℕ → Option Bool → Option Bool → Type 0
 Same one other next next' = (one ≡ other) × (next ≡ next')
 
+-- A code has one longest run, and so one listing.
+listing-once : (code : List Instr) (text text' : List ℕ) → IsProgramListing code text → IsProgramListing code text' → text ≡ text'
+listing-once code text text' p q =
+    let same = one-longest code p.0 q.0 p.1 q.1 in
+    p.2 ∙ ap (λ (most : ℕ). program_listing code ++ longest_line most) same ∙ sym q.2
+
 listed-once : (reading : ProgramReading) (text text' : List ℕ) (next next' : Option Bool) → IsListAnswer reading text next → IsListAnswer reading text' next' → Same text text' next next'
-listed-once (is_program code) text text' next next' p q = (p.0 ∙ sym q.0, p.1 ∙ sym q.1)
+listed-once (is_program code) text text' next next' p q = (listing-once code text text' p.0 q.0, p.1 ∙ sym q.1)
 listed-once (is_refused fault) text text' next next' p q = (p.0 ∙ sym q.0, p.1 ∙ sym q.1)
 
 program-same : (octets text text' : List ℕ) (next next' : Option Bool) → ListsProgram octets text next → ListsProgram octets text' next' → Same text text' next next'

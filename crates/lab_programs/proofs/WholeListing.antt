@@ -5,7 +5,7 @@ use Rattle.std.specs.Option.{MatchOption}
 use Rattle.bpf_asm.specs.Meaning.{IsMeaning}
 use Rattle.bpf_code.specs.declared.instr.Instr.{Instr}
 use Rattle.lab_programs.proofs.ListMeaning.{listing-checks, listing-means}
-use Rattle.lab_programs.specs.ListedProgram.{IsListAnswer, IsListText, ListSteps, ListedLine, ListsLine, ListsOrEnds, ListsProgram, list_rules}
+use Rattle.lab_programs.specs.ListedProgram.{IsListAnswer, IsListText, IsProgramListing, ListSteps, ListedLine, ListsLine, ListsOrEnds, ListsProgram, list_rules}
 use Rattle.upc_programs.specs.Check.{PrintsSource, accepted_text}
 use Rattle.text_io.specs.Answering.{EndsBy}
 use Rattle.text_io.specs.Lines.{Line, lines_of, line_content}
@@ -57,6 +57,9 @@ silent_after met (line ∷ lines) text h =
     let step = stepped met true line lines text (is_over met line) h in
     silent_step met line lines text (is_silent (words_of (line_content line))) step.0 step.1 step.2 step.3 step.4 step.5 (silent_after (met + 1) lines step.1)
 
+listed_same : (code : List Instr) (text other : List ℕ) → other ≡ text → IsProgramListing code text → IsProgramListing code other
+listed_same code text other same listed = subst (IsProgramListing code) (sym same) listed
+
 -- The text is the listing of the program of one of these lines.
 abbrev Lists : List Line → List ℕ → Type 0
 Lists lines text = (code : List Instr) × ListsLine lines text code
@@ -77,7 +80,7 @@ module _ (met : ℕ) (line : Line) (lines : List Line) (text here more : List �
           octets = octets;
           spelled = spelled;
           read = reads;
-          listed = added ∙ ap (λ (ts : List ℕ). here ++ ts) none ∙ append-nil here ∙ answer.0;
+          listed = listed_same code here text (added ∙ ap (λ (ts : List ℕ). here ++ ts) none ∙ append-nil here) answer.0;
         },
       )
   reading_listed word octets (is_refused fault) alone spelled reads answer = absurd (ends_never met lines more next answer.1 rest)
@@ -107,7 +110,7 @@ module _ (met : ℕ) (line : Line) (lines : List Line) (text here more : List �
           octets = found.1.octets;
           spelled = found.1.spelled;
           read = found.1.read;
-          listed = nothing_more here more text added quiet.0 ∙ found.1.listed;
+          listed = listed_same found.0 more text (nothing_more here more text added quiet.0) found.1.listed;
         },
       )
   line_listed false lists later = words_listed (words_of (line_content line)) refl lists
@@ -125,6 +128,6 @@ pub listed_whole : (input text : List ℕ) → IsListText input text Whole
 listed_whole input text h =
     let found = lists_whole 0 (lines_of input) text h in
     let line = found.1 in
-    let P : List ℕ → Type 0 = λ source. IsMeaning source found.0 × PrintsSource source (accepted_text found.0) Whole in
-    let both = subst P (sym line.listed) (listing-means line.word line.octets found.0 line.spelled line.read, listing-checks line.word line.octets found.0 line.spelled line.read) in
-    (found.0, line, both.0, both.1)
+    let means = listing-means line.word line.octets found.0 text line.spelled line.read line.listed in
+    let checks = listing-checks line.word line.octets found.0 text line.spelled line.read line.listed in
+    (found.0, line, means, checks)

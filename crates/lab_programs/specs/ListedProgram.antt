@@ -1,10 +1,11 @@
 -- The output of `upc-lab list`. The first line with words is a program, and its answer is its listing with the octets of
--- each instruction. No later line has words.
-use Rattle.std.specs.Prelude.{◌≡◌, ℕ, ◌+◌, Bool, true, false, List, [], ◌∷◌, ◌++◌, get_or, Option, Some, None, MatchOption, MatchBool}
+-- each instruction, and a comment with the length of its longest run. No later line has words.
+use Rattle.std.specs.Prelude.{◌≡◌, ℕ, ◌+◌, Bool, true, false, List, [], ◌∷◌, ◌++◌, get_or, codes, decimal, Option, Some, MatchOption, MatchBool}
 use Rattle.bpf_code.specs.Encoding.{code_octets}
 use Rattle.bpf_code.specs.declared.instr.Instr.{Instr}
 use Rattle.hex.specs.Hex.{encode_lower}
 use Rattle.lab_programs.specs.Comments.{commented, listed_lines}
+use Rattle.lab_programs.specs.LongestRun.{IsLongestRun}
 use Rattle.text_io.specs.Answering.{EndsBy}
 use Rattle.text_io.specs.Lines.{Line, lines_of, line_content}
 use Rattle.text_io.specs.Printing.{Rules, Prints}
@@ -12,7 +13,7 @@ use Rattle.text_io.specs.Words.{words_of, is_silent}
 use Rattle.text_io.specs.declared.ending.Done.{Done}
 use Rattle.text_io.specs.declared.ending.Done.TheVariants.{Whole, Ended}
 use Rattle.upc_codes.specs.Program.{ProgramReading, is_program, is_refused, ReadsAs}
-use Rattle.upc_words.specs.FaultLines.{bad_line, bad_hex, no_program, too_long}
+use Rattle.upc_words.specs.FaultLines.{line, bad_line, bad_hex, no_program, too_long}
 use Rattle.upc_words.specs.Hexadecimal.{octets_of_digits}
 
 -- The eight octets of an instruction, as hexadecimal digits.
@@ -29,10 +30,18 @@ octet_lines listed place (i ∷ code) = commented (get_or listed place []) (octe
 abbrev pub program_listing : List Instr → List ℕ
 program_listing code = octet_lines (listed_lines code) 0 code
 
+-- The comment with the number of instructions of the longest run.
+abbrev pub longest_line : ℕ → List ℕ
+longest_line most = line (codes "; longest " ++ decimal most)
+
+-- The text is the listing of a code with the octets of its instructions, and then the comment of its longest run.
+abbrev pub IsProgramListing : List Instr → List ℕ → Type 0
+IsProgramListing code text = (most : ℕ) × IsLongestRun code most × (text ≡ program_listing code ++ longest_line most)
+
 -- The answer to a program is its listing. A refusal ends the run with its line. The world says whether there was a
 -- program.
 abbrev pub IsListAnswer : ProgramReading → List ℕ → Option Bool → Type 0
-IsListAnswer (is_program code) text next = (text ≡ program_listing code) × (next ≡ Some true)
+IsListAnswer (is_program code) text next = IsProgramListing code text × (next ≡ Some true)
 IsListAnswer (is_refused fault) text next = EndsBy fault text next
 
 -- The answer to the octets of a program line.
@@ -80,4 +89,4 @@ pub record ListsLine (lines : List Line) (text : List ℕ) (code : List Instr) :
   pub octets : List ℕ
   pub spelled : octets_of_digits word ≡ Some octets
   pub read : ReadsAs octets (is_program code)
-  pub listed : text ≡ program_listing code
+  pub listed : IsProgramListing code text

@@ -1,9 +1,12 @@
 //! Laws of the definitions. Each function does nothing; its contract is the law.
 
-ghost use Rattle.std.specs.Prelude.{◌≡◌, ◌++◌, ℕ, List};
+ghost use Rattle.std.specs.Prelude.{◌≡◌, ◌≤◌, ◌++◌, ℕ, List, length};
 ghost use Rattle.bpf_asm.specs.Meaning.{IsMeaning};
 ghost use Rattle.bpf_code.specs.declared.instr.Instr.{Instr};
+ghost use Rattle.bpf_interp.specs.Value.{Value};
+ghost use Rattle.bpf_verify.specs.Accepted.{IsAccepted};
 ghost use Rattle.lab_programs.specs.ListedProgram.{IsListText, ListsLine};
+ghost use Rattle.lab_programs.specs.LongestRun.{IsLongestRun};
 ghost use Rattle.lab_programs.specs.Trace.{IsTraceText, PrintsTrace};
 ghost use Rattle.text_io.specs.Lines.{lines_of};
 ghost use Rattle.text_io.specs.declared.ending.Done.{Done as TheDone};
@@ -45,4 +48,18 @@ pub fn every_input_has_a_listing()
 pub fn an_input_has_one_listing()
     ensures { (octets one other : List ℕ) (ends other_ends : TheDone)
         → IsListText octets one ends → IsListText octets other other_ends → (one ≡ other) × (ends ≡ other_ends) }
+{}
+
+/// An accepted code has one longest run, which begins at most as many instructions as the code has.
+pub fn an_accepted_code_has_one_longest_run()
+    ensures { (code : List Instr) → IsAccepted code
+        → (most : ℕ) × IsLongestRun code most × (most ≤ length code)
+        × ((other : ℕ) → IsLongestRun code other → other ≡ most) }
+{}
+
+/// On no cell does a code take more steps than its longest run begins instructions. A load from outside the cell and a
+/// division by an X of 0 end a run early, and count as steps.
+pub fn no_cell_takes_more_than_the_longest_run()
+    ensures { (code : List Instr) (cell : List ℕ) (most value steps : ℕ)
+        → IsLongestRun code most → Value code cell value steps → steps ≤ most }
 {}

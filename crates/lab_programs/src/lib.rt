@@ -5,6 +5,7 @@
 pub mod laws;
 mod listed_lines;
 mod listing;
+mod longest;
 mod step_lines;
 mod tracing;
 

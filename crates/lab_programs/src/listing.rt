@@ -1,4 +1,4 @@
-//! `upc-lab list`: the listing of a program, with the octets of each instruction.
+//! `upc-lab list`: the listing of a program, with the octets of each instruction and the length of its longest run.
 
 ghost use Rattle.std.specs.Prelude.{◌≡◌, ◌∷◌, [], ◌++◌, false, true, IfOk, OnOk};
 ghost use Rattle.bpf_asm.specs.SourceLines.{source_lines};
@@ -7,17 +7,18 @@ ghost use Rattle.text_io.specs.Answering.{Answers};
 ghost use Rattle.text_io.specs.Devices.{Adds};
 ghost use Rattle.text_io.specs.Serving.{IsServed};
 ghost use Rattle.lab_programs.specs.Comments.{commented};
-ghost use Rattle.lab_programs.specs.ListedProgram.{IsListText, ListedLine, list_rules, octets_text, program_listing};
+ghost use Rattle.lab_programs.specs.ListedProgram.{IsListText, IsProgramListing, ListedLine, list_rules, octets_text, program_listing};
 ghost use Rattle.lab_programs.specs.inner.TurnWorlds.{turn_world};
 
 use crate::listed_lines::{after_line, first_line};
+use crate::longest::longest_run;
 use bpf_asm::listing;
 use bpf_code::{Instr, encode};
 use std::alloc::{AllocError, Global};
 use text_io::{Done, Input, LineWords, Machine, Output, RunFault, Turn, answer_lines, line_words};
 use upc_codes::read_code;
 use upc_programs::add_no_program;
-use upc_words::{add_bad_hex, add_bad_line, add_too_long, octets_of_word};
+use upc_words::{add_bad_hex, add_bad_line, add_numbered, add_too_long, octets_of_word};
 
 /// Appends the octets of an instruction, in lower case hexadecimal digits.
 fn add_octets(alloc: Global, answers: &mut Vec<u8>, instr: Instr) -> Result<(), AllocError>
@@ -45,12 +46,8 @@ fn add_instruction(
     Ok(())
 }
 
-/// Appends the listing of a code, each line with the octets of its instruction as a comment.
-///
-/// # Errors
-///
-/// Only if an allocation fails: no jump of an accepted code leaves it.
-pub fn add_listing(alloc: Global, answers: &mut Vec<u8>, code: &[Instr]) -> Result<(), AllocError>
+/// Appends the lines of a code's listing, each with the octets of its instruction as a comment.
+fn add_instructions(alloc: Global, answers: &mut Vec<u8>, code: &[Instr]) -> Result<(), AllocError>
     requires { IsAccepted code.now }
     ensures { OnOk result (answers.new.items ≡ answers.old.items ++ program_listing code.now) }
 {
@@ -61,6 +58,20 @@ pub fn add_listing(alloc: Global, answers: &mut Vec<u8>, code: &[Instr]) -> Resu
         lines = after_line(lines);
     }
     Ok(())
+}
+
+/// Appends the listing of a code, each line with the octets of its instruction as a comment, and then a comment with the
+/// number of instructions of its longest run.
+///
+/// # Errors
+///
+/// Only if an allocation fails: no jump of an accepted code leaves it.
+pub fn add_listing(alloc: Global, answers: &mut Vec<u8>, code: &[Instr]) -> Result<(), AllocError>
+    requires { IsAccepted code.now }
+    ensures { OnOk result (Adds (IsProgramListing code.now) answers.old.items answers.new.items) }
+{
+    add_instructions(alloc, answers, code)?;
+    add_numbered(answers, b"; longest ", usize::from(longest_run(code)))
 }
 
 /// Reads a program line of one word and answers it. Returns whether the run continues.
@@ -158,8 +169,9 @@ impl Machine for Lister {
 }
 
 /// Answers the lines of an input. The first line with words is a program in hexadecimal digits, and its answer is the
-/// program's listing, each line with the octets of its instruction as a comment. No later line may have words. `upc check`
-/// reads the answer as a source of the same program. docs/LAB.md has the format.
+/// program's listing, each line with the octets of its instruction as a comment, and a last comment with the most
+/// instructions that a cell may take. No later line may have words. `upc check` reads the answer as a source of the same
+/// program. docs/LAB.md has the format.
 ///
 /// # Errors
 ///

@@ -1,8 +1,11 @@
 -- The rules of `list` are total: each line has an answer in each world. These laws are in `specs/` because the `Machine`
 -- implementation of `list` cites them.
-use Rattle.std.proofs.Common.{ℕ, Bool, true, false, List, [], ◌∷◌, Option, Some, None, refl}
+use Rattle.std.proofs.Common.{◌≡◌, inl, inr, ℕ, Bool, true, false, List, [], ◌∷◌, Option, Some, None, refl, sym, subst}
 use Rattle.std.specs.Option.{MatchOption}
-use Rattle.lab_programs.specs.ListedProgram.{IsListAnswer, ListCloses, ListSteps, ListedLine, ListsOrEnds, ListsProgram, list_rules, program_listing}
+use Rattle.bpf_code.specs.declared.instr.Instr.{Instr}
+use Rattle.bpf_verify.specs.Accepted.{IsAccepted}
+use Rattle.lab_programs.specs.ListedProgram.{IsListAnswer, ListCloses, ListSteps, ListedLine, ListsOrEnds, ListsProgram, list_rules}
+use Rattle.lab_programs.specs.inner.LongestRuns.{some-longest}
 use Rattle.text_io.proofs.Public.{silent-or}
 use Rattle.text_io.specs.Answering.{EndsBy}
 use Rattle.text_io.specs.Printing.{IsTotal}
@@ -10,18 +13,29 @@ use Rattle.text_io.specs.Words.{words_of, is_silent}
 use Rattle.text_io.specs.declared.ending.Done.{Done}
 use Rattle.text_io.specs.declared.ending.Done.TheVariants.{Whole, Ended}
 use Rattle.upc_codes.proofs.Public.{reads-as}
-use Rattle.upc_codes.specs.Program.{ProgramReading, is_program, is_refused}
+use Rattle.upc_codes.specs.CodeFaults.{decode_fault}
+use Rattle.upc_codes.specs.Program.{ProgramReading, ReadsAs, is_program, is_refused}
 use Rattle.upc_words.specs.FaultLines.{bad_line, bad_hex, no_program}
 use Rattle.upc_words.specs.Hexadecimal.{octets_of_digits}
 
-lists-reading : (reading : ProgramReading) → (text : List ℕ) × (next : Option Bool) × IsListAnswer reading text next
-lists-reading (is_program code) = (program_listing code, Some true, (refl, refl))
-lists-reading (is_refused fault) = (fault, None, (refl, refl))
+-- A program that octets are read as is accepted.
+read-accepted : (octets : List ℕ) (code : List Instr) → ReadsAs octets (is_program code) → IsAccepted code
+read-accepted octets code reads =
+    elim reads [
+      | inl spelled ↦ subst IsAccepted (sym spelled.2.1) spelled.2.0
+      | inr faulty ↦ let no : is_program code ≡ is_refused (decode_fault faulty.0) = faulty.3 in absurd cc
+    ]
+
+lists-reading : (octets : List ℕ) (reading : ProgramReading) → ReadsAs octets reading → (text : List ℕ) × (next : Option Bool) × IsListAnswer reading text next
+lists-reading octets (is_program code) reads =
+    let longest = some-longest code (read-accepted octets code reads) in
+    (_, Some true, ((longest.0, longest.1, refl), refl))
+lists-reading octets (is_refused fault) reads = (fault, None, (refl, refl))
 
 lists-program : (octets : List ℕ) → (text : List ℕ) × (next : Option Bool) × ListsProgram octets text next
 lists-program octets =
     let read = reads-as octets in
-    let printed = lists-reading read.0 in
+    let printed = lists-reading octets read.0 read.1 in
     (printed.0, printed.1, (read.0, read.1, printed.2))
 
 lists-word : (octets : Option (List ℕ)) → (text : List ℕ) × (next : Option Bool) × MatchOption octets (EndsBy bad_hex text next) (λ found. ListsProgram found text next)

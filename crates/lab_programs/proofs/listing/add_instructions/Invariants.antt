@@ -3,7 +3,7 @@ use Rattle.std.proofs.Common.{◌≡◌, ◌++◌, drop}
 use Rattle.bpf_asm.specs.SourceLines.{source_lines}
 use Rattle.lab_programs.specs.Comments.{listed_lines}
 use Rattle.lab_programs.specs.ListedProgram.{octet_lines, program_listing}
-use Rattle.lab_programs.proofs.listing.add_listing.Given as goal
+use Rattle.lab_programs.proofs.listing.add_instructions.Given as goal
 
 abbrev pub invariant-loop-instr : goal.invariant-loop-instr
 invariant-loop-instr l =

@@ -5,7 +5,7 @@ use Rattle.lab_programs.proofs.ListSteps.{first_left, printed_all, printed_more}
 use Rattle.lab_programs.specs.Comments.{listed_lines}
 use Rattle.lab_programs.specs.ListedProgram.{program_listing}
 use Rattle.bpf_asm.specs.SourceLines.{source_lines}
-use Rattle.lab_programs.proofs.listing.add_listing.Goals as goal
+use Rattle.lab_programs.proofs.listing.add_instructions.Goals as goal
 
 pub loop-instr-preserved : goal.loop-instr-preserved
 loop-instr-preserved c =
