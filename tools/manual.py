@@ -33,7 +33,7 @@ def rows(formats, head):
     for line in lines[at + 2 :]:
         if not line.startswith("|"):
             return found
-        found.append([it.strip() for it in line.strip("|").split("|")])
+        found.append([it.strip().replace(r"\|", "|") for it in re.split(r"(?<!\\)\|", line.strip("|"))])
     return found
 
 
@@ -151,7 +151,9 @@ def rule_grammar(formats):
 
 def rule_words(formats):
     """What the words of rules hold of."""
-    return listed((item(word), sentence(holds)) for word, holds in rows(text(RULES), ["Word", "Holds of"]))
+    page = text(RULES)
+    tests = [(word, f"{holds}: {here}") for word, holds, here, _ in rows(page, ["Word", "Holds of", "As here", "As tcpdump has it"])]
+    return listed((item(word), sentence(holds)) for word, holds in rows(page, ["Word", "Holds of"]) + tests)
 
 
 def rule_faults(formats):

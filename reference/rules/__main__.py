@@ -1,7 +1,8 @@
 """Compares the compiled code of random rules with the evaluator, on cells at the bounds of their comparisons, and the
-answers of `why`, which name the rule that decides each. Each ends with the status 1 if its text has a fault, else with 0.
+answers of `why`, which name the rule that decides each. Each ends with the status 1 if its text has a fault, else with 0. Before that the
+words of docs/RULES.md, and tcpdump's with the word `tcpdump`.
 
-    python3 -m rules PROGRAM [COUNT] [SEED]      PROGRAM is upc-lab
+    python3 -m rules PROGRAM [COUNT] [SEED] [tcpdump]      PROGRAM is upc-lab
 
 The last line is 'N passed, M failed'.
 """
@@ -16,6 +17,7 @@ from policer.machine import value_and_steps
 from rules.making import cells_for, text_of
 from rules.meaning import decision_of, value_of
 from rules.reader import Fault, read_rules
+from rules.words import outcomes
 
 
 # A code has at most so many instructions, and far fewer than this for a comparison, a number of a list, or a rule.
@@ -93,7 +95,11 @@ def main():
     program = sys.argv[1]
     count = int(sys.argv[2]) if len(sys.argv) > 2 else 200
     seed = int(sys.argv[3]) if len(sys.argv) > 3 else 1
-    failed = 0
+    passed = failed = 0
+    for name, is_same in outcomes(program, len(sys.argv) > 4):
+        if not is_same:
+            print(f"{name}: the word isn't as the table has it")
+        passed, failed = passed + is_same, failed + (not is_same)
     for number in range(count):
         random_source = random.Random(f"{seed} {number}")
         text = text_of(random_source)
@@ -101,7 +107,9 @@ def main():
         if found:
             failed += 1
             print(f"{seed} {number}: {found}\n{text.decode(errors='replace')}")
-    print(f"{count - failed} passed, {failed} failed")
+        else:
+            passed += 1
+    print(f"{passed} passed, {failed} failed")
     return 1 if failed else 0
 
 

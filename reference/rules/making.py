@@ -1,7 +1,12 @@
 """Random texts of rules, and cells at the bounds of what they compare."""
 MOSTS = {"gfc": 15, "vpi": 255, "vci": 65535, "pti": 7, "clp": 1}
 SHIFTS = {"gfc": 28, "vpi": 20, "vci": 4, "pti": 1, "clp": 0}
-SIGNS = ("=", "!=", "<", "<=", ">", ">=")
+ORDERS = ("<", "<=", ">", ">=")
+WORDS = (
+    "any", "user", "oam", "oamf4", "oamf4s", "oamf4e", "oamf5", "oamf5s", "oamf5e", "rm", "metasig", "bcast", "signal", "ilmi", "idle",
+    "oamf4sc", "oamf4ec", "metac", "bcc", "sc", "ilmic",
+)
+AND, OR, NOT, REFUSE = ("and", "and", "&&"), ("or", "or", "||"), ("not", "not", "!", "! "), ("refuse", "refuse", "drop", "0")
 
 
 def number(source, most):
@@ -36,25 +41,38 @@ def compared(source):
     """Returns a comparison."""
     name, most = field(source)
     mask = f" & {spelled(source, mask_of(source, most))}" if source.random() < 0.25 else ""
-    if source.random() < 0.5:
-        return f"{name}{mask} {source.choice(SIGNS)} {spelled(source, number(source, most))}"
+    if source.random() < 0.3:
+        return f"{name}{mask} {source.choice(ORDERS)} {spelled(source, number(source, most))}"
+    return f"{name}{mask} {source.choice(['', '', '', '= ', '== ', '!= ', '!='])}{listed(source, most)}"
+
+
+def listed(source, most):
+    """Returns a list."""
     ranges = []
     for _ in range(source.choice([1, 1, 2, 4])):
         low, high = sorted([number(source, most), number(source, most)])
         ranges.append(spelled(source, low) if source.random() < 0.5 else f"{spelled(source, low)}..{spelled(source, high)}")
-    return f"{name}{mask} {', '.join(ranges)}"
+    return ", ".join(ranges)
+
+
+def channels(source):
+    """Returns channels of a path."""
+    path = spelled(source, number(source, 255))
+    return path + source.choice(["/", " / "]) + (listed(source, 65535) if source.random() < 0.8 else "*")
 
 
 def test(source, depth):
     """Returns a test."""
     kind = source.random()
     if depth == 0 or kind < 0.45:
-        return compared(source) if source.random() < 0.85 else source.choice(["any", "oam", "user"])
+        return source.choice([compared, compared, compared, compared, channels, lambda source: source.choice(WORDS)])(source)
     if kind < 0.7:
-        return f"{test(source, depth - 1)} and {test(source, depth - 1)}"
+        return f"{test(source, depth - 1)} {source.choice(AND)} {test(source, depth - 1)}"
     if kind < 0.85:
-        return f"{test(source, depth - 1)} or {test(source, depth - 1)}"
-    return f"not ({test(source, depth - 1)})" if kind < 0.95 else f"({test(source, depth - 1)})"
+        return f"{test(source, depth - 1)} {source.choice(OR)} {test(source, depth - 1)}"
+    if kind < 0.9:
+        return f"{source.choice(NOT)} {source.choice([channels, compared])(source)}"
+    return f"{source.choice(NOT)}({test(source, depth - 1)})" if kind < 0.95 else f"({test(source, depth - 1)})"
 
 
 def lines(source, count, depth):
@@ -66,7 +84,7 @@ def lines(source, count, depth):
             made += lines(source, source.randint(0, 4), depth - 1)
             made.append("}")
         else:
-            made.append(f"{test(source, source.choice([0, 1, 2, 3]))} -> {source.choice(['refuse', '1', '2', '3', '4294967295'])}")
+            made.append(f"{test(source, source.choice([0, 1, 2, 3]))} -> {source.choice([*REFUSE, '1', '2', '3', '4294967295'])}")
         if source.random() < 0.1:
             made.append(source.choice(["", "# remark", "   \t"]))
     return made
@@ -75,7 +93,7 @@ def lines(source, count, depth):
 def mutated(source, text):
     """Returns the text with a small change."""
     at = source.randrange(len(text) + 1)
-    piece = source.choice(["", " ", "(", ")", "{", "}", "->", "..", "x", "9", "0x", "&", ",", "\n", "not ", "otherwise", "-", "99999999999", "gfc"])
+    piece = source.choice(["", " ", "(", ")", "{", "}", "->", "..", "x", "9", "0x", "&", ",", "\n", "not ", "otherwise", "-", "99999999999", "gfc", "/", "*", "!", "=", "&&", "|"])
     return text[:at] + piece + text[at + source.choice([0, 0, 1, 2]):]
 
 
@@ -88,7 +106,10 @@ def deep(source):
 def long(source):
     """Returns a line with about as many comparisons as a test may have."""
     count = 4096 - source.choice([0, 1, 2]) + source.choice([0, 0, 1, 2])
-    kinds = [" or ".join(["clp 1"] * count), "vci " + ", ".join("7" for _ in range(count)), " and ".join(["any"] * count)]
+    kinds = [
+        " or ".join(["clp 1"] * count), "vci " + ", ".join("7" for _ in range(count)), " and ".join(["any"] * count),
+        " or ".join(["clp < 1"] * count), " && ".join(["vci != 7"] * count), " || ".join(["1/7"] * count), " or ".join(["1/*"] * count),
+    ]
     return [source.choice(kinds) + " -> 1"]
 
 
@@ -100,6 +121,9 @@ AT_LIMITS = (
     "any -> 0", "any -> 4294967295", "any -> 4294967296", "any -> 0x100000000", "any -> 1x", "vpi 0x -> 1", "9a -> 1", "}", "otherwise -> 1",
     "side nni", "side nni 1", "side", "otherwise", "otherwise -> 0", "any", "any {", "any { }", "(any -> 1", "any) -> 1", "((any) {", "( -> 1", "not not any -> 1",
     "any and -> 1", "vci 1, -> 1", "vci 1.. -> 1", "vci & 1 -> 1", "clp 1 2 -> 1", "any -> refuse 1", "any -> 1 # 2", "oam or not user -> 010",
+    "1/32 -> 1", "1/* -> 1", "1/32..127, 5 -> 1", "256/1 -> 1", "4096/* -> 1", "1/65536 -> 1", "1/5..4 -> 1", "1/ -> 1", "1/*, 2 -> 1", "1 -> 1",
+    "1-2 -> 1", "vci != 1, 2..4 -> 1", "vci = 1..2 -> 1", "vci < 1, 2 -> 1", "!vci 1 -> drop", "vci ! = 1 -> 1", "any & any -> 1", "any | any -> 1",
+    "1/32/3 -> 1", "*/32 -> 1", "0x/1 -> 1", "not 1/32 || !1/33..34 and rm -> 3", "idle -> 0", "metac or lane -> 1", "vci 5 == 5 -> 1",
 )
 
 

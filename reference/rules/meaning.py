@@ -20,9 +20,6 @@ def is_met(nni, test, cell):
     kind = test[0]
     if kind == "any":
         return True
-    if kind in ("oam", "user"):
-        pti = number_in(nni, ("pti",), cell)
-        return pti in (4, 5) if kind == "oam" else pti < 4
     if kind == "not":
         return not is_met(nni, test[1], cell)
     if kind == "and":
@@ -35,7 +32,7 @@ def is_met(nni, test, cell):
     if kind == "among":
         return any(low <= number <= high for low, high in test[3])
     k = test[4]
-    return {"=": number == k, "!=": number != k, "<": number < k, "<=": number <= k, ">": number > k, ">=": number >= k}[test[3]]
+    return {"<": number < k, "<=": number <= k, ">": number > k, ">=": number >= k}[test[3]]
 
 
 def decision_of(reader, cell):

@@ -1,8 +1,16 @@
 """Reads a text of rules as docs/RULES.md has it."""
 import re
 
-TOKEN = re.compile(rb"[A-Za-z0-9_]+|->|\.\.|!=|<=|>=|.", re.DOTALL)
+TOKEN = re.compile(rb"[A-Za-z0-9_]+|->|\.\.|&&|\|\||==|!=|<=|>=|.", re.DOTALL)
 NAMES = ("BadLine", "BadNumber", "TooLarge", "OutsideCell", "AfterOtherwise", "Unbalanced", "TooDeep", "TooLong", "NoMemory")
+# Other spellings of words and signs.
+SYNONYMS = {
+    b"==": b"=", b"&&": b"and", b"||": b"or", b"!": b"not", b"drop": b"refuse",
+    b"oamf4sc": b"oamf4s", b"oamf4ec": b"oamf4e", b"metac": b"metasig", b"bcc": b"bcast", b"sc": b"signal", b"ilmic": b"ilmi",
+}
+# Words that are tests, by the numbers of the VCI and the PTI that they hold of.
+CHANNELS = {"oamf4": (3, 4), "oamf4s": (3,), "oamf4e": (4,), "metasig": (1,), "bcast": (2,), "signal": (5,), "ilmi": (16,)}
+TYPES = {"user": (0, 1, 2, 3), "oamf5": (4, 5), "oamf5s": (4,), "oamf5e": (5,), "rm": (6,)}
 SIZES = {b"octet": 1, b"half": 2, b"word": 4}
 MOST_DEEP = 64
 MOST_COMPARISONS = 4096
@@ -36,6 +44,19 @@ def tokens_of(line):
     return found, after
 
 
+def test_of_word(word):
+    """Returns the test that a word is, or None."""
+    if word == "any":
+        return ("any",)
+    if word == "oam":
+        return ("or", test_of_word("oamf4"), test_of_word("oamf5"))
+    if word == "idle":
+        return ("among", ("octets", 4, 0), None, [(1, 1)])
+    if word in CHANNELS:
+        return ("among", ("vci",), None, [(it, it) for it in CHANNELS[word]])
+    return ("among", ("pti",), None, [(it, it) for it in TYPES[word]]) if word in TYPES else None
+
+
 def number_of(token):
     """Returns the number that a token spells, or None."""
     if re.fullmatch(rb"0[xX][0-9a-fA-F]+", token):
@@ -64,8 +85,11 @@ class Line:
         raise Fault(name, self.number, column)
 
     def peek(self):
-        """Returns the present token, None at the end of the line."""
-        return self.tokens[self.at][0] if self.at < len(self.tokens) else None
+        """Returns the present token, of several spellings the first, None at the end of the line."""
+        if self.at >= len(self.tokens):
+            return None
+        token = self.tokens[self.at][0]
+        return SYNONYMS.get(token, token)
 
     def take(self):
         """Returns the present token and goes on."""
@@ -131,11 +155,25 @@ class Line:
             self.open.pop()
             self.at += 1
             return inner
-        if token in (b"any", b"oam", b"user"):
+        word = test_of_word(token.decode(errors="replace")) if token else None
+        if word:
             self.count()
             self.at += 1
-            return (token.decode(),)
-        return self.compared()
+            return word
+        return self.channels() if token and token[:1].isdigit() else self.compared()
+
+    def channels(self):
+        """Reads a path and its channels."""
+        path = self.read_number(4095 if self.reader.nni else 255)
+        if self.peek() != b"/":
+            self.fault("BadLine")
+        self.at += 1
+        among = ("among", ("vpi",), None, [(path, path)])
+        if self.peek() == b"*":
+            self.count()
+            self.at += 1
+            return among
+        return ("and", among, ("among", ("vci",), None, self.list(65535)))
 
     def compared(self):
         """Reads a field and what it is compared with."""
@@ -145,7 +183,11 @@ class Line:
             self.at += 1
             mask = self.read_number(most)
         token = self.peek()
-        if token in (b"=", b"!=", b"<", b"<=", b">", b">="):
+        if token in (b"=", b"!="):
+            self.at += 1
+            listed = ("among", field, mask, self.list(most))
+            return listed if token == b"=" else ("not", listed)
+        if token in (b"<", b"<=", b">", b">="):
             self.at += 1
             column = self.tokens[self.at][1] if self.at < len(self.tokens) else None
             value = self.read_number(most)
@@ -174,7 +216,6 @@ class Line:
             if self.peek() is None:
                 self.fault("BadLine")
             if self.peek() != b",":
-                self.count()
                 return ranges
             self.at += 1
 
@@ -196,7 +237,7 @@ class Line:
         if token == b"gfc" and nni:
             self.fault("BadLine")
         if token not in most:
-            self.fault("BadNumber" if token[:1].isdigit() and number_of(token) is None else "BadLine")
+            self.fault("BadLine")
         self.at += 1
         return (token.decode(),), most[token]
 
@@ -205,11 +246,7 @@ class Line:
         if self.peek() == b"refuse":
             self.at += 1
             return 0
-        value = self.read_number(2**32)
-        if value == 0:
-            self.at -= 1
-            self.fault("TooLarge")
-        return value
+        return self.read_number(2**32)
 
     def end(self):
         """Reads the end of the line."""

@@ -1,15 +1,15 @@
 -- The reader of lines reads each test of the grammar as what it means.
 use Rattle.std.proofs.Common.{◌≡◌, ℕ, suc, ◌+◌, ◌≤◌, ◌<◌, Bool, true, false, not, nat_lt, if◌then◌else◌, List, [], ◌∷◌, ◌++◌, length, map, Option, Some, None, Ok, refl, sym, ◌∙◌, subst, append_assoc, arith}
-use Rattle.std.proofs.lemmas.Bool.{le-ltb, lt-leb, lt-ltb}
+use Rattle.std.proofs.lemmas.Bool.{le-ltb, lt-leb}
 use Rattle.bpf_code.specs.declared.instr.Size.{Size}
 use Rattle.match_code.specs.declared.part.Span.{Span}
-use Rattle.rules_text.specs.LineGrammar.{Awaited, GroupRead, LineContext, Reading, StatementRead, SubjectRead, awaits_start, awaits_unit, awaits_operator, awaits_offset, awaits_relation, awaits_mask, awaits_sign, awaits_constant, awaits_dots, awaits_high, awaits_comma, awaits_low, awaits_value, awaits_end, both_of, group_after_or, group_test, group_with, no_group, nothing_read, read_awaited, read_comma, read_constant, read_dots, read_high, read_low, read_mask, read_offset, read_operator, read_relation, read_sign, read_start, read_token, read_unit, range_of_one, read_value, statement_at_end, line_statement, subject_of, whole_test, with_block, with_close, with_head, with_list, with_open, with_range, with_unit}
-use Rattle.rules_text.specs.RuleGrammar.{FieldFits, HighFits, ListFits, MaskFits, PartFits, PartForm, RangeForm, SubjectFits, TestFits, TestForm, UnitFits, UnitForm, any_unit, oam_unit, user_unit, sign_unit, list_unit, not_unit, parenthesis_unit, one_unit, and_unit, one_part, or_part, field_tokens, high_tokens, list_tokens, mask_tokens, part_count, units_tokens, part_written, span_from, spans_written, subject_tokens, test_count, test_tokens, test_written, unit_count, unit_tokens, unit_written}
-use Rattle.rules_text.specs.RulesRead.{FieldRead, SignRead, TestRead, any_cell, oam_cell, user_cell, comparing, compared, listed, block_line, rule_line, gfc_field, vpi_field, vci_field, pti_field, clp_field, octets_field}
-use Rattle.rules_text.specs.RuleTokens.{RuleFound, RuleToken, any_word, oam_word, user_word, not_word, and_word, or_word, field_word, size_word, number_word, arrow_mark, open_brace, open_parenthesis, close_parenthesis, mask_mark, comma_mark, dots_mark, sign_mark}
+use Rattle.rules_text.specs.LineGrammar.{Awaited, GroupRead, LineContext, ListRead, field_list, denied_list, path_list, Reading, StatementRead, SubjectRead, awaits_start, awaits_unit, awaits_operator, awaits_offset, awaits_relation, awaits_mask, awaits_sign, awaits_constant, awaits_dots, awaits_high, awaits_comma, awaits_low, awaits_slash, awaits_channel, awaits_value, awaits_end, both_of, group_after_or, group_test, group_with, no_group, nothing_read, field_of_list, list_test, path_test, read_awaited, read_channel, read_comma, read_constant, read_dots, read_high, read_low, read_mask, read_offset, read_operator, read_relation, read_sign, read_slash, read_start, read_token, read_unit, range_of_one, read_value, statement_at_end, line_statement, subject_of, whole_test, with_block, with_close, with_head, with_list, with_open, with_range, with_unit}
+use Rattle.rules_text.specs.RuleGrammar.{FieldFits, HeadFits, HeadForm, bare_head, equal_head, unequal_head, path_head, OrderForm, less_order, at_most_order, greater_order, at_least_order, head_tokens, list_of_head, order_sign, HighFits, ListFits, MaskFits, PartFits, PartForm, RangeForm, SubjectFits, TestFits, TestForm, UnitFits, UnitForm, word_unit, order_unit, path_unit, list_unit, not_unit, parenthesis_unit, one_unit, and_unit, one_part, or_part, field_tokens, high_tokens, list_tokens, mask_tokens, part_count, units_tokens, part_written, span_from, spans_written, subject_tokens, test_count, test_tokens, test_written, unit_count, unit_tokens, unit_written}
+use Rattle.rules_text.specs.RulesRead.{FieldRead, vpi_field, SignRead, equal_sign, unequal_sign, TestRead, any_cell, comparing, compared, listed, block_line, rule_line, gfc_field, vci_field, pti_field, clp_field, octets_field}
+use Rattle.rules_text.specs.RuleTokens.{RuleFound, RuleToken, test_word, not_word, and_word, or_word, field_word, size_word, number_word, arrow_mark, open_brace, open_parenthesis, close_parenthesis, mask_mark, comma_mark, dots_mark, slash_mark, star_mark, sign_mark}
 use Rattle.rules_text.specs.TextOfRules.{statement_from}
 use Rattle.rules_text.proofs.ReadingSteps.{statement_end, statement_more}
-use Rattle.rules_text.specs.Subjects.{header_read, most_of_field, octets_read}
+use Rattle.rules_text.specs.Subjects.{header_read, most_of_field, octets_read, value_read}
 
 -- What was read, with these parts of it.
 abbrev pub at_state : Reading → Awaited → GroupRead → List Span → ℕ → Reading
@@ -37,9 +37,8 @@ is_operator _ = false
 
 -- Whether a unit may begin with the token.
 abbrev pub is_first : RuleToken → Bool
-is_first any_word = true
-is_first oam_word = true
-is_first user_word = true
+is_first (test_word test) = true
+is_first (number_word k) = true
 is_first not_word = true
 is_first open_parenthesis = true
 is_first (field_word field) = true
@@ -63,9 +62,8 @@ begins_unit context column reading token h = refl
 
 pub begins_start : (context : LineContext) → Begins context awaits_start
 unfolding read_awaited read_start
-begins_start context column reading any_word h = refl
-begins_start context column reading oam_word h = refl
-begins_start context column reading user_word h = refl
+begins_start context column reading (test_word test) h = refl
+begins_start context column reading (number_word k) h = refl
 begins_start context column reading not_word h = refl
 begins_start context column reading open_parenthesis h = refl
 begins_start context column reading (field_word field) h = refl
@@ -78,17 +76,9 @@ with_unit-ok : (reading : Reading) (test : TestRead) → reading.comparisons < 4
 unfolding with_unit
 with_unit-ok reading test h = rw (lt-leb 4096 reading.comparisons h) refl
 
-any_step : (context : LineContext) (column : ℕ) (reading : Reading) → read_unit context column reading any_word ≡ with_unit reading any_cell
+word_step : (context : LineContext) (column : ℕ) (reading : Reading) (test : TestRead) → read_unit context column reading (test_word test) ≡ with_unit reading test
 unfolding read_unit
-any_step context column reading = refl
-
-oam_step : (context : LineContext) (column : ℕ) (reading : Reading) → read_unit context column reading oam_word ≡ with_unit reading oam_cell
-unfolding read_unit
-oam_step context column reading = refl
-
-user_step : (context : LineContext) (column : ℕ) (reading : Reading) → read_unit context column reading user_word ≡ with_unit reading user_cell
-unfolding read_unit
-user_step context column reading = refl
+word_step context column reading test = refl
 
 not_step : (context : LineContext) (column : ℕ) (reading : Reading) (begin : Awaited) (either both : Option TestRead) (negated : Bool) (comparisons : ℕ)
     → read_unit context column (at_state reading begin (record { either = either; both = both; negated = negated }) [] comparisons) not_word
@@ -206,10 +196,24 @@ subject_reads context begin reading group comparisons P subject begins fits h =
     (field_reads context begin reading group comparisons (λ next. Reads context next (mask_tokens subject.mask) P) subject.field begins fits.field
     (mask_reads context reading group comparisons P subject.field subject.mask fits.mask h))
 
-sign_step : (context : LineContext) (column : ℕ) (reading : Reading) (group : GroupRead) (comparisons : ℕ) (subject : SubjectRead) (sign : SignRead)
-    → read_token context column (at_state reading (awaits_sign subject) group [] comparisons) (sign_mark sign) ≡ Ok (at_state reading (awaits_constant subject sign) group [] comparisons)
+order_step : (context : LineContext) (column : ℕ) (reading : Reading) (group : GroupRead) (comparisons : ℕ) (subject : SubjectRead) (order : OrderForm)
+    → read_token context column (at_state reading (awaits_sign subject) group [] comparisons) (sign_mark (order_sign order))
+    ≡ Ok (at_state reading (awaits_constant subject (order_sign order)) group [] comparisons)
 unfolding read_awaited read_sign
-sign_step context column reading group comparisons subject sign = refl
+order_step context column reading group comparisons subject less_order = refl
+order_step context column reading group comparisons subject at_most_order = refl
+order_step context column reading group comparisons subject greater_order = refl
+order_step context column reading group comparisons subject at_least_order = refl
+
+equal_step : (context : LineContext) (column : ℕ) (reading : Reading) (group : GroupRead) (comparisons : ℕ) (subject : SubjectRead)
+    → read_token context column (at_state reading (awaits_sign subject) group [] comparisons) (sign_mark equal_sign) ≡ Ok (at_state reading (awaits_low (field_list subject)) group [] comparisons)
+unfolding read_awaited read_sign
+equal_step context column reading group comparisons subject = refl
+
+unequal_step : (context : LineContext) (column : ℕ) (reading : Reading) (group : GroupRead) (comparisons : ℕ) (subject : SubjectRead)
+    → read_token context column (at_state reading (awaits_sign subject) group [] comparisons) (sign_mark unequal_sign) ≡ Ok (at_state reading (awaits_low (denied_list subject)) group [] comparisons)
+unfolding read_awaited read_sign
+unequal_step context column reading group comparisons subject = refl
 
 constant_step : (context : LineContext) (column : ℕ) (reading : Reading) (group : GroupRead) (comparisons : ℕ) (subject : SubjectRead) (sign : SignRead) (k : ℕ)
     → k ≤ most_of_field context.side subject.field → comparisons < 4096
@@ -218,132 +222,190 @@ constant_step : (context : LineContext) (column : ℕ) (reading : Reading) (grou
 unfolding read_awaited read_constant with_unit
 constant_step context column reading group comparisons subject sign k fits h = rw (le-ltb (most_of_field context.side subject.field) k fits, lt-leb 4096 comparisons h) refl
 
-low_step : (context : LineContext) (column : ℕ) (reading : Reading) (group : GroupRead) (spans : List Span) (comparisons : ℕ) (subject : SubjectRead) (low : ℕ)
-    → low ≤ most_of_field context.side subject.field
-    → read_token context column (at_state reading (awaits_low subject) group spans comparisons) (number_word low) ≡ Ok (at_state reading (awaits_dots subject low) group spans comparisons)
+low_step : (context : LineContext) (column : ℕ) (reading : Reading) (group : GroupRead) (spans : List Span) (comparisons : ℕ) (of : ListRead) (low : ℕ)
+    → low ≤ most_of_field context.side (field_of_list of)
+    → read_token context column (at_state reading (awaits_low of) group spans comparisons) (number_word low) ≡ Ok (at_state reading (awaits_dots of low) group spans comparisons)
 unfolding read_awaited read_low
-low_step context column reading group spans comparisons subject low fits = rw (le-ltb (most_of_field context.side subject.field) low fits) refl
+low_step context column reading group spans comparisons of low fits = rw (le-ltb (most_of_field context.side (field_of_list of)) low fits) refl
 
 -- The first number of a list is read where a sign may come as it is after a comma.
 first_low : (context : LineContext) (column : ℕ) (reading : Reading) (group : GroupRead) (comparisons : ℕ) (subject : SubjectRead) (low : ℕ) → low ≤ most_of_field context.side subject.field
-    → read_token context column (at_state reading (awaits_sign subject) group [] comparisons) (number_word low) ≡ Ok (at_state reading (awaits_dots subject low) group [] comparisons)
+    → read_token context column (at_state reading (awaits_sign subject) group [] comparisons) (number_word low) ≡ Ok (at_state reading (awaits_dots (field_list subject) low) group [] comparisons)
 unfolding read_awaited read_sign read_low
 first_low context column reading group comparisons subject low fits = rw (le-ltb (most_of_field context.side subject.field) low fits) refl
 
-dots_step : (context : LineContext) (column : ℕ) (reading : Reading) (group : GroupRead) (spans : List Span) (comparisons : ℕ) (subject : SubjectRead) (low : ℕ)
-    → read_token context column (at_state reading (awaits_dots subject low) group spans comparisons) dots_mark ≡ Ok (at_state reading (awaits_high subject low) group spans comparisons)
-unfolding read_awaited read_dots
-dots_step context column reading group spans comparisons subject low = refl
+path_step : (context : LineContext) (column : ℕ) (reading : Reading) (begin : Awaited) (group : GroupRead) (comparisons path : ℕ) → path ≤ most_of_field context.side vpi_field
+    → read_unit context column (at_state reading begin group [] comparisons) (number_word path) ≡ Ok (at_state reading (awaits_slash path) group [] comparisons)
+unfolding read_unit
+path_step context column reading begin group comparisons path fits = rw (le-ltb (most_of_field context.side vpi_field) path fits) refl
 
-high_step : (context : LineContext) (column : ℕ) (reading : Reading) (group : GroupRead) (spans : List Span) (comparisons : ℕ) (subject : SubjectRead) (low high : ℕ)
-    → low ≤ high → high ≤ most_of_field context.side subject.field → comparisons < 4096
-    → read_token context column (at_state reading (awaits_high subject low) group spans comparisons) (number_word high)
-    ≡ Ok (at_state reading (awaits_comma subject (record { low = low; high = high })) group spans (comparisons + 1))
+slash_step : (context : LineContext) (column : ℕ) (reading : Reading) (group : GroupRead) (comparisons path : ℕ)
+    → read_token context column (at_state reading (awaits_slash path) group [] comparisons) slash_mark ≡ Ok (at_state reading (awaits_channel path) group [] comparisons)
+unfolding read_awaited read_slash
+slash_step context column reading group comparisons path = refl
+
+channel_low : (context : LineContext) (column : ℕ) (reading : Reading) (group : GroupRead) (comparisons path low : ℕ) → low ≤ most_of_field context.side (field_of_list (path_list path))
+    → read_token context column (at_state reading (awaits_channel path) group [] comparisons) (number_word low) ≡ Ok (at_state reading (awaits_dots (path_list path) low) group [] comparisons)
+unfolding read_awaited read_channel read_low
+channel_low context column reading group comparisons path low fits = rw (le-ltb (most_of_field context.side (field_of_list (path_list path))) low fits) refl
+
+star_step : (context : LineContext) (column : ℕ) (reading : Reading) (group : GroupRead) (comparisons path : ℕ) → comparisons < 4096
+    → read_token context column (at_state reading (awaits_channel path) group [] comparisons) star_mark
+    ≡ Ok (at_state reading awaits_operator (group_with group (path_test path)) [] (comparisons + 1))
+unfolding read_awaited read_channel with_unit
+star_step context column reading group comparisons path h = rw (lt-leb 4096 comparisons h) refl
+
+dots_step : (context : LineContext) (column : ℕ) (reading : Reading) (group : GroupRead) (spans : List Span) (comparisons : ℕ) (of : ListRead) (low : ℕ)
+    → read_token context column (at_state reading (awaits_dots of low) group spans comparisons) dots_mark ≡ Ok (at_state reading (awaits_high of low) group spans comparisons)
+unfolding read_awaited read_dots
+dots_step context column reading group spans comparisons of low = refl
+
+high_step : (context : LineContext) (column : ℕ) (reading : Reading) (group : GroupRead) (spans : List Span) (comparisons : ℕ) (of : ListRead) (low high : ℕ)
+    → low ≤ high → high ≤ most_of_field context.side (field_of_list of) → comparisons < 4096
+    → read_token context column (at_state reading (awaits_high of low) group spans comparisons) (number_word high)
+    ≡ Ok (at_state reading (awaits_comma of (record { low = low; high = high })) group spans (comparisons + 1))
 unfolding read_awaited read_high with_range
-high_step context column reading group spans comparisons subject low high order fits h =
-    rw (le-ltb (most_of_field context.side subject.field) high fits, le-ltb high low order, lt-leb 4096 comparisons h) refl
+high_step context column reading group spans comparisons of low high order fits h =
+    rw (le-ltb (most_of_field context.side (field_of_list of)) high fits, le-ltb high low order, lt-leb 4096 comparisons h) refl
 
 -- A list ends after the range that was read last.
-comma_ends : (context : LineContext) (reading : Reading) (group : GroupRead) (spans : List Span) (comparisons : ℕ) (subject : SubjectRead) (span : Span) → comparisons < 4096
-    → Ended context (at_state reading (awaits_comma subject span) group spans comparisons)
-    (at_state reading awaits_operator (group_with group (comparing subject.field subject.mask (listed (spans ++ span ∷ [])))) [] (comparisons + 1))
-unfolding read_awaited read_comma with_list with_unit
-comma_ends context reading group spans comparisons subject span h column and_word is = rw (lt-leb 4096 comparisons h) refl
-comma_ends context reading group spans comparisons subject span h column or_word is = rw (lt-leb 4096 comparisons h) refl
-comma_ends context reading group spans comparisons subject span h column close_parenthesis is = rw (lt-leb 4096 comparisons h) refl
-comma_ends context reading group spans comparisons subject span h column open_brace is = rw (lt-leb 4096 comparisons h) refl
-comma_ends context reading group spans comparisons subject span h column arrow_mark is = rw (lt-leb 4096 comparisons h) refl
-comma_ends context reading group spans comparisons subject span h column _ is = false_true is
+comma_ends : (context : LineContext) (reading : Reading) (group : GroupRead) (spans : List Span) (comparisons : ℕ) (of : ListRead) (span : Span)
+    → Ended context (at_state reading (awaits_comma of span) group spans comparisons)
+    (at_state reading awaits_operator (group_with group (list_test of (spans ++ span ∷ []))) [] comparisons)
+unfolding read_awaited read_comma with_list
+comma_ends context reading group spans comparisons of span column and_word is = refl
+comma_ends context reading group spans comparisons of span column or_word is = refl
+comma_ends context reading group spans comparisons of span column close_parenthesis is = refl
+comma_ends context reading group spans comparisons of span column open_brace is = refl
+comma_ends context reading group spans comparisons of span column arrow_mark is = refl
+comma_ends context reading group spans comparisons of span column _ is = false_true is
 
 -- A range of one number is counted with the token after it.
-dots_ends : (context : LineContext) (reading : Reading) (group : GroupRead) (spans : List Span) (comparisons : ℕ) (subject : SubjectRead) (low : ℕ) → comparisons < 4096
-    → Ended context (at_state reading (awaits_dots subject low) group spans comparisons) (at_state reading (awaits_comma subject (range_of_one low)) group spans (comparisons + 1))
-unfolding read_awaited read_dots with_range read_comma with_list with_unit
-dots_ends context reading group spans comparisons subject low h column and_word is = rw (lt-leb 4096 comparisons h) refl
-dots_ends context reading group spans comparisons subject low h column or_word is = rw (lt-leb 4096 comparisons h) refl
-dots_ends context reading group spans comparisons subject low h column close_parenthesis is = rw (lt-leb 4096 comparisons h) refl
-dots_ends context reading group spans comparisons subject low h column open_brace is = rw (lt-leb 4096 comparisons h) refl
-dots_ends context reading group spans comparisons subject low h column arrow_mark is = rw (lt-leb 4096 comparisons h) refl
-dots_ends context reading group spans comparisons subject low h column _ is = false_true is
+dots_ends : (context : LineContext) (reading : Reading) (group : GroupRead) (spans : List Span) (comparisons : ℕ) (of : ListRead) (low : ℕ) → comparisons < 4096
+    → Ended context (at_state reading (awaits_dots of low) group spans comparisons) (at_state reading (awaits_comma of (range_of_one low)) group spans (comparisons + 1))
+unfolding read_awaited read_dots with_range read_comma with_list
+dots_ends context reading group spans comparisons of low h column and_word is = rw (lt-leb 4096 comparisons h) refl
+dots_ends context reading group spans comparisons of low h column or_word is = rw (lt-leb 4096 comparisons h) refl
+dots_ends context reading group spans comparisons of low h column close_parenthesis is = rw (lt-leb 4096 comparisons h) refl
+dots_ends context reading group spans comparisons of low h column open_brace is = rw (lt-leb 4096 comparisons h) refl
+dots_ends context reading group spans comparisons of low h column arrow_mark is = rw (lt-leb 4096 comparisons h) refl
+dots_ends context reading group spans comparisons of low h column _ is = false_true is
 
-comma_step : (context : LineContext) (column : ℕ) (reading : Reading) (group : GroupRead) (spans : List Span) (comparisons : ℕ) (subject : SubjectRead) (span : Span)
-    → read_token context column (at_state reading (awaits_comma subject span) group spans comparisons) comma_mark
-    ≡ Ok (at_state reading (awaits_low subject) group (spans ++ span ∷ []) comparisons)
+comma_step : (context : LineContext) (column : ℕ) (reading : Reading) (group : GroupRead) (spans : List Span) (comparisons : ℕ) (of : ListRead) (span : Span)
+    → read_token context column (at_state reading (awaits_comma of span) group spans comparisons) comma_mark
+    ≡ Ok (at_state reading (awaits_low of) group (spans ++ span ∷ []) comparisons)
 unfolding read_awaited read_comma
-comma_step context column reading group spans comparisons subject span = refl
+comma_step context column reading group spans comparisons of span = refl
 
-dots_comma : (context : LineContext) (column : ℕ) (reading : Reading) (group : GroupRead) (spans : List Span) (comparisons : ℕ) (subject : SubjectRead) (low : ℕ) → comparisons < 4096
-    → read_token context column (at_state reading (awaits_dots subject low) group spans comparisons) comma_mark
-    ≡ Ok (at_state reading (awaits_low subject) group (spans ++ range_of_one low ∷ []) (comparisons + 1))
+dots_comma : (context : LineContext) (column : ℕ) (reading : Reading) (group : GroupRead) (spans : List Span) (comparisons : ℕ) (of : ListRead) (low : ℕ) → comparisons < 4096
+    → read_token context column (at_state reading (awaits_dots of low) group spans comparisons) comma_mark
+    ≡ Ok (at_state reading (awaits_low of) group (spans ++ range_of_one low ∷ []) (comparisons + 1))
 unfolding read_awaited read_dots with_range read_comma
-dots_comma context column reading group spans comparisons subject low h = rw (lt-leb 4096 comparisons h) refl
+dots_comma context column reading group spans comparisons of low h = rw (lt-leb 4096 comparisons h) refl
 
 -- The rest of a range.
-high_reads : (context : LineContext) (reading : Reading) (group : GroupRead) (spans : List Span) (comparisons : ℕ) (subject : SubjectRead) (P : Reading → Type 0) (low : ℕ) (high : Option ℕ)
-    → HighFits low (most_of_field context.side subject.field) high → comparisons < 4096
+high_reads : (context : LineContext) (reading : Reading) (group : GroupRead) (spans : List Span) (comparisons : ℕ) (of : ListRead) (P : Reading → Type 0) (low : ℕ) (high : Option ℕ)
+    → HighFits low (most_of_field context.side (field_of_list of)) high → comparisons < 4096
     → ((end : Reading)
-    → ((column : ℕ) → read_token context column end comma_mark ≡ Ok (at_state reading (awaits_low subject) group (spans ++ span_from low high ∷ []) (comparisons + 1)))
-    → Ended context end (at_state reading (awaits_comma subject (span_from low high)) group spans (comparisons + 1))
+    → ((column : ℕ) → read_token context column end comma_mark ≡ Ok (at_state reading (awaits_low of) group (spans ++ span_from low high ∷ []) (comparisons + 1)))
+    → Ended context end (at_state reading (awaits_comma of (span_from low high)) group spans (comparisons + 1))
     → P end)
-    → Reads context (at_state reading (awaits_dots subject low) group spans comparisons) (high_tokens high) P
-high_reads context reading group spans comparisons subject P low None fits room h =
-    h _ (λ column. dots_comma context column reading group spans comparisons subject low room) (dots_ends context reading group spans comparisons subject low room)
-high_reads context reading group spans comparisons subject P low (Some high) fits room h =
+    → Reads context (at_state reading (awaits_dots of low) group spans comparisons) (high_tokens high) P
+high_reads context reading group spans comparisons of P low None fits room h =
+    h _ (λ column. dots_comma context column reading group spans comparisons of low room) (dots_ends context reading group spans comparisons of low room)
+high_reads context reading group spans comparisons of P low (Some high) fits room h =
     λ column. (
-      at_state reading (awaits_high subject low) group spans comparisons,
-      dots_step context column reading group spans comparisons subject low,
+      at_state reading (awaits_high of low) group spans comparisons,
+      dots_step context column reading group spans comparisons of low,
       λ column. (
-        at_state reading (awaits_comma subject (record { low = low; high = high })) group spans (comparisons + 1),
-        high_step context column reading group spans comparisons subject low high fits.0 fits.1 room,
-        h _ (λ column. comma_step context column reading group spans (comparisons + 1) subject (record { low = low; high = high })) (λ column token is. refl),
+        at_state reading (awaits_comma of (record { low = low; high = high })) group spans (comparisons + 1),
+        high_step context column reading group spans comparisons of low high fits.0 fits.1 room,
+        h _ (λ column. comma_step context column reading group spans (comparisons + 1) of (record { low = low; high = high })) (λ column token is. refl),
       ),
     )
 
 -- What was read after a list.
-abbrev after_list : Reading → GroupRead → SubjectRead → List Span → ℕ → Reading
-after_list reading group subject spans comparisons = at_state reading awaits_operator (group_with group (comparing subject.field subject.mask (listed spans))) [] comparisons
+abbrev after_list : Reading → GroupRead → ListRead → List Span → ℕ → Reading
+after_list reading group of spans comparisons = at_state reading awaits_operator (group_with group (list_test of spans)) [] comparisons
 
-list_moved : (context : LineContext) (end reading : Reading) (group : GroupRead) (subject : SubjectRead) (spans all : List Span) (count total : ℕ) → spans ≡ all → count ≡ total
-    → Ended context end (after_list reading group subject spans count) → Ended context end (after_list reading group subject all total)
-list_moved context end reading group subject spans all count total same equal h =
-    subst (λ (n : ℕ). Ended context end (after_list reading group subject all n)) equal
-    (subst (λ (xs : List Span). Ended context end (after_list reading group subject xs count)) same h)
+list_moved : (context : LineContext) (end reading : Reading) (group : GroupRead) (of : ListRead) (spans all : List Span) (count total : ℕ) → spans ≡ all → count ≡ total
+    → Ended context end (after_list reading group of spans count) → Ended context end (after_list reading group of all total)
+list_moved context end reading group of spans all count total same equal h =
+    subst (λ (n : ℕ). Ended context end (after_list reading group of all n)) equal
+    (subst (λ (xs : List Span). Ended context end (after_list reading group of xs count)) same h)
 
 -- The tokens of a list, from where its first number is read.
-list_reads : (context : LineContext) (reading : Reading) (group : GroupRead) (subject : SubjectRead) (P : Reading → Type 0) (ranges : List RangeForm) (last : RangeForm) (start : Reading) (spans all : List Span) (comparisons total : ℕ)
-    → ((column low : ℕ) → low ≤ most_of_field context.side subject.field → read_token context column start (number_word low) ≡ Ok (at_state reading (awaits_dots subject low) group spans comparisons))
-    → ListFits (most_of_field context.side subject.field) ranges last
-    → all ≡ spans ++ spans_written ranges last → total ≡ comparisons + (length ranges + 2) → total ≤ 4096
-    → ((end : Reading) → Ended context end (after_list reading group subject all total) → P end)
+list_reads : (context : LineContext) (reading : Reading) (group : GroupRead) (of : ListRead) (P : Reading → Type 0) (ranges : List RangeForm) (last : RangeForm) (start : Reading) (spans all : List Span) (comparisons total : ℕ)
+    → ((column low : ℕ) → low ≤ most_of_field context.side (field_of_list of) → read_token context column start (number_word low) ≡ Ok (at_state reading (awaits_dots of low) group spans comparisons))
+    → ListFits (most_of_field context.side (field_of_list of)) ranges last
+    → all ≡ spans ++ spans_written ranges last → total ≡ comparisons + (length ranges + 1) → total ≤ 4096
+    → ((end : Reading) → Ended context end (after_list reading group of all total) → P end)
     → Reads context start (list_tokens ranges last) P
-list_reads context reading group subject P [] last start spans all comparisons total lows fits same count bound h =
+list_reads context reading group of P [] last start spans all comparisons total lows fits same count bound h =
     let room : comparisons < 4096 = omega arith in
-    let next : comparisons + 1 < 4096 = omega arith in
-    let equal : comparisons + 1 + 1 ≡ total = omega arith in
+    let equal : comparisons + 1 ≡ total = omega arith in
     λ column. (
-      at_state reading (awaits_dots subject last.low) group spans comparisons,
+      at_state reading (awaits_dots of last.low) group spans comparisons,
       lows column last.low fits.low,
-      high_reads context reading group spans comparisons subject P last.low last.high fits.high room (λ end comma ends.
-          h end (list_moved context end reading group subject (spans ++ span_from last.low last.high ∷ []) all (comparisons + 1 + 1) total (sym same) equal
-          (λ column token is. ends column token is ∙ comma_ends context reading group spans (comparisons + 1) subject (span_from last.low last.high) next column token is))),
+      high_reads context reading group spans comparisons of P last.low last.high fits.high room (λ end comma ends.
+          h end (list_moved context end reading group of (spans ++ span_from last.low last.high ∷ []) all (comparisons + 1) total (sym same) equal
+          (λ column token is. ends column token is ∙ comma_ends context reading group spans (comparisons + 1) of (span_from last.low last.high) column token is))),
     )
-list_reads context reading group subject P (range ∷ ranges) last start spans all comparisons total lows fits same count bound h =
+list_reads context reading group of P (range ∷ ranges) last start spans all comparisons total lows fits same count bound h =
     let room : comparisons < 4096 = omega arith in
-    let equal : total ≡ comparisons + 1 + (length ranges + 2) = omega arith in
+    let equal : total ≡ comparisons + 1 + (length ranges + 1) = omega arith in
     let joined : all ≡ (spans ++ span_from range.low range.high ∷ []) ++ spans_written ranges last = rw append_assoc same in
     λ column. (
-      at_state reading (awaits_dots subject range.low) group spans comparisons,
+      at_state reading (awaits_dots of range.low) group spans comparisons,
       lows column range.low fits.0.low,
-      reads_append context (high_tokens range.high) (comma_mark ∷ list_tokens ranges last) (at_state reading (awaits_dots subject range.low) group spans comparisons) P
-          (high_reads context reading group spans comparisons subject (λ next. Reads context next (comma_mark ∷ list_tokens ranges last) P) range.low range.high fits.0.high room (λ end comma ends.
+      reads_append context (high_tokens range.high) (comma_mark ∷ list_tokens ranges last) (at_state reading (awaits_dots of range.low) group spans comparisons) P
+          (high_reads context reading group spans comparisons of (λ next. Reads context next (comma_mark ∷ list_tokens ranges last) P) range.low range.high fits.0.high room (λ end comma ends.
           λ column. (
-            at_state reading (awaits_low subject) group (spans ++ span_from range.low range.high ∷ []) (comparisons + 1),
+            at_state reading (awaits_low of) group (spans ++ span_from range.low range.high ∷ []) (comparisons + 1),
             comma column,
-            list_reads context reading group subject P ranges last (at_state reading (awaits_low subject) group (spans ++ span_from range.low range.high ∷ []) (comparisons + 1))
+            list_reads context reading group of P ranges last (at_state reading (awaits_low of) group (spans ++ span_from range.low range.high ∷ []) (comparisons + 1))
                 (spans ++ span_from range.low range.high ∷ []) all (comparisons + 1) total
-                (λ column low fits. low_step context column reading group (spans ++ span_from range.low range.high ∷ []) (comparisons + 1) subject low fits)
+                (λ column low fits. low_step context column reading group (spans ++ span_from range.low range.high ∷ []) (comparisons + 1) of low fits)
                 fits.1 joined equal bound h,
           ))),
+    )
+
+-- The tokens before a list, up to where its first number is read.
+head_reads : (context : LineContext) (begin : Awaited) (reading : Reading) (group : GroupRead) (comparisons : ℕ) (P : Reading → Type 0) (head : HeadForm)
+    → Begins context begin → HeadFits context head
+    → ((next : Reading)
+    → ((column low : ℕ) → low ≤ most_of_field context.side (field_of_list (list_of_head head))
+    → read_token context column next (number_word low) ≡ Ok (at_state reading (awaits_dots (list_of_head head) low) group [] comparisons))
+    → P next)
+    → Reads context (at_state reading begin group [] comparisons) (head_tokens head) P
+head_reads context begin reading group comparisons P (bare_head subject) begins fits h =
+    subject_reads context begin reading group comparisons P subject begins fits (λ next compares.
+    h next (λ column low fits. compares column (number_word low) refl ∙ first_low context column reading group comparisons subject low fits))
+head_reads context begin reading group comparisons P (equal_head subject) begins fits h =
+    reads_append context (subject_tokens subject) (sign_mark equal_sign ∷ []) (at_state reading begin group [] comparisons) P
+    (subject_reads context begin reading group comparisons (λ next. Reads context next (sign_mark equal_sign ∷ []) P) subject begins fits (λ next compares.
+    λ column. (
+      at_state reading (awaits_low (field_list subject)) group [] comparisons,
+      compares column (sign_mark equal_sign) refl ∙ equal_step context column reading group comparisons subject,
+      h _ (λ column low fits. low_step context column reading group [] comparisons (field_list subject) low fits),
+    )))
+head_reads context begin reading group comparisons P (unequal_head subject) begins fits h =
+    reads_append context (subject_tokens subject) (sign_mark unequal_sign ∷ []) (at_state reading begin group [] comparisons) P
+    (subject_reads context begin reading group comparisons (λ next. Reads context next (sign_mark unequal_sign ∷ []) P) subject begins fits (λ next compares.
+    λ column. (
+      at_state reading (awaits_low (denied_list subject)) group [] comparisons,
+      compares column (sign_mark unequal_sign) refl ∙ unequal_step context column reading group comparisons subject,
+      h _ (λ column low fits. low_step context column reading group [] comparisons (denied_list subject) low fits),
+    )))
+head_reads context begin reading group comparisons P (path_head path) begins fits h =
+    λ column. (
+      at_state reading (awaits_slash path) group [] comparisons,
+      begins column (at_state reading begin group [] comparisons) (number_word path) refl ∙ path_step context column reading begin group comparisons path fits,
+      λ column. (
+        at_state reading (awaits_channel path) group [] comparisons,
+        slash_step context column reading group comparisons path,
+        h _ (λ column low fits. channel_low context column reading group comparisons path low fits),
+      ),
     )
 
 -- What was read after a unit, with the column of a parenthesis that was opened before.
@@ -377,54 +439,59 @@ or_step : (context : LineContext) (column : ℕ) (reading : Reading) (group next
 unfolding read_awaited read_operator
 or_step context column reading group next outermost comparisons e = rw e refl
 
--- A word of one unit.
-word_reads : (context : LineContext) (begin : Awaited) (reading : Reading) (group : GroupRead) (comparisons total : ℕ) (P : Reading → Type 0) (token : RuleToken) (test : TestRead)
-    → Begins context begin → is_first token ≡ true
-    → ((column : ℕ) (other : Reading) → read_unit context column other token ≡ with_unit other test)
-    → total ≡ comparisons + 1 → total ≤ 4096
-    → ((last : ℕ) (end : Reading) → Ended context end (after_unit reading (group_with group test) last total) → P end)
-    → Reads context (at_state reading begin group [] comparisons) (token ∷ []) P
-word_reads context begin reading group comparisons total P token test begins first step count bound h =
-    let room : comparisons < 4096 = omega arith in
-    λ column. (
-      at_state reading awaits_operator (group_with group test) [] (comparisons + 1),
-      begins column (at_state reading begin group [] comparisons) token first ∙ step column (at_state reading begin group [] comparisons) ∙ with_unit-ok (at_state reading begin group [] comparisons) test room,
-      h reading.outermost _ (after_moved context _ reading (group_with group test) reading.outermost (comparisons + 1) total (sym count) (λ column token is. refl)),
-    )
-
 mutual
   unit_reads : (context : LineContext) (unit : UnitForm) (begin : Awaited) (reading : Reading) (either both : Option TestRead) (negated : Bool) (comparisons total : ℕ) (P : Reading → Type 0)
       → Begins context begin → UnitFits context (context.blocks + length reading.around) unit → total ≡ comparisons + unit_count unit → total ≤ 4096
       → ((last : ℕ) (end : Reading) → Ended context end (after_unit reading (record { either = either; both = Some (both_of both (unit_written negated unit)); negated = false }) last total) → P end)
       → Reads context (at_state reading begin (record { either = either; both = both; negated = negated }) [] comparisons) (unit_tokens unit) P
-  unit_reads context any_unit begin reading either both negated comparisons total P begins fits count bound h =
-      word_reads context begin reading (record { either = either; both = both; negated = negated }) comparisons total P any_word any_cell begins refl (any_step context) count bound h
-  unit_reads context oam_unit begin reading either both negated comparisons total P begins fits count bound h =
-      word_reads context begin reading (record { either = either; both = both; negated = negated }) comparisons total P oam_word oam_cell begins refl (oam_step context) count bound h
-  unit_reads context user_unit begin reading either both negated comparisons total P begins fits count bound h =
-      word_reads context begin reading (record { either = either; both = both; negated = negated }) comparisons total P user_word user_cell begins refl (user_step context) count bound h
-  unit_reads context (sign_unit subject sign k) begin reading either both negated comparisons total P begins fits count bound h =
+  unit_reads context (word_unit test) begin reading either both negated comparisons total P begins fits count bound h =
       let group : GroupRead = record { either = either; both = both; negated = negated } in
       let room : comparisons < 4096 = omega arith in
+      λ column. (
+        at_state reading awaits_operator (group_with group test) [] (comparisons + 1),
+        begins column (at_state reading begin group [] comparisons) (test_word test) refl ∙ word_step context column (at_state reading begin group [] comparisons) test
+            ∙ with_unit-ok (at_state reading begin group [] comparisons) test room,
+        h reading.outermost _ (after_moved context _ reading (group_with group test) reading.outermost (comparisons + 1) total (sym count) (λ column token is. refl)),
+      )
+  unit_reads context (order_unit subject order k) begin reading either both negated comparisons total P begins fits count bound h =
+      let group : GroupRead = record { either = either; both = both; negated = negated } in
+      let room : comparisons < 4096 = omega arith in
+      let sign = order_sign order in
       let done = group_with group (comparing subject.field subject.mask (compared sign k)) in
       reads_append context (subject_tokens subject) (sign_mark sign ∷ number_word k ∷ []) (at_state reading begin group [] comparisons) P
       (subject_reads context begin reading group comparisons (λ next. Reads context next (sign_mark sign ∷ number_word k ∷ []) P) subject begins fits.0 (λ next compares.
       λ column. (
         at_state reading (awaits_constant subject sign) group [] comparisons,
-        compares column (sign_mark sign) refl ∙ sign_step context column reading group comparisons subject sign,
+        compares column (sign_mark sign) refl ∙ order_step context column reading group comparisons subject order,
         λ column. (
           at_state reading awaits_operator done [] (comparisons + 1),
           constant_step context column reading group comparisons subject sign k fits.1 room,
           h reading.outermost _ (after_moved context _ reading done reading.outermost (comparisons + 1) total (sym count) (λ column token is. refl)),
         ),
       )))
-  unit_reads context (list_unit subject ranges last) begin reading either both negated comparisons total P begins fits count bound h =
+  unit_reads context (list_unit head ranges last) begin reading either both negated comparisons total P begins fits count bound h =
       let group : GroupRead = record { either = either; both = both; negated = negated } in
-      reads_append context (subject_tokens subject) (list_tokens ranges last) (at_state reading begin group [] comparisons) P
-      (subject_reads context begin reading group comparisons (λ next. Reads context next (list_tokens ranges last) P) subject begins fits.0 (λ next compares.
-      list_reads context reading group subject P ranges last next [] (spans_written ranges last) comparisons total
-      (λ column low fits. compares column (number_word low) refl ∙ first_low context column reading group comparisons subject low fits)
-      fits.1 refl count bound (λ end ended. h reading.outermost end ended)))
+      reads_append context (head_tokens head) (list_tokens ranges last) (at_state reading begin group [] comparisons) P
+      (head_reads context begin reading group comparisons (λ next. Reads context next (list_tokens ranges last) P) head begins fits.0 (λ next lows.
+      list_reads context reading group (list_of_head head) P ranges last next [] (spans_written ranges last) comparisons total lows fits.1 refl count bound
+      (λ end ended. h reading.outermost end ended)))
+  unit_reads context (path_unit path) begin reading either both negated comparisons total P begins fits count bound h =
+      let group : GroupRead = record { either = either; both = both; negated = negated } in
+      let room : comparisons < 4096 = omega arith in
+      let done = group_with group (path_test path) in
+      λ column. (
+        at_state reading (awaits_slash path) group [] comparisons,
+        begins column (at_state reading begin group [] comparisons) (number_word path) refl ∙ path_step context column reading begin group comparisons path fits,
+        λ column. (
+          at_state reading (awaits_channel path) group [] comparisons,
+          slash_step context column reading group comparisons path,
+          λ column. (
+            at_state reading awaits_operator done [] (comparisons + 1),
+            star_step context column reading group comparisons path room,
+            h reading.outermost _ (after_moved context _ reading done reading.outermost (comparisons + 1) total (sym count) (λ column token is. refl)),
+          ),
+        ),
+      )
   unit_reads context (not_unit unit) begin reading either both negated comparisons total P begins fits count bound h =
       λ column. (
         at_state reading awaits_unit (record { either = either; both = both; negated = not negated }) [] comparisons,
@@ -487,11 +554,11 @@ arrow_step : (context : LineContext) (column : ℕ) (group : GroupRead) (outermo
 unfolding read_awaited read_operator with_head whole_test
 arrow_step context column group outermost comparisons test e = rw e refl
 
-value_step : (context : LineContext) (column : ℕ) (reading : Reading) (value : ℕ) → 0 < value
-    → read_token context column (record reading { awaited = awaits_value }) (number_word value)
+value_step : (context : LineContext) (column : ℕ) (reading : Reading) (token : RuleToken) (value : ℕ) → value_read token ≡ Ok value
+    → read_token context column (record reading { awaited = awaits_value }) token
     ≡ Ok (record reading { test = any_cell; statement = line_statement (rule_line reading.test value); awaited = awaits_end })
 unfolding read_awaited read_value
-value_step context column reading value some = rw (lt-ltb 0 value some) refl
+value_step context column reading token value e = rw e refl
 
 block_step : (context : LineContext) (column : ℕ) (group : GroupRead) (outermost comparisons : ℕ) (test : TestRead) → group_test group ≡ Some test → context.blocks < 64
     → read_token context column (after_unit nothing_read group outermost comparisons) open_brace
@@ -524,16 +591,16 @@ line_begins context number found test rest statement fits bound same h =
     (subst (λ (k : ℕ). TestFits context k test) none fits) count bound h)))
 
 -- A rule.
-pub rule_is_read : (context : LineContext) (number : ℕ) (found : List RuleFound) (test : TestForm) (value : ℕ)
-    → TestFits context context.blocks test → test_count test ≤ 4096 → 0 < value
-    → map (λ it. it.token) found ≡ test_tokens test ++ (arrow_mark ∷ number_word value ∷ [])
+pub rule_is_read : (context : LineContext) (number : ℕ) (found : List RuleFound) (test : TestForm) (token : RuleToken) (value : ℕ)
+    → TestFits context context.blocks test → test_count test ≤ 4096 → value_read token ≡ Ok value
+    → map (λ it. it.token) found ≡ test_tokens test ++ (arrow_mark ∷ token ∷ [])
     → statement_from context number nothing_read 1 found ≡ Ok (line_statement (rule_line (test_written test) value))
-rule_is_read context number found test value fits bound some same =
-    line_begins context number found test (arrow_mark ∷ number_word value ∷ []) (line_statement (rule_line (test_written test) value)) fits bound same (λ last end ended.
+rule_is_read context number found test token value fits bound is_value same =
+    line_begins context number found test (arrow_mark ∷ token ∷ []) (line_statement (rule_line (test_written test) value)) fits bound same (λ last end ended.
     λ column. (
       _,
       ended column arrow_mark refl ∙ arrow_step context column (group_written test) last (test_count test) (test_written test) (written_test test),
-      λ column. (_, value_step context column (record (after_unit nothing_read (group_written test) last (test_count test)) { test = test_written test; group = no_group; awaited = awaits_value }) value some, refl),
+      λ column. (_, value_step context column (record (after_unit nothing_read (group_written test) last (test_count test)) { test = test_written test; group = no_group; awaited = awaits_value }) token value is_value, refl),
     ))
 
 -- The head of a block.

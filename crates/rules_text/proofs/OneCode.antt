@@ -28,7 +28,7 @@ use Rattle.match_code.proofs.Bare.{Bare, BareLine, Bares, all_of_bare, any_bare,
 use Rattle.upc_cell.specs.Side.{last_vpi}
 use Rattle.upc_cell.specs.declared.side.Side.{Side}
 use Rattle.rules_text.specs.CodeOfText.{IsCodeOfText}
-use Rattle.rules_text.specs.RulesRead.{FieldRead, gfc_field, vpi_field, vci_field, pti_field, clp_field, octets_field, SignRead, equal_sign, unequal_sign, less_sign, at_most_sign, greater_sign, at_least_sign, RelationRead, compared, listed, TestRead, TestsRead, any_cell, oam_cell, user_cell, comparing, negation, conjunction, disjunction, no_tests, more_tests, LineRead, rule_line, block_line, end_line, RulesRead, field_read, line_read, relation_read, rules_read, test_read, tests_read}
+use Rattle.rules_text.specs.RulesRead.{FieldRead, gfc_field, vpi_field, vci_field, pti_field, clp_field, octets_field, SignRead, equal_sign, unequal_sign, less_sign, at_most_sign, greater_sign, at_least_sign, RelationRead, compared, listed, TestRead, TestsRead, any_cell, f5_cell, user_cell, comparing, negation, conjunction, disjunction, no_tests, more_tests, LineRead, rule_line, block_line, end_line, RulesRead, field_read, line_read, relation_read, rules_read, test_read, tests_read}
 use Rattle.rules_text.specs.TextOfRules.{rules_in}
 use Rattle.rules_text.specs.declared.fault.RuleFault.{RuleFault}
 use Rattle.rules_text.proofs.Values.{among_last}
@@ -288,7 +288,7 @@ module _ (side : Side) where
   abbrev mutual
     IsBareOf : TestRead → Bare → Type 0
     IsBareOf any_cell b = b ≡ bare_always
-    IsBareOf oam_cell b = IsBareAmong (placing_read side pti_field) (Some 6) (span_of_one 4 ∷ []) b
+    IsBareOf f5_cell b = IsBareAmong (placing_read side pti_field) (Some 6) (span_of_one 4 ∷ []) b
     IsBareOf user_cell b = IsBareAmong (placing_read side pti_field) (Some 4) (span_of_one 0 ∷ []) b
     IsBareOf (comparing field mask relation) b = IsBareRelation (placing_read side field) mask relation b
     IsBareOf (negation test) b = IsBareNot (IsBareOf test) b
@@ -322,7 +322,7 @@ module _ (side : Side) where
   mutual
     one_bare : (test : TestRead) (b c : Bare) → IsBareOf test b → IsBareOf test c → b ≡ c
     one_bare any_cell b c x y = x ∙ sym y
-    one_bare oam_cell b c x y = one_among (placing_read side pti_field) (Some 6) (span_of_one 4 ∷ []) b c x y
+    one_bare f5_cell b c x y = one_among (placing_read side pti_field) (Some 6) (span_of_one 4 ∷ []) b c x y
     one_bare user_cell b c x y = one_among (placing_read side pti_field) (Some 4) (span_of_one 0 ∷ []) b c x y
     one_bare (comparing field mask relation) b c x y = one_relation (placing_read side field) mask relation b c x y
     one_bare (negation test) b c x y = x.2 ∙ ap bare_not (one_bare test x.0 y.0 x.1 y.1) ∙ sym y.2

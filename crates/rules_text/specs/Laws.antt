@@ -10,17 +10,18 @@ use Rattle.rules_text.specs.DecisionsRead.{rules_decide}
 use Rattle.rules_text.specs.LineGrammar.{LineContext, nothing_read, line_statement}
 use Rattle.rules_text.specs.RuleGrammar.{TestFits, TestForm, test_count, test_tokens, test_written}
 use Rattle.rules_text.specs.RulesRead.{LineRead, block_line, rule_line}
-use Rattle.rules_text.specs.RuleTokens.{RuleFound, arrow_mark, number_word, open_brace, rule_tokens}
+use Rattle.rules_text.specs.RuleTokens.{RuleFound, RuleToken, arrow_mark, open_brace, rule_tokens}
+use Rattle.rules_text.specs.Subjects.{value_read}
 use Rattle.rules_text.specs.TextOfRules.{NumberedRead, numbered_in, rules_in, statement_from}
 use Rattle.rules_text.specs.ValuesRead.{FollowsText}
 
--- A line that has the tokens of a test of the grammar, `->` and a number above 0 is the rule with this test and value, wherever its
--- tokens are, if the numbers fit and the limits are kept.
+-- A line that has the tokens of a test of the grammar, `->` and a token that is a value is the rule with this test and value, wherever
+-- its tokens are, if the numbers fit and the limits are kept.
 abbrev pub RulesAreReadAsTheyAreWritten : Type 0
 RulesAreReadAsTheyAreWritten =
-    (context : LineContext) (number : ℕ) (found : List RuleFound) (test : TestForm) (value : ℕ)
-    → TestFits context context.blocks test → test_count test ≤ 4096 → 0 < value
-    → map (λ it. it.token) found ≡ test_tokens test ++ (arrow_mark ∷ number_word value ∷ [])
+    (context : LineContext) (number : ℕ) (found : List RuleFound) (test : TestForm) (token : RuleToken) (value : ℕ)
+    → TestFits context context.blocks test → test_count test ≤ 4096 → value_read token ≡ Ok value
+    → map (λ it. it.token) found ≡ test_tokens test ++ (arrow_mark ∷ token ∷ [])
     → statement_from context number nothing_read 1 found ≡ Ok (line_statement (rule_line (test_written test) value))
 
 -- A line that has the tokens of a test of the grammar and `{` is the head of a block with this test, with the same limits

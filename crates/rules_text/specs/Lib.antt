@@ -1,4 +1,5 @@
 pub mod RulesRead
+pub mod TestWords
 pub mod RuleTokens
 pub mod Subjects
 pub mod LineGrammar

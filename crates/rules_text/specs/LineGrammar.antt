@@ -5,11 +5,11 @@ use Rattle.bpf_code.specs.declared.instr.Size.{Size}
 use Rattle.match_code.specs.declared.part.Span.{Span}
 use Rattle.upc_cell.specs.declared.side.Side.{Side}
 use Rattle.upc_cell.specs.declared.side.Side.TheVariants as side_of
-use Rattle.rules_text.specs.RulesRead.{FieldRead, LineRead, SignRead, TestRead, any_cell, oam_cell, user_cell, comparing, negation, joined_by_and, joined_by_or, compared, listed, rule_line, block_line, end_line}
-use Rattle.rules_text.specs.RuleTokens.{RuleToken, any_word, oam_word, user_word, not_word, and_word, or_word, otherwise_word, side_word, uni_word, nni_word, field_word, size_word, bad_number, arrow_mark, open_brace, close_brace, open_parenthesis, close_parenthesis, mask_mark, comma_mark, dots_mark, sign_mark}
+use Rattle.rules_text.specs.RulesRead.{FieldRead, vpi_field, vci_field, LineRead, SignRead, equal_sign, unequal_sign, TestRead, any_cell, comparing, negation, conjunction, two_tests, joined_by_and, joined_by_or, compared, listed, rule_line, block_line, end_line}
+use Rattle.rules_text.specs.RuleTokens.{RuleToken, test_word, not_word, and_word, or_word, otherwise_word, side_word, uni_word, nni_word, field_word, size_word, arrow_mark, open_brace, close_brace, open_parenthesis, close_parenthesis, mask_mark, comma_mark, dots_mark, slash_mark, star_mark, sign_mark}
 use Rattle.rules_text.specs.Subjects.{header_read, most_of_field, number_within, octets_at_token, value_read}
 use Rattle.rules_text.specs.declared.fault.RuleKind.{RuleKind}
-use Rattle.rules_text.specs.declared.fault.RuleKind.TheVariants.{BadLine, BadNumber, TooLarge, Unbalanced, TooDeep, TooLong}
+use Rattle.rules_text.specs.declared.fault.RuleKind.TheVariants.{BadLine, TooLarge, Unbalanced, TooDeep, TooLong}
 
 -- What was read before a line.
 pub record LineContext : Type 0 where
@@ -31,6 +31,12 @@ pub data StatementRead : Type 0 where
 pub record SubjectRead : Type 0 where
   pub field : FieldRead
   pub mask : Option ℕ
+
+-- What a list is of: numbers that a field has, numbers that it doesn't have, or channels of a path.
+pub data ListRead : Type 0 where
+  field_list : SubjectRead → ListRead
+  denied_list : SubjectRead → ListRead
+  path_list : ℕ → ListRead
 
 -- What was read of a test, or of what is in a parenthesis: the alternatives before the last `or`, the parts after it
 -- that are joined by `and`, and whether a `not` applies to the next part.
@@ -58,13 +64,17 @@ pub data Awaited : Type 0 where
   -- the number after a sign
   awaits_constant : SubjectRead → SignRead → Awaited
   -- after the first number of a range: `..`, `,`, or what comes after a unit
-  awaits_dots : SubjectRead → ℕ → Awaited
+  awaits_dots : ListRead → ℕ → Awaited
   -- the number after `..`
-  awaits_high : SubjectRead → ℕ → Awaited
+  awaits_high : ListRead → ℕ → Awaited
   -- after a range: `,`, or what comes after a unit
-  awaits_comma : SubjectRead → Span → Awaited
-  -- the number after `,`
-  awaits_low : SubjectRead → Awaited
+  awaits_comma : ListRead → Span → Awaited
+  -- a number of a list, after `,` or a sign
+  awaits_low : ListRead → Awaited
+  -- `/` after a path
+  awaits_slash : ℕ → Awaited
+  -- the channels of a path: `*` or a number
+  awaits_channel : ℕ → Awaited
   -- `->` after `otherwise`
   awaits_arrow : Awaited
   -- the value of a rule
@@ -88,7 +98,7 @@ pub record Reading : Type 0 where
   pub outermost : ℕ
   -- the ranges of a list before the last `,`
   pub spans : List Span
-  -- how many comparisons, words and ranges the test has so far
+  -- how many comparisons, words and ranges of lists the test has so far
   pub comparisons : ℕ
   -- the whole test, once `->` came
   pub test : TestRead
@@ -226,14 +236,12 @@ subject_of field = record { field = field; mask = None }
 unfoldable pub read_unit : LineContext → ℕ → Reading → RuleToken → LineStep
 read_unit context column reading not_word = Ok (record reading { group = group_after_not reading.group; awaited = awaits_unit })
 read_unit context column reading open_parenthesis = with_open context column reading
-read_unit context column reading any_word = with_unit reading any_cell
-read_unit context column reading oam_word = with_unit reading oam_cell
-read_unit context column reading user_word = with_unit reading user_cell
+read_unit context column reading (test_word test) = with_unit reading test
 read_unit context column reading (field_word name) =
     found_then (header_read context.side name) (λ field. Ok (record reading { awaited = awaits_relation (subject_of field) }))
 read_unit context column reading (size_word size) = Ok (record reading { awaited = awaits_offset size })
-read_unit context column reading bad_number = Err BadNumber
-read_unit context column reading _ = Err BadLine
+read_unit context column reading token =
+    found_then (number_within (most_of_field context.side vpi_field) token) (λ path. Ok (record reading { awaited = awaits_slash path }))
 
 -- The first token of a line.
 unfoldable pub read_start : LineContext → ℕ → Reading → RuleToken → LineStep
@@ -250,15 +258,43 @@ unfoldable pub read_offset : Size → Reading → RuleToken → LineStep
 read_offset size reading token =
     found_then (octets_at_token size token) (λ field. Ok (record reading { awaited = awaits_relation (subject_of field) }))
 
--- A number of a list.
-unfoldable pub read_low : LineContext → SubjectRead → Reading → RuleToken → LineStep
-read_low context subject reading token =
-    found_then (number_within (most_of_field context.side subject.field) token) (λ low. Ok (record reading { awaited = awaits_dots subject low }))
+-- The field whose numbers a list has.
+abbrev pub field_of_list : ListRead → FieldRead
+field_of_list (field_list subject) = subject.field
+field_of_list (denied_list subject) = subject.field
+field_of_list (path_list path) = vci_field
 
--- A sign, or the first number of a list.
+-- Cells of this path.
+abbrev pub path_test : ℕ → TestRead
+path_test path = comparing vpi_field None (compared equal_sign path)
+
+-- What a list with these ranges means.
+abbrev pub list_test : ListRead → List Span → TestRead
+list_test (field_list subject) spans = comparing subject.field subject.mask (listed spans)
+list_test (denied_list subject) spans = negation (comparing subject.field subject.mask (listed spans))
+list_test (path_list path) spans = conjunction (two_tests (path_test path) (comparing vci_field None (listed spans)))
+
+-- A number of a list.
+unfoldable pub read_low : LineContext → ListRead → Reading → RuleToken → LineStep
+read_low context of reading token =
+    found_then (number_within (most_of_field context.side (field_of_list of)) token) (λ low. Ok (record reading { awaited = awaits_dots of low }))
+
+-- A sign, or the first number of a list. A list may come after `=` and `!=` too.
 unfoldable pub read_sign : LineContext → SubjectRead → Reading → RuleToken → LineStep
+read_sign context subject reading (sign_mark equal_sign) = Ok (record reading { awaited = awaits_low (field_list subject) })
+read_sign context subject reading (sign_mark unequal_sign) = Ok (record reading { awaited = awaits_low (denied_list subject) })
 read_sign context subject reading (sign_mark sign) = Ok (record reading { awaited = awaits_constant subject sign })
-read_sign context subject reading token = read_low context subject reading token
+read_sign context subject reading token = read_low context (field_list subject) reading token
+
+-- `/` after a path.
+unfoldable pub read_slash : ℕ → Reading → RuleToken → LineStep
+read_slash path reading slash_mark = Ok (record reading { awaited = awaits_channel path })
+read_slash path reading _ = Err BadLine
+
+-- The channels of a path: all of them, or the first number of a list.
+unfoldable pub read_channel : LineContext → ℕ → Reading → RuleToken → LineStep
+read_channel context path reading star_mark = with_unit reading (path_test path)
+read_channel context path reading token = read_low context (path_list path) reading token
 
 -- A token after a field.
 unfoldable pub read_relation : LineContext → SubjectRead → Reading → RuleToken → LineStep
@@ -277,32 +313,31 @@ read_constant context subject sign reading token =
     found_then (number_within (most_of_field context.side subject.field) token) (λ k.
     with_unit reading (comparing subject.field subject.mask (compared sign k)))
 
--- The list of a field ends with this range. It is a unit of the test.
-unfoldable pub with_list : SubjectRead → Span → Reading → LineStep
-with_list subject span reading =
-    with_unit (record reading { spans = [] }) (comparing subject.field subject.mask (listed (reading.spans ++ span ∷ [])))
+-- A list ends with this range. It is a unit of the test.
+unfoldable pub with_list : ListRead → Span → Reading → Reading
+with_list of span reading =
+    record reading { spans = []; group = group_with reading.group (list_test of (reading.spans ++ span ∷ [])); awaited = awaits_operator }
 
 -- A token after a range of a list.
-unfoldable pub read_comma : LineContext → SubjectRead → Span → Reading → RuleToken → LineStep
-read_comma context subject span reading comma_mark =
-    Ok (record reading { spans = reading.spans ++ span ∷ []; awaited = awaits_low subject })
-read_comma context subject span reading token = found_then (with_list subject span reading) (λ next. read_operator context next token)
+unfoldable pub read_comma : LineContext → ListRead → Span → Reading → RuleToken → LineStep
+read_comma context of span reading comma_mark = Ok (record reading { spans = reading.spans ++ span ∷ []; awaited = awaits_low of })
+read_comma context of span reading token = read_operator context (with_list of span reading) token
 
 -- The range of one number.
 abbrev pub range_of_one : ℕ → Span
 range_of_one low = record { low = low; high = low }
 
 -- A token after the first number of a range. Without `..` the range is this number.
-unfoldable pub read_dots : LineContext → SubjectRead → ℕ → Reading → RuleToken → LineStep
-read_dots context subject low reading dots_mark = Ok (record reading { awaited = awaits_high subject low })
-read_dots context subject low reading token =
-    found_then (with_range reading reading.awaited) (λ next. read_comma context subject (range_of_one low) next token)
+unfoldable pub read_dots : LineContext → ListRead → ℕ → Reading → RuleToken → LineStep
+read_dots context of low reading dots_mark = Ok (record reading { awaited = awaits_high of low })
+read_dots context of low reading token =
+    found_then (with_range reading reading.awaited) (λ next. read_comma context of (range_of_one low) next token)
 
 -- The number after `..`, which is at least the first of the range.
-unfoldable pub read_high : LineContext → SubjectRead → ℕ → Reading → RuleToken → LineStep
-read_high context subject low reading token =
-    found_then (number_within (most_of_field context.side subject.field) token) (λ high.
-    if nat_lt high low then Err TooLarge else with_range reading (awaits_comma subject (record { low = low; high = high })))
+unfoldable pub read_high : LineContext → ListRead → ℕ → Reading → RuleToken → LineStep
+read_high context of low reading token =
+    found_then (number_within (most_of_field context.side (field_of_list of)) token) (λ high.
+    if nat_lt high low then Err TooLarge else with_range reading (awaits_comma of (record { low = low; high = high })))
 
 -- `->` after `otherwise`.
 unfoldable pub read_arrow : Reading → RuleToken → LineStep
@@ -335,10 +370,12 @@ read_awaited (awaits_relation subject) context column reading token = read_relat
 read_awaited (awaits_mask subject) context column reading token = read_mask context subject reading token
 read_awaited (awaits_sign subject) context column reading token = read_sign context subject reading token
 read_awaited (awaits_constant subject sign) context column reading token = read_constant context subject sign reading token
-read_awaited (awaits_dots subject low) context column reading token = read_dots context subject low reading token
-read_awaited (awaits_high subject low) context column reading token = read_high context subject low reading token
-read_awaited (awaits_comma subject span) context column reading token = read_comma context subject span reading token
-read_awaited (awaits_low subject) context column reading token = read_low context subject reading token
+read_awaited (awaits_dots of low) context column reading token = read_dots context of low reading token
+read_awaited (awaits_high of low) context column reading token = read_high context of low reading token
+read_awaited (awaits_comma of span) context column reading token = read_comma context of span reading token
+read_awaited (awaits_low of) context column reading token = read_low context of reading token
+read_awaited (awaits_slash path) context column reading token = read_slash path reading token
+read_awaited (awaits_channel path) context column reading token = read_channel context path reading token
 read_awaited awaits_arrow context column reading token = read_arrow reading token
 read_awaited awaits_value context column reading token = read_value reading token
 read_awaited awaits_rest context column reading token = read_rest reading token

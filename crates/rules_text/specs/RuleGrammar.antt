@@ -2,9 +2,9 @@
 -- this, within its limits: the law `rules_are_read_as_they_are_written` says so.
 use Rattle.std.specs.Prelude.{◌≡◌, ◌+◌, ◌≤◌, ◌<◌, ℕ, Bool, not, false, List, [], ◌∷◌, ◌++◌, length, Option, Some, None, Ok}
 use Rattle.match_code.specs.declared.part.Span.{Span}
-use Rattle.rules_text.specs.LineGrammar.{LineContext, SubjectRead, negated_if}
-use Rattle.rules_text.specs.RulesRead.{FieldRead, octets_field, SignRead, TestRead, any_cell, oam_cell, user_cell, comparing, joined_by_and, joined_by_or, compared, listed}
-use Rattle.rules_text.specs.RuleTokens.{RuleToken, any_word, oam_word, user_word, not_word, and_word, or_word, field_word, size_word, number_word, open_parenthesis, close_parenthesis, mask_mark, comma_mark, dots_mark, sign_mark}
+use Rattle.rules_text.specs.LineGrammar.{LineContext, ListRead, field_list, denied_list, path_list, SubjectRead, field_of_list, list_test, negated_if, path_test}
+use Rattle.rules_text.specs.RulesRead.{FieldRead, vpi_field, octets_field, SignRead, equal_sign, unequal_sign, less_sign, at_most_sign, greater_sign, at_least_sign, TestRead, comparing, joined_by_and, joined_by_or, compared}
+use Rattle.rules_text.specs.RuleTokens.{RuleToken, test_word, not_word, and_word, or_word, field_word, size_word, number_word, open_parenthesis, close_parenthesis, mask_mark, comma_mark, dots_mark, slash_mark, star_mark, sign_mark}
 use Rattle.rules_text.specs.Subjects.{header_read, most_of_field, octets_read}
 
 -- A range: a number, with `..` and another one if there is one.
@@ -12,14 +12,28 @@ pub record RangeForm : Type 0 where
   pub low : ℕ
   pub high : Option ℕ
 
+-- A sign that orders numbers.
+pub data OrderForm : Type 0 where
+  less_order : OrderForm
+  at_most_order : OrderForm
+  greater_order : OrderForm
+  at_least_order : OrderForm
+
+-- What is before a list: nothing, `=` or `!=`, after a field with its mask; or a path and `/`.
+pub data HeadForm : Type 0 where
+  bare_head : SubjectRead → HeadForm
+  equal_head : SubjectRead → HeadForm
+  unequal_head : SubjectRead → HeadForm
+  path_head : ℕ → HeadForm
+
 mutual
-  -- A unit of a test. A list has ranges and a last one.
+  -- A unit of a test: a word that is a test; a field that is compared; a list, which has ranges and a last one; all channels of a
+  -- path; and what `not` and parentheses make of others.
   pub data UnitForm : Type 0 where
-    any_unit : UnitForm
-    oam_unit : UnitForm
-    user_unit : UnitForm
-    sign_unit : SubjectRead → SignRead → ℕ → UnitForm
-    list_unit : SubjectRead → List RangeForm → RangeForm → UnitForm
+    word_unit : TestRead → UnitForm
+    order_unit : SubjectRead → OrderForm → ℕ → UnitForm
+    list_unit : HeadForm → List RangeForm → RangeForm → UnitForm
+    path_unit : ℕ → UnitForm
     not_unit : UnitForm → UnitForm
     parenthesis_unit : TestForm → UnitForm
 
@@ -47,6 +61,20 @@ mask_tokens (Some mask) = mask_mark ∷ number_word mask ∷ []
 abbrev pub subject_tokens : SubjectRead → List RuleToken
 subject_tokens subject = field_tokens subject.field ++ mask_tokens subject.mask
 
+-- The sign.
+abbrev pub order_sign : OrderForm → SignRead
+order_sign less_order = less_sign
+order_sign at_most_order = at_most_sign
+order_sign greater_order = greater_sign
+order_sign at_least_order = at_least_sign
+
+-- The tokens before a list.
+abbrev pub head_tokens : HeadForm → List RuleToken
+head_tokens (bare_head subject) = subject_tokens subject
+head_tokens (equal_head subject) = subject_tokens subject ++ (sign_mark equal_sign ∷ [])
+head_tokens (unequal_head subject) = subject_tokens subject ++ (sign_mark unequal_sign ∷ [])
+head_tokens (path_head path) = number_word path ∷ slash_mark ∷ []
+
 -- The tokens after the first number of a range.
 abbrev pub high_tokens : Option ℕ → List RuleToken
 high_tokens None = []
@@ -60,11 +88,10 @@ list_tokens (range ∷ ranges) last = number_word range.low ∷ (high_tokens ran
 abbrev mutual
   -- The tokens of a unit.
   pub unit_tokens : UnitForm → List RuleToken
-  unit_tokens any_unit = any_word ∷ []
-  unit_tokens oam_unit = oam_word ∷ []
-  unit_tokens user_unit = user_word ∷ []
-  unit_tokens (sign_unit subject sign k) = subject_tokens subject ++ (sign_mark sign ∷ number_word k ∷ [])
-  unit_tokens (list_unit subject ranges last) = subject_tokens subject ++ list_tokens ranges last
+  unit_tokens (word_unit test) = test_word test ∷ []
+  unit_tokens (order_unit subject order k) = subject_tokens subject ++ (sign_mark (order_sign order) ∷ number_word k ∷ [])
+  unit_tokens (list_unit head ranges last) = head_tokens head ++ list_tokens ranges last
+  unit_tokens (path_unit path) = number_word path ∷ slash_mark ∷ star_mark ∷ []
   unit_tokens (not_unit unit) = not_word ∷ unit_tokens unit
   unit_tokens (parenthesis_unit test) = open_parenthesis ∷ (test_tokens test ++ (close_parenthesis ∷ []))
 
@@ -88,14 +115,20 @@ abbrev pub spans_written : List RangeForm → RangeForm → List Span
 spans_written [] last = span_from last.low last.high ∷ []
 spans_written (range ∷ ranges) last = span_from range.low range.high ∷ spans_written ranges last
 
+-- What a list is of.
+abbrev pub list_of_head : HeadForm → ListRead
+list_of_head (bare_head subject) = field_list subject
+list_of_head (equal_head subject) = field_list subject
+list_of_head (unequal_head subject) = denied_list subject
+list_of_head (path_head path) = path_list path
+
 abbrev mutual
   -- What a unit means, denied if an odd number of `not` comes before it.
   pub unit_written : Bool → UnitForm → TestRead
-  unit_written denied any_unit = negated_if denied any_cell
-  unit_written denied oam_unit = negated_if denied oam_cell
-  unit_written denied user_unit = negated_if denied user_cell
-  unit_written denied (sign_unit subject sign k) = negated_if denied (comparing subject.field subject.mask (compared sign k))
-  unit_written denied (list_unit subject ranges last) = negated_if denied (comparing subject.field subject.mask (listed (spans_written ranges last)))
+  unit_written denied (word_unit test) = negated_if denied test
+  unit_written denied (order_unit subject order k) = negated_if denied (comparing subject.field subject.mask (compared (order_sign order) k))
+  unit_written denied (list_unit head ranges last) = negated_if denied (list_test (list_of_head head) (spans_written ranges last))
+  unit_written denied (path_unit path) = negated_if denied (path_test path)
   unit_written denied (not_unit unit) = unit_written (not denied) unit
   unit_written denied (parenthesis_unit test) = negated_if denied (test_written test)
 
@@ -139,14 +172,20 @@ abbrev pub ListFits : ℕ → List RangeForm → RangeForm → Type 0
 ListFits most [] last = RangeFits most last
 ListFits most (range ∷ ranges) last = RangeFits most range × ListFits most ranges last
 
+-- The field before a list fits, or the path.
+abbrev pub HeadFits : LineContext → HeadForm → Type 0
+HeadFits context (bare_head subject) = SubjectFits context subject
+HeadFits context (equal_head subject) = SubjectFits context subject
+HeadFits context (unequal_head subject) = SubjectFits context subject
+HeadFits context (path_head path) = path ≤ most_of_field context.side vpi_field
+
 abbrev mutual
   -- The numbers of a unit fit their fields, and with this many parentheses and blocks open at most 64 will be.
   pub UnitFits : LineContext → ℕ → UnitForm → Type 0
-  UnitFits context deep any_unit = Unit {0}
-  UnitFits context deep oam_unit = Unit {0}
-  UnitFits context deep user_unit = Unit {0}
-  UnitFits context deep (sign_unit subject sign k) = SubjectFits context subject × (k ≤ most_of_field context.side subject.field)
-  UnitFits context deep (list_unit subject ranges last) = SubjectFits context subject × ListFits (most_of_field context.side subject.field) ranges last
+  UnitFits context deep (word_unit test) = Unit {0}
+  UnitFits context deep (order_unit subject order k) = SubjectFits context subject × (k ≤ most_of_field context.side subject.field)
+  UnitFits context deep (list_unit head ranges last) = HeadFits context head × ListFits (most_of_field context.side (field_of_list (list_of_head head))) ranges last
+  UnitFits context deep (path_unit path) = path ≤ most_of_field context.side vpi_field
   UnitFits context deep (not_unit unit) = UnitFits context deep unit
   UnitFits context deep (parenthesis_unit test) = (deep < 64) × TestFits context (deep + 1) test
 
@@ -161,13 +200,12 @@ abbrev mutual
   TestFits context deep (or_part test part) = TestFits context deep test × PartFits context deep part
 
 abbrev mutual
-  -- How many comparisons, words and ranges a unit has.
+  -- How many comparisons with an order, words, paths with `*` and ranges of lists a unit has.
   pub unit_count : UnitForm → ℕ
-  unit_count any_unit = 1
-  unit_count oam_unit = 1
-  unit_count user_unit = 1
-  unit_count (sign_unit subject sign k) = 1
-  unit_count (list_unit subject ranges last) = length ranges + 2
+  unit_count (word_unit test) = 1
+  unit_count (order_unit subject order k) = 1
+  unit_count (list_unit head ranges last) = length ranges + 1
+  unit_count (path_unit path) = 1
   unit_count (not_unit unit) = unit_count unit
   unit_count (parenthesis_unit test) = test_count test
 

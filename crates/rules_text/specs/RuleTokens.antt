@@ -6,13 +6,12 @@ use Rattle.bpf_asm.specs.Tokens.{is_word}
 use Rattle.bpf_code.specs.declared.instr.Size.{Size}
 use Rattle.bpf_code.specs.declared.instr.Size.TheVariants.{Octet, Half, Word}
 use Rattle.text_io.specs.Words.{is_blank, is_digit}
-use Rattle.rules_text.specs.RulesRead.{FieldRead, gfc_field, vpi_field, vci_field, pti_field, clp_field, SignRead, equal_sign, unequal_sign, less_sign, at_most_sign, greater_sign, at_least_sign}
+use Rattle.rules_text.specs.RulesRead.{FieldRead, gfc_field, vpi_field, vci_field, pti_field, clp_field, SignRead, equal_sign, unequal_sign, less_sign, at_most_sign, greater_sign, at_least_sign, TestRead, any_cell, f5_cell, user_cell}
+use Rattle.rules_text.specs.TestWords.{f4_cell, f4_segment_cell, f4_end_cell, f5_segment_cell, f5_end_cell, oam_cell, rm_cell, meta_signalling_cell, broadcast_cell, signalling_cell, ilmi_cell, idle_cell}
 
--- A token: a word of the language, a number, a word that begins with a digit and is no number, a mark, or anything else.
+-- A token: a word of the language (of those that are tests, the test), a number, a word that begins with a digit and is no number, a mark, or anything else.
 pub data RuleToken : Type 0 where
-  any_word : RuleToken
-  oam_word : RuleToken
-  user_word : RuleToken
+  test_word : TestRead → RuleToken
   not_word : RuleToken
   and_word : RuleToken
   or_word : RuleToken
@@ -33,20 +32,41 @@ pub data RuleToken : Type 0 where
   mask_mark : RuleToken
   comma_mark : RuleToken
   dots_mark : RuleToken
+  slash_mark : RuleToken
+  star_mark : RuleToken
   sign_mark : SignRead → RuleToken
   no_token : RuleToken
 
--- The words of the language.
+-- The words of the language. The last six of those that are tests are tcpdump's for channels.
 abbrev pub rule_words : List (List ℕ × RuleToken)
 rule_words =
-    (codes "any", any_word)
-    ∷ (codes "oam", oam_word)
-    ∷ (codes "user", user_word)
+    (codes "any", test_word any_cell)
+    ∷ (codes "user", test_word user_cell)
+    ∷ (codes "oam", test_word oam_cell)
+    ∷ (codes "oamf4", test_word f4_cell)
+    ∷ (codes "oamf4s", test_word f4_segment_cell)
+    ∷ (codes "oamf4e", test_word f4_end_cell)
+    ∷ (codes "oamf5", test_word f5_cell)
+    ∷ (codes "oamf5s", test_word f5_segment_cell)
+    ∷ (codes "oamf5e", test_word f5_end_cell)
+    ∷ (codes "rm", test_word rm_cell)
+    ∷ (codes "metasig", test_word meta_signalling_cell)
+    ∷ (codes "bcast", test_word broadcast_cell)
+    ∷ (codes "signal", test_word signalling_cell)
+    ∷ (codes "ilmi", test_word ilmi_cell)
+    ∷ (codes "idle", test_word idle_cell)
+    ∷ (codes "oamf4sc", test_word f4_segment_cell)
+    ∷ (codes "oamf4ec", test_word f4_end_cell)
+    ∷ (codes "metac", test_word meta_signalling_cell)
+    ∷ (codes "bcc", test_word broadcast_cell)
+    ∷ (codes "sc", test_word signalling_cell)
+    ∷ (codes "ilmic", test_word ilmi_cell)
     ∷ (codes "not", not_word)
     ∷ (codes "and", and_word)
     ∷ (codes "or", or_word)
     ∷ (codes "otherwise", otherwise_word)
     ∷ (codes "refuse", refuse_word)
+    ∷ (codes "drop", refuse_word)
     ∷ (codes "side", side_word)
     ∷ (codes "uni", uni_word)
     ∷ (codes "nni", nni_word)
@@ -64,6 +84,9 @@ abbrev pub long_marks : List (List ℕ × RuleToken)
 long_marks =
     (codes "->", arrow_mark)
     ∷ (codes "..", dots_mark)
+    ∷ (codes "&&", and_word)
+    ∷ (codes "||", or_word)
+    ∷ (codes "==", sign_mark equal_sign)
     ∷ (codes "!=", sign_mark unequal_sign)
     ∷ (codes "<=", sign_mark at_most_sign)
     ∷ (codes ">=", sign_mark at_least_sign) ∷ []
@@ -77,6 +100,9 @@ short_marks =
     ∷ (codes ")", close_parenthesis)
     ∷ (codes "&", mask_mark)
     ∷ (codes ",", comma_mark)
+    ∷ (codes "/", slash_mark)
+    ∷ (codes "*", star_mark)
+    ∷ (codes "!", not_word)
     ∷ (codes "=", sign_mark equal_sign)
     ∷ (codes "<", sign_mark less_sign)
     ∷ (codes ">", sign_mark greater_sign) ∷ []

@@ -40,7 +40,7 @@ mutual
   -- A test. What `and` or `or` joins is one chain of tests.
   pub data TestRead : Type 0 where
     any_cell : TestRead
-    oam_cell : TestRead
+    f5_cell : TestRead
     user_cell : TestRead
     comparing : FieldRead → Option ℕ → RelationRead → TestRead
     negation : TestRead → TestRead
@@ -107,7 +107,7 @@ abbrev mutual
   -- A test as it is written.
   pub test_read : Test → TestRead
   test_read asked.Any = any_cell
-  test_read asked.Oam = oam_cell
+  test_read asked.Oam = f5_cell
   test_read asked.User = user_cell
   test_read (asked.Compare field mask relation) = comparing (field_read field) mask (relation_read relation)
   test_read (asked.Not' p test) = negation (test_read test)

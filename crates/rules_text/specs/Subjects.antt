@@ -52,9 +52,9 @@ number_within most (number_word k) = if nat_lt most k then Err TooLarge else Ok 
 number_within most bad_number = Err BadNumber
 number_within most _ = Err BadLine
 
--- The value of a rule that a token is. A number is at least 1, and `refuse` is 0.
+-- The value of a rule that a token is. `refuse` is 0.
 abbrev pub value_read : RuleToken → Result ℕ RuleKind
 value_read refuse_word = Ok 0
-value_read (number_word k) = if nat_lt 0 k then Ok k else Err TooLarge
+value_read (number_word k) = Ok k
 value_read bad_number = Err BadNumber
 value_read _ = Err BadLine

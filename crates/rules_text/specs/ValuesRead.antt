@@ -10,7 +10,7 @@ use Rattle.match_code.specs.PlainTests.{is_among, kept_bits}
 use Rattle.upc_cell.specs.Header.{gfc_of, vci_of, pti_of, clp_of}
 use Rattle.upc_cell.specs.Side.{vpi_at}
 use Rattle.upc_cell.specs.declared.side.Side.{Side}
-use Rattle.rules_text.specs.RulesRead.{FieldRead, gfc_field, vpi_field, vci_field, pti_field, clp_field, octets_field, SignRead, equal_sign, unequal_sign, less_sign, at_most_sign, greater_sign, at_least_sign, RelationRead, compared, listed, TestRead, any_cell, oam_cell, user_cell, comparing, negation, conjunction, disjunction, TestsRead, no_tests, more_tests, LineRead, rule_line, block_line, end_line, RulesRead}
+use Rattle.rules_text.specs.RulesRead.{FieldRead, gfc_field, vpi_field, vci_field, pti_field, clp_field, octets_field, SignRead, equal_sign, unequal_sign, less_sign, at_most_sign, greater_sign, at_least_sign, RelationRead, compared, listed, TestRead, any_cell, f5_cell, user_cell, comparing, negation, conjunction, disjunction, TestsRead, no_tests, more_tests, LineRead, rule_line, block_line, end_line, RulesRead}
 use Rattle.rules_text.specs.TextOfRules.{rules_in}
 
 -- The number that a cell has in a field, its header read at this side.
@@ -40,7 +40,7 @@ abbrev mutual
   -- Whether a test holds of a cell.
   pub test_holds : Side → TestRead → List ℕ → Bool
   test_holds side any_cell cell = true
-  test_holds side oam_cell cell = (pti_of cell == 4) || (pti_of cell == 5)
+  test_holds side f5_cell cell = (pti_of cell == 4) || (pti_of cell == 5)
   test_holds side user_cell cell = nat_le (pti_of cell) 3
   test_holds side (comparing field mask relation) cell = relation_holds relation (kept_bits mask (field_number side field cell))
   test_holds side (negation test) cell = not (test_holds side test cell)

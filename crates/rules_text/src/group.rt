@@ -99,14 +99,14 @@ fn one_more(tests: Vec<Test>, test: Test) -> Result<Vec<Test>, AllocError>
 }
 
 /// The test that both hold.
-fn all_of_two(alloc: Global, one: Test, other: Test) -> Result<Test, AllocError>
+pub(crate) fn all_of_two(alloc: Global, one: Test, other: Test) -> Result<Test, AllocError>
     ensures { IfOk result (λ both. test_read both ≡ conjunction (two_tests (test_read one) (test_read other))) }
 {
     Ok(Test::AllOf(two(alloc, one, other)?))
 }
 
 /// The test that one of the two holds.
-fn any_of_two(alloc: Global, one: Test, other: Test) -> Result<Test, AllocError>
+pub(crate) fn any_of_two(alloc: Global, one: Test, other: Test) -> Result<Test, AllocError>
     ensures { IfOk result (λ either. test_read either ≡ disjunction (two_tests (test_read one) (test_read other))) }
 {
     Ok(Test::AnyOf(two(alloc, one, other)?))

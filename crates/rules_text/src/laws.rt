@@ -2,7 +2,7 @@
 
 ghost use Rattle.rules_text.specs.Laws.{CodeGivesWhatIsDecided, HeadsAreReadAsTheyAreWritten, NumbersAreThoseOfTheLines, RulesAreReadAsTheyAreWritten, TextsHaveOneCode};
 
-/// A line with the tokens of a test of the grammar, `->` and a number above 0 is read as this rule.
+/// A line with the tokens of a test of the grammar, `->` and a token that is a value is read as this rule.
 pub fn rules_are_read_as_they_are_written()
     ensures { RulesAreReadAsTheyAreWritten }
 {}

@@ -6,6 +6,7 @@ ghost use Rattle.text_io.specs.Words.{is_blank, is_digit};
 ghost use Rattle.rules_text.specs.RuleTokens.{first_cut, letters_len, long_marks, longest_mark, row_token, rule_words, short_marks, token_of_letters, tokens_from};
 ghost use Rattle.rules_text.specs.inner.Seen.{cut_seen, found_seen, rule_token_seen, some_token};
 
+use crate::class::Class;
 use bpf_asm::number;
 use bpf_code::Size;
 use cell_rules::Field;
@@ -30,9 +31,8 @@ pub(crate) enum Sign {
 /// A token.
 #[derive(Clone, Copy)]
 pub(crate) enum Token {
-    Any,
-    Oam,
-    User,
+    /// A word that is a test.
+    Test(Class),
     Not,
     And,
     Or,
@@ -65,6 +65,10 @@ pub(crate) enum Token {
     Comma,
     /// `..`
     Dots,
+    /// `/`
+    Slash,
+    /// `*`
+    Star,
     /// A sign.
     Sign(Sign),
     /// Anything else.
@@ -90,15 +94,34 @@ struct Cut {
 }
 
 /// The words of the language.
-const WORDS: [(&[u8], Token); 19] = [
-    (b"any", Token::Any),
-    (b"oam", Token::Oam),
-    (b"user", Token::User),
+const WORDS: [(&[u8], Token); 38] = [
+    (b"any", Token::Test(Class::Any)),
+    (b"user", Token::Test(Class::User)),
+    (b"oam", Token::Test(Class::Oam)),
+    (b"oamf4", Token::Test(Class::F4)),
+    (b"oamf4s", Token::Test(Class::F4Segment)),
+    (b"oamf4e", Token::Test(Class::F4End)),
+    (b"oamf5", Token::Test(Class::F5)),
+    (b"oamf5s", Token::Test(Class::F5Segment)),
+    (b"oamf5e", Token::Test(Class::F5End)),
+    (b"rm", Token::Test(Class::Rm)),
+    (b"metasig", Token::Test(Class::MetaSignalling)),
+    (b"bcast", Token::Test(Class::Broadcast)),
+    (b"signal", Token::Test(Class::Signalling)),
+    (b"ilmi", Token::Test(Class::Ilmi)),
+    (b"idle", Token::Test(Class::Idle)),
+    (b"oamf4sc", Token::Test(Class::F4Segment)),
+    (b"oamf4ec", Token::Test(Class::F4End)),
+    (b"metac", Token::Test(Class::MetaSignalling)),
+    (b"bcc", Token::Test(Class::Broadcast)),
+    (b"sc", Token::Test(Class::Signalling)),
+    (b"ilmic", Token::Test(Class::Ilmi)),
     (b"not", Token::Not),
     (b"and", Token::And),
     (b"or", Token::Or),
     (b"otherwise", Token::Otherwise),
     (b"refuse", Token::Refuse),
+    (b"drop", Token::Refuse),
     (b"side", Token::Side),
     (b"uni", Token::Uni),
     (b"nni", Token::Nni),
@@ -113,22 +136,28 @@ const WORDS: [(&[u8], Token); 19] = [
 ];
 
 /// The marks of two octets.
-const LONG_MARKS: [(&[u8], Token); 5] = [
+const LONG_MARKS: [(&[u8], Token); 8] = [
     (b"->", Token::Arrow),
     (b"..", Token::Dots),
+    (b"&&", Token::And),
+    (b"||", Token::Or),
+    (b"==", Token::Sign(Sign::Equal)),
     (b"!=", Token::Sign(Sign::Unequal)),
     (b"<=", Token::Sign(Sign::AtMost)),
     (b">=", Token::Sign(Sign::AtLeast)),
 ];
 
 /// The marks of one octet.
-const SHORT_MARKS: [(&[u8], Token); 9] = [
+const SHORT_MARKS: [(&[u8], Token); 12] = [
     (b"{", Token::Open),
     (b"}", Token::Close),
     (b"(", Token::Left),
     (b")", Token::Right),
     (b"&", Token::Mask),
     (b",", Token::Comma),
+    (b"/", Token::Slash),
+    (b"*", Token::Star),
+    (b"!", Token::Not),
     (b"=", Token::Sign(Sign::Equal)),
     (b"<", Token::Sign(Sign::Less)),
     (b">", Token::Sign(Sign::Greater)),

@@ -1,14 +1,18 @@
 //! The text of rules: its reader, and the compiler from text to code.
 #![tactic(auto)]
 
+mod class;
+mod comparison_reader;
 mod compiler;
 mod fault;
 mod group;
 pub mod laws;
 mod lexer;
 mod line_reader;
+mod list;
 mod reader;
 mod subject;
+mod test_reader;
 
 pub use compiler::{NumberedCode, compile_numbered, compile_text};
 pub use fault::{RuleFault, RuleKind};

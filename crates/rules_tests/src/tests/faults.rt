@@ -9,10 +9,14 @@ fn at(kind: RuleKind, line: usize, column: usize) -> RuleFault {
 
 #[test]
 fn the_first_fault_has_its_place(rt: HostRuntime) {
-    let rows: [(&[u8], RuleFault); 22] = [
+    let rows: [(&[u8], RuleFault); 26] = [
         (b"any any", at(RuleKind::BadLine, 1, 5)),
         (b"Any -> 1", at(RuleKind::BadLine, 1, 1)),
-        (b"7 -> 1", at(RuleKind::BadLine, 1, 1)),
+        (b"7 -> 1", at(RuleKind::BadLine, 1, 3)),
+        (b"1-2 -> 1", at(RuleKind::BadLine, 1, 2)),
+        (b"1/*, 2 -> 1", at(RuleKind::BadLine, 1, 4)),
+        (b"vci < 1, 2 -> 1", at(RuleKind::BadLine, 1, 8)),
+        (b"vci ! = 1 -> 1", at(RuleKind::BadLine, 1, 5)),
         (b"any ->", at(RuleKind::BadLine, 1, 7)),
         (b"any -> # 1", at(RuleKind::BadLine, 1, 7)),
         (b"any -> 1 x", at(RuleKind::BadLine, 1, 10)),
@@ -21,7 +25,7 @@ fn the_first_fault_has_its_place(rt: HostRuntime) {
         (b"any {\notherwise -> 3\n}", at(RuleKind::BadLine, 2, 1)),
         (b"vci 5 -> 01x", at(RuleKind::BadNumber, 1, 10)),
         (b"any -> 4294967296", at(RuleKind::BadNumber, 1, 8)),
-        (b"vci 5 -> 0", at(RuleKind::TooLarge, 1, 10)),
+        (b"256/5 -> 1", at(RuleKind::TooLarge, 1, 1)),
         (b"vpi 256 -> 1", at(RuleKind::TooLarge, 1, 5)),
         (b"vci 5..4 -> 1", at(RuleKind::TooLarge, 1, 8)),
         (b"vci & 0x10000 = 1 -> 1", at(RuleKind::TooLarge, 1, 7)),

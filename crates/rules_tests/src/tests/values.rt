@@ -10,7 +10,7 @@ use upc_cell::Cell;
 /// The example of docs/RULES.md.
 const CLASSES: &[u8] = b"# classes of the customer on path 1
 vpi 1 and vci 32..127 {
-  oam   -> 2
+  oamf5 -> 2
   clp 1 -> 3
   any   -> 1
 }
@@ -43,6 +43,28 @@ fn cells_have_the_values_of_their_classes(rt: HostRuntime) -> Result<(), Fail> {
     ];
     for (header, first, want) in rows {
         assert_eq!(rt; value(rt.alloc(), CLASSES, header, first)?, want);
+    }
+    Ok(())
+}
+
+#[test]
+fn words_and_signs_have_several_spellings(rt: HostRuntime) -> Result<(), Fail> {
+    let rows: [(&[u8], u32, u32); 12] = [
+        (b"1/32 || 1/5..7, 9 -> 7", 0x0010_0090, 7),
+        (b"1/32 || 1/5..7, 9 -> 7", 0x0020_0090, 0),
+        (b"1/* && !rm -> 7", 0x0010_000a, 7),
+        (b"1/* && !rm -> 7", 0x0010_000c, 0),
+        (b"not 1/32 -> 7", 0x0010_0210, 7),
+        (b"vci != 3, 5..7 -> 7", 0x0000_0060, 0),
+        (b"vci != 3, 5..7 -> 7", 0x0000_0040, 7),
+        (b"vci == 3, 5..7 -> 7", 0x0000_0060, 7),
+        (b"oam -> 7", 0x0050_0030, 7),
+        (b"oam -> 7", 0x0050_064a, 7),
+        (b"any -> drop\nany -> 7", 0, 0),
+        (b"idle -> 0\nany -> 7", 1, 0),
+    ];
+    for (text, header, want) in rows {
+        assert_eq!(rt; value(rt.alloc(), text, header, 0)?, want);
     }
     Ok(())
 }

@@ -1,7 +1,10 @@
 -- What the code's values are in the words of the definitions.
 use Rattle.std.specs.Prelude.{◌+◌, Option, Some, None}
-use Rattle.rules_text.specs.RulesRead.{SignRead, equal_sign, unequal_sign, less_sign, at_most_sign, greater_sign, at_least_sign, field_read}
-use Rattle.rules_text.specs.RuleTokens.{RuleFound, RuleToken, TokenCut, any_word, oam_word, user_word, not_word, and_word, or_word, otherwise_word, refuse_word, side_word, uni_word, nni_word, field_word, size_word, number_word, bad_number, arrow_mark, open_brace, close_brace, open_parenthesis, close_parenthesis, mask_mark, comma_mark, dots_mark, sign_mark, no_token}
+use Rattle.rules_text.specs.RulesRead.{TestRead, any_cell, f5_cell, user_cell, SignRead, equal_sign, unequal_sign, less_sign, at_most_sign, greater_sign, at_least_sign, field_read}
+use Rattle.rules_text.specs.RuleTokens.{RuleFound, RuleToken, TokenCut, test_word, not_word, and_word, or_word, otherwise_word, refuse_word, side_word, uni_word, nni_word, field_word, size_word, number_word, bad_number, arrow_mark, open_brace, close_brace, open_parenthesis, close_parenthesis, mask_mark, comma_mark, dots_mark, slash_mark, star_mark, sign_mark, no_token}
+use Rattle.rules_text.specs.TestWords.{f4_cell, f4_segment_cell, f4_end_cell, f5_segment_cell, f5_end_cell, oam_cell, rm_cell, meta_signalling_cell, broadcast_cell, signalling_cell, ilmi_cell, idle_cell}
+use Rattle.rules_text.specs.declared.class.Class.{Class}
+use Rattle.rules_text.specs.declared.class.Class.TheVariants as class
 use Rattle.rules_text.specs.declared.lexer.Cut.{Cut}
 use Rattle.rules_text.specs.declared.lexer.Found.{Found}
 use Rattle.rules_text.specs.declared.lexer.Sign.{Sign}
@@ -18,11 +21,27 @@ sign_seen sign.AtMost = at_most_sign
 sign_seen sign.Greater = greater_sign
 sign_seen sign.AtLeast = at_least_sign
 
+-- The test that a word is.
+abbrev pub class_seen : Class → TestRead
+class_seen class.Any = any_cell
+class_seen class.User = user_cell
+class_seen class.Oam = oam_cell
+class_seen class.F4 = f4_cell
+class_seen class.F4Segment = f4_segment_cell
+class_seen class.F4End = f4_end_cell
+class_seen class.F5 = f5_cell
+class_seen class.F5Segment = f5_segment_cell
+class_seen class.F5End = f5_end_cell
+class_seen class.Rm = rm_cell
+class_seen class.MetaSignalling = meta_signalling_cell
+class_seen class.Broadcast = broadcast_cell
+class_seen class.Signalling = signalling_cell
+class_seen class.Ilmi = ilmi_cell
+class_seen class.Idle = idle_cell
+
 -- A token.
 abbrev pub rule_token_seen : Token → RuleToken
-rule_token_seen token.Any = any_word
-rule_token_seen token.Oam = oam_word
-rule_token_seen token.User = user_word
+rule_token_seen (token.Test class) = test_word (class_seen class)
 rule_token_seen token.Not = not_word
 rule_token_seen token.And = and_word
 rule_token_seen token.Or = or_word
@@ -43,6 +62,8 @@ rule_token_seen token.Right = close_parenthesis
 rule_token_seen token.Mask = mask_mark
 rule_token_seen token.Comma = comma_mark
 rule_token_seen token.Dots = dots_mark
+rule_token_seen token.Slash = slash_mark
+rule_token_seen token.Star = star_mark
 rule_token_seen (token.Sign sign) = sign_mark (sign_seen sign)
 rule_token_seen token.Unknown = no_token
 

@@ -2,7 +2,7 @@
 use Rattle.std.specs.Prelude.{map, reverse, Option, Some, None, Result, Ok, Err}
 use Rattle.cell_rules.specs.declared.field.Field.{Field}
 use Rattle.cell_rules.specs.declared.test.Test.{Test}
-use Rattle.rules_text.specs.LineGrammar.{Awaited, GroupRead, LineContext, Reading, StatementRead, SubjectRead, awaits_start, awaits_unit, awaits_operator, awaits_offset, awaits_relation, awaits_mask, awaits_sign, awaits_constant, awaits_dots, awaits_high, awaits_comma, awaits_low, awaits_arrow, awaits_value, awaits_rest, awaits_side, awaits_end, blank_statement, side_statement, line_statement, otherwise_statement}
+use Rattle.rules_text.specs.LineGrammar.{Awaited, GroupRead, LineContext, ListRead, field_list, denied_list, path_list, Reading, StatementRead, SubjectRead, awaits_start, awaits_unit, awaits_operator, awaits_offset, awaits_relation, awaits_mask, awaits_sign, awaits_constant, awaits_dots, awaits_high, awaits_comma, awaits_low, awaits_slash, awaits_channel, awaits_arrow, awaits_value, awaits_rest, awaits_side, awaits_end, blank_statement, side_statement, line_statement, otherwise_statement}
 use Rattle.rules_text.specs.RulesRead.{FieldRead, TestRead, field_read, line_read, test_read}
 use Rattle.rules_text.specs.TextOfRules.{TextReading}
 use Rattle.rules_text.specs.declared.fault.RuleKind.{RuleKind}
@@ -14,12 +14,20 @@ use Rattle.rules_text.specs.declared.line_reader.Statement.TheVariants as statem
 use Rattle.rules_text.specs.declared.line_reader.Wants.{Wants}
 use Rattle.rules_text.specs.declared.line_reader.Wants.TheVariants as wants
 use Rattle.rules_text.specs.declared.reader.TextReader.{TextReader}
+use Rattle.rules_text.specs.declared.list.ListOf.{ListOf}
+use Rattle.rules_text.specs.declared.list.ListOf.TheVariants as list
 use Rattle.rules_text.specs.declared.subject.Subject.{Subject}
 use Rattle.rules_text.specs.inner.Seen.{sign_seen}
 
 -- A field with a mask.
 abbrev pub subject_seen : Subject → SubjectRead
 subject_seen subject = record { field = field_read subject.field; mask = subject.mask }
+
+-- What a list is of.
+abbrev pub list_seen : ListOf → ListRead
+list_seen (list.Field subject) = field_list (subject_seen subject)
+list_seen (list.Denied subject) = denied_list (subject_seen subject)
+list_seen (list.Path path) = path_list path
 
 -- What comes next.
 abbrev pub wants_seen : Wants → Awaited
@@ -31,10 +39,12 @@ wants_seen (wants.Relation subject) = awaits_relation (subject_seen subject)
 wants_seen (wants.Mask subject) = awaits_mask (subject_seen subject)
 wants_seen (wants.Sign subject) = awaits_sign (subject_seen subject)
 wants_seen (wants.Constant subject sign) = awaits_constant (subject_seen subject) (sign_seen sign)
-wants_seen (wants.Dots subject low) = awaits_dots (subject_seen subject) low
-wants_seen (wants.High subject low) = awaits_high (subject_seen subject) low
-wants_seen (wants.Comma subject span) = awaits_comma (subject_seen subject) span
-wants_seen (wants.Low subject) = awaits_low (subject_seen subject)
+wants_seen (wants.Dots of low) = awaits_dots (list_seen of) low
+wants_seen (wants.High of low) = awaits_high (list_seen of) low
+wants_seen (wants.Comma of span) = awaits_comma (list_seen of) span
+wants_seen (wants.Low of) = awaits_low (list_seen of)
+wants_seen (wants.Slash path) = awaits_slash path
+wants_seen (wants.Channel path) = awaits_channel path
 wants_seen wants.Arrow = awaits_arrow
 wants_seen wants.Value = awaits_value
 wants_seen wants.Rest = awaits_rest

@@ -1,0 +1,119 @@
+//! The words that are tests.
+
+ghost use Rattle.std.specs.Prelude.{◌≡◌, IfOk};
+ghost use Rattle.rules_text.specs.RulesRead.{test_read};
+ghost use Rattle.rules_text.specs.TestWords.{cell_of_channel, cell_of_type, f4_cell, idle_cell};
+ghost use Rattle.rules_text.specs.inner.Seen.{class_seen};
+
+use crate::group::any_of_two;
+use bpf_code::Size;
+use cell_rules::{Field, Octets, Relation, Span, Test};
+use std::alloc::{AllocError, Global};
+
+/// What a word that is a test holds of: cells of ITU-T I.361 and I.610.
+#[derive(Clone, Copy)]
+pub(crate) enum Class {
+    /// Every cell.
+    Any,
+    /// User data.
+    User,
+    /// OAM of a path or of a channel.
+    Oam,
+    /// OAM of a path.
+    F4,
+    /// OAM of a segment of a path.
+    F4Segment,
+    /// OAM of a path from end to end.
+    F4End,
+    /// OAM of a channel.
+    F5,
+    /// OAM of a segment of a channel.
+    F5Segment,
+    /// OAM of a channel from end to end.
+    F5End,
+    /// Resource management.
+    Rm,
+    /// Meta-signalling.
+    MetaSignalling,
+    /// Broadcast signalling.
+    Broadcast,
+    /// Signalling from point to point.
+    Signalling,
+    /// Local management.
+    Ilmi,
+    /// Idle cells.
+    Idle,
+}
+
+/// The test that a class of cells is.
+pub(crate) fn test_of(alloc: Global, class: Class) -> Result<Test, AllocError>
+    ensures { IfOk result (λ test. test_read test ≡ class_seen class) }
+{
+    match class {
+        Class::Any => Ok(Test::Any),
+        Class::User => Ok(Test::User),
+        Class::Oam => any_of_two(alloc, f4(alloc), Test::Oam),
+        Class::F4 => Ok(f4(alloc)),
+        Class::F4Segment => Ok(of_channel(3)),
+        Class::F4End => Ok(of_channel(4)),
+        Class::F5 => Ok(Test::Oam),
+        Class::F5Segment => Ok(of_type(4)),
+        Class::F5End => Ok(of_type(5)),
+        Class::Rm => Ok(of_type(6)),
+        Class::MetaSignalling => Ok(of_channel(1)),
+        Class::Broadcast => Ok(of_channel(2)),
+        Class::Signalling => Ok(of_channel(5)),
+        Class::Ilmi => Ok(of_channel(16)),
+        Class::Idle => Ok(idle()),
+    }
+}
+
+/// The test of OAM cells of a path.
+fn f4(alloc: Global) -> Test
+    ensures { test_read result ≡ f4_cell }
+{
+    Test::Compare {
+        field: Field::Vci,
+        mask: None,
+        relation: Relation::In {
+            first: Span { low: 3, high: 4 },
+            others: Vec::new(alloc),
+        },
+    }
+}
+
+/// The test of the cells with this VCI.
+fn of_channel(vci: u32) -> Test
+    ensures { test_read result ≡ cell_of_channel vci }
+{
+    Test::Compare {
+        field: Field::Vci,
+        mask: None,
+        relation: Relation::Equal(vci),
+    }
+}
+
+/// The test of the cells with this PTI.
+fn of_type(pti: u32) -> Test
+    ensures { test_read result ≡ cell_of_type pti }
+{
+    Test::Compare {
+        field: Field::Pti,
+        mask: None,
+        relation: Relation::Equal(pti),
+    }
+}
+
+/// The test of idle cells.
+fn idle() -> Test
+    ensures { test_read result ≡ idle_cell }
+{
+    Test::Compare {
+        field: Field::Octets(Octets {
+            size: Size::Word,
+            at: 0,
+        }),
+        mask: None,
+        relation: Relation::Equal(1),
+    }
+}

@@ -1,0 +1,197 @@
+//! The reader of a test: words, `and`, `or`, `not`, parentheses, and the end of the test.
+
+ghost use Rattle.std.specs.Prelude.{◌≡◌, ◌≢◌, Ok, Err, IfOk, IfErr};
+ghost use Rattle.rules_text.specs.LineGrammar.{no_group, read_operator, read_unit, whole_test, with_block, with_close, with_head, with_open, with_unit};
+ghost use Rattle.rules_text.specs.RulesRead.{test_read};
+ghost use Rattle.rules_text.specs.declared.fault.RuleKind.TheVariants.{NoMemory};
+ghost use Rattle.rules_text.specs.inner.Seen.{class_seen, rule_token_seen};
+ghost use Rattle.rules_text.specs.inner.SeenReading.{context_seen, group_seen, reading_seen};
+
+use crate::class::{Class, test_of};
+use crate::fault::RuleKind;
+use crate::group::Group;
+use crate::lexer::Token;
+use crate::line_reader::{Context, LineReader, Statement, Wants};
+use crate::subject::{Subject, header_field, number_for};
+use cell_rules::{Field, RuleLine, Test};
+use std::alloc::Global;
+
+/// The maximum number of comparisons, words and ranges of a test.
+pub(crate) const MOST_COMPARISONS: usize = 4096;
+
+/// The maximum depth of nested blocks and parentheses.
+const MOST_DEEP: usize = 64;
+
+impl LineReader {
+    /// Reads a token where a unit of a test begins.
+    #[tactic(auto, unfolding(crate::specs::LineGrammar::read_unit))]
+    pub(crate) fn unit(
+        &mut self,
+        alloc: Global,
+        context: Context,
+        column: usize,
+        token: Token,
+    ) -> Result<(), RuleKind>
+        ensures ok { IfOk result (λ _. read_unit (context_seen context) column (reading_seen self.old) (rule_token_seen token) ≡ Ok (reading_seen self.new)) }
+        ensures err { IfErr result (λ kind. kind ≢ NoMemory → read_unit (context_seen context) column (reading_seen self.old) (rule_token_seen token) ≡ Err kind) }
+    {
+        match token {
+            Token::Not => {
+                self.group.negate();
+                self.wants = Wants::Unit;
+                Ok(())
+            }
+            Token::Left => self.open(context, column),
+            Token::Test(class) => self.word(alloc, class),
+            Token::Field(name) => {
+                let field = header_field(context.side, name)?;
+                self.wants = Wants::Relation(Subject { field, mask: None });
+                Ok(())
+            }
+            Token::Octets(size) => {
+                self.wants = Wants::Offset(size);
+                Ok(())
+            }
+            _ => {
+                let path = number_for(token, Field::Vpi, context.side)?;
+                self.wants = Wants::Slash(path);
+                Ok(())
+            }
+        }
+    }
+
+    /// Adds a word that is a test.
+    pub(crate) fn word(&mut self, alloc: Global, class: Class) -> Result<(), RuleKind>
+        ensures ok { IfOk result (λ _. with_unit (reading_seen self.old) (class_seen class) ≡ Ok (reading_seen self.new)) }
+        ensures err { IfErr result (λ kind. kind ≢ NoMemory → with_unit (reading_seen self.old) (class_seen class) ≡ Err kind) }
+    {
+        let test = test_of(alloc, class)?;
+        self.add(alloc, test)
+    }
+
+    /// Opens a parenthesis.
+    #[tactic(auto, unfolding(crate::specs::LineGrammar::with_open))]
+    pub(crate) fn open(&mut self, context: Context, column: usize) -> Result<(), RuleKind>
+        ensures ok { IfOk result (λ _. with_open (context_seen context) column (reading_seen self.old) ≡ Ok (reading_seen self.new)) }
+        ensures err { IfErr result (λ kind. kind ≢ NoMemory → with_open (context_seen context) column (reading_seen self.old) ≡ Err kind) }
+    {
+        if context.blocks >= MOST_DEEP || self.around.len() >= MOST_DEEP - context.blocks {
+            return Err(RuleKind::TooDeep);
+        }
+        if self.around.is_empty() {
+            self.outermost = column;
+        }
+        let around = std::mem::replace(&mut self.group, Group::new());
+        self.around.push(around)?;
+        self.wants = Wants::Unit;
+        Ok(())
+    }
+
+    /// Adds a unit to the test.
+    #[tactic(auto, unfolding(crate::specs::LineGrammar::with_unit))]
+    pub(crate) fn add(&mut self, alloc: Global, test: Test) -> Result<(), RuleKind>
+        ensures ok { IfOk result (λ _. with_unit (reading_seen self.old) (test_read test) ≡ Ok (reading_seen self.new)) }
+        ensures err { IfErr result (λ kind. kind ≢ NoMemory → with_unit (reading_seen self.old) (test_read test) ≡ Err kind) }
+    {
+        if self.comparisons >= MOST_COMPARISONS {
+            return Err(RuleKind::TooLong);
+        }
+        self.group.add(alloc, test)?;
+        self.comparisons += 1;
+        self.wants = Wants::Operator;
+        Ok(())
+    }
+
+    /// Reads a token after a unit.
+    #[tactic(auto, unfolding(crate::specs::LineGrammar::read_operator))]
+    pub(crate) fn operator(
+        &mut self,
+        alloc: Global,
+        context: Context,
+        token: Token,
+    ) -> Result<(), RuleKind>
+        ensures ok { IfOk result (λ _. read_operator (context_seen context) (reading_seen self.old) (rule_token_seen token) ≡ Ok (reading_seen self.new)) }
+        ensures err { IfErr result (λ kind. kind ≢ NoMemory → read_operator (context_seen context) (reading_seen self.old) (rule_token_seen token) ≡ Err kind) }
+    {
+        match token {
+            Token::And => {
+                self.wants = Wants::Unit;
+                Ok(())
+            }
+            Token::Or => {
+                self.group.alternate(alloc)?;
+                self.wants = Wants::Unit;
+                Ok(())
+            }
+            Token::Right => self.close(alloc),
+            Token::Open => self.block(alloc, context),
+            Token::Arrow => self.head(alloc),
+            _ => Err(RuleKind::BadLine),
+        }
+    }
+
+    /// Closes a parenthesis.
+    #[tactic(auto, unfolding(crate::specs::LineGrammar::with_close))]
+    pub(crate) fn close(&mut self, alloc: Global) -> Result<(), RuleKind>
+        ensures ok { IfOk result (λ _. with_close (reading_seen self.old) ≡ Ok (reading_seen self.new)) }
+        ensures err { IfErr result (λ kind. kind ≢ NoMemory → with_close (reading_seen self.old) ≡ Err kind) }
+    {
+        let Some(around) = self.around.pop() else {
+            return Err(RuleKind::Unbalanced);
+        };
+        let inner = std::mem::replace(&mut self.group, around);
+        match inner.whole(alloc)? {
+            None => Err(RuleKind::BadLine),
+            Some(test) => {
+                self.group.add(alloc, test)?;
+                self.wants = Wants::Operator;
+                Ok(())
+            }
+        }
+    }
+
+    /// Takes the whole test. All parentheses must be closed.
+    #[tactic(auto, unfolding(crate::specs::LineGrammar::whole_test))]
+    pub(crate) fn whole(&mut self, alloc: Global) -> Result<Test, RuleKind>
+        ensures ok { IfOk result (λ test. whole_test (reading_seen self.old) ≡ Ok (test_read test)) }
+        ensures rest { IfOk result (λ _. self.new ≡ record self.old { group = self.new.group }) }
+        ensures group { IfOk result (λ _. group_seen self.new.group ≡ no_group) }
+        ensures err { IfErr result (λ kind. kind ≢ NoMemory → whole_test (reading_seen self.old) ≡ Err kind) }
+    {
+        if !self.around.is_empty() {
+            return Err(RuleKind::Unbalanced);
+        }
+        let group = std::mem::replace(&mut self.group, Group::new());
+        match group.whole(alloc)? {
+            None => Err(RuleKind::BadLine),
+            Some(test) => Ok(test),
+        }
+    }
+
+    /// Begins a block with the test.
+    #[tactic(auto, unfolding(crate::specs::LineGrammar::with_block))]
+    pub(crate) fn block(&mut self, alloc: Global, context: Context) -> Result<(), RuleKind>
+        ensures ok { IfOk result (λ _. with_block (context_seen context) (reading_seen self.old) ≡ Ok (reading_seen self.new)) }
+        ensures err { IfErr result (λ kind. kind ≢ NoMemory → with_block (context_seen context) (reading_seen self.old) ≡ Err kind) }
+    {
+        let test = self.whole(alloc)?;
+        if context.blocks >= MOST_DEEP {
+            return Err(RuleKind::TooDeep);
+        }
+        self.statement = Statement::Line(RuleLine::Block { test });
+        self.wants = Wants::End;
+        Ok(())
+    }
+
+    /// Keeps the test of a rule.
+    #[tactic(auto, unfolding(crate::specs::LineGrammar::with_head))]
+    pub(crate) fn head(&mut self, alloc: Global) -> Result<(), RuleKind>
+        ensures ok { IfOk result (λ _. with_head (reading_seen self.old) ≡ Ok (reading_seen self.new)) }
+        ensures err { IfErr result (λ kind. kind ≢ NoMemory → with_head (reading_seen self.old) ≡ Err kind) }
+    {
+        let test = self.whole(alloc)?;
+        self.test = test;
+        self.wants = Wants::Value;
+        Ok(())
+    }
+}
