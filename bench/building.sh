@@ -2,7 +2,7 @@
 
 # is_older FILE PATH..: the file isn't there, or a file at or below a path is newer.
 is_older() {
-  [ ! -e "$1" ] || [ -n "$(find "${@:2}" -type f -newer "$1" -print -quit)" ]
+  [ ! -e "$1" ] || [ -n "$(command -p find "${@:2}" -type f -newer "$1" -print -quit)" ]
 }
 
 # build_program NAME "CRATES" LIBRARIES..: the program of NAME.rt.in, with its modules NAME.MODULE.rt.in and
