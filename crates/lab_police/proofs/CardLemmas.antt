@@ -26,7 +26,7 @@ use Rattle.upc_run.specs.inner.CardSteps.{cut-printed}
 use Rattle.upc_run.specs.inner.RunLaws.{cut-led}
 use Rattle.upc_script.specs.ScriptCommands.{cut}
 use Rattle.lab_police.specs.PoliceText.{TakesCell, connection_of_cell}
-use Rattle.lab_police.specs.inner.CardArrival.{ArrivesOnce, ArrivesWithRoom, CutsOff, is_full}
+use Rattle.lab_police.specs.inner.CardArrival.{ArrivesAfterCut, ArrivesOnce, ArrivesWithRoom, CutsOff, is_full}
 use Rattle.lab_police.specs.inner.PoliceTotal.{taken_led}
 
 -- A cell that takes all its steps.
@@ -101,10 +101,12 @@ room_once old new cell moment given once other before led agrees =
     (on.0, on.1, on.2, inl (not_full given on.0 on.1 other, on.3), on.4)
 
 -- A cell whose journal is full, a cut, and the cell once more.
-pub room_twice : (old full emptied new : CoreView) (cell : List ℕ) (moment : ℕ) (vc : Vc) (given last : Option Answer)
-    → ArrivesOnce old cell moment given full → is_full given ≡ true → vc ≡ vc_of old.shape.side cell → CutsOff full vc emptied
-    → ArrivesOnce emptied cell moment last new → ArrivesWithRoom old cell moment last new
-room_twice old full emptied new cell moment vc given last once is same cuts again before led agrees =
+pub room_twice : (old full new : CoreView) (cell : List ℕ) (moment : ℕ) (vc : Vc) (given last : Option Answer)
+    → ArrivesOnce old cell moment given full → is_full given ≡ true → vc ≡ vc_of old.shape.side cell → ArrivesAfterCut full vc cell moment last new
+    → ArrivesWithRoom old cell moment last new
+room_twice old full new cell moment vc given last once is same once_more before led agrees =
+    let cuts = once_more.1 in
+    let again = once_more.2 in
     let on = once before led agrees in
     let refused : TakesCell before cell moment JournalFull on.2 =
     subst (λ (a : Answer). TakesCell before cell moment a on.2) (let e : Some on.0 ≡ Some JournalFull = sym on.1 ∙ full_is given is in cc) on.3 in

@@ -9,4 +9,4 @@ mod police;
 mod setting_up;
 
 pub use not_judged::NotJudged;
-pub use police::police_capture;
+pub use police::{police_capture, write_faults};

@@ -10,7 +10,7 @@ ghost use Rattle.text_io.specs.Failures.{write_failures};
 ghost use Rattle.text_io.specs.Serving.{IsServed};
 ghost use Rattle.lab_police.specs.PoliceLines.{excess_of_answer};
 ghost use Rattle.lab_police.specs.PoliceText.{IsPoliceText, police_gap};
-ghost use Rattle.lab_police.specs.inner.CardArrival.{ArrivesOnce, ArrivesWithRoom, CutsOff, is_full};
+ghost use Rattle.lab_police.specs.inner.CardArrival.{ArrivesAfterCut, ArrivesOnce, ArrivesWithRoom, CutsOff, is_full};
 ghost use Rattle.lab_police.specs.inner.ExcessLeft.{IsKeptOnLine, LeavesConnection, excess_left, first_met};
 ghost use Rattle.lab_police.specs.inner.PoliceShown.{AddsCell};
 
@@ -70,6 +70,19 @@ fn is_full(answered: &Option<Result<Judgement, Unjudged>>) -> bool
     }
 }
 
+/// Cuts this connection, whose journal is full, and takes all steps of its cell once more.
+fn arrive_after_cut(
+    core: &mut Core,
+    vc: Vc,
+    cell: &Cell,
+    moment: u64,
+) -> Result<Option<Result<Judgement, Unjudged>>, AllocError>
+    ensures { IfOk result (λ answered. ArrivesAfterCut core.old vc cell.now moment (option_map (λ decision. answer_to cell.now decision) answered) core.new) }
+{
+    cut_connection(core, vc)?;
+    Ok(arrive(core, cell, moment))
+}
+
 /// Takes all steps of a cell at the port and returns its answer. If its connection's journal is full, the connection is cut first.
 #[inline(always)]
 fn arrive_with_room(
@@ -84,8 +97,7 @@ fn arrive_with_room(
     if !is_full(&decision) {
         return Ok(decision);
     }
-    cut_connection(core, vc)?;
-    Ok(arrive(core, cell, moment))
+    arrive_after_cut(core, vc, cell, moment)
 }
 
 /// Returns the item with this number, counted from 1, if there is one.
@@ -245,8 +257,12 @@ impl CellFollower for PoliceRun {
     ghost is_total = { police-total };
 }
 
-/// Writes the explanation of a script's faults.
-fn write_faults<O: Output>(output: &mut O, mut text: Vec<u8>) -> Result<Done, RunFault>
+/// Writes a text about faults in place of a policed capture.
+///
+/// # Errors
+///
+/// `WriteFailed` if the device failed. The output is then a prefix of the text.
+pub fn write_faults<O: Output>(output: &mut O, mut text: Vec<u8>) -> Result<Done, RunFault>
     ensures done { IfOk result (λ done. done ≡ Done.Ended) }
     ensures given { O.is_known → OnOk result (O.held output.new ≡ O.held output.old ++ text.items) }
     ensures front { O.is_known → OnErr result (IsPart (O.held output.old) (O.held output.new) text.items) }

@@ -1,8 +1,7 @@
 //! The cells of a capture, policed by a setup script with files of rules.
 
-ghost use Rattle.std.specs.Prelude.{◌≡◌, ◌≢◌, ◌++◌, Err, IfOk, OnErr, OnOk};
-ghost use Rattle.text_io.specs.Devices.{Adds, IsPart};
-ghost use Rattle.text_io.specs.Failures.{write_failures};
+ghost use Rattle.std.specs.Prelude.{IfOk};
+ghost use Rattle.text_io.specs.Devices.{Adds};
 ghost use Rattle.text_io.specs.Serving.{IsServed};
 ghost use Rattle.lab_setups.specs.RulesFiles.{octets_of_texts};
 ghost use Rattle.lab_setups.specs.SetupText.{IsSetupPoliced, MayBeSetupPoliced};
@@ -11,21 +10,10 @@ use crate::expanding::{Expanded, expand_setup};
 use crate::shared_text::SharedText;
 use captures::Tick;
 use lab_captures::CellLines;
-use lab_police::police_capture;
+use lab_police::{police_capture, write_faults};
 use std::alloc::Global;
 use std::thread::Threads;
-use text_io::{Done, Input, Output, RunFault, give_last};
-
-/// Writes the text about rules with a fault.
-fn write_rules_fault<O: Output>(output: &mut O, mut text: Vec<u8>) -> Result<Done, RunFault>
-    ensures done { IfOk result (λ done. done ≡ Done.Ended) }
-    ensures given { O.is_known → OnOk result (O.held output.new ≡ O.held output.old ++ text.items) }
-    ensures front { O.is_known → OnErr result (IsPart (O.held output.old) (O.held output.new) text.items) }
-    ensures fault { result ≢ Err RunFault.ReadFailed }
-    ensures writing { O.failures output.new ≡ write_failures result (O.failures output.old) }
-{
-    give_last(output, &mut text, Done::Ended)
-}
+use text_io::{Done, Input, Output, RunFault};
 
 /// Polices the cells of a capture, as [`police_capture`] does, by a setup script that may name files of rules. `texts` are the octets of
 /// these files, in the order of [`files_read`](crate::files_read). Each line `rules NAME` loads the program of its text, as the next
@@ -59,7 +47,7 @@ pub fn police_setup<R: Threads, I: Input + Send, O: Output>(
 {
     match expand_setup(alloc, setup, texts) {
         Err(_) => Err(RunFault::NoMemory),
-        Ok(Expanded::Faulty(text)) => write_rules_fault(output, text),
+        Ok(Expanded::Faulty(text)) => write_faults(output, text),
         Ok(Expanded::Itself) => police_capture(
             rt, threads, alloc, setup, lines, tick, interface, input, output,
         ),

@@ -32,3 +32,7 @@ is_full _ = false
 abbrev pub CutsOff : CoreView → Vc → CoreView → Type 0
 CutsOff old vc new = (before : Card) → IsLed before → CoreAgrees old before.world
     → (line : List ℕ) × (after : Card) × TakesCommand before (cut vc) (Cut vc) line after × CoreAgrees new after.world
+
+-- This connection is cut, and then the cell arrives once.
+abbrev pub ArrivesAfterCut : CoreView → Vc → List ℕ → ℕ → Option Answer → CoreView → Type 0
+ArrivesAfterCut old vc cell moment given new = (emptied : CoreView) × CutsOff old vc emptied × ArrivesOnce emptied cell moment given new

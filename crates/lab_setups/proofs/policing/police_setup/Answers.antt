@@ -44,15 +44,15 @@ returns-in-Ok-Faulty-clause-served g c =
     may_be_policed c.args.lines c.args.tick.nanoseconds c.args.interface c.args.setup.now texts octets line Ended (inl (faulty, refl)) in
     record {
       text = λ ki ko.
-          if_given c.write_rules_fault.result Ended _ _ c.write_rules_fault.ensures.done (c.write_rules_fault.ensures.given ko) (λ gives. (line, gives, printed all));
+          if_given c.write_faults.result Ended _ _ c.write_faults.ensures.done (c.write_faults.ensures.given ko) (λ gives. (line, gives, printed all));
       front = λ ki ko.
-          on_fault c.write_rules_fault.result _ _ (c.write_rules_fault.ensures.front ko)
-          (λ part. a_front (IsText all) (g.O.Output.held c.args.output.now) (g.O.Output.held c.write_rules_fault.new.output) line Ended (printed all) part);
-      left = λ ki. if_done c.write_rules_fault.result Ended _ c.write_rules_fault.ensures.done (all_needed IsText all [] all line Ended refl (printed []));
+          on_fault c.write_faults.result _ _ (c.write_faults.ensures.front ko)
+          (λ part. a_front (IsText all) (g.O.Output.held c.args.output.now) (g.O.Output.held c.write_faults.new.output) line Ended (printed all) part);
+      left = λ ki. if_done c.write_faults.result Ended _ c.write_faults.ensures.done (all_needed IsText all [] all line Ended refl (printed []));
       whole = λ ki same.
-          let bad : Whole ≡ Ended = at-result c.write_rules_fault.result (λ done. done ≡ Ended) Whole same c.write_rules_fault.ensures.done in cc;
-      reading = not_read c.write_rules_fault.result _ _ c.write_rules_fault.ensures.fault refl;
-      writing = c.write_rules_fault.ensures.writing;
+          let bad : Whole ≡ Ended = at-result c.write_faults.result (λ done. done ≡ Ended) Whole same c.write_faults.ensures.done in cc;
+      reading = not_read c.write_faults.result _ _ c.write_faults.ensures.fault refl;
+      writing = c.write_faults.ensures.writing;
     }
 
 pub returns-in-Ok-Faulty-clause-policed : goal.returns-in-Ok-Faulty-clause-policed
@@ -60,7 +60,7 @@ returns-in-Ok-Faulty-clause-policed g c ki ko =
     let texts = octets_of_texts c.args.texts.now in
     let faulty : HasFaultyRules IsFaultOfRules c.args.setup.now texts c.in-Ok-Faulty.text.items =
     subst (λ (e : Expanded). ExpandsTo c.args.setup.now texts e) c.in-Ok-Faulty.field-0-is c.in-Ok-Faulty.ensures in
-    if_given c.write_rules_fault.result Ended _ _ c.write_rules_fault.ensures.done (c.write_rules_fault.ensures.given ko)
+    if_given c.write_faults.result Ended _ _ c.write_faults.ensures.done (c.write_faults.ensures.given ko)
     (λ gives. (c.in-Ok-Faulty.text.items, gives, inl (faulty, refl)))
 
 pub returns-in-Ok-Itself-clause-served : goal.returns-in-Ok-Itself-clause-served
