@@ -9,6 +9,7 @@ ghost use Rattle.card_shelf.specs.inner.Places.{picked};
 ghost use Rattle.card_shelf.specs.inner.Rest.{IsAtRest};
 
 use crate::arrival::{Arrival, Decision};
+use crate::gate::Gate;
 use bpf_verify::Program;
 use card_core::Core;
 use gen_arena::Id;
@@ -34,8 +35,8 @@ impl Card {
         self.decisions.reserve(many)
     }
 
-    /// Polices the arrivals at these places, one after another, and adds the answer to each.
-    pub(crate) fn police(&mut self, arrivals: &[Arrival], places: &[usize])
+    /// Polices the arrivals at these places, one after another, and adds the answer to each. Before the first is the gate.
+    pub(crate) fn police<G: Gate>(&mut self, gate: &G, arrivals: &[Arrival], places: &[usize])
         requires within { All (λ place. place < length arrivals.now) places.now }
         requires ready { IsReady self.old (length places.now) }
         requires rest { IsAtRest self.old.core }
@@ -43,6 +44,7 @@ impl Card {
         ensures rest { IsAtRest self.new.core }
         ensures capacity { vec_capacity self.new.decisions ≡ vec_capacity self.old.decisions }
     {
+        gate.before_arrivals();
         for place in places {
             let arrival = &arrivals[*place];
             let Some(decision) = self.core.arrive(0, &arrival.cell, arrival.moment) else {

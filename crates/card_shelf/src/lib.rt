@@ -8,6 +8,7 @@ mod card;
 mod copying;
 mod dealing;
 mod fault;
+mod gate;
 mod gathering;
 pub mod laws;
 mod loading;

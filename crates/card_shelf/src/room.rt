@@ -5,6 +5,7 @@ ghost use Rattle.std.specs.Prelude.{◌≡◌};
 use crate::arrival::{Arrival, Decision};
 use crate::batch::{Batch, empty_decision_lists};
 use crate::card::Card;
+use crate::gate::Gate;
 use crate::running::police_lent;
 use std::alloc::{AllocError, Global};
 use std::marker::Model;
@@ -80,13 +81,14 @@ impl Room {
     }
 
     /// The cards police these arrivals in this room.
-    pub(crate) fn police<R: Threads + Sync>(
+    pub(crate) fn police<R: Threads + Sync, G: Gate + Sync>(
         &mut self,
         rt: &R,
         side: Side,
         cards: &mut [Card],
         arrivals: &[Arrival],
         threads: usize,
+        gate: &G,
     )
         requires some { 0 < length cards.old }
         requires limit { length cards.old ≤ 64 }
@@ -106,6 +108,7 @@ impl Room {
             &mut self.batch,
             arrivals,
             threads,
+            gate,
         );
     }
 }

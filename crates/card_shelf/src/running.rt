@@ -12,6 +12,7 @@ use crate::arrival::{Arrival, Decision};
 use crate::batch::Batch;
 use crate::card::Card;
 use crate::dealing::deal;
+use crate::gate::Gate;
 use crate::gathering::gather;
 use card_core::{Reply, Step};
 use std::alloc::{AllocError, Global};
@@ -21,13 +22,14 @@ use upc_cell::Side;
 
 /// The cards police these arrivals, each its own, on at most this number of threads. All memory is allocated before
 /// any card moves.
-pub(crate) fn police_all<R: Threads + Sync>(
+pub(crate) fn police_all<R: Threads + Sync, G: Gate + Sync>(
     rt: &R,
     alloc: Global,
     side: Side,
     cards: &mut [Card],
     arrivals: &[Arrival],
     threads: usize,
+    gate: &G,
 ) -> Result<Vec<Decision>, AllocError>
     requires some { 0 < length cards.old }
     requires limit { length cards.old ≤ 64 }
@@ -38,12 +40,12 @@ pub(crate) fn police_all<R: Threads + Sync>(
     ensures rest { AreAtRest (cores_of cards.new) }
 {
     let mut batch = Batch::new(alloc, cards.len(), 0)?;
-    police_batch(rt, side, cards, &mut batch, arrivals, threads)?;
+    police_batch(rt, side, cards, &mut batch, arrivals, threads, gate)?;
     Ok(batch.decisions)
 }
 
 /// The same in room that is lent: the lists of the batch, and for each card a list of answers.
-pub(crate) fn police_lent<R: Threads + Sync>(
+pub(crate) fn police_lent<R: Threads + Sync, G: Gate + Sync>(
     rt: &R,
     side: Side,
     cards: &mut [Card],
@@ -51,6 +53,7 @@ pub(crate) fn police_lent<R: Threads + Sync>(
     batch: &mut Batch,
     arrivals: &[Arrival],
     threads: usize,
+    gate: &G,
 )
     requires some { 0 < length cards.old }
     requires limit { length cards.old ≤ 64 }
@@ -62,7 +65,7 @@ pub(crate) fn police_lent<R: Threads + Sync>(
     ensures room { (most : ℕ) → IsRoom most decision_lists.old batch.old → IsRoom most decision_lists.new batch.new }
 {
     swap_lists(cards, decision_lists);
-    let done = police_batch(rt, side, cards, batch, arrivals, threads);
+    let done = police_batch(rt, side, cards, batch, arrivals, threads, gate);
     swap_lists(cards, decision_lists);
     match done {
         Ok(()) => {}
@@ -71,13 +74,14 @@ pub(crate) fn police_lent<R: Threads + Sync>(
 }
 
 /// The same in the lists of this batch. They grow if they have too little room, before any card moves.
-fn police_batch<R: Threads + Sync>(
+fn police_batch<R: Threads + Sync, G: Gate + Sync>(
     rt: &R,
     side: Side,
     cards: &mut [Card],
     batch: &mut Batch,
     arrivals: &[Arrival],
     threads: usize,
+    gate: &G,
 ) -> Result<(), AllocError>
     requires some { 0 < length cards.old }
     requires limit { length cards.old ≤ 64 }
@@ -102,7 +106,7 @@ fn police_batch<R: Threads + Sync>(
     batch.decisions.clear();
     batch.decisions.reserve(arrivals.len())?;
     make_room(cards, batch.dealt.as_slice())?;
-    police_each(rt, cards, arrivals, batch.dealt.as_slice(), threads);
+    police_each(rt, cards, arrivals, batch.dealt.as_slice(), threads, gate);
     gather(
         cards,
         side,
@@ -142,13 +146,14 @@ fn make_room(cards: &mut [Card], dealt: &[Vec<usize>]) -> Result<(), AllocError>
     Ok(())
 }
 
-/// Each card polices the arrivals at its places, on at most this number of threads.
-fn police_each<R: Threads + Sync>(
+/// Each card polices the arrivals at its places, on at most this number of threads, after it has passed the gate.
+fn police_each<R: Threads + Sync, G: Gate + Sync>(
     rt: &R,
     cards: &mut [Card],
     arrivals: &[Arrival],
     dealt: &[Vec<usize>],
     threads: usize,
+    gate: &G,
 )
     requires sized { length cards.old ≤ length dealt.now }
     requires within { (number : ℕ) (places : _) → slice_get dealt.now number ≡ Some places
@@ -167,7 +172,12 @@ fn police_each<R: Threads + Sync>(
         rt,
         cards,
         threads.max(1),
-        &|number, card| { card.police(arrivals, dealt[number].as_slice()) },
+        &|number, card|
+            requires { (number < length dealt.now)
+                × ((places : _) → slice_get dealt.now number ≡ Some places
+                → All (λ place. place < length arrivals.now) places.items × IsReady card.now (length places.items))
+                × IsAtRest card.now.core }
+        { card.police(gate, arrivals, dealt[number].as_slice()) },
     );
 }
 

@@ -6,6 +6,7 @@ use crate::arrival::{Arrival, Decision};
 use crate::card::Card;
 use crate::dealing::card_of;
 use crate::fault::{NoRoom, ProgramFault, ShelfFault};
+use crate::gate::{Gate, NoWait};
 use crate::loading::load_all;
 use crate::retiring::retire_all;
 use crate::room::Room;
@@ -254,9 +255,28 @@ impl Shelf {
         ensures shape { self.new.shape ≡ self.old.shape }
         ensures unchanged { OnErr result (self.new ≡ self.old) }
     {
+        self.police_at(rt, alloc, arrivals, threads, &NoWait)
+    }
+
+    /// The same, with a gate before the arrivals of each card.
+    pub(crate) fn police_at<R: Threads + Sync, G: Gate + Sync>(
+        &mut self,
+        rt: &R,
+        alloc: Global,
+        arrivals: &[Arrival],
+        threads: usize,
+        gate: &G,
+    ) -> Result<Vec<Decision>, AllocError>
+        ensures batch { IfOk result (λ decisions.
+            PolicesBatch self.old.shape.side self.old.cards arrivals.now decisions.items self.new.cards) }
+        ensures as_one { IfOk result (λ decisions.
+            DecidesAsOneCard self.old.shape self.old.cards arrivals.now decisions.items self.new.cards) }
+        ensures shape { self.new.shape ≡ self.old.shape }
+        ensures unchanged { OnErr result (self.new ≡ self.old) }
+    {
         let side = self.shape.side;
         let cards = self.cards.as_mut_slice();
-        police_all(rt, alloc, side, cards, arrivals, threads)
+        police_all(rt, alloc, side, cards, arrivals, threads, gate)
     }
 
     /// Polices arrivals as [`Shelf::police`] does, in room that the caller lends. The answers are in the room afterwards, in
@@ -285,6 +305,29 @@ impl Shelf {
         ensures cards { room.new.cards ≡ room.old.cards }
         ensures unchanged { OnErr result ((self.new ≡ self.old) × (room.new ≡ room.old)) }
     {
+        self.police_in_at(rt, room, arrivals, threads, &NoWait)
+    }
+
+    /// The same, with a gate before the arrivals of each card.
+    pub(crate) fn police_in_at<R: Threads + Sync, G: Gate + Sync>(
+        &mut self,
+        rt: &R,
+        room: &mut Room,
+        arrivals: &[Arrival],
+        threads: usize,
+        gate: &G,
+    ) -> Result<(), NoRoom>
+        ensures fits { IsOk result ↔ ((length arrivals.now ≤ room.old.most) × (length self.old.cards ≤ room.old.cards)) }
+        ensures refused { IfErr result (IsNoRoom room.old (length arrivals.now) (length self.old.cards)) }
+        ensures batch { OnOk result
+            (PolicesBatch self.old.shape.side self.old.cards arrivals.now room.new.decisions self.new.cards) }
+        ensures as_one { OnOk result
+            (DecidesAsOneCard self.old.shape self.old.cards arrivals.now room.new.decisions self.new.cards) }
+        ensures shape { self.new.shape ≡ self.old.shape }
+        ensures most { room.new.most ≡ room.old.most }
+        ensures cards { room.new.cards ≡ room.old.cards }
+        ensures unchanged { OnErr result ((self.new ≡ self.old) × (room.new ≡ room.old)) }
+    {
         if arrivals.len() > room.most() {
             return Err(NoRoom::Arrivals);
         }
@@ -292,7 +335,7 @@ impl Shelf {
             return Err(NoRoom::Cards);
         }
         let side = self.shape().side;
-        room.police(rt, side, self.cards.as_mut_slice(), arrivals, threads);
+        room.police(rt, side, self.cards.as_mut_slice(), arrivals, threads, gate);
         Ok(())
     }
 }

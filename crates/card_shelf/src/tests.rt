@@ -1,5 +1,6 @@
 //! A shelf beside one card, and each call once.
 
+mod at_once;
 mod faults;
 mod sizes;
 

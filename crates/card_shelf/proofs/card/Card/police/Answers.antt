@@ -11,7 +11,7 @@ use Rattle.card_shelf.proofs.RestLemmas.{serving-rests}
 use Rattle.card_shelf.proofs.card.Card.police.Goals as goal
 
 pub loop-place-preserved : goal.loop-place-preserved
-loop-place-preserved c =
+loop-place-preserved g c =
     let arrivals = c.args.arrivals.now in
     let places = c.args.places.now in
     let k = c.loop-place.place-index in

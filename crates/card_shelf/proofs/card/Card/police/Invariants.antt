@@ -5,7 +5,7 @@ use Rattle.card_shelf.specs.inner.Rest.{IsAtRest}
 use Rattle.card_shelf.proofs.card.Card.police.Given as goal
 
 abbrev pub invariant-loop-place : goal.invariant-loop-place
-invariant-loop-place l = record {
+invariant-loop-place g l = record {
   served : ServesAll l.fn.self.core (picked l.arrivals (take l.place-index l.places)) l.self.decisions.items l.self.core;
   rest : IsAtRest l.self.core;
   decisions : vec_len l.self.decisions ≡ l.place-index;

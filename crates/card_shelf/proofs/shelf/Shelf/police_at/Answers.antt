@@ -6,7 +6,7 @@ use Rattle.card_shelf.specs.inner.Cards.{cores_of}
 use Rattle.card_shelf.proofs.Beside.{decides-as-one}
 use Rattle.card_shelf.proofs.Lists.{overwritten}
 use Rattle.card_shelf.proofs.OwnLemmas.{Decision}
-use Rattle.card_shelf.proofs.shelf.Shelf.police.Goals as goal
+use Rattle.card_shelf.proofs.shelf.Shelf.police_at.Goals as goal
 
 -- What follows for each value of a result.
 each-ok : {A : Type 0} {E : Type 0} (P Q : A → Type 0) (result : Result A E) → ((value : A) → P value → Q value) → IfOk result P → IfOk result Q

@@ -7,7 +7,7 @@ use Rattle.card_shelf.specs.declared.card.Card.{Card}
 use Rattle.card_shelf.specs.inner.Cards.{cores_of}
 use Rattle.card_shelf.proofs.Beside.{decides-as-one}
 use Rattle.card_shelf.proofs.Lists.{overwritten}
-use Rattle.card_shelf.proofs.shelf.Shelf.police_in.Goals as goal
+use Rattle.card_shelf.proofs.shelf.Shelf.police_in_at.Goals as goal
 
 pub returns-clause-as_one : goal.returns-clause-as_one
 returns-clause-as_one g c =

@@ -1,0 +1,88 @@
+//! Cards police their arrivals at the same time. No clause can say this: a body that uses one thread gives the same answers.
+
+use super::{arrivals, open_all, shape};
+use crate::gate::Gate;
+use crate::{Arrival, Room, Shelf};
+use std::alloc::Global;
+use std::sync::atomic::{AtomicU64, Ordering};
+use std::test::Fail;
+use std::thread::{self, Threads};
+
+/// The maximum number of turns that a card waits for another.
+const TURNS: u64 = 10_000_000;
+
+/// A gate at which a card waits for another one, and notes whether it came.
+#[derive(Drop)]
+struct Meeting<'a> {
+    /// How many cards have come.
+    came: &'a AtomicU64,
+    /// How many of them have seen another one.
+    met: &'a AtomicU64,
+}
+
+impl Gate for Meeting<'_> {
+    fn before_arrivals(&self) {
+        self.came.fetch_add(1, Ordering::SeqCst);
+        for _ in 0..TURNS {
+            if self.came.load(Ordering::SeqCst) > 1 {
+                self.met.fetch_add(1, Ordering::SeqCst);
+                return;
+            }
+            thread::yield_now();
+        }
+    }
+}
+
+/// Polices a batch with a gate at which two cards meet. Returns how many met.
+fn meet<R: Threads + Sync>(
+    rt: &R,
+    alloc: Global,
+    shelf: &mut Shelf,
+    all: &[Arrival],
+    came: &AtomicU64,
+    met: &AtomicU64,
+) -> Result<u64, Fail> {
+    let gate = Meeting { came, met };
+    shelf.police_at(rt, alloc, all, 2, &gate)?;
+    Ok(met.load(Ordering::SeqCst))
+}
+
+/// The same in a room.
+fn meet_in_room<R: Threads + Sync>(
+    rt: &R,
+    shelf: &mut Shelf,
+    room: &mut Room,
+    all: &[Arrival],
+    came: &AtomicU64,
+    met: &AtomicU64,
+) -> u64 {
+    let gate = Meeting { came, met };
+    let _ = shelf.police_in_at(rt, room, all, 2, &gate);
+    met.load(Ordering::SeqCst)
+}
+
+#[test]
+fn two_cards_police_at_the_same_time(rt: HostRuntime) -> Result<(), Fail> {
+    let mut shelf = Shelf::new(rt.alloc(), shape(), 2)?;
+    open_all(rt.alloc(), &mut shelf)?;
+    let all = arrivals(rt.alloc())?;
+    let came = AtomicU64::new(0);
+    let met = AtomicU64::new(0);
+    assert_eq!(rt; meet(&rt, rt.alloc(), &mut shelf, &all, &came, &met)?, 2);
+    Ok(())
+}
+
+#[test]
+fn two_cards_police_in_a_room_at_the_same_time(rt: HostRuntime) -> Result<(), Fail> {
+    let mut shelf = Shelf::new(rt.alloc(), shape(), 2)?;
+    open_all(rt.alloc(), &mut shelf)?;
+    let all = arrivals(rt.alloc())?;
+    let mut room = Room::new(rt.alloc(), 2, all.len())?;
+    let came = AtomicU64::new(0);
+    let met = AtomicU64::new(0);
+    assert_eq!(rt;
+        meet_in_room(&rt, &mut shelf, &mut room, &all, &came, &met),
+        2
+    );
+    Ok(())
+}
