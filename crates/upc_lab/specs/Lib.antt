@@ -3,6 +3,7 @@ pub mod LabWords
 pub mod LabText
 pub mod LabMessages
 pub mod FailureLines
+pub mod ShownNames
 pub mod SetupFile
 pub mod Progress
 pub mod inner

@@ -3,7 +3,6 @@ use Rattle.std.specs.Prelude.{◌≡◌, ◌⊎◌, ◌==◌, IsTrue, if◌then�
 use Rattle.std.specs.Path.{path_with_file_name}
 use Rattle.std.specs.Str.{bytes_eq}
 use Rattle.std.specs.String.{string_bytes}
-use Rattle.lab_setups.specs.FileNames.{escaped_name}
 use Rattle.lab_setups.specs.RulesFiles.{octets_of_texts}
 use Rattle.text_io.specs.declared.device.Input.{Ghosts as InputView}
 use Rattle.text_io.specs.declared.device.Output.{Ghosts as OutputView}
@@ -13,6 +12,7 @@ use Rattle.upc_choice.specs.declared.choice.Stop.{Stop}
 use Rattle.upc_exit.specs.Invocation.{CarriesOut, IsStatusFor}
 use Rattle.upc_exit.specs.Messages.{IsIdle, WritesMessage}
 use Rattle.upc_lab.specs.LabText.{IsAskedText}
+use Rattle.upc_lab.specs.ShownNames.{shown_name}
 use Rattle.upc_lab.specs.declared.choice.Asked.{Asked}
 use Rattle.upc_lab.specs.declared.choice.Asked.TheVariants.{Police}
 use Rattle.upc_lab.specs.declared.setup_file.SetupFiles.{SetupFiles}
@@ -27,13 +27,10 @@ setup_name _ = None
 abbrev pub IsGivenAs : List ℕ → List ℕ → Type 0
 IsGivenAs name shown = (name ≡ shown) ⊎ IsTrue (bytes_eq (shown_word name) shown)
 
--- The message that a file can't be read, with its name as it is shown and the reason, in the words of the system or of this program.
+-- The message that the file with this name can't be read, with the name as it is shown and the reason, in the words of the system or of
+-- this program.
 abbrev pub unreadable_line : List ℕ → List ℕ → List ℕ
-unreadable_line shown reason = codes "upc-lab: cannot read " ++ (shown ++ codes ": " ++ (reason ++ codes "\n"))
-
--- The line is this message about the file with this name.
-abbrev pub IsUnreadableLine : List ℕ → List ℕ → List ℕ → Type 0
-IsUnreadableLine name reason line = (line ≡ unreadable_line name reason) ⊎ (line ≡ unreadable_line (escaped_name name) reason)
+unreadable_line name reason = codes "upc-lab: cannot read " ++ (shown_name name ++ (codes ": " ++ (reason ++ codes "\n")))
 
 -- The message without the name and a reason, for which no allocation was left.
 abbrev pub plain_unreadable_line : List ℕ
@@ -41,7 +38,7 @@ plain_unreadable_line = codes "upc-lab: cannot read the files of the setup\n"
 
 -- The line is the message about the file with this name, or is empty because no allocation was left for it.
 abbrev pub IsUnreadable : List ℕ → Unreadable → Type 0
-IsUnreadable name unreadable = (unreadable.line.items ≡ []) ⊎ IsUnreadableLine name unreadable.reason.items unreadable.line.items
+IsUnreadable name unreadable = (unreadable.line.items ≡ []) ⊎ (unreadable.line.items ≡ unreadable_line name unreadable.reason.items)
 
 -- The same, of the setup script with this name, of a file of rules beside it, or of one whose name stays as the script has it.
 abbrev pub IsUnreadableSetup : List ℕ → Unreadable → Type 0

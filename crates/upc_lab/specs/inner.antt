@@ -4,4 +4,4 @@ pub mod RowNamed
 pub mod PartialCommands
 pub mod ReasonedLine
 pub mod ProgressText
-pub mod NameAdded
+pub mod OnlyWord

@@ -1,11 +1,14 @@
 //! The names of files: as the words of the command line give them, and as messages show them.
 
-ghost use Rattle.std.specs.Prelude.{◌≡◌, IfOk, IfSome, IsTrue, OnOk, map};
+ghost use Rattle.std.specs.Prelude.{◌≡◌, ◌++◌, IfOk, IfSome, IsTrue, OnOk, chars, map};
+ghost use Rattle.std.specs.Char.{is_control};
+ghost use Rattle.std.specs.List.{list_any};
 ghost use Rattle.std.specs.Str.{bytes_eq};
 ghost use Rattle.std.specs.String.{string_bytes};
 ghost use Rattle.upc_choice.specs.ShownWords.{shown_word};
 ghost use Rattle.upc_lab.specs.SetupFile.{IsGivenAs};
-ghost use Rattle.upc_lab.specs.inner.NameAdded.{AddsName, is_only};
+ghost use Rattle.upc_lab.specs.ShownNames.{is_terminal_text, shown_name};
+ghost use Rattle.upc_lab.specs.inner.OnlyWord.{is_only};
 
 use lab_setups::add_escaped_name;
 use std::alloc::{AllocError, Global};
@@ -78,10 +81,19 @@ pub(crate) fn name_given<C: CommandLine>(
     word_shown_as(alloc, line, shown)
 }
 
-/// Returns whether a name is UTF-8 without control characters.
-fn is_text(name: &[u8]) -> bool {
+/// Returns whether a text has a control character.
+fn has_control(text: &str) -> bool
+    ensures { result ≡ list_any is_control (chars text.now) }
+{
+    text.chars().any(|character| character.is_control())
+}
+
+/// Returns whether a name is a text for a terminal: UTF-8 without control characters.
+fn is_terminal_text(name: &[u8]) -> bool
+    ensures { result ≡ is_terminal_text name.now }
+{
     match str::from_utf8(name) {
-        Ok(text) => !text.chars().any(char::is_control),
+        Ok(text) => !has_control(text),
         Err(_) => false,
     }
 }
@@ -92,9 +104,9 @@ pub(crate) fn add_shown_name(
     text: &mut Vec<u8>,
     name: &[u8],
 ) -> Result<(), AllocError>
-    ensures { OnOk result (AddsName name.now text.old.items text.new.items) }
+    ensures { OnOk result (text.new.items ≡ text.old.items ++ shown_name name.now) }
 {
-    if is_text(name) {
+    if is_terminal_text(name) {
         text.extend_from_slice(name)?;
         return Ok(());
     }

@@ -4,7 +4,7 @@ ghost use Rattle.std.specs.Prelude.{◌≡◌, ◌⊎◌, IfErr, IfOk, IfSome, I
 ghost use Rattle.std.specs.Path.{path_with_file_name};
 ghost use Rattle.lab_setups.specs.FilesRead.{AreTextsForFiles, IsTextForFile, files_read, octets_of_name, octets_of_names};
 ghost use Rattle.lab_setups.specs.RulesFiles.{octets_of_text, octets_of_texts};
-ghost use Rattle.upc_lab.specs.SetupFile.{IsUnreadable, IsUnreadableLine, IsUnreadableSetup, IsUnreadableShown, setup_name, unreadable_message};
+ghost use Rattle.upc_lab.specs.SetupFile.{IsUnreadable, IsUnreadableSetup, IsUnreadableShown, setup_name, unreadable_line, unreadable_message};
 
 use crate::choice::Asked;
 use crate::file_names::{add_shown_name, name_given};
@@ -104,8 +104,9 @@ impl Unreadable {
 }
 
 /// Returns the message with a reason.
+#[tactic(auto, using(std::proofs::lemmas::List::append_assoc))]
 fn unreadable_line(alloc: Global, name: &[u8], reason: &[u8]) -> Result<Vec<u8>, AllocError>
-    ensures { IfOk result (λ line. IsUnreadableLine name.now reason.now line.items) }
+    ensures { IfOk result (λ line. line.items ≡ unreadable_line name.now reason.now) }
 {
     let mut line = Vec::new(alloc);
     line.extend_from_slice(b"upc-lab: cannot read ")?;
@@ -118,7 +119,7 @@ fn unreadable_line(alloc: Global, name: &[u8], reason: &[u8]) -> Result<Vec<u8>,
 
 /// Returns the message with a reason. It is empty if there is no reason or an allocation fails.
 fn line_for(alloc: Global, name: &[u8], reason: &[u8]) -> Vec<u8>
-    ensures { (result.items ≡ []) ⊎ IsUnreadableLine name.now reason.now result.items }
+    ensures { (result.items ≡ []) ⊎ (result.items ≡ unreadable_line name.now reason.now) }
 {
     if reason.is_empty() {
         return Vec::new(alloc);

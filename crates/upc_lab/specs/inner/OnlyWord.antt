@@ -1,0 +1,9 @@
+-- A word that is the only one.
+use Rattle.std.specs.Prelude.{ℕ, Bool, false, List, [], ◌∷◌}
+use Rattle.std.specs.Str.{bytes_eq}
+
+-- Whether the words are this one alone.
+abbrev pub is_only : List ℕ → List (List ℕ) → Bool
+is_only shown [] = false
+is_only shown (only ∷ []) = bytes_eq only shown
+is_only shown (only ∷ other ∷ more) = false
