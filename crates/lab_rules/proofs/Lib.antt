@@ -7,4 +7,6 @@ pub mod CommentsAdded
 pub mod Annotated
 pub mod CommentsKept
 pub mod CommentsPut
-pub mod Gathering
+pub mod RulesTaken
+pub mod Places
+pub mod WhyAnswers

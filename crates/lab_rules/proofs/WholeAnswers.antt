@@ -1,5 +1,5 @@
 -- Every input has an answer.
-use Rattle.std.proofs.Common.{◌≡◌, ℕ, ◌+◌, ◌≤◌, inl, inr, List, [], ◌++◌, Option, Some, None, Result, Ok, Err, length, refl, ap, sym, ◌∙◌, subst, arith, append-nil, nat_lt, if◌then◌else◌}
+use Rattle.std.proofs.Common.{◌≡◌, ℕ, ◌+◌, ◌≤◌, ◌⊎◌, inl, inr, List, [], ◌++◌, Option, Some, None, Result, Ok, Err, length, refl, ap, sym, ◌∙◌, subst, arith, append-nil, nat_lt, if◌then◌else◌}
 use Rattle.rules_text.specs.RulesRead.{RulesRead}
 use Rattle.rules_text.specs.TextOfRules.{placed_fault, rules_in}
 use Rattle.rules_text.specs.declared.fault.RuleFault.{RuleFault}
@@ -11,7 +11,7 @@ use Rattle.text_io.specs.Printing.{IsFront}
 use Rattle.text_io.specs.declared.ending.Done.{Done}
 use Rattle.text_io.specs.declared.ending.Done.TheVariants.{Ended}
 use Rattle.lab_rules.specs.RuleFaults.{rule_fault}
-use Rattle.lab_rules.specs.RulesAnswers.{AnswersBy, IsAnswerBy, MayBeAnswerBy, most_rules_octets}
+use Rattle.lab_rules.specs.RulesAnswers.{AnswersBy, AreRulesOf, IsAnswerBy, MayBeAnswerBy, PrintsLongCode, most_rules_octets}
 use Rattle.lab_rules.specs.declared.answering.Printed.{Printed}
 use Rattle.lab_rules.specs.declared.answering.Printed.TheVariants.{Octets, Source}
 use Rattle.lab_rules.specs.inner.PrintedAs.{prints_as}
@@ -22,24 +22,25 @@ faulty : (printed : Printed) (text : List ℕ) (fault : RuleFault) → rules_in 
 faulty Octets text fault same = inr (inl (fault, same, refl, refl))
 faulty Source text fault same = inr (inl (fault, same, refl, refl))
 
--- A text has a fault, or rules whose code may be too long.
-read-answered : (printed : Printed) (octets text : List ℕ) (read : Result RulesRead RuleFault) → gathered most_rules_octets octets ≡ Some text → rules_in text ≡ read
-    → (answer : List ℕ) × (done : Done) × MayBeAnswerBy (prints_as printed) octets answer done
-read-answered printed octets text (Ok rules) found same =
-    (rule_fault (placed_fault 0 0 TooLong), Ended, inr ((text, rules, found, same), (refl, refl)))
-read-answered printed octets text (Err fault) found same =
-    let P : Option (List ℕ) → Type 0 = λ found. AnswersBy (prints_as printed) found (rule_fault fault) Ended in
-    (rule_fault fault, Ended, inl (subst P (sym found) (faulty printed text fault same)))
+-- What answers a text that has this fault.
+abbrev FaultsAnswered : (List ℕ → List ℕ → Done → Type 0) → Type 0
+FaultsAnswered prints = (text : List ℕ) (fault : RuleFault) → rules_in text ≡ Err fault → prints text (rule_fault fault) Ended
 
-found-answered : (printed : Printed) (octets : List ℕ) (found : Option (List ℕ)) → gathered most_rules_octets octets ≡ found
-    → (answer : List ℕ) × (done : Done) × MayBeAnswerBy (prints_as printed) octets answer done
-found-answered printed octets None same =
-    let P : Option (List ℕ) → Type 0 = λ found. AnswersBy (prints_as printed) found too_long Ended in
-    (too_long, Ended, inl (subst P (sym same) (refl, refl)))
-found-answered printed octets (Some text) same = read-answered printed octets text (rules_in text) same refl
+-- An answer, or that the code of rules is too long.
+abbrev MayAnswer : (List ℕ → List ℕ → Done → Type 0) → Option (List ℕ) → Type 0
+MayAnswer prints found = (answer : List ℕ) × (done : Done) × (AnswersBy prints found answer done ⊎ (AreRulesOf found × PrintsLongCode answer done))
+
+read-answered : (prints : List ℕ → List ℕ → Done → Type 0) (text : List ℕ) (read : Result RulesRead RuleFault) → FaultsAnswered prints → rules_in text ≡ read → MayAnswer prints (Some text)
+read-answered prints text (Ok rules) faults same = (rule_fault (placed_fault 0 0 TooLong), Ended, inr ((text, rules, refl, same), (refl, refl)))
+read-answered prints text (Err fault) faults same = (rule_fault fault, Ended, inl (faults text fault same))
+
+-- A text that was found, or is over the limit, has an answer.
+pub found-answered : (prints : List ℕ → List ℕ → Done → Type 0) (found : Option (List ℕ)) → FaultsAnswered prints → MayAnswer prints found
+found-answered prints None faults = (too_long, Ended, inl (refl, refl))
+found-answered prints (Some text) faults = read-answered prints text (rules_in text) faults refl
 
 pub some-answer : (printed : Printed) (octets : List ℕ) → (answer : List ℕ) × (done : Done) × MayBeAnswerBy (prints_as printed) octets answer done
-some-answer printed octets = found-answered printed octets (gathered most_rules_octets octets) refl
+some-answer printed octets = found-answered (prints_as printed) (gathered most_rules_octets octets) (faulty printed)
 
 -- One octet more than the limit is over the limit.
 gathered-none : (octets : List ℕ) → length octets ≡ most_rules_octets + 1 → gathered most_rules_octets octets ≡ None

@@ -1,16 +1,10 @@
--- The line `cells`, and the lines before it.
-use Rattle.std.proofs.Common.{◌≡◌, ℕ, ◌+◌, ◌<◌, ◌≤◌, ◌==◌, Bool, true, false, List, [], ◌∷◌, ◌++◌, codes, drop, take, length, get_or, Option, Some, None, option_map, refl, sym, ap, subst, ◌∙◌, arith, append-nil, append_assoc}
+-- The line `cells`.
+use Rattle.std.proofs.Common.{◌≡◌, ℕ, ◌+◌, ◌<◌, ◌≤◌, ◌==◌, Bool, true, false, List, [], ◌∷◌, ◌++◌, codes, drop, take, length, get_or, refl, sym, ap, subst, ◌∙◌, arith, append-nil, append_assoc}
 use Rattle.std.proofs.lemmas.Bool.{eqb-true}
 use Rattle.std.proofs.lemmas.List.{drop_all, drop_more, take_all, take_more}
-use Rattle.std.specs.Bool.{MatchBool}
 use Rattle.std.specs.Str.{bytes_eq}
-use Rattle.rules_text.specs.TextOfRules.{numbered_in}
-use Rattle.rules_text.specs.declared.reader.NumberedRules.{NumberedRules}
-use Rattle.text_io.specs.Answering.{Answers}
 use Rattle.text_io.specs.Words.{is_silent, words_of}
-use Rattle.text_io.specs.declared.machine.Turn.TheVariants.{GoesOn}
-use Rattle.lab_rules.specs.WhyText.{WhySteps, WhyWorld, among_cells, are_cells, before_cells, before_comment, fault_answer, is_cells_line, some_rules, why_rules, with_rules_line}
-use Rattle.lab_rules.specs.inner.WhyLaws.{why_world}
+use Rattle.lab_rules.specs.WhyText.{are_cells, before_comment, says_cells}
 
 -- ---- the octets before a comment
 
@@ -48,8 +42,8 @@ looked_all line at le looked =
 
 -- ---- the line `cells`
 
-pub one_word : (line cut word : List ℕ) (is : Bool) → cut ≡ before_comment line → words_of cut ≡ word ∷ [] → is ≡ bytes_eq word (codes "cells") → is ≡ is_cells_line line
-unfolding is_cells_line
+pub one_word : (line cut word : List ℕ) (is : Bool) → cut ≡ before_comment line → words_of cut ≡ word ∷ [] → is ≡ bytes_eq word (codes "cells") → is ≡ says_cells line
+unfolding says_cells
 one_word line cut word is same words e =
     e ∙ ap are_cells (sym words) ∙ ap (λ (octets : List ℕ). are_cells (words_of octets)) same
 
@@ -62,42 +56,13 @@ silent_words ([] ∷ []) e = cc
 silent_words ((octet ∷ octets) ∷ []) e = no_remark octet octets (eqb-true octet 35 e)
 silent_words (word ∷ other ∷ words) e = refl
 
-pub silent_line : (line cut : List ℕ) → cut ≡ before_comment line → is_silent (words_of cut) ≡ true → false ≡ is_cells_line line
-unfolding is_cells_line
+pub silent_line : (line cut : List ℕ) → cut ≡ before_comment line → is_silent (words_of cut) ≡ true → false ≡ says_cells line
+unfolding says_cells
 silent_line line cut same silent = silent_words (words_of cut) silent ∙ ap (λ (octets : List ℕ). are_cells (words_of octets)) same
 
 several_words : (words : List (List ℕ)) (word other : List ℕ) (more : List (List ℕ)) → words ≡ word ∷ other ∷ more → false ≡ are_cells words
 several_words words word other more e = ap are_cells (sym e)
 
-pub several_line : (line cut word other : List ℕ) (more : List (List ℕ)) → cut ≡ before_comment line → words_of cut ≡ word ∷ other ∷ more → false ≡ is_cells_line line
-unfolding is_cells_line
+pub several_line : (line cut word other : List ℕ) (more : List (List ℕ)) → cut ≡ before_comment line → words_of cut ≡ word ∷ other ∷ more → false ≡ says_cells line
+unfolding says_cells
 several_line line cut word other more same words = several_words (words_of cut) word other more words ∙ ap (λ (octets : List ℕ). are_cells (words_of octets)) same
-
--- ---- a line of rules
-
--- The answer to a line before the cells, which says that cells follow or doesn't.
-abbrev StepsBy : Bool → List ℕ → List ℕ → List ℕ → Option WhyWorld → Type 0
-StepsBy is text content here next = MatchBool is
-    ((here ≡ fault_answer (numbered_in text)) × (next ≡ option_map among_cells (some_rules (numbered_in text))))
-    ((here ≡ []) × (next ≡ Some (before_cells (with_rules_line text content))))
-
-taken_step : (is : Bool) (text line new : List ℕ) → is ≡ false → new ≡ with_rules_line text line → StepsBy is text line [] (Some (before_cells new))
-taken_step true text line new e made = cc
-taken_step false text line new e made = (refl, ap (λ (t : List ℕ). Some (before_cells t)) made)
-
-rules_step : (answers text line new : List ℕ) → is_cells_line line ≡ false → new ≡ with_rules_line text line
-    → Answers why_rules (λ world. world ≡ before_cells text) line GoesOn (λ world. world ≡ before_cells new) answers answers
-rules_step answers text line new other made = (
-  [],
-  sym (append-nil answers),
-  λ world sound shown.
-      (before_cells new, refl, subst (λ (w : WhyWorld). WhySteps w line [] (Some (before_cells new))) (sym shown) (taken_step (is_cells_line line) text line new other made)),
-)
-
-pub rules_taken : (answers text line mid new : List ℕ) (numbered : Option NumberedRules) → numbered ≡ None → is_cells_line line ≡ false → mid ≡ text ++ line → new ≡ mid ++ codes "\r\n"
-    → Answers why_rules (λ world. world ≡ why_world text numbered) line GoesOn (λ world. world ≡ why_world new numbered) answers answers
-unfolding with_rules_line
-rules_taken answers text line mid new numbered none other e f =
-    let made : new ≡ text ++ (line ++ codes "\r\n") = f ∙ ap (λ (t : List ℕ). t ++ codes "\r\n") e ∙ append_assoc text line (codes "\r\n") in
-    subst (λ (n : Option NumberedRules). Answers why_rules (λ world. world ≡ why_world text n) line GoesOn (λ world. world ≡ why_world new n) answers answers) (sym none)
-    (rules_step answers text line new other made)

@@ -3,9 +3,9 @@ pub mod RuleFaults
 pub mod RulesAnswers
 pub mod RulesText
 pub mod RulesLaws
-pub mod WhyText
-pub mod WhyGathering
 pub mod CommentLines
 pub mod AsmText
 pub mod AsmLaws
+pub mod WhyText
+pub mod WhyLaws
 pub mod inner

@@ -33,9 +33,13 @@ AnswersBy prints found answer done = MatchOption found ((answer ≡ too_long) ×
 abbrev pub IsAnswerBy : (List ℕ → List ℕ → Done → Type 0) → List ℕ → List ℕ → Done → Type 0
 IsAnswerBy prints octets answer done = AnswersBy prints (gathered most_rules_octets octets) answer done
 
+-- The text was found, and has rules.
+abbrev pub AreRulesOf : Option (List ℕ) → Type 0
+AreRulesOf found = (text : List ℕ) × (rules : RulesRead) × (found ≡ Some text) × (rules_in text ≡ Ok rules)
+
 -- The input is a text that has rules.
 abbrev pub AreRules : List ℕ → Type 0
-AreRules octets = (text : List ℕ) × (rules : RulesRead) × (gathered most_rules_octets octets ≡ Some text) × (rules_in text ≡ Ok rules)
+AreRules octets = AreRulesOf (gathered most_rules_octets octets)
 
 -- The same, but that the code of any rules may be reported as too long. Every input has such an output, so if a device fails,
 -- what was written is the beginning of one.

@@ -1,24 +1,23 @@
 -- The output of `upc-lab why`. The lines before the line `cells` are a text of rules, and each line after it is a cell. The answer to a
 -- cell is the line of the rule that decides it, and its value.
-use Rattle.std.specs.Prelude.{◌≡◌, ℕ, ◌==◌, Bool, false, if◌then◌else◌, List, [], ◌∷◌, ◌++◌, length, codes, decimal, slice_index, Option, Some, None, option_map, Result, Ok, Err, MatchBool}
+use Rattle.std.specs.Prelude.{◌≡◌, ◌⊎◌, ◌≤◌, ℕ, ◌==◌, ◌&&◌, nat_le, Bool, false, if◌then◌else◌, List, [], ◌∷◌, ◌++◌, length, codes, decimal, slice_index, Option, Some, None, Ok}
 use Rattle.std.specs.Str.{bytes_eq}
+use Rattle.bpf_code.specs.declared.instr.Instr.{Instr}
 use Rattle.cell_rules.specs.declared.deciding.Decision.{Decision}
+use Rattle.rules_text.specs.CodeOfText.{IsCodeOfText}
 use Rattle.rules_text.specs.DecisionsRead.{rules_decide}
 use Rattle.rules_text.specs.TextOfRules.{NumberedRead, numbered_in}
-use Rattle.rules_text.specs.declared.fault.RuleFault.{RuleFault}
-use Rattle.text_io.specs.Lines.{lines_of}
+use Rattle.text_io.specs.Gathered.{gathered}
+use Rattle.text_io.specs.Limits.{most_line_octets}
+use Rattle.text_io.specs.Lines.{Line, lines_of, line_content}
 use Rattle.text_io.specs.Printing.{Rules, Prints}
 use Rattle.text_io.specs.Words.{words_of, is_silent}
 use Rattle.text_io.specs.declared.ending.Done.{Done}
-use Rattle.text_io.specs.declared.ending.Done.TheVariants.{Whole, Ended}
+use Rattle.text_io.specs.declared.ending.Done.TheVariants.{Whole}
 use Rattle.upc_words.specs.FaultLines.{line, bad_line, bad_hex, too_long, wrong_length}
 use Rattle.upc_words.specs.Hexadecimal.{octets_of_digits, cell_of_octets}
-use Rattle.lab_rules.specs.RuleFaults.{rule_fault}
-
--- The state of a run: the text of the rules so far; then the rules, with the numbers of the source lines that they are written in.
-pub data WhyWorld : Type 0 where
-  before_cells : List ℕ → WhyWorld
-  among_cells : NumberedRead → WhyWorld
+use Rattle.lab_rules.specs.AsmText.{whole_line}
+use Rattle.lab_rules.specs.RulesAnswers.{AnswersBy, AreRulesOf, PrintsFault, PrintsLongCode, most_rules_octets}
 
 -- The words say that cells follow.
 abbrev pub are_cells : List (List ℕ) → Bool
@@ -31,23 +30,23 @@ abbrev pub before_comment : List ℕ → List ℕ
 before_comment [] = []
 before_comment (octet ∷ octets) = if octet == 35 then [] else octet ∷ before_comment octets
 
--- The line says that cells follow.
-unfoldable pub is_cells_line : List ℕ → Bool
-is_cells_line content = are_cells (words_of (before_comment content))
+-- The content of a line says that cells follow.
+unfoldable pub says_cells : List ℕ → Bool
+says_cells content = are_cells (words_of (before_comment content))
 
--- The text with one more line. A carriage return goes before its line feed, so that the line keeps one of its own at its end.
-unfoldable pub with_rules_line : List ℕ → List ℕ → List ℕ
-with_rules_line text content = text ++ (content ++ codes "\r\n")
+-- The line says that cells follow. A longer line than a cell's may be is one of the rules.
+abbrev pub is_cells_line : Line → Bool
+is_cells_line line = nat_le (length line.octets) most_line_octets && says_cells (line_content line)
 
--- The answer to a text of rules: nothing, or its fault.
-abbrev pub fault_answer : Result NumberedRead RuleFault → List ℕ
-fault_answer (Ok numbered) = []
-fault_answer (Err fault) = rule_fault fault
+-- The octets of the lines before the first line `cells`, or of all lines if there is none. They are the text of the rules.
+abbrev pub rules_before : List Line → List ℕ
+rules_before [] = []
+rules_before (line ∷ lines) = if is_cells_line line then [] else whole_line line ++ rules_before lines
 
--- The rules of a text, if it has no fault.
-abbrev pub some_rules : Result NumberedRead RuleFault → Option NumberedRead
-some_rules (Ok numbered) = Some numbered
-some_rules (Err fault) = None
+-- The lines after the first line `cells`.
+abbrev pub lines_after : List Line → List Line
+lines_after [] = []
+lines_after (line ∷ lines) = if is_cells_line line then lines else lines_after lines
 
 -- The line of the rule that decides, or `otherwise`.
 abbrev pub decider_text : List ℕ → Option ℕ → List ℕ
@@ -82,27 +81,40 @@ cell_text numbered (word ∷ other ∷ words) = bad_line
 abbrev pub why_text : NumberedRead → List (List ℕ) → List ℕ
 why_text numbered words = if is_silent words then [] else cell_text numbered words
 
--- The answer to a line, and the next state (none if the line ends the run).
-abbrev pub WhySteps : WhyWorld → List ℕ → List ℕ → Option WhyWorld → Type 0
-WhySteps (before_cells text) content here next = MatchBool (is_cells_line content)
-    ((here ≡ fault_answer (numbered_in text)) × (next ≡ option_map among_cells (some_rules (numbered_in text))))
-    ((here ≡ []) × (next ≡ Some (before_cells (with_rules_line text content))))
-WhySteps (among_cells numbered) content here next = (here ≡ why_text numbered (words_of content)) × (next ≡ Some (among_cells numbered))
+-- The answer to a line after the line `cells`, by these rules. They stay as they are.
+abbrev pub WhySteps : NumberedRead → List ℕ → List ℕ → Option NumberedRead → Type 0
+WhySteps numbered content here next = (here ≡ why_text numbered (words_of content)) × (next ≡ Some numbered)
 
--- How a run ends with the rules of a text.
-abbrev pub done_by : Option NumberedRead → Done
-done_by None = Ended
-done_by (Some numbered) = Whole
+-- The end of the input.
+abbrev pub WhyCloses : NumberedRead → List ℕ → Done → Type 0
+WhyCloses numbered here done = (here ≡ []) × (done ≡ Whole)
 
--- The end of the input. Without a line `cells` every line is one of the rules.
-abbrev pub WhyCloses : WhyWorld → List ℕ → Done → Type 0
-WhyCloses (before_cells text) here done = (here ≡ fault_answer (numbered_in text)) × (done ≡ done_by (some_rules (numbered_in text)))
-WhyCloses (among_cells numbered) here done = (here ≡ []) × (done ≡ Whole)
+-- The rules of `why` for the lines after the line `cells`.
+abbrev pub why_rules : Rules NumberedRead
+why_rules = record { steps = WhySteps; closes = WhyCloses; too_long = too_long; is_sound = λ numbered. Unit {0} }
 
--- The rules of `why`.
-abbrev pub why_rules : Rules WhyWorld
-why_rules = record { steps = WhySteps; closes = WhyCloses; too_long = too_long; is_sound = λ world. Unit {0} }
+-- The code that is defined for the text isn't too long: it has at most 4096 instructions.
+pub record HasCode (text : List ℕ) : Type 0 where
+  pub code : List Instr
+  pub of_text : IsCodeOfText text code
+  pub within : length code ≤ 4096
+
+-- The answers to lines of cells by the rules of a text, or its fault. The code isn't needed to decide cells, but a text of rules is one that
+-- can be compiled.
+abbrev pub PrintsDecisions : List Line → List ℕ → List ℕ → Done → Type 0
+PrintsDecisions cells text answer done =
+    ((numbered : NumberedRead) × (numbered_in text ≡ Ok numbered) × HasCode text × Prints why_rules 0 numbered cells answer done)
+    ⊎ PrintsFault text answer done
+
+-- The text of the rules that come before the cells of an input, if it is within the limit of texts of rules.
+abbrev pub rules_of_why : List ℕ → Option (List ℕ)
+rules_of_why octets = gathered most_rules_octets (rules_before (lines_of octets))
 
 -- The output for a whole input, and how the run ends.
 abbrev pub IsWhyText : List ℕ → List ℕ → Done → Type 0
-IsWhyText octets text done = Prints why_rules 0 (before_cells []) (lines_of octets) text done
+IsWhyText octets answer done = AnswersBy (PrintsDecisions (lines_after (lines_of octets))) (rules_of_why octets) answer done
+
+-- The same, but that the code of any rules may be reported as too long. Every input has such an output, so if a device fails,
+-- what was written is the beginning of one.
+abbrev pub MayBeWhyText : List ℕ → List ℕ → Done → Type 0
+MayBeWhyText octets answer done = IsWhyText octets answer done ⊎ (AreRulesOf (rules_of_why octets) × PrintsLongCode answer done)

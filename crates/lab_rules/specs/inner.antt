@@ -1,4 +1,6 @@
 -- Definitions that only private functions and proofs use.
-pub mod WhyLaws
+pub mod WhyTotal
+pub mod RulesTaken
+pub mod Places
 pub mod PrintedAs
 pub mod Comments

@@ -1,51 +1,32 @@
 //! `upc-lab why`: the line of rules that decides each cell.
 
-ghost use Rattle.std.specs.Prelude.{◌≡◌, ◌++◌, None, IfOk, OnOk, option_map, slice_index};
+ghost use Rattle.std.specs.Prelude.{◌≡◌, ◌++◌, IfOk, MatchOption, OnOk, Ok, option_map, slice_index};
 ghost use Rattle.rules_text.specs.DecisionsRead.{rules_decide};
 ghost use Rattle.rules_text.specs.NumberedText.{numbered_read};
 ghost use Rattle.rules_text.specs.TextOfRules.{numbered_in};
-ghost use Rattle.text_io.specs.Answering.{Answers};
+ghost use Rattle.text_io.specs.Devices.{Adds};
 ghost use Rattle.text_io.specs.Serving.{IsServed};
 ghost use Rattle.text_io.specs.Words.{words_of};
+ghost use Rattle.text_io.specs.declared.ending.Done.TheVariants.{Ended};
 ghost use Rattle.upc_words.specs.Hexadecimal.{octets_of_digits};
-ghost use Rattle.lab_rules.specs.WhyText.{IsWhyText, before_comment, decider_text, decision_text, done_by, fault_answer, is_cells_line, some_rules, value_text, why_rules, why_text, cell_word_text};
-ghost use Rattle.lab_rules.specs.inner.WhyLaws.{why_world};
+ghost use Rattle.lab_rules.specs.RulesAnswers.{AnswersBy, PrintsFault};
+ghost use Rattle.lab_rules.specs.WhyText.{HasCode, IsWhyText, MayBeWhyText, cell_word_text, decider_text, decision_text, value_text, why_rules, why_text};
+ghost use Rattle.lab_rules.specs.inner.Places.{FindsRules};
 
+use crate::before_cells::read_rules_before;
+use crate::decider::Decider;
 use crate::fault_lines::add_rule_fault;
-use cell_rules::{Decision, decide};
-use rules_text::{NumberedRules, RuleFault, RuleKind, read_numbered};
+use cell_rules::Decision;
+use rules_text::{RuleFault, RuleKind};
 use std::alloc::{AllocError, Global};
-use text_io::{Done, Input, LineWords, Machine, Output, RunFault, Turn, answer_lines, line_words};
+use text_io::{
+    Done, Input, LineWords, Machine, Output, RunFault, Turn, answer_lines, give_last, line_words,
+};
 use upc_cell::Cell;
 use upc_words::{
     CellWord, add_bad_hex, add_bad_line, add_number, add_text, add_too_long, add_wrong_length,
     cell_of_word,
 };
-
-/// The line before its comment, which begins at the first `#`.
-fn before_comment(line: &[u8]) -> &[u8]
-    ensures { result.now ≡ before_comment line.now }
-{
-    let mut at = 0;
-    while at < line.len() {
-        if line[at] == b'#' {
-            return &line[..at];
-        }
-        at += 1;
-    }
-    line
-}
-
-/// Whether a line says that cells follow.
-fn is_cells_line(line: &[u8]) -> bool
-    ensures { result ≡ is_cells_line line.now }
-{
-    match line_words(before_comment(line)) {
-        LineWords::One(word) => word == b"cells".as_slice(),
-        LineWords::Silent => false,
-        LineWords::Several => false,
-    }
-}
 
 /// The number of the source line of the line of rules at a place.
 pub(crate) fn number_at(numbers: &[usize], place: usize) -> usize
@@ -100,29 +81,25 @@ fn add_decision(
 }
 
 /// Answers a cell with the line that decides it.
-fn answer_cell(
-    numbered: &NumberedRules,
-    cell: &Cell,
-    answers: &mut Vec<u8>,
-) -> Result<(), AllocError>
+fn answer_cell(decider: &Decider, cell: &Cell, answers: &mut Vec<u8>) -> Result<(), AllocError>
     ensures { OnOk result (answers.new.items ≡ answers.old.items
-        ++ decision_text numbered.now.numbers.items (rules_decide (numbered_read numbered.now).rules cell.now)) }
+        ++ decision_text decider.now.numbered.numbers.items (rules_decide (numbered_read decider.now.numbered).rules cell.now)) }
 {
-    let decision = decide(&numbered.rules, cell);
-    add_decision(answers, &numbered.numbers, decision)
+    let decision = decider.decide(cell);
+    add_decision(answers, &decider.numbered.numbers, decision)
 }
 
 /// Answers a cell line of one word.
 fn answer_word(
     alloc: Global,
-    numbered: &NumberedRules,
+    decider: &Decider,
     word: &[u8],
     answers: &mut Vec<u8>,
 ) -> Result<(), AllocError>
-    ensures { OnOk result (answers.new.items ≡ answers.old.items ++ cell_word_text (numbered_read numbered.now) (octets_of_digits word.now)) }
+    ensures { OnOk result (answers.new.items ≡ answers.old.items ++ cell_word_text (numbered_read decider.now.numbered) (octets_of_digits word.now)) }
 {
     match cell_of_word(alloc, word)? {
-        CellWord::OfCell(cell) => answer_cell(numbered, &cell, answers),
+        CellWord::OfCell(cell) => answer_cell(decider, &cell, answers),
         CellWord::OfOthers(count) => add_wrong_length(answers, count),
         CellWord::NoDigits => add_bad_hex(answers),
     }
@@ -131,30 +108,66 @@ fn answer_word(
 /// Answers a line after the line `cells`.
 fn answer_line(
     alloc: Global,
-    numbered: &NumberedRules,
+    decider: &Decider,
     line: &[u8],
     answers: &mut Vec<u8>,
 ) -> Result<(), AllocError>
-    ensures { OnOk result (answers.new.items ≡ answers.old.items ++ why_text (numbered_read numbered.now) (words_of line.now)) }
+    ensures { OnOk result (answers.new.items ≡ answers.old.items ++ why_text (numbered_read decider.now.numbered) (words_of line.now)) }
 {
     match line_words(line) {
         LineWords::Silent => Ok(()),
-        LineWords::One(word) => answer_word(alloc, numbered, word, answers),
+        LineWords::One(word) => answer_word(alloc, decider, word, answers),
         LineWords::Several => add_bad_line(answers),
     }
 }
 
+/// The subcommand as a machine, after the line `cells`.
+#[derive(Drop)]
+struct Deciding {
+    alloc: Global,
+    decider: Decider,
+}
+
+impl Machine for Deciding {
+    ghost use Rattle.rules_text.specs.NumberedText.{numbered_read};
+    ghost use Rattle.rules_text.specs.TextOfRules.{NumberedRead};
+    ghost use Rattle.lab_rules.specs.WhyText.{why_rules};
+    ghost use Rattle.lab_rules.specs.inner.WhyTotal.{why-total};
+
+    ghost World = { NumberedRead };
+
+    ghost shows = { λ deciding numbered. numbered ≡ numbered_read deciding.decider.numbered };
+
+    ghost rules = { why_rules };
+
+    fn answer(&mut self, line: &[u8], answers: &mut Vec<u8>) -> Result<Turn, AllocError> {
+        answer_line(self.alloc, &self.decider, line, answers)?;
+        Ok(Turn::GoesOn)
+    }
+
+    fn close(&self, _answers: &mut Vec<u8>) -> Result<Done, AllocError> {
+        Ok(Done::Whole)
+    }
+
+    fn refuse(&self, answers: &mut Vec<u8>) -> Result<(), AllocError> {
+        add_too_long(answers)
+    }
+
+    ghost is_total = { why-total };
+}
+
 /// Reads a text of rules, or appends its fault.
-fn rules_or_fault(
+fn decider_or_fault(
     alloc: Global,
     text: &[u8],
     answers: &mut Vec<u8>,
-) -> Result<Option<NumberedRules>, AllocError>
-    ensures answer { OnOk result (answers.new.items ≡ answers.old.items ++ fault_answer (numbered_in text.now)) }
-    ensures rules { IfOk result (λ found. option_map numbered_read found ≡ some_rules (numbered_in text.now)) }
+) -> Result<Option<Decider>, AllocError>
+    ensures { IfOk result (λ found. MatchOption found
+        (Adds (λ answer. PrintsFault text.now answer Ended) answers.old.items answers.new.items)
+        (λ decider. (answers.new.items ≡ answers.old.items) × (numbered_in text.now ≡ Ok (numbered_read decider.numbered)) × HasCode text.now)) }
 {
-    match read_numbered(alloc, text) {
-        Ok(numbered) => Ok(Some(numbered)),
+    match Decider::new(alloc, text) {
+        Ok(decider) => Ok(Some(decider)),
         Err(
             RuleFault {
                 kind: RuleKind::NoMemory,
@@ -168,75 +181,26 @@ fn rules_or_fault(
     }
 }
 
-/// The subcommand as a machine, before and after the line `cells`.
-#[derive(Drop)]
-struct Deciding {
+/// Reads the text of rules that was found before the cells, or appends its fault. None was found where it is over the limit.
+fn found_decider(
     alloc: Global,
-    /// The text of the rules so far.
-    text: Vec<u8>,
-    /// The rules, once cells follow.
-    numbered: Option<NumberedRules>,
-}
-
-impl Deciding {
-    /// Answers a line before the cells.
-    #[inline(never)]
-    fn take_rules(&mut self, line: &[u8], answers: &mut Vec<u8>) -> Result<Turn, AllocError>
-        requires { self.old.numbered ≡ None }
-        ensures { IfOk result (λ turn. Answers why_rules (λ world. world ≡ why_world self.old.text.items self.old.numbered) line.now turn
-            (λ world. world ≡ why_world self.new.text.items self.new.numbered) answers.old.items answers.new.items) }
-    {
-        if !is_cells_line(line) {
-            self.text.extend_from_slice(line)?;
-            self.text.extend_from_slice(b"\r\n")?;
-            return Ok(Turn::GoesOn);
-        }
-        self.numbered = rules_or_fault(self.alloc, &self.text, answers)?;
-        match self.numbered {
-            Some(_) => Ok(Turn::GoesOn),
-            None => Ok(Turn::Ends),
+    found: Option<Vec<u8>>,
+    answers: &mut Vec<u8>,
+) -> Result<Option<Decider>, AllocError>
+    ensures { IfOk result (λ made. MatchOption made
+        (Adds (λ answer. AnswersBy PrintsFault (option_map (λ text. text.items) found) answer Ended) answers.old.items answers.new.items)
+        (λ decider. (answers.new.items ≡ answers.old.items) × FindsRules (option_map (λ text. text.items) found) (numbered_read decider.numbered))) }
+{
+    match found {
+        Some(text) => decider_or_fault(alloc, &text, answers),
+        None => {
+            add_too_long(answers)?;
+            Ok(None)
         }
     }
 }
 
-impl Machine for Deciding {
-    ghost use Rattle.lab_rules.specs.WhyText.{WhyWorld, why_rules};
-    ghost use Rattle.lab_rules.specs.inner.WhyLaws.{why_world, why-total};
-
-    ghost World = { WhyWorld };
-
-    ghost shows = { λ deciding world. world ≡ why_world deciding.text.items deciding.numbered };
-
-    ghost rules = { why_rules };
-
-    fn answer(&mut self, line: &[u8], answers: &mut Vec<u8>) -> Result<Turn, AllocError> {
-        match &self.numbered {
-            Some(numbered) => {
-                answer_line(self.alloc, numbered, line, answers)?;
-                Ok(Turn::GoesOn)
-            }
-            None => self.take_rules(line, answers),
-        }
-    }
-
-    fn close(&self, answers: &mut Vec<u8>) -> Result<Done, AllocError> {
-        if self.numbered.is_some() {
-            return Ok(Done::Whole);
-        }
-        match rules_or_fault(self.alloc, &self.text, answers)? {
-            Some(_) => Ok(Done::Whole),
-            None => Ok(Done::Ended),
-        }
-    }
-
-    fn refuse(&self, answers: &mut Vec<u8>) -> Result<(), AllocError> {
-        add_too_long(answers)
-    }
-
-    ghost is_total = { why-total };
-}
-
-/// Answers the lines of an input. The lines before the line `cells` are a text of rules; docs/RULES.md has it. Each line after it is a
+/// Answers an input. The lines before the line `cells` are a text of rules, within its limits; docs/RULES.md has it. Each line after it is a
 /// cell, and its answer is the line of the rule that decides it, and its value. A text with a fault is answered by the fault.
 ///
 /// # Errors
@@ -248,12 +212,21 @@ pub fn decide_cells<I: Input, O: Output>(
     input: &mut I,
     output: &mut O,
 ) -> Result<Done, RunFault>
-    ensures { IsServed IsWhyText I.Input input.old input.new O.Output output.old output.new result }
+    ensures served { IsServed MayBeWhyText I.Input input.old input.new O.Output output.old output.new result }
+    ensures printed { I.is_known → O.is_known → IfOk result (λ done.
+        Adds (λ answer. IsWhyText (I.rest input.old) answer done) (O.held output.old) (O.held output.new)) }
 {
-    let mut deciding = Deciding {
-        alloc,
-        text: Vec::new(alloc),
-        numbered: None,
+    let found = match read_rules_before(alloc, input) {
+        Ok(found) => found,
+        Err(fault) => return Err(fault),
     };
-    answer_lines(alloc, input, output, &mut deciding)
+    let mut answers = Vec::new(alloc);
+    match found_decider(alloc, found, &mut answers) {
+        Err(_) => Err(RunFault::NoMemory),
+        Ok(None) => give_last(output, &mut answers, Done::Ended),
+        Ok(Some(decider)) => {
+            let mut deciding = Deciding { alloc, decider };
+            answer_lines(alloc, input, output, &mut deciding)
+        }
+    }
 }

@@ -3,7 +3,7 @@
 ghost use Rattle.lab_rules.specs.AsmLaws.{SourcesAreCheckedAlike};
 ghost use Rattle.lab_rules.specs.CommentLines.{CommentLinesMeanNothing};
 ghost use Rattle.lab_rules.specs.RulesLaws.{RulesHaveOneText};
-ghost use Rattle.lab_rules.specs.WhyGathering.{RulesAreGatheredAsWritten};
+ghost use Rattle.lab_rules.specs.WhyLaws.{RulesBeginTheInput, WhyHasOneText};
 
 /// A source of assembly means the same code with comment lines added.
 pub fn comment_lines_mean_nothing()
@@ -15,12 +15,17 @@ pub fn sources_are_checked_alike()
     ensures { SourcesAreCheckedAlike }
 {}
 
-/// The text that `upc-lab why` gathers of the lines of rules has their rules, or their fault.
-pub fn rules_are_gathered_as_written()
-    ensures { RulesAreGatheredAsWritten }
-{}
-
 /// An input of `upc-lab rules` has one text.
 pub fn rules_have_one_text()
     ensures { RulesHaveOneText }
+{}
+
+/// The text of the rules is the beginning of an input of `upc-lab why`, octet by octet.
+pub fn rules_begin_the_input()
+    ensures { RulesBeginTheInput }
+{}
+
+/// An input of `upc-lab why` has one text.
+pub fn why_has_one_text()
+    ensures { WhyHasOneText }
 {}

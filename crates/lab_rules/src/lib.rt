@@ -4,7 +4,9 @@
 mod annotating;
 mod answering;
 mod assembling;
+mod before_cells;
 mod compiling;
+mod decider;
 mod deciding;
 mod fault_lines;
 pub mod laws;

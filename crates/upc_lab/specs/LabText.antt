@@ -7,7 +7,7 @@ use Rattle.lab_programs.specs.ListedProgram.{IsListText}
 use Rattle.lab_programs.specs.Trace.{IsTraceText}
 use Rattle.lab_rules.specs.AsmText.{MayBeAsmText}
 use Rattle.lab_rules.specs.RulesText.{MayBeRulesText}
-use Rattle.lab_rules.specs.WhyText.{IsWhyText}
+use Rattle.lab_rules.specs.WhyText.{MayBeWhyText}
 use Rattle.lab_setups.specs.SetupText.{MayBeSetupPoliced}
 use Rattle.lab_sizes.specs.SizeText.{IsSizesText}
 use Rattle.text_io.specs.declared.ending.Done.{Done}
@@ -19,7 +19,7 @@ use Rattle.upc_lab.specs.declared.choice.Subcommand.TheVariants as lab
 -- The output of a subcommand without options for a whole input, and how the run ends.
 abbrev pub IsLabText : Subcommand → List ℕ → List ℕ → Done → Type 0
 IsLabText lab.Rules = MayBeRulesText
-IsLabText lab.Why = IsWhyText
+IsLabText lab.Why = MayBeWhyText
 IsLabText lab.Asm = MayBeAsmText
 IsLabText lab.List = IsListText
 IsLabText lab.Trace = IsTraceText

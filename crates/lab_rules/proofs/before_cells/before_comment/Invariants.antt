@@ -1,6 +1,6 @@
 use Rattle.std.proofs.Common.{◌-◌, length}
 use Rattle.lab_rules.proofs.WhySteps.{IsLooked}
-use Rattle.lab_rules.proofs.deciding.before_comment.Given as goal
+use Rattle.lab_rules.proofs.before_cells.before_comment.Given as goal
 
 abbrev pub invariant-loop-at : goal.invariant-loop-at
 invariant-loop-at l = IsLooked l.line l.at
