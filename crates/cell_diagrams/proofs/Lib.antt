@@ -1,0 +1,10 @@
+pub mod Nodes
+pub mod Joining
+pub mod Results
+pub mod SpanSteps
+pub mod FieldBits
+pub mod Telling
+pub mod CellBits
+pub mod LineSteps
+pub mod Walking
+pub mod CaseSteps

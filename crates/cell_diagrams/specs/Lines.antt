@@ -1,0 +1,13 @@
+-- The line that decides a cell, as a number.
+use Rattle.std.specs.Prelude.{◌≡◌, ℕ, zero, suc, ◌+◌, List, [], ◌∷◌, Option, Some, None}
+use Rattle.cell_rules.specs.Decisions.{decision_of}
+use Rattle.cell_rules.specs.declared.rules.Rules.{Rules}
+
+-- The number of a line: 0 for none, else one more than its place.
+abbrev pub line_number : Option ℕ → ℕ
+line_number None = 0
+line_number (Some place) = place + 1
+
+-- The number of the line that decides a cell.
+abbrev pub line_of : Rules → List ℕ → ℕ
+line_of rules cell = line_number (decision_of rules cell).line

@@ -1,0 +1,33 @@
+-- The pairs of numbers that two diagrams give a cell.
+use Rattle.std.specs.Prelude.{◌≡◌, ◌≤◌, ℕ, ◌==◌, Bool, true, false, ◌&&◌, ◌||◌, List, [], ◌∷◌}
+use Rattle.std.specs.List.{All}
+use Rattle.cell_rules.specs.Fields.{IsCell}
+use Rattle.cell_diagrams.specs.CellNumbers.{octets_number}
+use Rattle.cell_diagrams.specs.Values.{value_of}
+use Rattle.cell_diagrams.specs.declared.diagram.Node.{Node}
+use Rattle.cell_diagrams.specs.declared.meeting.Both.{Both}
+use Rattle.cell_diagrams.specs.declared.meeting.Meeting.{Meeting}
+
+-- Whether these two numbers are among the meetings.
+abbrev pub has_pair : List Meeting → ℕ → ℕ → Bool
+has_pair [] one other = false
+has_pair (meeting ∷ more) one other = ((meeting.one == one) && (meeting.other == other)) || has_pair more one other
+
+-- The two functions give the cell of a meeting its numbers, and no cell less than it both of them.
+pub record IsLeast (one other : ℕ → ℕ) (meeting : Meeting) : Type 0 where
+  pub cell : IsCell meeting.cell
+  pub one_is : one (octets_number meeting.cell) ≡ meeting.one
+  pub other_is : other (octets_number meeting.cell) ≡ meeting.other
+  pub least : (cell : ℕ) → one cell ≡ meeting.one → other cell ≡ meeting.other → octets_number meeting.cell ≤ cell
+
+-- No two numbers are among the meetings twice.
+abbrev pub AreApart : List Meeting → Type 0
+AreApart [] = Unit {0}
+AreApart (meeting ∷ more) = (has_pair more meeting.one meeting.other ≡ false) × AreApart more
+
+-- The meetings of two diagrams: each has the least cell to which they give its numbers; each two numbers that a cell has are among
+-- them, once.
+pub record AreMeetings (one other : List Node) (both : Both) (meetings : List Meeting) : Type 0 where
+  pub least : All (IsLeast (value_of one both.one) (value_of other both.other)) meetings
+  pub each : (cell : ℕ) → has_pair meetings (value_of one both.one cell) (value_of other both.other cell) ≡ true
+  pub apart : AreApart meetings

@@ -1,0 +1,32 @@
+//! Choices that were made, which needn't be made again.
+
+use crate::diagram::Diagram;
+
+/// A choice that is asked for.
+#[derive(Clone, Copy, Debug, PartialEq, Eq)]
+pub struct Asked {
+    /// What decides.
+    pub test: Diagram,
+    /// The diagram of the cells to which `test` gives any number but 0.
+    pub one: Diagram,
+    /// The diagram of the cells to which `test` gives 0.
+    pub other: Diagram,
+}
+
+/// A choice that was made.
+#[derive(Clone, Copy, Debug)]
+pub struct Step {
+    /// What was asked for.
+    pub asked: Asked,
+    /// The diagram that is the choice.
+    pub answer: Diagram,
+}
+
+/// The parts of a choice: what is asked for where a bit isn't set and where it is.
+#[derive(Clone, Copy)]
+pub(crate) struct Parts {
+    /// Where it isn't set.
+    pub low: Asked,
+    /// Where it is set.
+    pub high: Asked,
+}
