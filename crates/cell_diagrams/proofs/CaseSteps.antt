@@ -15,10 +15,10 @@ use Rattle.cell_rules.specs.declared.rules.Rules.{Rules}
 use Rattle.cell_rules.specs.declared.test.Test.{Test}
 use Rattle.cell_diagrams.specs.CellNumbers.{octets_number}
 use Rattle.cell_diagrams.specs.Cases.{IsCase, HasCase, AreCasesApart, AreCases, GiveSame}
-use Rattle.cell_diagrams.specs.Lines.{line_number, line_of}
-use Rattle.cell_diagrams.specs.Meetings.{has_pair, IsLeast, AreApart, AreMeetings}
-use Rattle.cell_diagrams.specs.Tells.{Gives}
-use Rattle.cell_diagrams.specs.Values.{value_of}
+use Rattle.cell_diagrams.specs.Lines.{line_number, deciding_line}
+use Rattle.cell_diagrams.specs.Meetings.{has_pair, IsLeast, ArePairsApart, AreMeetings}
+use Rattle.cell_diagrams.specs.Tells.{GivesNumber}
+use Rattle.cell_diagrams.specs.Values.{diagram_value}
 use Rattle.cell_diagrams.specs.inner.CaseLists.{case_of, have_one_value}
 use Rattle.cell_diagrams.specs.declared.case.Case.{Case}
 use Rattle.cell_diagrams.specs.declared.diagram.Node.{Node}
@@ -57,7 +57,7 @@ same_decision one other lines values =
     ap by_line lines ∙ ap by_value values
 
 -- Cells that one line decides have one decision.
-decided_same : TheFirstRuleDecides → (rules : Rules) (cell other : List ℕ) → line_of rules cell ≡ line_of rules other → decision_of rules cell ≡ decision_of rules other
+decided_same : TheFirstRuleDecides → (rules : Rules) (cell other : List ℕ) → deciding_line rules cell ≡ deciding_line rules other → decision_of rules cell ≡ decision_of rules other
 decided_same law rules cell other e =
     let lines = same_line (decision_of rules cell).line (decision_of rules other).line e in
     same_decision (decision_of rules cell) (decision_of rules other) lines
@@ -123,15 +123,15 @@ mapped_from f (first ∷ more) y there =
 
 -- ---- cases
 
-module _ (law : TheFirstRuleDecides) (old new : Rules) (one other : List Node) (both : Both) (one_gives : Gives one (line_of old) both.one) (other_gives : Gives other (line_of new) both.other) where
+module _ (law : TheFirstRuleDecides) (old new : Rules) (one other : List Node) (both : Both) (one_gives : GivesNumber one (deciding_line old) both.one) (other_gives : GivesNumber other (deciding_line new) both.other) where
   abbrev IsOne : Meeting → Type 0
-  IsOne m = IsLeast (value_of one both.one) (value_of other both.other) m
+  IsOne m = IsLeast (diagram_value one both.one) (diagram_value other both.other) m
 
   -- The lines of a meeting's cell are its numbers.
-  old_line : (m : Meeting) → IsOne m → line_of old m.cell ≡ m.one
+  old_line : (m : Meeting) → IsOne m → deciding_line old m.cell ≡ m.one
   old_line m is = sym (one_gives.value m.cell is.cell) ∙ is.one_is
 
-  new_line : (m : Meeting) → IsOne m → line_of new m.cell ≡ m.other
+  new_line : (m : Meeting) → IsOne m → deciding_line new m.cell ≡ m.other
   new_line m is = sym (other_gives.value m.cell is.cell) ∙ is.other_is
 
   is_case : (m : Meeting) → IsOne m → IsCase old new (case_of old new m)
@@ -144,7 +144,7 @@ module _ (law : TheFirstRuleDecides) (old new : Rules) (one other : List Node) (
         (other_gives.value cell there ∙ (ap (λ (d : Decision). line_number d.line) q ∙ new_line m is));
   }
 
-  cases_apart : (meetings : List Meeting) → All IsOne meetings → AreApart meetings → AreCasesApart (map (case_of old new) meetings)
+  cases_apart : (meetings : List Meeting) → All IsOne meetings → ArePairsApart meetings → AreCasesApart (map (case_of old new) meetings)
   cases_apart [] all apart = tt
   cases_apart (m ∷ more) all apart =
       let here = All-head IsOne m more all in
@@ -165,7 +165,7 @@ module _ (law : TheFirstRuleDecides) (old new : Rules) (one other : List Node) (
     all = All-map (IsCase old new) (case_of old new) meetings (All-weaker IsOne (λ (m : Meeting). IsCase old new (case_of old new m)) is_case meetings are.least);
     each = λ cell there.
         let number = octets_number cell in
-        let found = pair_in meetings (value_of one both.one number) (value_of other both.other number) (are.each number) in
+        let found = pair_in meetings (diagram_value one both.one number) (diagram_value other both.other number) (are.each number) in
         let is = All-contains IsOne meetings found.0 are.least found.1 in
         record {
           case = case_of old new found.0;

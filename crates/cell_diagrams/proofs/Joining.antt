@@ -1,11 +1,11 @@
 -- Choices are made of the choices at their parts.
 use Rattle.std.proofs.Common.{◌≡◌, ℕ, ◌≤◌, ◌<◌, ◌==◌, min, Bool, true, false, if◌then◌else◌, List, Result, Ok, Err, IfOk, refl, sym, ap, subst, ◌∙◌, arith}
 use Rattle.cell_diagrams.specs.CellNumbers.{is_set}
-use Rattle.cell_diagrams.specs.Values.{value_of, top_of, IsWithin, IsSame, Keeps}
-use Rattle.cell_diagrams.specs.Choices.{chosen, IsChosen}
+use Rattle.cell_diagrams.specs.Values.{diagram_value, top_of, IsWithin, IsSame, Keeps}
+use Rattle.cell_diagrams.specs.Choices.{chosen, IsChoice}
 use Rattle.cell_diagrams.specs.inner.Asking.{asked_top, chosen_value, AreWithin, IsAnswer}
-use Rattle.cell_diagrams.specs.inner.Store.{IsMade}
-use Rattle.cell_diagrams.specs.inner.Steps.{AreSides, AreParts}
+use Rattle.cell_diagrams.specs.inner.Store.{DecidesByBit}
+use Rattle.cell_diagrams.specs.inner.Steps.{AreSides, AreChoiceParts}
 use Rattle.cell_diagrams.specs.declared.diagram.Diagram.{Diagram}
 use Rattle.cell_diagrams.specs.declared.diagram.Node.{Node}
 use Rattle.cell_diagrams.specs.declared.step.Asked.{Asked}
@@ -13,20 +13,20 @@ use Rattle.cell_diagrams.proofs.Nodes.{keeps_both, answer_kept}
 
 -- The value of a diagram at a side, at a cell whose bit is known.
 side_value : (nodes new : List Node) (diagram : Diagram) (bit : ℕ) (low high : Diagram) (cell : ℕ) (b : Bool) → is_set cell bit ≡ b → Keeps nodes new → IsWithin nodes diagram
-    → AreSides nodes diagram bit low high → value_of new (if b then high else low) cell ≡ value_of new diagram cell
+    → AreSides nodes diagram bit low high → diagram_value new (if b then high else low) cell ≡ diagram_value new diagram cell
 side_value nodes new diagram bit low high cell b e keeps within sides =
     let side_in : (c : Bool) → IsWithin nodes (if c then high else low) = elim [ true ↦ sides.high_within | false ↦ sides.low_within ] in
     (keeps.same (if b then high else low) (side_in b)).value cell
-    ∙ (ap (λ (c : Bool). value_of nodes (if c then high else low) cell) (sym e)
+    ∙ (ap (λ (c : Bool). diagram_value nodes (if c then high else low) cell) (sym e)
     ∙ (sym (sides.value cell) ∙ sym ((keeps.same diagram within).value cell)))
 
 same_choice : (a b c x y z : ℕ) → a ≡ x → b ≡ y → c ≡ z → chosen a b c ≡ chosen x y z
 same_choice a b c x y z p q r = ap (λ n. chosen n b c) p ∙ (ap (λ n. chosen x n c) q ∙ ap (λ n. chosen x y n) r)
 
 module _ (first after low_done high_done : List Node) (asked low high : Asked) (bit : ℕ) (low_answer high_answer answer : Diagram) where
-  pub joined : AreWithin first asked → bit ≡ asked_top first asked → AreParts first asked bit low high
+  pub joined : AreWithin first asked → bit ≡ asked_top first asked → AreChoiceParts first asked bit low high
       → Keeps first low_done → IsAnswer low_done low low_answer → Keeps low_done high_done → IsAnswer high_done high high_answer
-      → Keeps high_done after → IsMade after bit low_answer high_answer answer → IsAnswer after asked answer
+      → Keeps high_done after → DecidesByBit after bit low_answer high_answer answer → IsAnswer after asked answer
   joined within is_bit parts to_low low_is to_high high_is to_end made =
       let to_after = keeps_both low_done high_done after to_high to_end in
       let whole = keeps_both first low_done after to_low to_after in
@@ -37,14 +37,14 @@ module _ (first after low_done high_done : List Node) (asked low high : Asked) (
       let other = whole.same asked.other within.other in
       let tops : asked_top after asked ≡ asked_top first asked = ap (λ n. min n (min (top_of after asked.one) (top_of after asked.other))) test.top
       ∙ (ap (λ n. min (top_of first asked.test) (min n (top_of after asked.other))) one.top ∙ ap (λ n. min (top_of first asked.test) (min (top_of first asked.one) n)) other.top) in
-      let at : (cell : ℕ) (b : Bool) → is_set cell bit ≡ b → value_of after (if b then high_answer else low_answer) cell ≡ chosen_value after asked cell = λ cell. elim [
+      let at : (cell : ℕ) (b : Bool) → is_set cell bit ≡ b → diagram_value after (if b then high_answer else low_answer) cell ≡ chosen_value after asked cell = λ cell. elim [
         | true ↦ λ e. high_after.value cell
-            ∙ same_choice (value_of after high.test cell) (value_of after high.one cell) (value_of after high.other cell) (value_of after asked.test cell) (value_of after asked.one cell) (value_of after asked.other cell)
+            ∙ same_choice (diagram_value after high.test cell) (diagram_value after high.one cell) (diagram_value after high.other cell) (diagram_value after asked.test cell) (diagram_value after asked.one cell) (diagram_value after asked.other cell)
             (side_value first after asked.test bit low.test high.test cell true e whole within.test parts.test)
             (side_value first after asked.one bit low.one high.one cell true e whole within.one parts.one)
             (side_value first after asked.other bit low.other high.other cell true e whole within.other parts.other)
         | false ↦ λ e. low_after.value cell
-            ∙ same_choice (value_of after low.test cell) (value_of after low.one cell) (value_of after low.other cell) (value_of after asked.test cell) (value_of after asked.one cell) (value_of after asked.other cell)
+            ∙ same_choice (diagram_value after low.test cell) (diagram_value after low.one cell) (diagram_value after low.other cell) (diagram_value after asked.test cell) (diagram_value after asked.one cell) (diagram_value after asked.other cell)
             (side_value first after asked.test bit low.test high.test cell false e whole within.test parts.test)
             (side_value first after asked.one bit low.one high.one cell false e whole within.one parts.one)
             (side_value first after asked.other bit low.other high.other cell false e whole within.other parts.other)
@@ -56,5 +56,5 @@ module _ (first after low_done high_done : List Node) (asked low high : Asked) (
         value = λ cell. made.value cell ∙ at cell (is_set cell bit) refl;
       }
 
-pub chosen_is : (nodes : List Node) (test one other answer : Diagram) → IsAnswer nodes (record { test = test; one = one; other = other }) answer → IsChosen nodes test one other answer
+pub chosen_is : (nodes : List Node) (test one other answer : Diagram) → IsAnswer nodes (record { test = test; one = one; other = other }) answer → IsChoice nodes test one other answer
 chosen_is nodes test one other answer is = record { within = is.within; value = is.value }

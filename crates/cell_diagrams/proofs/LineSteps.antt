@@ -8,11 +8,11 @@ use Rattle.cell_rules.specs.declared.deciding.Decision.{Decision}
 use Rattle.cell_rules.specs.declared.rules.RuleLine.{RuleLine}
 use Rattle.cell_rules.specs.declared.rules.RuleLine.TheVariants.{Rule, Block, End}
 use Rattle.cell_rules.specs.declared.test.Test.{Test}
-use Rattle.cell_diagrams.specs.Choices.{chosen, IsChosen}
+use Rattle.cell_diagrams.specs.Choices.{chosen, IsChoice}
 use Rattle.cell_rules.specs.declared.rules.Rules.{Rules}
-use Rattle.cell_diagrams.specs.Lines.{line_number, line_of}
+use Rattle.cell_diagrams.specs.Lines.{line_number, deciding_line}
 use Rattle.cell_diagrams.specs.Spans.{truth}
-use Rattle.cell_diagrams.specs.Tells.{Gives, Tells}
+use Rattle.cell_diagrams.specs.Tells.{GivesNumber, Tells}
 use Rattle.cell_diagrams.specs.Values.{IsWithin, Keeps}
 use Rattle.cell_diagrams.specs.inner.Lined.{lined_at, first_outer, later_outer, AreLined, AreAllWithin}
 use Rattle.cell_diagrams.specs.declared.diagram.Diagram.{Diagram}
@@ -52,60 +52,60 @@ module _ (side : Side) (rest : List RuleLine) (place otherwise : ℕ) where
 
   module _ (old middle new : List Node) (so_far : Diagram) (outer : List Diagram) (test : Test) (to_middle : Keeps old middle) (to_new : Keeps middle new)
       (lined : AreLined old side rest (place + 1) otherwise so_far outer) where
-    kept : (passed : ℕ) → Gives middle (after passed) (lined_at so_far outer passed)
+    kept : (passed : ℕ) → GivesNumber middle (after passed) (lined_at so_far outer passed)
     kept passed = gives_kept old middle (after passed) (lined_at so_far outer passed) to_middle (lined passed)
 
-    moved : (passed : ℕ) → Gives new (after passed) (lined_at so_far outer passed)
+    moved : (passed : ℕ) → GivesNumber new (after passed) (lined_at so_far outer passed)
     moved passed = gives_kept middle new (after passed) (lined_at so_far outer passed) to_new (kept passed)
 
-    rule_at : (value : ℕ) (met made : Diagram) → Tells middle (is_met side test) met → IsChosen new met (Leaf (place + 1)) so_far made → (passed : ℕ)
-        → Gives new (from (Rule test value) passed) (lined_at made outer passed)
+    rule_at : (value : ℕ) (met made : Diagram) → Tells middle (is_met side test) met → IsChoice new met (Leaf (place + 1)) so_far made → (passed : ℕ)
+        → GivesNumber new (from (Rule test value) passed) (lined_at made outer passed)
     rule_at value met made told is zero =
         gives_same new (λ cell. chosen (truth (is_met side test cell)) (place + 1) (after 0 cell)) (from (Rule test value) 0) made
         (λ cell. rule_decides (is_met side test cell) value place (decision_from side rest (place + 1) 0 otherwise cell))
         (choice_gives middle new met (Leaf (place + 1)) so_far made (λ cell. truth (is_met side test cell)) (λ cell. place + 1) (after 0) to_new told
         (record { within = tt; value = λ cell there. refl }) (kept 0) is)
     rule_at value met made told is (suc passed) =
-        subst (λ (d : Diagram). Gives new (after (suc passed)) d) (later_at so_far made outer passed) (moved (suc passed))
+        subst (λ (d : Diagram). GivesNumber new (after (suc passed)) d) (later_at so_far made outer passed) (moved (suc passed))
 
-    block_at : (met made : Diagram) → Tells middle (is_met side test) met → IsChosen new met so_far (first_outer outer) made → (passed : ℕ)
-        → Gives new (from (Block test) passed) (lined_at made (later_outer outer) passed)
+    block_at : (met made : Diagram) → Tells middle (is_met side test) met → IsChoice new met so_far (first_outer outer) made → (passed : ℕ)
+        → GivesNumber new (from (Block test) passed) (lined_at made (later_outer outer) passed)
     block_at met made told is zero =
         gives_same new (λ cell. chosen (truth (is_met side test cell)) (after 0 cell) (after 1 cell)) (from (Block test) 0) made
         (λ cell. block_passes (is_met side test cell) (λ passed. after passed cell))
         (choice_gives middle new met so_far (first_outer outer) made (λ cell. truth (is_met side test cell)) (after 0) (after 1) to_new told
-        (kept 0) (subst (λ (d : Diagram). Gives middle (after 1) d) (first_at so_far outer) (kept 1)) is)
+        (kept 0) (subst (λ (d : Diagram). GivesNumber middle (after 1) d) (first_at so_far outer) (kept 1)) is)
     block_at met made told is (suc passed) =
-        subst (λ (d : Diagram). Gives new (after (suc (suc passed))) d) (taken_at so_far made outer passed) (moved (suc (suc passed)))
+        subst (λ (d : Diagram). GivesNumber new (after (suc (suc passed))) d) (taken_at so_far made outer passed) (moved (suc (suc passed)))
 
   end_at : (nodes : List Node) (so_far : Diagram) (outer : List Diagram) → AreLined nodes side rest (place + 1) otherwise so_far outer → (passed : ℕ)
-      → Gives nodes (from End passed) (lined_at so_far (so_far ∷ outer) passed)
+      → GivesNumber nodes (from End passed) (lined_at so_far (so_far ∷ outer) passed)
   end_at nodes so_far outer lined zero = lined 0
   end_at nodes so_far outer lined (suc passed) =
       let e : passed ≡ suc passed - 1 = omega arith in
-      subst (λ n. Gives nodes (after n) (lined_at so_far outer passed)) e (lined passed)
+      subst (λ n. GivesNumber nodes (after n) (lined_at so_far outer passed)) e (lined passed)
 
 module _ {E : Type 0} (side : Side) (place : ℕ) (old middle new : List Node) (so_far : Diagram) (outer : List Diagram) where
   pub rule_lined : (test : Test) (value : ℕ) (met : Diagram) (r : Result Diagram E) → Keeps old middle → Keeps middle new → Tells middle (is_met side test) met
-      → IfOk r (IsChosen new met (Leaf (place + 1)) so_far)
+      → IfOk r (IsChoice new met (Leaf (place + 1)) so_far)
       → IfOk r (λ made. (rest : List RuleLine) (otherwise : ℕ) → AreLined old side rest (place + 1) otherwise so_far outer → AreLined new side (Rule test value ∷ rest) place otherwise made outer)
   rule_lined test value met (Ok made) p q told is = λ rest otherwise lined passed.
       rule_at side rest place otherwise old middle new so_far outer test p q lined value met made told is passed
   rule_lined test value met (Err e) p q told is = tt
 
   pub block_lined : (test : Test) (met after : Diagram) (left : List Diagram) (r : Result Diagram E) → Keeps old middle → Keeps middle new → Tells middle (is_met side test) met
-      → after ≡ first_outer outer → left ≡ later_outer outer → IfOk r (IsChosen new met so_far after)
+      → after ≡ first_outer outer → left ≡ later_outer outer → IfOk r (IsChoice new met so_far after)
       → IfOk r (λ made. (rest : List RuleLine) (otherwise : ℕ) → AreLined old side rest (place + 1) otherwise so_far outer → AreLined new side (Block test ∷ rest) place otherwise made left)
   block_lined test met after left (Ok made) p q told e f is = λ rest otherwise lined passed.
-      let chosen_is : IsChosen new met so_far (first_outer outer) made = subst (λ (d : Diagram). IsChosen new met so_far d made) e is in
-      subst (λ (ds : List Diagram). Gives new (λ cell. line_number (decision_from side (Block test ∷ rest) place passed otherwise cell).line) (lined_at made ds passed)) (sym f)
+      let chosen_is : IsChoice new met so_far (first_outer outer) made = subst (λ (d : Diagram). IsChoice new met so_far d made) e is in
+      subst (λ (ds : List Diagram). GivesNumber new (λ cell. line_number (decision_from side (Block test ∷ rest) place passed otherwise cell).line) (lined_at made ds passed)) (sym f)
       (block_at side rest place otherwise old middle new so_far outer test p q lined met made told chosen_is passed)
   block_lined test met after left (Err e') p q told e f is = tt
 
 pub end_lined : (side : Side) (place : ℕ) (nodes : List Node) (so_far : Diagram) (outer left : List Diagram) → left ≡ so_far ∷ outer
     → (rest : List RuleLine) (otherwise : ℕ) → AreLined nodes side rest (place + 1) otherwise so_far outer → AreLined nodes side (End ∷ rest) place otherwise so_far left
 end_lined side place nodes so_far outer left e rest otherwise lined passed =
-    subst (λ (ds : List Diagram). Gives nodes (λ cell. line_number (decision_from side (End ∷ rest) place passed otherwise cell).line) (lined_at so_far ds passed)) (sym e)
+    subst (λ (ds : List Diagram). GivesNumber nodes (λ cell. line_number (decision_from side (End ∷ rest) place passed otherwise cell).line) (lined_at so_far ds passed)) (sym e)
     (end_at side rest place otherwise nodes so_far outer lined passed)
 
 -- No line decides where there are none.
@@ -151,7 +151,7 @@ step_lined old new side lines left place otherwise line so_far made outer after 
     (subst (λ n. AreLined new side (line ∷ drop left lines) n otherwise made after) e (makes (drop left lines) otherwise here))
 
 pub whole_lined : (nodes : List Node) (rules : Rules) (lines : List RuleLine) (left : ℕ) (so_far : Diagram) (outer : List Diagram) → left ≡ 0 → lines ≡ rules.lines.items
-    → AreLined nodes rules.side (drop left lines) left rules.otherwise so_far outer → Gives nodes (line_of rules) so_far
+    → AreLined nodes rules.side (drop left lines) left rules.otherwise so_far outer → GivesNumber nodes (deciding_line rules) so_far
 whole_lined nodes rules lines left so_far outer e f lined =
     let begun : AreLined nodes rules.side (drop 0 lines) 0 rules.otherwise so_far outer = subst (λ n. AreLined nodes rules.side (drop n lines) n rules.otherwise so_far outer) e lined in
     let whole : AreLined nodes rules.side rules.lines.items 0 rules.otherwise so_far outer = subst (λ (ls : List RuleLine). AreLined nodes rules.side ls 0 rules.otherwise so_far outer) f begun in

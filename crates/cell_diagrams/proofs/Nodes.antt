@@ -5,10 +5,10 @@ use Rattle.std.proofs.lemmas.Bool.Decides.{nat_tests}
 use Rattle.std.proofs.lemmas.List.{reverse-append, length-reverse, get_or-reverse, length-set}
 use Rattle.std.proofs.lemmas.List.Elements.{All-weaker, All-set}
 use Rattle.cell_diagrams.specs.CellNumbers.{is_set}
-use Rattle.cell_diagrams.specs.Values.{value_of, value_by, node_value, node_top, top_of, side_of, IsWithin, IsSame, Keeps}
+use Rattle.cell_diagrams.specs.Values.{diagram_value, value_by, node_value, node_top, top_of, taken_side, IsWithin, IsSame, Keeps}
 use Rattle.cell_diagrams.specs.Choices.{chosen}
 use Rattle.cell_diagrams.specs.inner.Asking.{asked_top, chosen_value, AreWithin, IsAnswer}
-use Rattle.cell_diagrams.specs.inner.Store.{AreNodes, IsNode, HasNode, IsMade, IsStore}
+use Rattle.cell_diagrams.specs.inner.Store.{AreNodes, IsNode, HasNode, DecidesByBit, IsStore}
 use Rattle.cell_diagrams.specs.declared.diagram.Diagram.{Diagram}
 use Rattle.cell_diagrams.specs.declared.diagram.Diagram.TheVariants.{Leaf, Inner}
 use Rattle.cell_diagrams.specs.declared.diagram.Node.{Node}
@@ -46,7 +46,7 @@ same_after node older (Inner number) within =
     record {
       within = omega arith;
       top = by_false (number == length older) node.bit (node_top older number) e;
-      value = λ cell. by_false (number == length older) (value_by (node_value older cell) (side_of node cell)) (node_value older cell number) e;
+      value = λ cell. by_false (number == length older) (value_by (node_value older cell) (taken_side node cell)) (node_value older cell number) e;
     }
 
 pub keeps_push : (node : Node) (older : List Node) → Keeps older (node ∷ older)
@@ -65,7 +65,7 @@ is_node_kept old new node keeps is =
       high_later = subst (λ n. node.bit < n) (sym high.top) is.high_later;
     }
 
-side_within : (nodes : List Node) (node : Node) (cell : ℕ) → IsNode nodes node → IsWithin nodes (side_of node cell)
+side_within : (nodes : List Node) (node : Node) (cell : ℕ) → IsNode nodes node → IsWithin nodes (taken_side node cell)
 side_within nodes node cell is =
     elim (is_set cell node.bit) as (λ b. IsWithin nodes (if b then node.high else node.low)) [ true ↦ is.high | false ↦ is.low ]
 
@@ -78,8 +78,8 @@ has_newest node older number is e =
       is = is_node_kept older (node ∷ older) node keeps is;
       top = by_true (number == length older) node.bit (node_top older number) last;
       value = λ cell.
-          by_true (number == length older) (value_by (node_value older cell) (side_of node cell)) (node_value older cell number) last
-          ∙ sym ((keeps.same (side_of node cell) (side_within older node cell is)).value cell);
+          by_true (number == length older) (value_by (node_value older cell) (taken_side node cell)) (node_value older cell number) last
+          ∙ sym ((keeps.same (taken_side node cell) (side_within older node cell is)).value cell);
     }
 
 has_older : (newest : Node) (older : List Node) (number : ℕ) (node : Node) → number < length older → HasNode older number node → HasNode (newest ∷ older) number node
@@ -91,7 +91,7 @@ has_older newest older number node lt has =
       top = same.top ∙ has.top;
       value = λ cell.
           same.value cell
-          ∙ (has.value cell ∙ sym ((keeps.same (side_of node cell) (side_within older node cell has.is)).value cell));
+          ∙ (has.value cell ∙ sym ((keeps.same (taken_side node cell) (side_within older node cell has.is)).value cell));
     }
 
 -- The node of a number, by its place among the nodes.
@@ -113,7 +113,7 @@ has_node (newest ∷ older) number node are lt e =
     cases (number == length older) refl
 
 -- A node that is there decides between its sides.
-pub made_by : (nodes : List Node) (number : ℕ) (node : Node) → number < length nodes → HasNode nodes number node → IsMade nodes node.bit node.low node.high (Inner number)
+pub made_by : (nodes : List Node) (number : ℕ) (node : Node) → number < length nodes → HasNode nodes number node → DecidesByBit nodes node.bit node.low node.high (Inner number)
 made_by nodes number node lt has = record { within = lt; top = omega (arith, has.top); value = has.value }
 
 -- What is kept of a choice.
@@ -126,9 +126,9 @@ answer_kept old new asked answer keeps is =
     let tops : asked_top new asked ≡ asked_top old asked = ap (λ n. min n (min (top_of new asked.one) (top_of new asked.other))) test.top
     ∙ (ap (λ n. min (top_of old asked.test) (min n (top_of new asked.other))) one.top ∙ ap (λ n. min (top_of old asked.test) (min (top_of old asked.one) n)) other.top) in
     let values : (cell : ℕ) → chosen_value new asked cell ≡ chosen_value old asked cell = λ cell.
-    ap (λ n. chosen n (value_of new asked.one cell) (value_of new asked.other cell)) (test.value cell)
-    ∙ (ap (λ n. chosen (value_of old asked.test cell) n (value_of new asked.other cell)) (one.value cell)
-    ∙ ap (λ n. chosen (value_of old asked.test cell) (value_of old asked.one cell) n) (other.value cell)) in
+    ap (λ n. chosen n (diagram_value new asked.one cell) (diagram_value new asked.other cell)) (test.value cell)
+    ∙ (ap (λ n. chosen (diagram_value old asked.test cell) n (diagram_value new asked.other cell)) (one.value cell)
+    ∙ ap (λ n. chosen (diagram_value old asked.test cell) (diagram_value old asked.one cell) n) (other.value cell)) in
     record {
       parts = record { test = test.within; one = one.within; other = other.within };
       within = same.within;
@@ -176,11 +176,11 @@ push_keeps items new node e =
     subst (λ (ns : List Node). Keeps (reverse items) ns) (sym (reversed_push items new node e)) (keeps_push node (reverse items))
 
 pub push_made : (items new : List Node) (node : Node) (number : ℕ) → new ≡ items ++ node ∷ [] → IsNode (reverse items) node → number ≡ length items
-    → IsMade (reverse new) node.bit node.low node.high (Inner number)
+    → DecidesByBit (reverse new) node.bit node.low node.high (Inner number)
 push_made items new node number e is count =
     let last : number ≡ length (reverse items) = count ∙ sym (length-reverse items) in
     let lt : number < suc (length (reverse items)) = omega (arith, last) in
-    subst (λ (ns : List Node). IsMade ns node.bit node.low node.high (Inner number)) (sym (reversed_push items new node e))
+    subst (λ (ns : List Node). DecidesByBit ns node.bit node.low node.high (Inner number)) (sym (reversed_push items new node e))
     (made_by (node ∷ reverse items) number node lt (has_newest node (reverse items) number is last))
 
 pub remember_store : (nodes : List Node) (places : List ℕ) (steps : List Step) (asked : Asked) (answer : Diagram) (place : ℕ) → IsAnswer nodes asked answer → IsStore nodes places steps

@@ -5,9 +5,9 @@ use Rattle.std.proofs.lemmas.Bool.Decides.{nat_tests}
 use Rattle.std.proofs.lemmas.Nat.{pow_pos, shr-shr, shr_split, mod-pow-add, mod_below, and_le_l, and_comm, and_mask, and_mod, and_block}
 use Rattle.std.proofs.Math.Nat.{mod-eq_of_lt}
 use Rattle.cell_diagrams.specs.CellNumbers.{is_set}
-use Rattle.cell_diagrams.specs.Values.{value_of, top_of, Keeps}
+use Rattle.cell_diagrams.specs.Values.{diagram_value, top_of, Keeps}
 use Rattle.cell_diagrams.specs.Spans.{bits_number, is_between, truth, IsSpan}
-use Rattle.cell_diagrams.specs.inner.Store.{IsMade}
+use Rattle.cell_diagrams.specs.inner.Store.{DecidesByBit}
 use Rattle.cell_diagrams.specs.declared.diagram.Diagram.{Diagram}
 use Rattle.cell_diagrams.specs.declared.diagram.Diagram.TheVariants.{Leaf}
 use Rattle.cell_diagrams.specs.declared.diagram.Node.{Node}
@@ -151,7 +151,7 @@ module _ (nodes : List Node) (bits : Bits) (mask : ℕ) (reach : Reach) (inside 
   pub span_joined : (low_done high_done : List Node) (rest : Bits) (less : Reach) (low high made : Diagram) → 0 < bits.width → rest.bit ≡ bits.bit + 1 → rest.width ≡ bits.width - 1
       → (mask / 2 ^ rest.width % 2 == 1) ≡ true → less.low ≡ reach.low - 2 ^ rest.width → less.end ≡ reach.end - 2 ^ rest.width
       → IsSpan low_done rest mask reach low → Keeps low_done high_done → IsSpan high_done rest mask less high → Keeps high_done nodes
-      → IsMade nodes bits.bit low high made → IsSpan nodes bits mask reach made
+      → DecidesByBit nodes bits.bit low high made → IsSpan nodes bits mask reach made
   span_joined low_done high_done rest less low high made pos bit width has less_low less_end low_is to_high high_is to_end is =
       let half = 2 ^ (bits.width - 1) in
       let set : (mask / half % 2 == 1) ≡ true = subst (λ n. (mask / 2 ^ n % 2 == 1) ≡ true) width has in
@@ -163,7 +163,7 @@ module _ (nodes : List Node) (bits : Bits) (mask : ℕ) (reach : Reach) (inside 
       let whole : (cell : ℕ) → kept cell bits.bit bits.width mask ≡ (if is_set cell bits.bit then half else 0) + later cell = λ cell.
       kept_more cell bits.bit bits.width mask pos inside
       ∙ ap (λ (b : Bool). (if is_set cell bits.bit then part b half else 0) + later cell) set in
-      let at : (cell : ℕ) (b : Bool) → value_of nodes (if b then high else low) cell ≡ truth (is_between reach.low reach.end ((if b then half else 0) + later cell)) = λ cell. elim [
+      let at : (cell : ℕ) (b : Bool) → diagram_value nodes (if b then high else low) cell ≡ truth (is_between reach.low reach.end ((if b then half else 0) + later cell)) = λ cell. elim [
         | true ↦ high_at.value cell
             ∙ (high_is.value cell
             ∙ (ap (λ n. truth (is_between less.low less.end n)) (same cell)

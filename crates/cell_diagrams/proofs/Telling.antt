@@ -15,10 +15,10 @@ use Rattle.cell_rules.specs.declared.relation.Relation.{Relation}
 use Rattle.cell_rules.specs.declared.relation.Relation.TheVariants.{Unequal, Greater, AtLeast}
 use Rattle.cell_rules.specs.declared.test.Test.{Test}
 use Rattle.cell_diagrams.specs.CellNumbers.{octets_number}
-use Rattle.cell_diagrams.specs.Values.{value_of, IsWithin, Keeps}
-use Rattle.cell_diagrams.specs.Choices.{chosen, IsChosen}
+use Rattle.cell_diagrams.specs.Values.{diagram_value, IsWithin, Keeps}
+use Rattle.cell_diagrams.specs.Choices.{chosen, IsChoice}
 use Rattle.cell_diagrams.specs.Spans.{bits_number, is_between, truth, IsSpan}
-use Rattle.cell_diagrams.specs.Tells.{Gives, Tells}
+use Rattle.cell_diagrams.specs.Tells.{GivesNumber, Tells}
 use Rattle.cell_diagrams.specs.inner.Fields.{AreBitsOf}
 use Rattle.cell_diagrams.specs.declared.diagram.Diagram.{Diagram}
 use Rattle.cell_diagrams.specs.declared.diagram.Diagram.TheVariants.{Leaf}
@@ -26,21 +26,21 @@ use Rattle.cell_diagrams.specs.declared.diagram.Node.{Node}
 use Rattle.cell_diagrams.specs.declared.span.Bits.{Bits}
 use Rattle.cell_diagrams.specs.declared.span.Reach.{Reach}
 
-pub gives_kept : (old new : List Node) (f : List ℕ → ℕ) (diagram : Diagram) → Keeps old new → Gives old f diagram → Gives new f diagram
+pub gives_kept : (old new : List Node) (f : List ℕ → ℕ) (diagram : Diagram) → Keeps old new → GivesNumber old f diagram → GivesNumber new f diagram
 gives_kept old new f diagram keeps gives =
     let same = keeps.same diagram gives.within in
     record { within = same.within; value = λ cell is. same.value (octets_number cell) ∙ gives.value cell is }
 
-pub gives_same : (nodes : List Node) (f g : List ℕ → ℕ) (diagram : Diagram) → ((cell : List ℕ) → f cell ≡ g cell) → Gives nodes f diagram → Gives nodes g diagram
+pub gives_same : (nodes : List Node) (f g : List ℕ → ℕ) (diagram : Diagram) → ((cell : List ℕ) → f cell ≡ g cell) → GivesNumber nodes f diagram → GivesNumber nodes g diagram
 gives_same nodes f g diagram same gives = record { within = gives.within; value = λ cell is. gives.value cell is ∙ same cell }
 
 -- The same for cells alone.
-pub gives_at_cells : (nodes : List Node) (f g : List ℕ → ℕ) (diagram : Diagram) → ((cell : List ℕ) → IsCell cell → f cell ≡ g cell) → Gives nodes f diagram → Gives nodes g diagram
+pub gives_at_cells : (nodes : List Node) (f g : List ℕ → ℕ) (diagram : Diagram) → ((cell : List ℕ) → IsCell cell → f cell ≡ g cell) → GivesNumber nodes f diagram → GivesNumber nodes g diagram
 gives_at_cells nodes f g diagram same gives = record { within = gives.within; value = λ cell is. gives.value cell is ∙ same cell is }
 
 -- What a choice gives.
-pub choice_gives : (old new : List Node) (test one other made : Diagram) (f g h : List ℕ → ℕ) → Keeps old new → Gives old f test → Gives old g one → Gives old h other
-    → IsChosen new test one other made → Gives new (λ cell. chosen (f cell) (g cell) (h cell)) made
+pub choice_gives : (old new : List Node) (test one other made : Diagram) (f g h : List ℕ → ℕ) → Keeps old new → GivesNumber old f test → GivesNumber old g one → GivesNumber old h other
+    → IsChoice new test one other made → GivesNumber new (λ cell. chosen (f cell) (g cell) (h cell)) made
 choice_gives old new test one other made f g h keeps test_gives one_gives other_gives is =
     let test_now = gives_kept old new f test keeps test_gives in
     let one_now = gives_kept old new g one keeps one_gives in
@@ -50,11 +50,11 @@ choice_gives old new test one other made f g h keeps test_gives one_gives other_
       value = λ cell there.
           let number = octets_number cell in
           is.value number
-          ∙ (ap (λ n. chosen n (value_of new one number) (value_of new other number)) (test_now.value cell there)
-          ∙ (ap (λ n. chosen (f cell) n (value_of new other number)) (one_now.value cell there) ∙ ap (λ n. chosen (f cell) (g cell) n) (other_now.value cell there)));
+          ∙ (ap (λ n. chosen n (diagram_value new one number) (diagram_value new other number)) (test_now.value cell there)
+          ∙ (ap (λ n. chosen (f cell) n (diagram_value new other number)) (one_now.value cell there) ∙ ap (λ n. chosen (f cell) (g cell) n) (other_now.value cell there)));
     }
 
-leaf_gives : (nodes : List Node) (n : ℕ) → Gives nodes (λ cell. n) (Leaf n)
+leaf_gives : (nodes : List Node) (n : ℕ) → GivesNumber nodes (λ cell. n) (Leaf n)
 leaf_gives nodes n = record { within = tt; value = λ cell is. refl }
 
 not_chosen : (b : Bool) → chosen (truth b) 0 1 ≡ truth (not b)
@@ -74,21 +74,21 @@ or_chosen false true = refl
 or_chosen false false = refl
 
 module _ (old new : List Node) (keeps : Keeps old new) {E : Type 0} where
-  pub denied_tells : (test : Diagram) (r : Result Diagram E) → IfOk r (IsChosen new test (Leaf 0) (Leaf 1))
+  pub denied_tells : (test : Diagram) (r : Result Diagram E) → IfOk r (IsChoice new test (Leaf 0) (Leaf 1))
       → IfOk r (λ made. (met : List ℕ → Bool) → Tells old met test → Tells new (λ cell. not (met cell)) made)
   denied_tells test (Ok made) is = λ met tells.
       gives_same new (λ cell. chosen (truth (met cell)) 0 1) (λ cell. truth (not (met cell))) made (λ cell. not_chosen (met cell))
       (choice_gives old new test (Leaf 0) (Leaf 1) made (λ cell. truth (met cell)) (λ cell. 0) (λ cell. 1) keeps tells (leaf_gives old 0) (leaf_gives old 1) is)
   denied_tells test (Err e) is = tt
 
-  pub both_tell : (one other : Diagram) (r : Result Diagram E) → IfOk r (IsChosen new one other (Leaf 0))
+  pub both_tell : (one other : Diagram) (r : Result Diagram E) → IfOk r (IsChoice new one other (Leaf 0))
       → IfOk r (λ made. (met also : List ℕ → Bool) → Tells old met one → Tells old also other → Tells new (λ cell. also cell && met cell) made)
   both_tell one other (Ok made) is = λ met also tells too.
       gives_same new (λ cell. chosen (truth (met cell)) (truth (also cell)) 0) (λ cell. truth (also cell && met cell)) made (λ cell. and_chosen (met cell) (also cell))
       (choice_gives old new one other (Leaf 0) made (λ cell. truth (met cell)) (λ cell. truth (also cell)) (λ cell. 0) keeps tells too (leaf_gives old 0) is)
   both_tell one other (Err e) is = tt
 
-  pub either_tells : (one other : Diagram) (r : Result Diagram E) → IfOk r (IsChosen new one (Leaf 1) other)
+  pub either_tells : (one other : Diagram) (r : Result Diagram E) → IfOk r (IsChoice new one (Leaf 1) other)
       → IfOk r (λ made. (met also : List ℕ → Bool) → Tells old met one → Tells old also other → Tells new (λ cell. also cell || met cell) made)
   either_tells one other (Ok made) is = λ met also tells too.
       gives_same new (λ cell. chosen (truth (met cell)) 1 (truth (also cell))) (λ cell. truth (also cell || met cell)) made (λ cell. or_chosen (met cell) (also cell))

@@ -6,10 +6,10 @@ use Rattle.std.proofs.lemmas.List.{length-set}
 use Rattle.std.proofs.lemmas.List.Elements.{All-weaker, All-set, All-push, All-nil, All-contains}
 use Rattle.std.specs.List.{All, Contains}
 use Rattle.cell_diagrams.specs.CellNumbers.{octets_number, is_set}
-use Rattle.cell_diagrams.specs.Values.{value_of, top_of}
-use Rattle.cell_diagrams.specs.Meetings.{has_pair, IsLeast, AreApart, AreMeetings}
+use Rattle.cell_diagrams.specs.Values.{diagram_value, top_of}
+use Rattle.cell_diagrams.specs.Meetings.{has_pair, IsLeast, ArePairsApart, AreMeetings}
 use Rattle.cell_diagrams.specs.inner.Steps.{AreSides}
-use Rattle.cell_diagrams.specs.inner.Walks.{both_top, Covers, AreSeen, IsClearFrom, Leads, IsDone, IsWalked, with_meeting}
+use Rattle.cell_diagrams.specs.inner.Walks.{both_top, Covers, AreSeen, IsClearFrom, LeadsToBoth, IsDone, IsWalked, with_meeting}
 use Rattle.cell_diagrams.specs.declared.diagram.Diagram.{Diagram}
 use Rattle.cell_diagrams.specs.declared.diagram.Diagram.TheVariants.{Leaf}
 use Rattle.cell_diagrams.specs.declared.diagram.Node.{Node}
@@ -58,10 +58,10 @@ apart_kept (next ∷ more) meeting first e f =
     ] in
     cases ((next.one == first.one) && (next.other == first.other)) refl
 
-apart_added : (meetings : List Meeting) (meeting : Meeting) → AreApart meetings → has_pair meetings meeting.one meeting.other ≡ false → AreApart (meetings ++ meeting ∷ [])
+apart_added : (meetings : List Meeting) (meeting : Meeting) → ArePairsApart meetings → has_pair meetings meeting.one meeting.other ≡ false → ArePairsApart (meetings ++ meeting ∷ [])
 apart_added [] meeting are e = (refl, tt)
 apart_added (first ∷ more) meeting are e =
-    let cases : (b : Bool) → ((first.one == meeting.one) && (first.other == meeting.other)) ≡ b → AreApart ((first ∷ more) ++ meeting ∷ []) = elim [
+    let cases : (b : Bool) → ((first.one == meeting.one) && (first.other == meeting.other)) ≡ b → ArePairsApart ((first ∷ more) ++ meeting ∷ []) = elim [
       | true ↦ λ f. let there : true ≡ false = ap (λ c. c || has_pair more meeting.one meeting.other) (sym f) ∙ e in absurd (cc)
       | false ↦ λ f.
           let rest : has_pair more meeting.one meeting.other ≡ false = ap (λ c. c || has_pair more meeting.one meeting.other) (sym f) ∙ e in
@@ -79,7 +79,7 @@ module _ (one other : List Node) where
     covered = All-weaker (λ (place : Option Both). IfSome place (Covers one other before)) (λ (place : Option Both). IfSome place (Covers one other after))
         (elim [
           | None ↦ λ is. tt
-          | Some both ↦ λ is cell. grows (value_of one both.one cell) (value_of other both.other cell) (is cell)
+          | Some both ↦ λ is cell. grows (diagram_value one both.one cell) (diagram_value other both.other cell) (is cell)
         ]) seen are.covered;
   }
 
@@ -128,8 +128,8 @@ module _ (one other : List Node) where
         apart = λ are. apart_added before meeting are lacks;
         least = λ first second leads done all.
             let led = leads number refl in
-            let one_at : value_of one both.one number ≡ meeting.one = ap (λ (b : Both). value_of one b.one number) leaves in
-            let other_at : value_of other both.other number ≡ meeting.other = ap (λ (b : Both). value_of other b.other number) leaves in
+            let one_at : diagram_value one both.one number ≡ meeting.one = ap (λ (b : Both). diagram_value one b.one number) leaves in
+            let other_at : diagram_value other both.other number ≡ meeting.other = ap (λ (b : Both). diagram_value other b.other number) leaves in
             let here : IsLeast first second meeting = record {
               cell = clear.is;
               one_is = led.0 ∙ one_at;
@@ -159,25 +159,25 @@ module _ (one other : List Node) where
   module _ (both low high : Both) (bit at next : ℕ) (lt : bit < 416) (bit_is : bit ≡ both_top one other both) (clear : at % 2 ^ (416 - bit) ≡ 0) (next_is : next ≡ at + 2 ^ (415 - bit))
       (one_sides : AreSides one both.one bit low.one high.one) (other_sides : AreSides other both.other bit low.other high.other) where
     -- The numbers of a cell at the side that it takes.
-    side_one : (cell : ℕ) (b : Bool) → is_set cell bit ≡ b → value_of one both.one cell ≡ value_of one (if b then high.one else low.one) cell
-    side_one cell b e = one_sides.value cell ∙ ap (λ (c : Bool). value_of one (if c then high.one else low.one) cell) e
+    side_one : (cell : ℕ) (b : Bool) → is_set cell bit ≡ b → diagram_value one both.one cell ≡ diagram_value one (if b then high.one else low.one) cell
+    side_one cell b e = one_sides.value cell ∙ ap (λ (c : Bool). diagram_value one (if c then high.one else low.one) cell) e
 
-    side_other : (cell : ℕ) (b : Bool) → is_set cell bit ≡ b → value_of other both.other cell ≡ value_of other (if b then high.other else low.other) cell
-    side_other cell b e = other_sides.value cell ∙ ap (λ (c : Bool). value_of other (if c then high.other else low.other) cell) e
+    side_other : (cell : ℕ) (b : Bool) → is_set cell bit ≡ b → diagram_value other both.other cell ≡ diagram_value other (if b then high.other else low.other) cell
+    side_other cell b e = other_sides.value cell ∙ ap (λ (c : Bool). diagram_value other (if c then high.other else low.other) cell) e
 
-    leads_by : (first second : ℕ → ℕ) → Leads one other first second both at → (cell : ℕ) → cell / 2 ^ (416 - bit) ≡ at / 2 ^ (416 - bit)
-        → (first cell ≡ value_of one both.one cell) × (second cell ≡ value_of other both.other cell)
+    leads_by : (first second : ℕ → ℕ) → LeadsToBoth one other first second both at → (cell : ℕ) → cell / 2 ^ (416 - bit) ≡ at / 2 ^ (416 - bit)
+        → (first cell ≡ diagram_value one both.one cell) × (second cell ≡ diagram_value other both.other cell)
     leads_by first second leads cell e =
         leads cell (subst (λ n. cell / 2 ^ (416 - n) ≡ at / 2 ^ (416 - n)) bit_is e)
 
-    to_low : (first second : ℕ → ℕ) → Leads one other first second both at → Leads one other first second low at
+    to_low : (first second : ℕ → ℕ) → LeadsToBoth one other first second both at → LeadsToBoth one other first second low at
     to_low first second leads cell e =
         let later : bit < both_top one other low = omega (arith, one_sides.low_later, other_sides.low_later) in
         let is = leads_low bit at lt clear cell (both_top one other low) later (omega arith) e in
         let led = leads_by first second leads cell is.0 in
         (led.0 ∙ side_one cell false is.1, led.1 ∙ side_other cell false is.1)
 
-    to_high : (first second : ℕ → ℕ) → Leads one other first second both at → Leads one other first second high next
+    to_high : (first second : ℕ → ℕ) → LeadsToBoth one other first second both at → LeadsToBoth one other first second high next
     to_high first second leads cell e =
         let later : bit < both_top one other high = omega (arith, one_sides.high_later, other_sides.high_later) in
         let e' : cell / 2 ^ (416 - both_top one other high) ≡ (at + 2 ^ (415 - bit)) / 2 ^ (416 - both_top one other high) =
@@ -187,7 +187,7 @@ module _ (one other : List Node) where
         (led.0 ∙ side_one cell true is.1, led.1 ∙ side_other cell true is.1)
 
     done_next : (before middle : List Meeting) (first second : ℕ → ℕ) → ((a b : ℕ) → has_pair before a b ≡ true → has_pair middle a b ≡ true) → Covers one other middle low
-        → Leads one other first second both at → IsDone first second before at → IsDone first second middle next
+        → LeadsToBoth one other first second both at → IsDone first second before at → IsDone first second middle next
     done_next before middle first second grows covers leads done cell less =
         let cases : (cell < at) ⊎ (at ≤ cell) → has_pair middle (first cell) (second cell) ≡ true = elim [
           | inl lt' ↦ grows (first cell) (second cell) (done cell lt')
@@ -195,7 +195,7 @@ module _ (one other : List Node) where
               let is = before_next bit at lt clear cell le (subst (λ n. cell < n) next_is less) in
               let led = leads_by first second leads cell is.0 in
               ap (λ n. has_pair middle n (second cell)) (led.0 ∙ side_one cell false is.1)
-              ∙ (ap (λ n. has_pair middle (value_of one low.one cell) n) (led.1 ∙ side_other cell false is.1) ∙ covers cell)
+              ∙ (ap (λ n. has_pair middle (diagram_value one low.one cell) n) (led.1 ∙ side_other cell false is.1) ∙ covers cell)
         ] in
         cases (cases_lt cell at)
 
@@ -203,12 +203,12 @@ module _ (one other : List Node) where
         → IsWalked one other middle after seen high next → IsWalked one other before after (slice_set seen place (Some both)) both at
     walked_sides before middle after seen between place low_walked high_walked =
         let covers : Covers one other after both = λ cell.
-        let cases : (b : Bool) → is_set cell bit ≡ b → has_pair after (value_of one both.one cell) (value_of other both.other cell) ≡ true = elim [
-          | true ↦ λ e. ap (λ n. has_pair after n (value_of other both.other cell)) (side_one cell true e)
-              ∙ (ap (λ n. has_pair after (value_of one high.one cell) n) (side_other cell true e) ∙ high_walked.covers cell)
-          | false ↦ λ e. ap (λ n. has_pair after n (value_of other both.other cell)) (side_one cell false e)
-              ∙ (ap (λ n. has_pair after (value_of one low.one cell) n) (side_other cell false e)
-              ∙ high_walked.grows (value_of one low.one cell) (value_of other low.other cell) (low_walked.covers cell))
+        let cases : (b : Bool) → is_set cell bit ≡ b → has_pair after (diagram_value one both.one cell) (diagram_value other both.other cell) ≡ true = elim [
+          | true ↦ λ e. ap (λ n. has_pair after n (diagram_value other both.other cell)) (side_one cell true e)
+              ∙ (ap (λ n. has_pair after (diagram_value one high.one cell) n) (side_other cell true e) ∙ high_walked.covers cell)
+          | false ↦ λ e. ap (λ n. has_pair after n (diagram_value other both.other cell)) (side_one cell false e)
+              ∙ (ap (λ n. has_pair after (diagram_value one low.one cell) n) (side_other cell false e)
+              ∙ high_walked.grows (diagram_value one low.one cell) (diagram_value other low.other cell) (low_walked.covers cell))
         ] in
         cases (is_set cell bit) refl in
         record {
@@ -242,8 +242,8 @@ pub walked_whole : (one other : List Node) (meetings : List Meeting) (seen : Lis
 walked_whole one other meetings seen both at before none zero given =
     let walked : IsWalked one other [] meetings seen both at = subst (λ (ms : List Meeting). IsWalked one other ms meetings seen both at) none given in
     record {
-      least = walked.least (value_of one both.one) (value_of other both.other) (λ cell e. (refl, refl)) (λ cell lt. absurd (omega arith))
-          (All-nil (IsLeast (value_of one both.one) (value_of other both.other)));
+      least = walked.least (diagram_value one both.one) (diagram_value other both.other) (λ cell e. (refl, refl)) (λ cell lt. absurd (omega arith))
+          (All-nil (IsLeast (diagram_value one both.one) (diagram_value other both.other)));
       each = walked.covers;
       apart = walked.apart tt;
     }

@@ -9,5 +9,5 @@ line_number None = 0
 line_number (Some place) = place + 1
 
 -- The number of the line that decides a cell.
-abbrev pub line_of : Rules → List ℕ → ℕ
-line_of rules cell = line_number (decision_of rules cell).line
+abbrev pub deciding_line : Rules → List ℕ → ℕ
+deciding_line rules cell = line_number (decision_of rules cell).line

@@ -3,7 +3,7 @@ use Rattle.std.specs.Prelude.{◌≡◌, ◌≤◌, ℕ, ◌==◌, Bool, true, f
 use Rattle.std.specs.List.{All}
 use Rattle.cell_rules.specs.Fields.{IsCell}
 use Rattle.cell_diagrams.specs.CellNumbers.{octets_number}
-use Rattle.cell_diagrams.specs.Values.{value_of}
+use Rattle.cell_diagrams.specs.Values.{diagram_value}
 use Rattle.cell_diagrams.specs.declared.diagram.Node.{Node}
 use Rattle.cell_diagrams.specs.declared.meeting.Both.{Both}
 use Rattle.cell_diagrams.specs.declared.meeting.Meeting.{Meeting}
@@ -21,13 +21,13 @@ pub record IsLeast (one other : ℕ → ℕ) (meeting : Meeting) : Type 0 where
   pub least : (cell : ℕ) → one cell ≡ meeting.one → other cell ≡ meeting.other → octets_number meeting.cell ≤ cell
 
 -- No two numbers are among the meetings twice.
-abbrev pub AreApart : List Meeting → Type 0
-AreApart [] = Unit {0}
-AreApart (meeting ∷ more) = (has_pair more meeting.one meeting.other ≡ false) × AreApart more
+abbrev pub ArePairsApart : List Meeting → Type 0
+ArePairsApart [] = Unit {0}
+ArePairsApart (meeting ∷ more) = (has_pair more meeting.one meeting.other ≡ false) × ArePairsApart more
 
 -- The meetings of two diagrams: each has the least cell to which they give its numbers; each two numbers that a cell has are among
 -- them, once.
 pub record AreMeetings (one other : List Node) (both : Both) (meetings : List Meeting) : Type 0 where
-  pub least : All (IsLeast (value_of one both.one) (value_of other both.other)) meetings
-  pub each : (cell : ℕ) → has_pair meetings (value_of one both.one cell) (value_of other both.other cell) ≡ true
-  pub apart : AreApart meetings
+  pub least : All (IsLeast (diagram_value one both.one) (diagram_value other both.other)) meetings
+  pub each : (cell : ℕ) → has_pair meetings (diagram_value one both.one cell) (diagram_value other both.other cell) ≡ true
+  pub apart : ArePairsApart meetings

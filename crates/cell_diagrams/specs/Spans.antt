@@ -1,6 +1,6 @@
 -- The number that some bits of a cell are.
 use Rattle.std.specs.Prelude.{◌≡◌, ◌≤◌, ℕ, ◌+◌, ◌-◌, ◌/◌, ◌%◌, ◌^◌, ◌&&◌, nat_le, nat_lt, bit_and, Bool, if◌then◌else◌, List}
-use Rattle.cell_diagrams.specs.Values.{value_of, top_of, IsWithin}
+use Rattle.cell_diagrams.specs.Values.{diagram_value, top_of, IsWithin}
 use Rattle.cell_diagrams.specs.declared.diagram.Diagram.{Diagram}
 use Rattle.cell_diagrams.specs.declared.diagram.Node.{Node}
 use Rattle.cell_diagrams.specs.declared.span.Bits.{Bits}
@@ -22,4 +22,4 @@ truth b = if b then 1 else 0
 pub record IsSpan (nodes : List Node) (bits : Bits) (mask : ℕ) (reach : Reach) (diagram : Diagram) : Type 0 where
   pub within : IsWithin nodes diagram
   pub top : bits.bit ≤ top_of nodes diagram
-  pub value : (cell : ℕ) → value_of nodes diagram cell ≡ truth (is_between reach.low reach.end (bit_and (bits_number cell bits.bit bits.width) mask))
+  pub value : (cell : ℕ) → diagram_value nodes diagram cell ≡ truth (is_between reach.low reach.end (bit_and (bits_number cell bits.bit bits.width) mask))

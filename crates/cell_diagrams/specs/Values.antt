@@ -12,18 +12,18 @@ value_by numbers (Leaf value) = value
 value_by numbers (Inner number) = numbers number
 
 -- The diagram that a node leads to.
-abbrev pub side_of : Node → ℕ → Diagram
-side_of node cell = if is_set cell node.bit then node.high else node.low
+abbrev pub taken_side : Node → ℕ → Diagram
+taken_side node cell = if is_set cell node.bit then node.high else node.low
 
 -- The number that the node of this number gives a cell.
 abbrev pub node_value : List Node → ℕ → ℕ → ℕ
 node_value [] cell number = 0
 node_value (node ∷ older) cell number =
-    if number == length older then value_by (node_value older cell) (side_of node cell) else node_value older cell number
+    if number == length older then value_by (node_value older cell) (taken_side node cell) else node_value older cell number
 
 -- The number that a diagram gives a cell.
-abbrev pub value_of : List Node → Diagram → ℕ → ℕ
-value_of nodes diagram cell = value_by (node_value nodes cell) diagram
+abbrev pub diagram_value : List Node → Diagram → ℕ → ℕ
+diagram_value nodes diagram cell = value_by (node_value nodes cell) diagram
 
 -- The bit of the node of this number.
 abbrev pub node_top : List Node → ℕ → ℕ
@@ -44,7 +44,7 @@ IsWithin nodes (Inner number) = number < length nodes
 pub record IsSame (old new : List Node) (diagram : Diagram) : Type 0 where
   pub within : IsWithin new diagram
   pub top : top_of new diagram ≡ top_of old diagram
-  pub value : (cell : ℕ) → value_of new diagram cell ≡ value_of old diagram cell
+  pub value : (cell : ℕ) → diagram_value new diagram cell ≡ diagram_value old diagram cell
 
 -- Each diagram of the old nodes has the same meaning among the new ones.
 pub record Keeps (old new : List Node) : Type 0 where

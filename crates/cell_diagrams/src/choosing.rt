@@ -2,9 +2,9 @@
 
 ghost use Rattle.std.specs.Prelude.{◌≡◌, ◌≤◌, ◌<◌, List, IfOk, IfSome, None};
 ghost use Rattle.cell_diagrams.specs.Values.{IsWithin, Keeps};
-ghost use Rattle.cell_diagrams.specs.Choices.{IsChosen};
+ghost use Rattle.cell_diagrams.specs.Choices.{IsChoice};
 ghost use Rattle.cell_diagrams.specs.inner.Asking.{AreWithin, IsAnswer, asked_top};
-ghost use Rattle.cell_diagrams.specs.inner.Steps.{AreParts};
+ghost use Rattle.cell_diagrams.specs.inner.Steps.{AreChoiceParts};
 ghost use Rattle.cell_diagrams.specs.inner.Store.{above};
 ghost use Rattle.cell_diagrams.specs.declared.diagram.Node.{Node};
 
@@ -48,7 +48,7 @@ impl Diagrams {
         requires within { AreWithin self.now asked }
         requires bit { bit < 416 }
         requires before { bit ≤ asked_top self.now asked }
-        ensures { AreParts self.now asked bit result.low result.high }
+        ensures { AreChoiceParts self.now asked bit result.low result.high }
     {
         let test = self.sides(asked.test, bit);
         let one = self.sides(asked.one, bit);
@@ -106,7 +106,7 @@ impl Diagrams {
         requires one { IsWithin self.old one }
         requires other { IsWithin self.old other }
         ensures keeps { Keeps self.old self.new }
-        ensures chosen { IfOk result (IsChosen self.new test one other) }
+        ensures chosen { IfOk result (IsChoice self.new test one other) }
     {
         self.choose_asked(Asked { test, one, other })
     }

@@ -2,8 +2,8 @@
 
 ghost use Rattle.std.specs.Prelude.{◌≡◌, ◌+◌, ◌<◌, ◌^◌, ℕ, [], ◌∷◌, List, IfOk, OnOk};
 ghost use Rattle.cell_diagrams.specs.Values.{Keeps};
-ghost use Rattle.cell_diagrams.specs.Tells.{Gives};
-ghost use Rattle.cell_diagrams.specs.Lines.{line_of};
+ghost use Rattle.cell_diagrams.specs.Tells.{GivesNumber};
+ghost use Rattle.cell_diagrams.specs.Lines.{deciding_line};
 ghost use Rattle.cell_diagrams.specs.inner.Lined.{AreAllWithin, AreLined, first_outer, later_outer};
 ghost use Rattle.cell_rules.specs.declared.rules.RuleLine.{RuleLine as Written};
 
@@ -107,7 +107,7 @@ pub fn deciding_lines(
     rules: &Rules,
 ) -> Result<Diagram, Undecided>
     ensures keeps { Keeps diagrams.old diagrams.new }
-    ensures gives { IfOk result (Gives diagrams.new (line_of rules.now)) }
+    ensures gives { IfOk result (GivesNumber diagrams.new (deciding_line rules.now)) }
 {
     let lines = rules.lines.as_slice();
     if lines.len() >= u32::MAX as usize {

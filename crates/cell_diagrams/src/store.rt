@@ -4,7 +4,7 @@ ghost use Rattle.std.specs.Prelude.{◌≡◌, ◌≤◌, ◌<◌, ◌==◌, [],
 ghost use Rattle.std.specs.List.{All};
 ghost use Rattle.cell_diagrams.specs.Values.{top_of, IsWithin, Keeps};
 ghost use Rattle.cell_diagrams.specs.inner.Asking.{IsAnswer};
-ghost use Rattle.cell_diagrams.specs.inner.Store.{IsNode, HasNode, IsMade, above};
+ghost use Rattle.cell_diagrams.specs.inner.Store.{IsNode, HasNode, DecidesByBit, above};
 ghost use Rattle.cell_diagrams.specs.inner.Steps.{AreSides};
 
 use crate::diagram::{Diagram, Node, Sides};
@@ -211,7 +211,7 @@ impl Diagrams {
 
     /// The node that the table of nodes has at the place of a node, if it is the same.
     fn found(&self, node: Node) -> Option<Diagram>
-        ensures { IfSome result (IsMade self.now node.bit node.low node.high) }
+        ensures { IfSome result (DecidesByBit self.now node.bit node.low node.high) }
     {
         let number = self.places[place_of_node(node)];
         if (number as usize) < self.nodes.len() && is_same_node(self.node(number), node) {
@@ -225,7 +225,7 @@ impl Diagrams {
     fn push(&mut self, node: Node) -> Result<Diagram, Undecided>
         requires { IsNode self.old node }
         ensures keeps { Keeps self.old self.new }
-        ensures made { IfOk result (IsMade self.new node.bit node.low node.high) }
+        ensures made { IfOk result (DecidesByBit self.new node.bit node.low node.high) }
     {
         let count = self.nodes.len();
         if count >= MOST_NODES {
@@ -250,7 +250,7 @@ impl Diagrams {
         requires low_later { bit < top_of self.old low }
         requires high_later { bit < top_of self.old high }
         ensures keeps { Keeps self.old self.new }
-        ensures made { IfOk result (IsMade self.new bit low high) }
+        ensures made { IfOk result (DecidesByBit self.new bit low high) }
     {
         if is_same(low, high) {
             return Ok(low);

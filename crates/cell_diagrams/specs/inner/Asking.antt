@@ -1,14 +1,14 @@
 -- A choice that is asked for, and its answer.
 use Rattle.std.specs.Prelude.{◌≡◌, ◌≤◌, ℕ, min, List}
 use Rattle.cell_diagrams.specs.Choices.{chosen}
-use Rattle.cell_diagrams.specs.Values.{value_of, top_of, IsWithin}
+use Rattle.cell_diagrams.specs.Values.{diagram_value, top_of, IsWithin}
 use Rattle.cell_diagrams.specs.declared.diagram.Diagram.{Diagram}
 use Rattle.cell_diagrams.specs.declared.diagram.Node.{Node}
 use Rattle.cell_diagrams.specs.declared.step.Asked.{Asked}
 
 -- The number that a choice gives a cell.
 abbrev pub chosen_value : List Node → Asked → ℕ → ℕ
-chosen_value nodes asked cell = chosen (value_of nodes asked.test cell) (value_of nodes asked.one cell) (value_of nodes asked.other cell)
+chosen_value nodes asked cell = chosen (diagram_value nodes asked.test cell) (diagram_value nodes asked.one cell) (diagram_value nodes asked.other cell)
 
 -- The first bit that one of the three diagrams asks for.
 abbrev pub asked_top : List Node → Asked → ℕ
@@ -25,4 +25,4 @@ pub record IsAnswer (nodes : List Node) (asked : Asked) (answer : Diagram) : Typ
   pub parts : AreWithin nodes asked
   pub within : IsWithin nodes answer
   pub top : asked_top nodes asked ≤ top_of nodes answer
-  pub value : (cell : ℕ) → value_of nodes answer cell ≡ chosen_value nodes asked cell
+  pub value : (cell : ℕ) → diagram_value nodes answer cell ≡ chosen_value nodes asked cell

@@ -4,7 +4,7 @@ use Rattle.upc_cell.specs.declared.side.Side.{Side}
 use Rattle.cell_rules.specs.Decisions.{decision_from}
 use Rattle.cell_rules.specs.declared.rules.RuleLine.{RuleLine}
 use Rattle.cell_diagrams.specs.Lines.{line_number}
-use Rattle.cell_diagrams.specs.Tells.{Gives}
+use Rattle.cell_diagrams.specs.Tells.{GivesNumber}
 use Rattle.cell_diagrams.specs.Values.{IsWithin}
 use Rattle.cell_diagrams.specs.declared.diagram.Diagram.{Diagram}
 use Rattle.cell_diagrams.specs.declared.diagram.Diagram.TheVariants.{Leaf}
@@ -33,4 +33,4 @@ AreAllWithin nodes so_far outer = (passed : ℕ) → IsWithin nodes (lined_at so
 -- Each gives the cells the number of the line that decides among these.
 abbrev pub AreLined : List Node → Side → List RuleLine → ℕ → ℕ → Diagram → List Diagram → Type 0
 AreLined nodes side lines place otherwise so_far outer = (passed : ℕ)
-    → Gives nodes (λ cell. line_number (decision_from side lines place passed otherwise cell).line) (lined_at so_far outer passed)
+    → GivesNumber nodes (λ cell. line_number (decision_from side lines place passed otherwise cell).line) (lined_at so_far outer passed)

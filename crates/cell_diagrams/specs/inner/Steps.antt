@@ -1,7 +1,7 @@
 -- The parts of a choice at a bit.
 use Rattle.std.specs.Prelude.{◌≡◌, ◌≤◌, ◌<◌, ℕ, if◌then◌else◌, List}
 use Rattle.cell_diagrams.specs.CellNumbers.{is_set}
-use Rattle.cell_diagrams.specs.Values.{value_of, top_of, IsWithin}
+use Rattle.cell_diagrams.specs.Values.{diagram_value, top_of, IsWithin}
 use Rattle.cell_diagrams.specs.declared.diagram.Diagram.{Diagram}
 use Rattle.cell_diagrams.specs.declared.diagram.Node.{Node}
 use Rattle.cell_diagrams.specs.declared.step.Asked.{Asked}
@@ -12,10 +12,10 @@ pub record AreSides (nodes : List Node) (diagram : Diagram) (bit : ℕ) (low hig
   pub high_within : IsWithin nodes high
   pub low_later : bit < top_of nodes low
   pub high_later : bit < top_of nodes high
-  pub value : (cell : ℕ) → value_of nodes diagram cell ≡ value_of nodes (if is_set cell bit then high else low) cell
+  pub value : (cell : ℕ) → diagram_value nodes diagram cell ≡ diagram_value nodes (if is_set cell bit then high else low) cell
 
 -- The parts of a choice.
-pub record AreParts (nodes : List Node) (asked : Asked) (bit : ℕ) (low high : Asked) : Type 0 where
+pub record AreChoiceParts (nodes : List Node) (asked : Asked) (bit : ℕ) (low high : Asked) : Type 0 where
   pub test : AreSides nodes asked.test bit low.test high.test
   pub one : AreSides nodes asked.one bit low.one high.one
   pub other : AreSides nodes asked.other bit low.other high.other

@@ -2,7 +2,7 @@
 use Rattle.std.specs.Prelude.{◌≡◌, ◌≤◌, ◌<◌, ℕ, if◌then◌else◌, List, [], ◌∷◌, length}
 use Rattle.std.specs.List.{All}
 use Rattle.cell_diagrams.specs.CellNumbers.{is_set}
-use Rattle.cell_diagrams.specs.Values.{value_of, node_value, node_top, top_of, side_of, IsWithin}
+use Rattle.cell_diagrams.specs.Values.{diagram_value, node_value, node_top, top_of, taken_side, IsWithin}
 use Rattle.cell_diagrams.specs.inner.Asking.{IsAnswer}
 use Rattle.cell_diagrams.specs.declared.diagram.Diagram.{Diagram}
 use Rattle.cell_diagrams.specs.declared.diagram.Diagram.TheVariants.{Leaf, Inner}
@@ -31,13 +31,13 @@ AreNodes (node ∷ older) = IsNode older node × AreNodes older
 pub record HasNode (nodes : List Node) (number : ℕ) (node : Node) : Type 0 where
   pub is : IsNode nodes node
   pub top : node_top nodes number ≡ node.bit
-  pub value : (cell : ℕ) → node_value nodes cell number ≡ value_of nodes (side_of node cell) cell
+  pub value : (cell : ℕ) → node_value nodes cell number ≡ diagram_value nodes (taken_side node cell) cell
 
 -- The diagram decides by a bit between two others.
-pub record IsMade (nodes : List Node) (bit : ℕ) (low high made : Diagram) : Type 0 where
+pub record DecidesByBit (nodes : List Node) (bit : ℕ) (low high made : Diagram) : Type 0 where
   pub within : IsWithin nodes made
   pub top : bit ≤ top_of nodes made
-  pub value : (cell : ℕ) → value_of nodes made cell ≡ value_of nodes (if is_set cell bit then high else low) cell
+  pub value : (cell : ℕ) → diagram_value nodes made cell ≡ diagram_value nodes (if is_set cell bit then high else low) cell
 
 -- The nodes and tables of a store: the tables have their lengths, and each choice in them was made.
 pub record IsStore (nodes : List Node) (places : List ℕ) (steps : List Step) : Type 0 where

@@ -3,8 +3,8 @@ use Rattle.std.specs.Prelude.{◌≡◌, ◌<◌, ℕ, ◌-◌, ◌/◌, ◌%◌
 use Rattle.std.specs.List.{All}
 use Rattle.cell_rules.specs.Fields.{IsCell}
 use Rattle.cell_diagrams.specs.CellNumbers.{octets_number}
-use Rattle.cell_diagrams.specs.Values.{value_of, top_of}
-use Rattle.cell_diagrams.specs.Meetings.{has_pair, IsLeast, AreApart}
+use Rattle.cell_diagrams.specs.Values.{diagram_value, top_of}
+use Rattle.cell_diagrams.specs.Meetings.{has_pair, IsLeast, ArePairsApart}
 use Rattle.cell_diagrams.specs.declared.diagram.Diagram.{Diagram}
 use Rattle.cell_diagrams.specs.declared.diagram.Node.{Node}
 use Rattle.cell_diagrams.specs.declared.meeting.Both.{Both}
@@ -16,7 +16,7 @@ both_top one other both = min 416 (min (top_of one both.one) (top_of other both.
 
 -- Each two numbers that two diagrams give a cell are among the meetings.
 abbrev pub Covers : List Node → List Node → List Meeting → Both → Type 0
-Covers one other meetings both = (cell : ℕ) → has_pair meetings (value_of one both.one cell) (value_of other both.other cell) ≡ true
+Covers one other meetings both = (cell : ℕ) → has_pair meetings (diagram_value one both.one cell) (diagram_value other both.other cell) ≡ true
 
 -- The meetings of what was seen are there.
 pub record AreSeen (one other : List Node) (meetings : List Meeting) (seen : List (Option Both)) : Type 0 where
@@ -29,9 +29,9 @@ pub record IsClearFrom (bit : ℕ) (cell : List ℕ) : Type 0 where
   pub clear : octets_number cell % 2 ^ (416 - bit) ≡ 0
 
 -- The cells that begin as this one up to the first bit of two diagrams have the numbers of these diagrams.
-abbrev pub Leads : List Node → List Node → (ℕ → ℕ) → (ℕ → ℕ) → Both → ℕ → Type 0
-Leads one other first second both at = (cell : ℕ) → cell / 2 ^ (416 - both_top one other both) ≡ at / 2 ^ (416 - both_top one other both)
-    → (first cell ≡ value_of one both.one cell) × (second cell ≡ value_of other both.other cell)
+abbrev pub LeadsToBoth : List Node → List Node → (ℕ → ℕ) → (ℕ → ℕ) → Both → ℕ → Type 0
+LeadsToBoth one other first second both at = (cell : ℕ) → cell / 2 ^ (416 - both_top one other both) ≡ at / 2 ^ (416 - both_top one other both)
+    → (first cell ≡ diagram_value one both.one cell) × (second cell ≡ diagram_value other both.other cell)
 
 -- The numbers of each cell less than this one are among the meetings.
 abbrev pub IsDone : (ℕ → ℕ) → (ℕ → ℕ) → List Meeting → ℕ → Type 0
@@ -42,8 +42,8 @@ pub record IsWalked (one other : List Node) (before after : List Meeting) (seen 
   pub seen_are : AreSeen one other after seen
   pub grows : (first second : ℕ) → has_pair before first second ≡ true → has_pair after first second ≡ true
   pub covers : Covers one other after both
-  pub apart : AreApart before → AreApart after
-  pub least : (first second : ℕ → ℕ) → Leads one other first second both at → IsDone first second before at → All (IsLeast first second) before
+  pub apart : ArePairsApart before → ArePairsApart after
+  pub least : (first second : ℕ → ℕ) → LeadsToBoth one other first second both at → IsDone first second before at → All (IsLeast first second) before
       → All (IsLeast first second) after
 
 -- The meetings with one more, if its numbers aren't among them.

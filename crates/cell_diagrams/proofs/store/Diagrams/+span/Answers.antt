@@ -1,6 +1,6 @@
 use Rattle.std.proofs.Common.{◌+◌, ◌-◌, refl, sym, ap, ◌∙◌, arith}
 use Rattle.cell_diagrams.specs.Spans.{IsSpan}
-use Rattle.cell_diagrams.specs.inner.Store.{IsMade}
+use Rattle.cell_diagrams.specs.inner.Store.{DecidesByBit}
 use Rattle.cell_diagrams.specs.declared.span.Bits.{Bits}
 use Rattle.cell_diagrams.proofs.Results.{if_ok}
 use Rattle.cell_diagrams.proofs.SpanSteps.{span_empty, span_past, span_all, span_skipped, span_joined}
@@ -27,7 +27,7 @@ returns-then-not-has_bit-clause-span t c =
 pub returns-clause-span : goal.returns-clause-span
 returns-clause-span t c =
     let rest : Bits = record { bit = c.args.bits.bit + 1; width = c.args.bits.width - 1 } in
-    if_ok c.make.result (IsMade c.make.new.self c.args.bits.bit c.in_ok-low.low c.in_ok-high.high) (IsSpan c.make.new.self c.args.bits c.args.mask c.args.reach)
+    if_ok c.make.result (DecidesByBit c.make.new.self c.args.bits.bit c.in_ok-low.low c.in_ok-high.high) (IsSpan c.make.new.self c.args.bits c.args.mask c.args.reach)
     (λ made is. span_joined c.make.new.self c.args.bits c.args.mask c.args.reach c.requires.inside c.span-2.new.self c.span-3.new.self rest c.without.result c.in_ok-low.low c.in_ok-high.high made
     (omega arith) refl refl (sym c.if-not-has_bit.ensures) (c.without.ensures.low ∙ ap (λ n. c.args.reach.low - n) c.power.ensures)
     (c.without.ensures.end ∙ ap (λ n. c.args.reach.end - n) c.power.ensures) c.in_ok-low.ensures.span c.span-3.ensures.keeps c.in_ok-high.ensures.span c.make.ensures.keeps is)
