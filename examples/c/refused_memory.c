@@ -38,7 +38,8 @@ static uint32_t assemble(upc_fault *fault)
 	return upc_assemble((const uint8_t *)source, sizeof source - 1, room, sizeof room, &count, fault);
 }
 
-static const char rules[] = "vpi 1 and vci 32..127, 5 {\n  oamf5 or clp 1 -> 2\n  any -> 1\n}\notherwise -> 3\n";
+static const char rules[] =
+	"vpi 1 and vci 32..127, 5 {\n  oam or clp 1 -> 2\n  1/32 or vci != 33, 40 -> 1\n}\notherwise -> 3\n";
 
 static uint32_t compile_rules(upc_fault *fault)
 {
