@@ -15,7 +15,7 @@ pub enum RuleKind {
     /// A word begins with a digit but is no number of at most 4294967295.
     #[error("2 BadNumber")]
     BadNumber,
-    /// The field can't have the number, or the range is empty, or a value is the number 0.
+    /// The field can't have the number, or the range is empty.
     #[error("3 TooLarge")]
     TooLarge,
     /// The octets aren't all in the cell.
