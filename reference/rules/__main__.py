@@ -14,7 +14,7 @@ import threading
 from policer.decoding import decoded
 from policer.machine import value_and_steps
 
-from rules.making import cells_for, text_of
+from rules.making import cells_for, padded, text_of
 from rules.meaning import decision_of, value_of
 from rules.reader import Fault, read_rules
 from rules.words import outcomes
@@ -23,6 +23,11 @@ from rules.words import outcomes
 # A code has at most so many instructions, and far fewer than this for a comparison, a number of a list, or a rule.
 MOST_CODE = 4096
 MOST_OF_ONE = 8
+# A text has at most so many octets, and the line `cells` too.
+MOST_OCTETS = 1048576
+MOST_LINE_OCTETS = 70000
+OVER_LIMIT = "fault script 5 TooLong\n"
+LONG_CODE = "fault rules 8 TooLong 0 0\n"
 
 
 def answered(program, text, subcommand="rules"):
@@ -50,19 +55,31 @@ def shown(decision):
     return f"otherwise value {value}\n" if number is None else f"line {number} value {value}\n"
 
 
-def difference_of_why(program, text, random_source):
-    """Returns what differs between `why` and the reference, or None."""
-    # The line feed ends the last line, if none does.
-    text += b"\n"
+def wanted_of_why(program, text, after, random_source):
+    """Returns the cells after a text of rules and what follows it, the answer of `why` that is wanted, and its status."""
+    if len(text) > MOST_OCTETS:
+        return [], OVER_LIMIT, 1
     try:
         reader = read_rules(text)
     except Fault as fault:
-        cells, wanted, status = [], fault.shown(), 1
-    else:
-        cells, status = cells_for(reader, random_source), 0
-        wanted = "".join(shown(decision_of(reader, cell)) for cell in cells)
+        return [], fault.shown(), 1
+    if may_be_too_long(reader) and answered(program, text)[0] == LONG_CODE:
+        return [], LONG_CODE, 1
+    cells = cells_for(reader, random_source) if after else []
+    return cells, "".join(shown(decision_of(reader, cell)) for cell in cells), 0
+
+
+def difference_of_why(program, text, random_source):
+    """Returns what differs between `why` and the reference, or None."""
+    # The line feed ends the last line, if none does. Without a line `cells` there are no cells, and the text may end as it is.
+    after = random_source.choice([b" cells # of the rules\n", b"cells\r\n", b"cells\n", b"", b"cells # " + b"." * (MOST_LINE_OCTETS - 8) + b"\n"])
+    if after and text and not text.endswith(b"\n"):
+        text += b"\n"
+    if random_source.random() < 0.02:
+        text, after = text + b"cells # " + b"." * (MOST_LINE_OCTETS - 7) + b"\n", b""
+    cells, wanted, status = wanted_of_why(program, text, after, random_source)
     lines = "".join(f"{cell.hex()}\n" for cell in cells)
-    answer, ended = answered(program, text + b" cells # of the rules\n" + lines.encode(), "why")
+    answer, ended = answered(program, text + after + lines.encode(), "why")
     if answer == wanted:
         return None if ended == status else f"the status {ended} of why"
     at = next((at for at, (one, other) in enumerate(zip(answer.split("\n"), wanted.split("\n"))) if one != other), 0)
@@ -72,12 +89,14 @@ def difference_of_why(program, text, random_source):
 def difference(program, text, random_source):
     """Returns what differs between the program and the reference, or None."""
     answer, ended = answered(program, text)
+    if len(text) > MOST_OCTETS:
+        return None if (answer, ended) == (OVER_LIMIT, 1) else f"{answer!r} with status {ended} of a text over the limit"
     try:
         reader = read_rules(text)
     except Fault as fault:
         return None if (answer, ended) == (fault.shown(), 1) else f"{answer!r} with status {ended} and not {fault.shown()!r}"
     if ended or not answer.startswith("accepted "):
-        is_right = (answer, ended) == ("fault rules 8 TooLong 0 0\n", 1) and may_be_too_long(reader)
+        is_right = (answer, ended) == (LONG_CODE, 1) and may_be_too_long(reader)
         return None if is_right else f"{answer!r} with status {ended}"
     digits = answer.split("\n")[1]
     code = decoded(bytes.fromhex(digits))
@@ -103,10 +122,12 @@ def main():
     for number in range(count):
         random_source = random.Random(f"{seed} {number}")
         text = text_of(random_source)
+        if random_source.random() < 0.02:
+            text = padded(random_source, text, MOST_OCTETS)
         found = difference(program, text, random_source) or difference_of_why(program, text, random_source)
         if found:
             failed += 1
-            print(f"{seed} {number}: {found}\n{text.decode(errors='replace')}")
+            print(f"{seed} {number}: {found}\n{text[:5000].decode(errors='replace')}")
         else:
             passed += 1
     print(f"{passed} passed, {failed} failed")

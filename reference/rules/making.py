@@ -148,6 +148,19 @@ def text_of(source):
     return text.encode()
 
 
+def padded(source, text, most):
+    """Returns the text with comments in front of it, about as long as a text may be: one long comment, or many."""
+    missing = most + source.choice([-1, 0, 0, 1, 2, 70000]) - len(text)
+    if missing < 2:
+        return text
+    size = source.choice([missing, 70001, 1000, 2])
+    # Each comment has as many octets, and the last one those that are left.
+    whole, left = divmod(missing, size)
+    if left == 1:
+        whole, left = whole - 1, size + 1
+    return (b"#" * (size - 1) + b"\n") * whole + (b"#" * (left - 1) + b"\n" if left else b"") + text
+
+
 def comparisons(parts):
     """Returns the comparisons of a test or of lines."""
     found = []
