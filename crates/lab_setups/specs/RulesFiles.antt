@@ -7,6 +7,7 @@ use Rattle.bpf_verify.specs.Accepted.{IsAccepted}
 use Rattle.hex.specs.Hex.{encode_lower}
 use Rattle.lab_rules.specs.RulesAnswers.{most_rules_octets}
 use Rattle.lab_rules.specs.RulesText.{IsRulesText, MayBeRulesText}
+use Rattle.rules_text.specs.CodeOfText.{IsCodeOfText}
 use Rattle.rules_text.specs.ValuesRead.{FollowsText}
 use Rattle.text_io.specs.Gathered.{gathered}
 use Rattle.text_io.specs.declared.ending.Done.TheVariants.{Ended}
@@ -22,12 +23,13 @@ pub record IsReadAgain (code : List Instr) : Type 0 where
   pub digits : octets_of_digits (program_digits code) ≡ Some (code_octets code)
   pub spelled : SpellsCode (code_octets code) code
 
--- The text is within the limit, and the code is a program for it: it is accepted, on every cell the machine gives the value of the text's
--- rules, and it is what its digits are read as.
+-- The text is within the limit, and the code is the one that is defined for it: it is accepted, on every cell the machine gives the value of
+-- the text's rules, and it is what its digits are read as.
 pub record IsProgramOfRules (text : List ℕ) (code : List Instr) : Type 0 where
   pub within : gathered most_rules_octets text ≡ Some text
   pub accepted : IsAccepted code
   pub follows : FollowsText text code
+  pub of_text : IsCodeOfText text code
   pub read_again : IsReadAgain code
 
 -- The text has a fault, and `upc-lab rules` prints this line for it.

@@ -3,6 +3,7 @@ use Rattle.std.specs.Prelude.{◌≡◌, ℕ, List, ◌++◌, Some}
 use Rattle.bpf_code.specs.declared.instr.Instr.{Instr}
 use Rattle.bpf_verify.specs.Accepted.{IsAccepted}
 use Rattle.lab_rules.specs.RulesAnswers.{most_rules_octets}
+use Rattle.rules_text.specs.CodeOfText.{IsCodeOfText}
 use Rattle.rules_text.specs.ValuesRead.{FollowsText}
 use Rattle.text_io.specs.Gathered.{gathered}
 use Rattle.text_io.specs.Lines.{lines_of}
@@ -14,11 +15,12 @@ use Rattle.lab_setups.specs.declared.compiling.Compiled.TheVariants.{Program, Fa
 use Rattle.lab_setups.specs.declared.expanding.Expanded.{Expanded}
 use Rattle.lab_setups.specs.declared.expanding.Expanded.TheVariants as expanded
 
--- The code is an accepted one for a text within the limit.
+-- The code is the one that is defined for a text within the limit, and it is accepted.
 pub record IsCodeOfRules (text : List ℕ) (code : List Instr) : Type 0 where
   pub within : gathered most_rules_octets text ≡ Some text
   pub accepted : IsAccepted code
   pub follows : FollowsText text code
+  pub of_text : IsCodeOfText text code
 
 -- What a text of rules leads to.
 abbrev pub CompilesTo : List ℕ → Compiled → Type 0
