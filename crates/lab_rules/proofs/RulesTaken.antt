@@ -9,7 +9,7 @@ use Rattle.text_io.proofs.LinesLemmas.{NoFeed, FirstLine, lines-at_feed, lines-f
 use Rattle.lab_rules.specs.AsmText.{whole_line}
 use Rattle.lab_rules.specs.RulesAnswers.{most_rules_octets}
 use Rattle.lab_rules.specs.WhyText.{is_cells_line, lines_after, rules_before, says_cells}
-use Rattle.lab_rules.specs.inner.RulesTaken.{AreRulesLines, FindsBefore, HasRulesBefore, IsUpTo, TakesRules}
+use Rattle.lab_rules.specs.inner.RulesTaken.{AreRulesLines, FindsTextOfRules, HasRulesBefore, IsUpTo, TakesRules}
 
 -- ---- lines
 
@@ -85,11 +85,11 @@ whole_size line = by line.ended
     by true = let size = length-append line.octets (codes "\n") in omega (arith, size)
     by false = omega arith
 
-found_text : (text octets more : List ℕ) → length text ≤ most_rules_octets → HasRulesBefore octets text more → FindsBefore (Some text) octets more
+found_text : (text octets more : List ℕ) → length text ≤ most_rules_octets → HasRulesBefore octets text more → FindsTextOfRules (Some text) octets more
 found_text text octets more small has = (ap (gathered most_rules_octets) has.rules ∙ few_enough text small, has.cells)
 
 -- What is found at the end of an input.
-pub found_at_end : (text octets : List ℕ) (found : Option (List ℕ)) → HasRulesBefore octets text [] → found ≡ gathered most_rules_octets text → FindsBefore found octets []
+pub found_at_end : (text octets : List ℕ) (found : Option (List ℕ)) → HasRulesBefore octets text [] → found ≡ gathered most_rules_octets text → FindsTextOfRules found octets []
 found_at_end text octets None has is = ap (gathered most_rules_octets) has.rules ∙ sym is
 found_at_end text octets (Some other) has is = (ap (gathered most_rules_octets) has.rules ∙ sym is, has.cells)
 
@@ -144,7 +144,7 @@ module _ (octets : List ℕ) (start : ℕ) (up : IsUpTo octets start) where
               subst (λ (o : ℕ). o ≢ 10) (sym (get_or_append_left line (octet ∷ []) 0 k near)) (free k near)
 
   -- What is found at the line `cells`.
-  pub found_at_cells : start ≤ most_rules_octets → is_cells_line (ended_line (drop start octets)) ≡ true → (more : List ℕ) → FindsBefore (Some (take start octets)) (octets ++ 10 ∷ []) more
+  pub found_at_cells : start ≤ most_rules_octets → is_cells_line (ended_line (drop start octets)) ≡ true → (more : List ℕ) → FindsTextOfRules (Some (take start octets)) (octets ++ 10 ∷ []) more
   found_at_cells small cells more =
       let size : length (take start octets) ≤ start = let is = length-take start octets in omega (arith, is) in
       found_text (take start octets) (octets ++ 10 ∷ []) more (omega (arith, size, small))
@@ -194,11 +194,11 @@ module _ (octets : List ℕ) (start : ℕ) (up : IsUpTo octets start) where
       ap length moved ∙ length-append (take start octets) (rules_before (lines_of (drop start octets ++ more)))
       ∙ ap (λ (n : ℕ). n + length (rules_before (lines_of (drop start octets ++ more)))) (length-take-le start octets up.within)
 
-  pub over_lines : most_rules_octets < start → (more : List ℕ) → FindsBefore None octets more
+  pub over_lines : most_rules_octets < start → (more : List ℕ) → FindsTextOfRules None octets more
   over_lines over more = let size = size_at_least more in too_many (rules_before (lines_of (octets ++ more))) (omega (arith, over, size))
 
   -- So is one whose last line is too long for the line `cells`.
-  pub over_long : most_rules_octets < length octets → most_line_octets < length octets - start → (more : List ℕ) → FindsBefore None octets more
+  pub over_long : most_rules_octets < length octets → most_line_octets < length octets - start → (more : List ℕ) → FindsTextOfRules None octets more
   over_long over long more =
       let dropped : length (drop start octets) ≡ length octets - start = length-drop start octets in
       let first = first_of (drop start octets) (omega (arith, long, dropped)) up.last in
@@ -234,7 +234,7 @@ pub takes_cells : (before after octets text : List ℕ) (start : ℕ) → IsUpTo
 takes_cells before after octets text start up came small cells is = record {
   taken = octets ++ 10 ∷ [];
   came = came ∙ sym (append_assoc octets (10 ∷ []) after);
-  finds = λ more follows. subst (λ (t : List ℕ). FindsBefore (Some t) (octets ++ 10 ∷ []) more) (sym is) (found_at_cells octets start up small cells more);
+  finds = λ more follows. subst (λ (t : List ℕ). FindsTextOfRules (Some t) (octets ++ 10 ∷ []) more) (sym is) (found_at_cells octets start up small cells more);
 }
 
 -- At the end of the input.
@@ -243,7 +243,7 @@ pub takes_end : (before octets text : List ℕ) (found : Option (List ℕ)) → 
 takes_end before octets text found has came is = record {
   taken = octets;
   came = came ∙ sym (append-nil octets);
-  finds = λ more follows. subst (λ (t : List ℕ). FindsBefore found octets t) (sym (follows refl)) (found_at_end text octets found has is);
+  finds = λ more follows. subst (λ (t : List ℕ). FindsTextOfRules found octets t) (sym (follows refl)) (found_at_end text octets found has is);
 }
 
 -- Over the limit.

@@ -11,9 +11,9 @@ use Rattle.lab_rules.specs.RulesAnswers.{AnswersBy, PrintsFault}
 use Rattle.lab_rules.specs.WhyText.{IsWhyText, MayBeWhyText, PrintsDecisions, lines_after, rules_of_why, why_rules}
 use Rattle.lab_rules.proofs.WholeAnswers.{found-answered}
 use Rattle.lab_rules.specs.inner.Places.{FindsRules}
-use Rattle.lab_rules.specs.inner.RulesTaken.{FindsBefore, TakesRules}
+use Rattle.lab_rules.specs.inner.RulesTaken.{FindsTextOfRules, TakesRules}
 
-found_is : (found : Option (List ℕ)) (octets more : List ℕ) → FindsBefore found octets more → rules_of_why (octets ++ more) ≡ found
+found_is : (found : Option (List ℕ)) (octets more : List ℕ) → FindsTextOfRules found octets more → rules_of_why (octets ++ more) ≡ found
 found_is None octets more finds = finds
 found_is (Some text) octets more finds = finds.0
 
@@ -26,13 +26,13 @@ fault_answers : (found : Option (List ℕ)) (cells : List Line) (answer : List �
 fault_answers None cells answer done prints = prints
 fault_answers (Some text) cells answer done prints = inr prints
 
-pub faulty : (found : Option (List ℕ)) (octets more answer : List ℕ) (done : Done) → FindsBefore found octets more → AnswersBy PrintsFault found answer done → IsWhyText (octets ++ more) answer done
+pub faulty : (found : Option (List ℕ)) (octets more answer : List ℕ) (done : Done) → FindsTextOfRules found octets more → AnswersBy PrintsFault found answer done → IsWhyText (octets ++ more) answer done
 faulty found octets more answer done finds prints =
     subst (λ (f : Option (List ℕ)). AnswersBy (PrintsDecisions (lines_after (lines_of (octets ++ more)))) f answer done) (sym (found_is found octets more finds))
     (fault_answers found (lines_after (lines_of (octets ++ more))) answer done prints)
 
 -- So do the answers to the cells.
-pub decided : (found : Option (List ℕ)) (octets more answer : List ℕ) (numbered : NumberedRead) (done : Done) → FindsBefore found octets more → FindsRules found numbered
+pub decided : (found : Option (List ℕ)) (octets more answer : List ℕ) (numbered : NumberedRead) (done : Done) → FindsTextOfRules found octets more → FindsRules found numbered
     → Prints why_rules 0 numbered (lines_of more) answer done → IsWhyText (octets ++ more) answer done
 decided None octets more answer numbered done finds rules prints = let no : None ≡ Some rules.0 = rules.1 in absurd (cc)
 decided (Some text) octets more answer numbered done finds rules prints =

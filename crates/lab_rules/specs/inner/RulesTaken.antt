@@ -20,15 +20,15 @@ pub record HasRulesBefore (octets text more : List ℕ) : Type 0 where
   pub cells : lines_after (lines_of (octets ++ more)) ≡ lines_of more
 
 -- What was found in the octets that were read, if these octets follow: a text within the limit, or that it is over the limit.
-abbrev pub FindsBefore : Option (List ℕ) → List ℕ → List ℕ → Type 0
-FindsBefore None octets more = rules_of_why (octets ++ more) ≡ None
-FindsBefore (Some text) octets more = (rules_of_why (octets ++ more) ≡ Some text) × (lines_after (lines_of (octets ++ more)) ≡ lines_of more)
+abbrev pub FindsTextOfRules : Option (List ℕ) → List ℕ → List ℕ → Type 0
+FindsTextOfRules None octets more = rules_of_why (octets ++ more) ≡ None
+FindsTextOfRules (Some text) octets more = (rules_of_why (octets ++ more) ≡ Some text) × (lines_after (lines_of (octets ++ more)) ≡ lines_of more)
 
 -- Octets were read of an input, and this was found, whatever would follow where something does.
 pub record TakesRules (found : Option (List ℕ)) (before after : List ℕ) : Type 0 where
   pub taken : List ℕ
   pub came : before ≡ taken ++ after
-  pub finds : (more : List ℕ) → (after ≡ [] → more ≡ []) → FindsBefore found taken more
+  pub finds : (more : List ℕ) → (after ≡ [] → more ≡ []) → FindsTextOfRules found taken more
 
 -- The first octet of an input was read, or nothing at its end.
 abbrev pub TakesOctet : Option ℕ → List ℕ → List ℕ → Type 0
