@@ -1,63 +1,96 @@
 -- A step of a run that reads ahead.
-use Rattle.std.proofs.Common.{◌≡◌, ◌⊎◌, inl, inr, ℕ, List, [], ◌++◌, refl, ap, sym, ◌∙◌, subst, append_assoc}
-use Rattle.captures.specs.declared.fault.Fault.{Fault}
+use Rattle.std.proofs.Common.{◌≡◌, ◌≢◌, ℕ, List, [], ◌++◌, refl, ap, sym, ◌∙◌, subst, append_assoc}
+use Rattle.lab_captures.specs.CaptureText.{IsTextOfCells, end_done, text_at_end}
+use Rattle.lab_captures.specs.CellFilter.{CellsEnd}
 use Rattle.lab_captures.specs.CellFollowing.{OfEachWorld}
 use Rattle.lab_captures.specs.CellRules.{CellRules}
+use Rattle.lab_captures.specs.declared.advance.Going.{Going}
+use Rattle.lab_captures.specs.declared.advance.Going.TheVariants as going
 use Rattle.lab_captures.specs.declared.counted.CountedCell.{CountedCell}
-use Rattle.lab_captures.specs.declared.passed.PassedOver.{PassedOver}
 use Rattle.lab_captures.specs.declared.reading_ahead.Coming.{Coming}
-use Rattle.lab_captures.specs.declared.reading_ahead.Coming.TheVariants as coming
 use Rattle.lab_captures.specs.declared.reading_ahead.ReadingAhead.{ReadingAhead}
-use Rattle.lab_captures.specs.inner.Answered.{AnswersCells, StepsThrough}
-use Rattle.lab_captures.specs.inner.Ahead.{Advances, AdvancesToEnd, IsQueuedText, IsTextAfter, ReadsCells, ReadsSoFar, ReadsToEnd, WentOn, early_text}
-use Rattle.text_io.specs.declared.ending.Done.{Done}
+use Rattle.lab_captures.specs.inner.Answered.{AnswersCells}
+use Rattle.lab_captures.specs.inner.Ahead.{Advances, AdvancesToEnd, ComesAfter, EndsAfter, GoesBy, HasCellsFrom, IsQueuedText, ReadsCells}
+use Rattle.lab_captures.proofs.ReadingLemmas.{some_after, some_from}
 use Rattle.text_io.specs.declared.ending.Done.TheVariants.{Ended}
+use Rattle.text_io.specs.declared.machine.Turn.TheVariants.{GoesOn, Ends}
 
--- The text for no cells and octets is that for the octets.
-pub unqueued : {World : Type 0} (rules : CellRules World) (reading : ReadingAhead) (world : World) (octets text : List ℕ) (done : Done)
-    → IsQueuedText rules reading [] world octets text done → IsTextAfter rules reading world octets text done
-unqueued {World = World} rules reading world octets text done queued =
-    let same : text ≡ queued.1 = queued.3 ∙ ap (λ xs. xs ++ queued.1) queued.4.0 in
-    subst (λ (w : World). IsTextAfter rules reading w octets text done) queued.4.1
-    (subst (λ (xs : List ℕ). IsTextAfter rules reading queued.2 octets xs done) (sym same) queued.5)
+-- Cells that were read may end the run.
+pub ends_at_cell : {World : Type 0} (rules : CellRules World) (shown shown' : World → Type 0) (after : ReadingAhead) (how : Coming) (cells : List CountedCell)
+    (old new : List ℕ) → AnswersCells rules shown cells Ends shown' old new
+    → OfEachWorld rules shown (λ world. EndsAfter rules after how cells world old new)
+ends_at_cell rules shown shown' after how cells old new answers = λ world sound is_shown.
+    record { here = answers.0; grew = answers.1; ends = λ more later end comes. answers.2 world sound is_shown later end }
 
--- And the other way round.
-pub queued_none : {World : Type 0} (rules : CellRules World) (reading : ReadingAhead) (world : World) (octets text : List ℕ) (done : Done)
-    → IsTextAfter rules reading world octets text done → IsQueuedText rules reading [] world octets text done
-queued_none rules reading world octets text done is = ([], text, world, refl, (refl, refl), is)
+-- Or what comes after them does.
+pub ends_after : {World : Type 0} (rules : CellRules World) (shown shown' : World → Type 0) (after : ReadingAhead) (how : Coming) (cells : List CountedCell)
+    (end0 : CellsEnd) (old between new : List ℕ)
+    → AnswersCells rules shown cells GoesOn shown' old between
+    → ((more : List ℕ) (later : List CountedCell) (end : CellsEnd) → ComesAfter after how more later end → (later ≡ []) × (end ≡ end0))
+    → end_done end0 ≡ Ended → OfEachWorld rules shown' (λ world. new ≡ between ++ text_at_end rules world end0)
+    → OfEachWorld rules shown (λ world. EndsAfter rules after how cells world old new)
+ends_after rules shown shown' after how cells end0 old between new answers only done closes = λ world sound is_shown.
+    let on = answers.2 world sound is_shown in
+    let last = text_at_end rules on.0 end0 in
+    record {
+      here = answers.0 ++ last;
+      grew = closes on.0 on.2 on.1 ∙ ap (λ xs. xs ++ last) answers.1 ∙ append_assoc old answers.0 last;
+      ends = λ more later end comes.
+          let none = only more later end comes in
+          subst (λ (cs : List CountedCell). IsTextOfCells rules world (cells ++ cs) end (answers.0 ++ last) Ended) (sym none.0)
+          (subst (λ (e : CellsEnd). IsTextOfCells rules world (cells ++ []) e (answers.0 ++ last) Ended) (sym none.1)
+          (on.3 [] end0 last Ended (refl, sym done)));
+    }
+
+-- The cells that waited may end the run.
+pub ends_before : {World : Type 0} (rules : CellRules World) (shown shown' : World → Type 0) (before : ReadingAhead) (cells : List CountedCell) (old new : List ℕ)
+    → AnswersCells rules shown cells Ends shown' old new → OfEachWorld rules shown (λ world. AdvancesToEnd rules before cells world old new)
+ends_before rules shown shown' before cells old new answers = λ world sound is_shown.
+    record {
+      here = answers.0;
+      grew = answers.1;
+      ends = λ more.
+          let some = some_from before (before.window ++ more) in
+          (some.0, some.1, some.2, answers.2 world sound is_shown some.0 some.1);
+    }
+
+-- What comes after what was read, if the run goes on.
+comes_on : (how : Going) (comes : Coming) (after : ReadingAhead) (more : List ℕ) (later : List CountedCell) (end : CellsEnd)
+    → how ≢ going.Ended → GoesBy how comes → HasCellsFrom after (after.window ++ more) later end → ComesAfter after comes more later end
+comes_on going.On comes after more later end on by has = subst (λ (c : Coming). ComesAfter after c more later end) (sym by) has
+comes_on going.Wants comes after more later end on by has = subst (λ (c : Coming). ComesAfter after c more later end) (sym by) has
+comes_on going.Ended comes after more later end on by has = absurd (on refl)
 
 -- After cells are answered, and records are read.
-pub advances_read : {World : Type 0} (rules : CellRules World) (shown shown' : World → Type 0) (before after : ReadingAhead)
+pub advances_read : {World : Type 0} (rules : CellRules World) (shown shown' : World → Type 0) (before after : ReadingAhead) (how : Going) (comes : Coming)
     (cells spare fresh : List CountedCell) (old new : List ℕ)
-    → AnswersCells rules shown cells shown' old new → ReadsSoFar rules before after spare fresh → spare ≡ []
+    → AnswersCells rules shown cells GoesOn shown' old new → ReadsCells before comes after spare fresh → spare ≡ [] → how ≢ going.Ended → GoesBy how comes
     → OfEachWorld rules shown (λ world. Advances rules before cells world after fresh shown' old new)
-advances_read rules shown shown' before after cells spare fresh old new answers reads none = λ world sound is_shown.
-    let on = answers.2 world sound is_shown in
+advances_read rules shown shown' before after how comes cells spare fresh old new answers reads none on by = λ world sound is_shown.
+    let one = answers.2 world sound is_shown in
     let all : fresh ≡ reads.fresh = reads.grew ∙ ap (λ (cs : List CountedCell). cs ++ reads.fresh) none in
     record {
       here = answers.0;
       grew = answers.1;
-      next = on.0;
-      sound = on.2;
-      is_shown = on.1;
-      completes = λ more text done queued. (
-        answers.0,
-        text,
-        on.0,
-        refl,
-        on.3,
-        reads.leads on.0 more text done
-            (subst (λ (cs : List CountedCell). IsQueuedText rules after cs on.0 (after.window ++ more) text done) all queued),
-      );
+      next = one.0;
+      sound = one.2;
+      is_shown = one.1;
+      completes = λ more text done queued.
+          let read = reads.leads more queued.0 queued.1 (comes_on how comes after more queued.0 queued.1 on by queued.2) in (
+            fresh ++ queued.0,
+            queued.1,
+            subst (λ (cs : List CountedCell). HasCellsFrom before (before.window ++ more) (cs ++ queued.0) queued.1) (sym all) read,
+            one.3 (fresh ++ queued.0) queued.1 text done queued.3,
+          );
     }
 
 -- After the cells that were read are answered too.
 pub advances_answered : {World : Type 0} (rules : CellRules World) (shown shown' shown'' : World → Type 0) (before after : ReadingAhead)
-    (cells fresh : List CountedCell) (old between new : List ℕ)
+    (cells fresh none : List CountedCell) (old between new : List ℕ)
     → OfEachWorld rules shown (λ world. Advances rules before cells world after fresh shown' old between)
-    → AnswersCells rules shown' fresh shown'' between new
-    → OfEachWorld rules shown (λ world. Advances rules before cells world after [] shown'' old new)
-advances_answered rules shown shown' shown'' before after cells fresh old between new advances answers = λ world sound is_shown.
+    → AnswersCells rules shown' fresh GoesOn shown'' between new → none ≡ []
+    → OfEachWorld rules shown (λ world. Advances rules before cells world after none shown'' old new)
+advances_answered rules shown shown' shown'' before after cells fresh none old between new advances answers empty = λ world sound is_shown.
     let first = advances world sound is_shown in
     let on = answers.2 first.next first.sound first.is_shown in
     record {
@@ -67,51 +100,30 @@ advances_answered rules shown shown' shown'' before after cells fresh old betwee
       sound = on.2;
       is_shown = on.1;
       completes = λ more text done queued.
+          let later : IsTextOfCells rules on.0 queued.0 queued.1 text done =
+          subst (λ (cs : List CountedCell). IsTextOfCells rules on.0 (cs ++ queued.0) queued.1 text done) empty queued.3 in
           subst (λ (xs : List ℕ). IsQueuedText rules before cells world (before.window ++ more) xs done) (sym (append_assoc first.here answers.0 text))
-          (first.completes more (answers.0 ++ text) done
-          (answers.0, text, on.0, refl, on.3, unqueued rules after on.0 (after.window ++ more) text done queued));
+          (first.completes more (answers.0 ++ text) done (queued.0, queued.1, queued.2, on.3 queued.0 queued.1 text done later));
     }
 
 -- At the end of the run.
-pub advances_to_end : {World : Type 0} (rules : CellRules World) (shown shown' shown'' : World → Type 0) (before after : ReadingAhead) (ending : Coming)
-    (cells spare fresh : List CountedCell) (passed : PassedOver) (old one two new : List ℕ)
-    → AnswersCells rules shown cells shown' old one → ReadsToEnd rules before ending after spare fresh → spare ≡ []
-    → AnswersCells rules shown' fresh shown'' one two → passed ≡ after.filter.passed
-    → OfEachWorld rules shown'' (λ world. new ≡ two ++ early_text rules world passed ending)
+pub advances_to_end : {World : Type 0} (rules : CellRules World) (shown shown' : World → Type 0) (before after : ReadingAhead) (comes : Coming)
+    (cells spare fresh : List CountedCell) (old between new : List ℕ)
+    → AnswersCells rules shown cells GoesOn shown' old between → ReadsCells before comes after spare fresh → spare ≡ []
+    → OfEachWorld rules shown' (λ world. EndsAfter rules after comes fresh world between new)
     → OfEachWorld rules shown (λ world. AdvancesToEnd rules before cells world old new)
-advances_to_end rules shown shown' shown'' before after ending cells spare fresh passed old one two new first reads none second is closes = λ world sound is_shown.
-    let on = first.2 world sound is_shown in
-    let last = second.2 on.0 on.2 on.1 in
-    let early = early_text rules last.0 passed ending in
+advances_to_end rules shown shown' before after comes cells spare fresh old between new answers reads none ends = λ world sound is_shown.
+    let on = answers.2 world sound is_shown in
+    let last = ends on.0 on.2 on.1 in
     let all : fresh ≡ reads.fresh = reads.grew ∙ ap (λ (cs : List CountedCell). cs ++ reads.fresh) none in
-    let steps = subst (λ (cs : List CountedCell). StepsThrough rules on.0 cs second.0 last.0) all last.3 in
     record {
-      here = first.0 ++ (second.0 ++ early);
-      grew = closes last.0 last.2 last.1 ∙ ap (λ xs. xs ++ early) (second.1 ∙ ap (λ xs. xs ++ second.0) first.1 ∙ append_assoc old first.0 second.0)
-          ∙ append_assoc old (first.0 ++ second.0) early ∙ ap (λ xs. old ++ xs) (append_assoc first.0 second.0 early);
-      ends = λ more. (
-        first.0,
-        second.0 ++ early,
-        on.0,
-        refl,
-        on.3,
-        subst (λ (p : PassedOver). IsTextAfter rules before on.0 (before.window ++ more) (second.0 ++ early_text rules last.0 p ending) Ended) (sym is)
-            (reads.ends on.0 last.0 second.0 more steps),
-      );
+      here = answers.0 ++ last.here;
+      grew = last.grew ∙ ap (λ xs. xs ++ last.here) answers.1 ∙ append_assoc old answers.0 last.here;
+      ends = λ more.
+          let some = some_after after comes more in (
+            fresh ++ some.0,
+            some.1,
+            subst (λ (cs : List CountedCell). HasCellsFrom before (before.window ++ more) (cs ++ some.0) some.1) (sym all) (reads.leads more some.0 some.1 some.2),
+            on.3 (fresh ++ some.0) some.1 last.here Ended (last.ends more some.0 some.1 some.2),
+          );
     }
-
--- What a reading that came so far has.
-pub went_on : {World : Type 0} (rules : CellRules World) (before after : ReadingAhead) (old new : List CountedCell) → ReadsSoFar rules before after old new
-    → WentOn before after
-went_on rules before after old new reads = record { own = reads.own; cut = reads.cut; place = reads.place; near = reads.near }
-
--- A reading that wants no more came to the end of the run.
-pub reads_to_end : {World : Type 0} (rules : CellRules World) (before after : ReadingAhead) (ending : Coming) (old new : List CountedCell)
-    → ((one : ℕ) × (other : ℕ) × (ending ≡ coming.Several one other)) ⊎ ((fault : Fault) × (ending ≡ coming.Broken fault))
-    → ReadsCells rules before ending after old new → ReadsToEnd rules before ending after old new
-reads_to_end rules before after ending old new (inl several) reads =
-    subst (λ (end : Coming). ReadsToEnd rules before end after old new) (sym several.2)
-    (subst (λ (end : Coming). ReadsCells rules before end after old new) several.2 reads)
-reads_to_end rules before after ending old new (inr broken) reads =
-    subst (λ (end : Coming). ReadsToEnd rules before end after old new) (sym broken.1)
-    (subst (λ (end : Coming). ReadsCells rules before end after old new) broken.1 reads)

@@ -1,7 +1,7 @@
 -- The text of a whole capture, from what its first octets say.
 use Rattle.std.proofs.Common.{◌≡◌, ◌≢◌, ◌≤◌, ℕ, List, [], ◌++◌, Option, Result, Ok, Err, length, drop, refl, ◌∙◌, sym, ap, ap₂, subst, arith, append_assoc, append-nil}
 use Rattle.std.proofs.lemmas.List.{drop-append-le}
-use Rattle.captures.proofs.Public.{header_within, one_reading, openings_stay, some_reading}
+use Rattle.captures.proofs.Public.{header_within, openings_stay}
 use Rattle.captures.specs.Frames.{format_start}
 use Rattle.captures.specs.Opening.{opening_of}
 use Rattle.captures.specs.declared.fault.Fault.{Fault}
@@ -9,15 +9,19 @@ use Rattle.captures.specs.declared.format.Format.{Format}
 use Rattle.captures.specs.declared.opening.FileFault.{FileFault}
 use Rattle.captures.specs.declared.opening.Opening.{Opening}
 use Rattle.captures.specs.declared.opening.Opening.TheVariants.{Opened, Undecided, Refused}
-use Rattle.captures.specs.declared.reader.Reader.{Reader}
-use Rattle.captures.specs.declared.reader.Record.{Record}
 use Rattle.lab_captures.specs.CaptureFaults.{file_fault_line}
-use Rattle.lab_captures.specs.CaptureText.{AnswersEachRecord, CaptureRules, IsCaptureText, IsOpenedText, IsRecordsText, done_at, fixed_rules, short_ending}
+use Rattle.lab_captures.specs.CaptureText.{IsCaptureText, IsOpenedText, IsRecordsText, done_at, short_ending}
+use Rattle.lab_captures.specs.CellFilter.{FilterState, filter_state}
+use Rattle.lab_captures.specs.CellRules.{AnswersEachCell, CellRules, fixed_rules}
+use Rattle.lab_captures.specs.declared.counted.CountedCell.{CountedCell}
+use Rattle.lab_captures.specs.declared.passed.PassedOver.{PassedOver}
+use Rattle.lab_captures.specs.declared.reading_ahead.ReadingAhead.{ReadingAhead}
+use Rattle.lab_captures.specs.inner.Ahead.{IsQueuedText}
 use Rattle.lab_captures.specs.inner.FixedRules.{fixed_text}
 use Rattle.lab_captures.specs.inner.Progress.{HasRead, Texts}
-use Rattle.lab_captures.specs.inner.Steps.{IsTextFrom}
+use Rattle.lab_captures.proofs.CellTexts.{cells_some}
+use Rattle.lab_captures.proofs.CellsOfOctets.{one_cells, some_cells}
 use Rattle.lab_captures.proofs.FixedTexts.{fixed_is}
-use Rattle.lab_captures.proofs.Texts.{records_some}
 use Rattle.text_io.specs.Devices.{Adds, IsPart, TakesEnough}
 use Rattle.text_io.specs.Failures.{read_failures}
 use Rattle.text_io.specs.Limits.{most_ahead}
@@ -31,31 +35,33 @@ use Rattle.text_io.specs.declared.ending.RunFault.{RunFault}
 use Rattle.text_io.specs.declared.ending.RunFault.TheVariants.{ReadFailed, WriteFailed, NoMemory}
 
 -- A file that is this has the text of it.
-by_opening : {World : Type 0} (rules : CaptureRules World) (world : World) (octets text : List ℕ) (opening : Opening) (done : Done)
-    → opening_of octets ≡ opening → IsOpenedText rules world octets opening text done → IsCaptureText rules world octets text done
-by_opening rules world octets text opening done is printed = subst (λ (o : Opening). IsOpenedText rules world octets o text done) (sym is) printed
+by_opening : {World : Type 0} (rules : CellRules World) (filter : FilterState) (world : World) (octets text : List ℕ) (opening : Opening) (done : Done)
+    → opening_of octets ≡ opening → IsOpenedText rules filter world octets opening text done → IsCaptureText rules filter world octets text done
+by_opening rules filter world octets text opening done is printed =
+    subst (λ (o : Opening). IsOpenedText rules filter world octets o text done) (sym is) printed
 
 -- Any file has a text, from each sound world.
-opened_some : {World : Type 0} (rules : CaptureRules World) → AnswersEachRecord rules
-    → (world : World) (octets : List ℕ) (opening : Opening) → rules.is_sound world
-    → (text : List ℕ) × (done : Done) × IsOpenedText rules world octets opening text done
-opened_some rules total world octets (Opened format) sound =
-    let reading = some_reading format 0 (format_start format) (drop (format_start format) octets) in
-    let printed = records_some rules total reading.0 reading.1 world sound in
-    (printed.0, printed.1, (reading.0, reading.1, reading.2, printed.2))
-opened_some rules total world octets Undecided sound = (rules.closes world (short_ending octets), done_at (short_ending octets), (refl, refl))
-opened_some rules total world octets (Refused fault) sound = (file_fault_line fault, Ended, (refl, refl))
+opened_some : {World : Type 0} (rules : CellRules World) → AnswersEachCell rules
+    → (filter : FilterState) (world : World) (octets : List ℕ) (opening : Opening) → rules.is_sound world
+    → (text : List ℕ) × (done : Done) × IsOpenedText rules filter world octets opening text done
+opened_some rules total filter world octets (Opened format) sound =
+    let has = some_cells filter format 0 (format_start format) (drop (format_start format) octets) in
+    let printed = cells_some rules total has.0 has.1 world sound in
+    (printed.0, printed.1, (has.0, has.1, has.2, printed.2))
+opened_some rules total filter world octets Undecided sound =
+    (rules.closes world filter.passed (short_ending octets), done_at (short_ending octets), (refl, refl))
+opened_some rules total filter world octets (Refused fault) sound = (file_fault_line fault, Ended, (refl, refl))
 
-pub some_capture_text : {World : Type 0} (rules : CaptureRules World) → AnswersEachRecord rules
-    → (world : World) (octets : List ℕ) → rules.is_sound world
-    → (text : List ℕ) × (done : Done) × IsCaptureText rules world octets text done
-some_capture_text rules total world octets sound = opened_some rules total world octets (opening_of octets) sound
+pub some_capture_text : {World : Type 0} (rules : CellRules World) → AnswersEachCell rules
+    → (filter : FilterState) (world : World) (octets : List ℕ) → rules.is_sound world
+    → (text : List ℕ) × (done : Done) × IsCaptureText rules filter world octets text done
+some_capture_text rules total filter world octets sound = opened_some rules total filter world octets (opening_of octets) sound
 
 -- Where nothing was written, the output grew by a front of a text.
-pub no_front : {World : Type 0} (rules : CaptureRules World) → AnswersEachRecord rules
-    → (world : World) (octets held : List ℕ) → rules.is_sound world
-    → Adds (IsFront (IsCaptureText rules world octets)) held held
-no_front rules total world octets held sound = ([], sym (append-nil held), some_capture_text rules total world octets sound)
+pub no_front : {World : Type 0} (rules : CellRules World) → AnswersEachCell rules
+    → (filter : FilterState) (world : World) (octets held : List ℕ) → rules.is_sound world
+    → Adds (IsFront (IsCaptureText rules filter world octets)) held held
+no_front rules total filter world octets held sound = ([], sym (append-nil held), some_capture_text rules total filter world octets sound)
 
 -- A front of a text.
 pub a_front : (IsText : List ℕ → Done → Type 0) (before after text : List ℕ) (done : Done) → IsText text done → IsPart before after text
@@ -64,47 +70,49 @@ a_front IsText before after text done is part =
     (part.0, part.3, (part.1, done, subst (λ (xs : List ℕ). IsText xs done) part.2 is))
 
 -- A file that isn't read.
-pub refused_text : {World : Type 0} (rules : CaptureRules World) (world : World) (octets more : List ℕ) (fault : FileFault)
-    → opening_of octets ≡ Refused fault → IsCaptureText rules world (octets ++ more) (file_fault_line fault) Ended
-refused_text rules world octets more fault is =
+pub refused_text : {World : Type 0} (rules : CellRules World) (filter : FilterState) (world : World) (octets more : List ℕ) (fault : FileFault)
+    → opening_of octets ≡ Refused fault → IsCaptureText rules filter world (octets ++ more) (file_fault_line fault) Ended
+refused_text rules filter world octets more fault is =
     let decided : opening_of octets ≢ Undecided = λ none. let bad : Refused fault ≡ Undecided = sym is ∙ none in cc in
-    by_opening rules world (octets ++ more) (file_fault_line fault) (Refused fault) Ended (openings_stay octets more decided ∙ is) (refl, refl)
+    by_opening rules filter world (octets ++ more) (file_fault_line fault) (Refused fault) Ended (openings_stay octets more decided ∙ is) (refl, refl)
 
 -- A file that is too short.
-pub short_text : {World : Type 0} (rules : CaptureRules World) (world : World) (octets : List ℕ)
-    → opening_of octets ≡ Undecided → IsCaptureText rules world octets (rules.closes world (short_ending octets)) (done_at (short_ending octets))
-short_text rules world octets is =
-    by_opening rules world octets (rules.closes world (short_ending octets)) Undecided (done_at (short_ending octets)) is (refl, refl)
+pub short_text : {World : Type 0} (rules : CellRules World) (filter : FilterState) (world : World) (octets : List ℕ) → opening_of octets ≡ Undecided
+    → IsCaptureText rules filter world octets (rules.closes world filter.passed (short_ending octets)) (done_at (short_ending octets))
+short_text rules filter world octets is =
+    by_opening rules filter world octets (rules.closes world filter.passed (short_ending octets)) Undecided (done_at (short_ending octets)) is (refl, refl)
 
--- A capture: the text of its records.
-pub opened_text : {World : Type 0} (rules : CaptureRules World) (world : World) (reader : Reader) (format : Format) (window later : List ℕ)
-    → opening_of window ≡ Opened format → reader.format ≡ format → reader.count ≡ 0 → reader.at ≡ format_start format
-    → later ≡ drop (format_start format) window → (more text : List ℕ) (done : Done)
-    → IsTextFrom rules reader world (later ++ more) text done → IsCaptureText rules world (window ++ more) text done
-opened_text rules world reader format window later is formats counts places dropped more text done printed =
+-- A capture: the text of its cells that count.
+pub opened_text : {World : Type 0} (rules : CellRules World) (world : World) (reading : ReadingAhead) (format : Format) (window : List ℕ)
+    → opening_of window ≡ Opened format → reading.reader.format ≡ format → reading.reader.count ≡ 0 → reading.reader.at ≡ format_start format
+    → reading.window ≡ drop (format_start format) window → (more text : List ℕ) (done : Done)
+    → IsQueuedText rules reading [] world (reading.window ++ more) text done → IsCaptureText rules (filter_state reading.filter) world (window ++ more) text done
+opened_text rules world reading format window is formats counts places dropped more text done printed =
+    let filter = filter_state reading.filter in
     let decided : opening_of window ≢ Undecided = λ none. let bad : Opened format ≡ Undecided = sym is ∙ none in cc in
     let within : format_start format ≤ length window = header_within window format is in
+    let later = reading.window in
     let octets : later ++ more ≡ drop (format_start format) (window ++ more) =
     ap (λ xs. xs ++ more) dropped ∙ sym (drop-append-le (format_start format) window more within)
     in
-    by_opening rules world (window ++ more) text (Opened format) done (openings_stay window more decided ∙ is)
-    (subst (λ (xs : List ℕ). IsRecordsText rules format 0 (format_start format) world xs text done) octets
-    (subst (λ (n : ℕ). IsRecordsText rules format 0 n world (later ++ more) text done) places
-    (subst (λ (n : ℕ). IsRecordsText rules format n reader.at world (later ++ more) text done) counts
-    (subst (λ (f : Format). IsRecordsText rules f reader.count reader.at world (later ++ more) text done) formats printed))))
+    by_opening rules filter world (window ++ more) text (Opened format) done (openings_stay window more decided ∙ is)
+    (subst (λ (xs : List ℕ). IsRecordsText rules filter format 0 (format_start format) world xs text done) octets
+    (subst (λ (n : ℕ). IsRecordsText rules filter format 0 n world (later ++ more) text done) places
+    (subst (λ (n : ℕ). IsRecordsText rules filter format n reading.reader.at world (later ++ more) text done) counts
+    (subst (λ (f : Format). IsRecordsText rules filter f reading.reader.count reading.reader.at world (later ++ more) text done) formats printed))))
 
 -- What was read has a text with the same end, with the header.
-pub opened_enough : {World : Type 0} (rules : CaptureRules World) (world : World) (reader : Reader) (format : Format) (whole window later rest0 rest : List ℕ) (done : Done)
-    → opening_of window ≡ Opened format → reader.format ≡ format → reader.count ≡ 0 → reader.at ≡ format_start format
-    → later ≡ drop (format_start format) window → whole ≡ window ++ rest0 → HasRead (IsTextFrom rules reader world) later rest0 rest done
-    → TakesEnough (λ octets. (text : List ℕ) × IsCaptureText rules world octets text done) most_ahead whole rest
-opened_enough rules world reader format whole window later rest0 rest done is formats counts places dropped all read =
+pub opened_enough : {World : Type 0} (rules : CellRules World) (world : World) (reading : ReadingAhead) (format : Format) (whole window rest0 rest : List ℕ) (done : Done)
+    → opening_of window ≡ Opened format → reading.reader.format ≡ format → reading.reader.count ≡ 0 → reading.reader.at ≡ format_start format
+    → reading.window ≡ drop (format_start format) window → whole ≡ window ++ rest0 → HasRead (IsQueuedText rules reading [] world) reading.window rest0 rest done
+    → TakesEnough (λ octets. (text : List ℕ) × IsCaptureText rules (filter_state reading.filter) world octets text done) most_ahead whole rest
+opened_enough rules world reading format whole window rest0 rest done is formats counts places dropped all read =
     let none : length {A = ℕ} [] ≤ most_ahead = omega arith in (
       window ++ read.0,
       [],
       all ∙ ap (λ xs. window ++ xs) read.1 ∙ sym (append_assoc window read.0 rest),
       none,
-      (read.2.0, opened_text rules world reader format window later is formats counts places dropped read.0 read.2.0 done read.2.1),
+      (read.2.0, opened_text rules world reading format window is formats counts places dropped read.0 read.2.0 done read.2.1),
     )
 
 -- All that waits was needed.
@@ -121,30 +129,30 @@ not_read (Err WriteFailed) before after none same = same
 not_read (Err NoMemory) before after none same = same
 
 -- By fixed rules, a file has one text.
-opened_one : {World : Type 0} (steps : World → Record → List ℕ × Option World) (closes : World → Option Fault → List ℕ)
-    (world : World) (octets : List ℕ) (opening : Opening) (one other : List ℕ) (ends other_ends : Done)
-    → IsOpenedText (fixed_rules steps closes) world octets opening one ends
-    → IsOpenedText (fixed_rules steps closes) world octets opening other other_ends → (one ≡ other) × (ends ≡ other_ends)
-opened_one steps closes world octets (Opened format) one other ends other_ends first second =
-    let same = one_reading format 0 (format_start format) (drop (format_start format) octets) first.0 second.0 first.1 second.1 first.2 second.2 in
+opened_one : {World : Type 0} (steps : World → CountedCell → List ℕ × Option World) (closes : World → PassedOver → Option Fault → List ℕ)
+    (filter : FilterState) (world : World) (octets : List ℕ) (opening : Opening) (one other : List ℕ) (ends other_ends : Done)
+    → IsOpenedText (fixed_rules steps closes) filter world octets opening one ends
+    → IsOpenedText (fixed_rules steps closes) filter world octets opening other other_ends → (one ≡ other) × (ends ≡ other_ends)
+opened_one steps closes filter world octets (Opened format) one other ends other_ends first second =
+    let same = one_cells filter format 0 (format_start format) (drop (format_start format) octets) first.0 second.0 first.1 second.1 first.2 second.2 in
     let printed : (one, ends) ≡ (other, other_ends) =
     sym (fixed_is steps closes first.0 first.1 world one ends first.3) ∙ ap₂ (fixed_text steps closes world) same.0 same.1
     ∙ fixed_is steps closes second.0 second.1 world other other_ends second.3
     in
     (ap (λ (p : List ℕ × Done). p.0) printed, ap (λ (p : List ℕ × Done). p.1) printed)
-opened_one steps closes world octets Undecided one other ends other_ends first second = (first.0 ∙ sym second.0, first.1 ∙ sym second.1)
-opened_one steps closes world octets (Refused fault) one other ends other_ends first second = (first.0 ∙ sym second.0, first.1 ∙ sym second.1)
+opened_one steps closes filter world octets Undecided one other ends other_ends first second = (first.0 ∙ sym second.0, first.1 ∙ sym second.1)
+opened_one steps closes filter world octets (Refused fault) one other ends other_ends first second = (first.0 ∙ sym second.0, first.1 ∙ sym second.1)
 
-pub one_fixed_text : {World : Type 0} (steps : World → Record → List ℕ × Option World) (closes : World → Option Fault → List ℕ)
-    (world : World) (octets one other : List ℕ) (ends other_ends : Done)
-    → IsCaptureText (fixed_rules steps closes) world octets one ends → IsCaptureText (fixed_rules steps closes) world octets other other_ends
+pub one_fixed_text : {World : Type 0} (steps : World → CountedCell → List ℕ × Option World) (closes : World → PassedOver → Option Fault → List ℕ)
+    (filter : FilterState) (world : World) (octets one other : List ℕ) (ends other_ends : Done)
+    → IsCaptureText (fixed_rules steps closes) filter world octets one ends → IsCaptureText (fixed_rules steps closes) filter world octets other other_ends
     → (one ≡ other) × (ends ≡ other_ends)
-one_fixed_text steps closes world octets one other ends other_ends first second =
-    opened_one steps closes world octets (opening_of octets) one other ends other_ends first second
+one_fixed_text steps closes filter world octets one other ends other_ends first second =
+    opened_one steps closes filter world octets (opening_of octets) one other ends other_ends first second
 
--- The same promise in an equal world.
-pub served_at : {World : Type 0} (rules : CaptureRules World) (one other : World) {Source Sink : Type 0} (I : InputView Source) (O : OutputView Sink)
-    (source source' : Source) (sink sink' : Sink) (result : Result Done RunFault) → one ≡ other
-    → IsServed (IsCaptureText rules one) I source source' O sink sink' result → IsServed (IsCaptureText rules other) I source source' O sink sink' result
-served_at {World = World} rules one other I O source source' sink sink' result same served =
-    subst (λ (world : World). IsServed (IsCaptureText rules world) I source source' O sink sink' result) same served
+-- The same promise from an equal state of the filter.
+pub served_from : {World : Type 0} (rules : CellRules World) (filter start : FilterState) (world : World) {Source Sink : Type 0} (I : InputView Source)
+    (O : OutputView Sink) (source source' : Source) (sink sink' : Sink) (result : Result Done RunFault) → filter ≡ start
+    → IsServed (IsCaptureText rules filter world) I source source' O sink sink' result → IsServed (IsCaptureText rules start world) I source source' O sink sink' result
+served_from rules filter start world I O source source' sink sink' result same served =
+    subst (λ (state : FilterState). IsServed (IsCaptureText rules state world) I source source' O sink sink' result) same served

@@ -1,12 +1,10 @@
-pub mod Texts
-pub mod FixedTexts
 pub mod Progresses
-pub mod ShownProgress
-pub mod QueueLemmas
-pub mod AheadLemmas
+pub mod CellTexts
+pub mod CellsOfOctets
+pub mod FixedTexts
+pub mod ReadingLemmas
 pub mod AdvanceLemmas
 pub mod FillsAheadLemmas
-pub mod CellTotals
 pub mod QueueProgress
 pub mod CaptureTexts
 pub mod CountedLemmas

@@ -193,3 +193,7 @@ part_at before after octets octets' same part = (part.0, part.1, sym same ∙ pa
 pub on_done : {T E : Type 0} (result : Result T E) (Given Wanted : Type 0) → OnOk result Given → (Given → Wanted) → OnOk result Wanted
 on_done (Ok value) Given Wanted given holds = holds given
 on_done (Err fault) Given Wanted given holds = tt
+
+pub if_both : {T E : Type 0} (result : Result T E) (P Q : T → Type 0) → IfOk result P → IfOk result Q → IfOk result (λ value. P value × Q value)
+if_both (Ok value) P Q one other = (one, other)
+if_both (Err fault) P Q one other = tt

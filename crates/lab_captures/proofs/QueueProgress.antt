@@ -1,46 +1,49 @@
 -- Each step of a run that reads ahead keeps its progress from each world that was shown at first, and each end of it gives a text or a prefix of one.
-use Rattle.std.proofs.Common.{◌≡◌, ℕ, List, [], ◌++◌, length, take, drop, Option, None, refl, ap, sym, ◌∙◌, subst, append_assoc, append-nil}
+use Rattle.std.proofs.Common.{◌≡◌, ℕ, List, [], ◌++◌, length, take, drop, Option, None, refl, ap, sym, ◌∙◌, subst, append-nil}
 use Rattle.std.proofs.lemmas.List.{take-append-drop}
 use Rattle.captures.specs.Frames.{first_frame}
 use Rattle.captures.specs.Reading.{EndsReading}
 use Rattle.captures.specs.declared.fault.Fault.{Fault}
 use Rattle.lab_captures.specs.CaptureText.{done_at}
-use Rattle.lab_captures.specs.CellFilter.{filter_state}
+use Rattle.lab_captures.specs.CellFilter.{Closes, filter_state}
 use Rattle.lab_captures.specs.CellFollowing.{ClosesCells, OfEachWorld}
-use Rattle.lab_captures.specs.CellRules.{AnswersEachCell, CellRules, capture_rules}
+use Rattle.lab_captures.specs.CellRules.{AnswersEachCell, CellRules}
 use Rattle.lab_captures.specs.declared.counted.CountedCell.{CountedCell}
 use Rattle.lab_captures.specs.declared.passed.PassedOver.{PassedOver}
 use Rattle.lab_captures.specs.declared.reading_ahead.ReadingAhead.{ReadingAhead}
-use Rattle.lab_captures.specs.inner.Answered.{AnswersCells}
-use Rattle.lab_captures.specs.inner.Ahead.{Advances, AdvancesToEnd, CameToQueue, IsQueuedText, IsTextAfter}
+use Rattle.lab_captures.specs.inner.Ahead.{Advances, AdvancesToEnd, CameToQueue, HasCellsFrom, IsQueuedText}
 use Rattle.lab_captures.specs.inner.Progress.{CaptureProgress, GivesFront, HasRead}
-use Rattle.lab_captures.proofs.AdvanceLemmas.{unqueued}
-use Rattle.lab_captures.proofs.CellTotals.{queued_some}
+use Rattle.lab_captures.proofs.CellTexts.{cells_some}
+use Rattle.lab_captures.proofs.CellsOfOctets.{last_cells}
 use Rattle.lab_captures.proofs.Progresses.{begun, enough, front_of, front_of_last, given, part_at, refilled, reprinted, stepped, text_of}
-use Rattle.lab_captures.proofs.Texts.{last_text}
+use Rattle.lab_captures.proofs.ReadingLemmas.{some_from}
 use Rattle.text_io.specs.Devices.{Adds, IsPart}
 use Rattle.text_io.specs.Printing.{IsFront}
 use Rattle.text_io.specs.declared.ending.Done.{Done}
 use Rattle.text_io.specs.declared.ending.Done.TheVariants.{Ended}
+
+-- The cells that wait and octets have a text, from each sound world.
+pub queued_some : {World : Type 0} (rules : CellRules World) → AnswersEachCell rules → (reading : ReadingAhead) (cells : List CountedCell) (world : World)
+    (octets : List ℕ) → rules.is_sound world → (text : List ℕ) × (done : Done) × IsQueuedText rules reading cells world octets text done
+queued_some rules total reading cells world octets sound =
+    let later = some_from reading octets in
+    let printed = cells_some rules total (cells ++ later.0) later.1 world sound in
+    (printed.0, printed.1, (later.0, later.1, later.2, printed.2))
 
 -- At first nothing was read or written, and no cell waits.
 pub queue_begun : {World : Type 0} (rules : CellRules World) (shown : World → Type 0) (reading : ReadingAhead) (cells : List CountedCell) (Known Held : Type 0)
     (rest before waiting : List ℕ) → cells ≡ [] → waiting ≡ []
     → CameToQueue rules shown shown reading reading cells Known Held rest rest before before waiting
 queue_begun rules shown reading cells Known Held rest before waiting no_cells none = λ first sound is_shown.
-    let Whole = IsTextAfter rules reading first in
-    let start = begun Whole Known Held reading.window rest before in
-    let Here = IsQueuedText rules reading [] first in
-    let queued : CaptureProgress Whole Here Known Held reading.window rest reading.window rest before before [] =
-    refilled Whole Whole Here Known Held reading.window rest reading.window reading.window [] rest rest before before [] start
-    (sym (append-nil reading.window)) (λ known. refl) (λ octets text done queued. unqueued rules reading first octets text done queued) in
+    let Here = λ (cs : List CountedCell). IsQueuedText rules reading cs first in
     record {
       present = first;
       sound = sound;
       is_shown = is_shown;
       goes =
-          subst (λ (cs : List CountedCell). CaptureProgress Whole (IsQueuedText rules reading cs first) Known Held reading.window rest reading.window rest before before waiting) (sym no_cells)
-          (subst (λ (xs : List ℕ). CaptureProgress Whole Here Known Held reading.window rest reading.window rest before before xs) (sym none) queued);
+          subst (λ (cs : List CountedCell). CaptureProgress (Here []) (Here cs) Known Held reading.window rest reading.window rest before before waiting) (sym no_cells)
+          (subst (λ (xs : List ℕ). CaptureProgress (Here []) (Here []) Known Held reading.window rest reading.window rest before before xs) (sym none)
+          (begun (Here []) Known Held reading.window rest before));
     }
 
 -- After a step.
@@ -58,8 +61,33 @@ queue_advanced {rules = rules} {reading0 = reading0} {reading = reading} {cells 
       present = on.next;
       sound = on.sound;
       is_shown = on.is_shown;
-      goes = stepped (IsTextAfter rules reading0 first) (IsQueuedText rules reading cells at.present) (IsQueuedText rules reading' cells' on.next) Known Held
+      goes = stepped (IsQueuedText rules reading0 [] first) (IsQueuedText rules reading cells at.present) (IsQueuedText rules reading' cells' on.next) Known Held
           reading0.window rest0 reading.window own reading'.window rest before now waiting new on.here at.goes cut on.grew on.completes;
+    }
+
+-- No cell waits.
+pub queue_empty : {World : Type 0} {rules : CellRules World} {shown0 shown : World → Type 0} {reading0 reading : ReadingAhead} {cells : List CountedCell}
+    {Known Held : Type 0} {rest0 rest before now waiting : List ℕ}
+    → CameToQueue rules shown0 shown reading0 reading cells Known Held rest0 rest before now waiting → cells ≡ []
+    → CameToQueue rules shown0 shown reading0 reading [] Known Held rest0 rest before now waiting
+queue_empty {rules = rules} {shown0 = shown0} {shown = shown} {reading0 = reading0} {reading = reading} {Known = Known} {Held = Held} {rest0 = rest0} {rest = rest}
+    {before = before} {now = now} {waiting = waiting} goes none =
+    subst (λ (cs : List CountedCell). CameToQueue rules shown0 shown reading0 reading cs Known Held rest0 rest before now waiting) none goes
+
+-- After some answers are written.
+pub queue_given : {World : Type 0} {rules : CellRules World} {shown0 shown : World → Type 0} {reading0 reading : ReadingAhead} {cells : List CountedCell}
+    {Known Held : Type 0} {rest0 rest before now waiting : List ℕ} (now' waiting' : List ℕ)
+    → CameToQueue rules shown0 shown reading0 reading cells Known Held rest0 rest before now waiting → (Held → GivesFront now now' waiting waiting')
+    → CameToQueue rules shown0 shown reading0 reading cells Known Held rest0 rest before now' waiting'
+queue_given {rules = rules} {reading0 = reading0} {reading = reading} {cells = cells} {Known = Known} {Held = Held} {rest0 = rest0} {rest = rest} {before = before}
+    {now = now} {waiting = waiting} now' waiting' goes gives = λ first sound is_shown.
+    let at = goes first sound is_shown in
+    record {
+      present = at.present;
+      sound = at.sound;
+      is_shown = at.is_shown;
+      goes = given (IsQueuedText rules reading0 [] first) (IsQueuedText rules reading cells at.present) Known Held reading0.window rest0 reading.window rest before
+          now now' waiting waiting' at.goes gives;
     }
 
 -- After more octets are read and all answers are written.
@@ -74,7 +102,7 @@ queue_refilled {rules = rules} {reading0 = reading0} {reading = reading} {cells 
     let at = goes first sound is_shown in
     let near = reading.window in
     let near' = reading'.window in
-    let Whole = IsTextAfter rules reading0 first in
+    let Whole = IsQueuedText rules reading0 [] first in
     let Here = IsQueuedText rules reading cells at.present in
     let longer : near' ≡ near ++ drop (length near) near' =
     sym (take-append-drop (length near) near') ∙ ap (λ xs. xs ++ drop (length near) near') front
@@ -95,12 +123,12 @@ pub queue_text : {World : Type 0} {rules : CellRules World} {shown0 shown : Worl
     {Known Held : Type 0} {rest0 rest before now waiting : List ℕ} (now' : List ℕ) (done : Done)
     → CameToQueue rules shown0 shown reading0 reading cells Known Held rest0 rest before now waiting → Known → Held
     → OfEachWorld rules shown (λ world. (here : List ℕ) × (now' ≡ now ++ (waiting ++ here)) × IsQueuedText rules reading cells world (reading.window ++ rest) here done)
-    → OfEachWorld rules shown0 (λ first. Adds (λ text. IsTextAfter rules reading0 first (reading0.window ++ rest0) text done) before now')
+    → OfEachWorld rules shown0 (λ first. Adds (λ text. IsQueuedText rules reading0 [] first (reading0.window ++ rest0) text done) before now')
 queue_text {rules = rules} {reading0 = reading0} {reading = reading} {cells = cells} {Known = Known} {Held = Held} {rest0 = rest0} {rest = rest} {before = before}
     {now = now} {waiting = waiting} now' done goes known held last = λ first sound is_shown.
     let at = goes first sound is_shown in
     let end = last at.present at.sound at.is_shown in
-    text_of (IsTextAfter rules reading0 first) (IsQueuedText rules reading cells at.present) Known Held reading0.window rest0 reading.window rest before now now'
+    text_of (IsQueuedText rules reading0 [] first) (IsQueuedText rules reading cells at.present) Known Held reading0.window rest0 reading.window rest before now now'
     waiting end.0 done at.goes known held end.2 end.1
 
 -- A prefix of the last answers gives a prefix of a text.
@@ -109,24 +137,24 @@ pub queue_front_of_last : {World : Type 0} {rules : CellRules World} {shown0 sho
     → CameToQueue rules shown0 shown reading0 reading cells Known Held rest0 rest before now waiting → Known → Held
     → OfEachWorld rules shown (λ world. (here : List ℕ) × (done : Done) × IsPart now now' (waiting ++ here)
     × IsQueuedText rules reading cells world (reading.window ++ rest) here done)
-    → OfEachWorld rules shown0 (λ first. Adds (IsFront (IsTextAfter rules reading0 first (reading0.window ++ rest0))) before now')
+    → OfEachWorld rules shown0 (λ first. Adds (IsFront (IsQueuedText rules reading0 [] first (reading0.window ++ rest0))) before now')
 queue_front_of_last {rules = rules} {reading0 = reading0} {reading = reading} {cells = cells} {Known = Known} {Held = Held} {rest0 = rest0} {rest = rest}
     {before = before} {now = now} {waiting = waiting} now' goes known held last = λ first sound is_shown.
     let at = goes first sound is_shown in
     let end = last at.present at.sound at.is_shown in
-    front_of_last (IsTextAfter rules reading0 first) (IsQueuedText rules reading cells at.present) Known Held reading0.window rest0 reading.window rest before now now'
+    front_of_last (IsQueuedText rules reading0 [] first) (IsQueuedText rules reading cells at.present) Known Held reading0.window rest0 reading.window rest before now now'
     waiting end.0 end.1 at.goes known held end.3 end.2
 
 -- So does a prefix of the waiting answers.
 pub queue_front : {World : Type 0} {rules : CellRules World} {shown0 shown : World → Type 0} {reading0 reading : ReadingAhead} {cells : List CountedCell}
     {Known Held : Type 0} {rest0 rest before now waiting : List ℕ} (now' : List ℕ) → AnswersEachCell rules
     → CameToQueue rules shown0 shown reading0 reading cells Known Held rest0 rest before now waiting → Known → Held → IsPart now now' waiting
-    → OfEachWorld rules shown0 (λ first. Adds (IsFront (IsTextAfter rules reading0 first (reading0.window ++ rest0))) before now')
+    → OfEachWorld rules shown0 (λ first. Adds (IsFront (IsQueuedText rules reading0 [] first (reading0.window ++ rest0))) before now')
 queue_front {rules = rules} {reading0 = reading0} {reading = reading} {cells = cells} {Known = Known} {Held = Held} {rest0 = rest0} {rest = rest} {before = before}
     {now = now} {waiting = waiting} now' total goes known held part = λ first sound is_shown.
     let at = goes first sound is_shown in
     let some = queued_some rules total reading cells at.present (reading.window ++ rest) at.sound in
-    front_of (IsTextAfter rules reading0 first) (IsQueuedText rules reading cells at.present) Known Held reading0.window rest0 reading.window rest before now now'
+    front_of (IsQueuedText rules reading0 [] first) (IsQueuedText rules reading cells at.present) Known Held reading0.window rest0 reading.window rest before now now'
     waiting some.0 some.1 at.goes known held some.2 part
 
 -- What was read has a text with this end.
@@ -134,20 +162,20 @@ pub queue_enough : {World : Type 0} {rules : CellRules World} {shown0 shown : Wo
     {Known Held : Type 0} {rest0 rest before now waiting : List ℕ} (done : Done)
     → CameToQueue rules shown0 shown reading0 reading cells Known Held rest0 rest before now waiting → Known
     → OfEachWorld rules shown (λ world. (here : List ℕ) × IsQueuedText rules reading cells world reading.window here done)
-    → OfEachWorld rules shown0 (λ first. HasRead (IsTextAfter rules reading0 first) reading0.window rest0 rest done)
+    → OfEachWorld rules shown0 (λ first. HasRead (IsQueuedText rules reading0 [] first) reading0.window rest0 rest done)
 queue_enough {rules = rules} {reading0 = reading0} {reading = reading} {cells = cells} {Known = Known} {Held = Held} {rest0 = rest0} {rest = rest} {before = before}
     {now = now} {waiting = waiting} done goes known last = λ first sound is_shown.
     let at = goes first sound is_shown in
     let end = last at.present at.sound at.is_shown in
     let Here = IsQueuedText rules reading cells at.present in
-    enough (IsTextAfter rules reading0 first) Here Known Held reading0.window rest0 reading.window rest before now waiting end.0 done at.goes known
+    enough (IsQueuedText rules reading0 [] first) Here Known Held reading0.window rest0 reading.window rest before now waiting end.0 done at.goes known
     (reprinted Here reading.window (reading.window ++ []) end.0 end.0 done (sym (append-nil reading.window)) refl end.1)
 
 -- A step that ends the run has the last answers.
-pub end_text : {World : Type 0} {rules : CellRules World} {shown : World → Type 0} {reading : ReadingAhead} {cells : List CountedCell} {old new : List ℕ}
+pub text_at_end : {World : Type 0} {rules : CellRules World} {shown : World → Type 0} {reading : ReadingAhead} {cells : List CountedCell} {old new : List ℕ}
     (rest now now' : List ℕ) → OfEachWorld rules shown (λ world. AdvancesToEnd rules reading cells world old new) → now' ≡ now ++ new
     → OfEachWorld rules shown (λ world. (here : List ℕ) × (now' ≡ now ++ (old ++ here)) × IsQueuedText rules reading cells world (reading.window ++ rest) here Ended)
-end_text rest now now' last gives = λ world sound is_shown.
+text_at_end rest now now' last gives = λ world sound is_shown.
     let end = last world sound is_shown in
     (end.here, gives ∙ ap (λ xs. now ++ xs) end.grew, end.ends rest)
 
@@ -168,35 +196,23 @@ end_enough {rules = rules} {reading = reading} {cells = cells} last = λ world s
     let end = last world sound is_shown in
     (end.here, reprinted (IsQueuedText rules reading cells world) (reading.window ++ []) reading.window end.here end.here Ended (append-nil reading.window) refl (end.ends []))
 
--- The cells that wait were answered, and the octets at the end of the input, which are no whole frame.
-pub queue_finished : {World : Type 0} (rules : CellRules World) (shown shown' : World → Type 0) (reading : ReadingAhead) (cells : List CountedCell)
-    (octets : List ℕ) (passed : PassedOver) (ending : Option Fault) (done : Done) (old between new : List ℕ)
-    → AnswersCells rules shown cells shown' old between → ClosesCells rules shown' passed ending between new
+-- The octets at the end of the input, which are no whole frame, were answered.
+pub queue_finished : {World : Type 0} (rules : CellRules World) (shown : World → Type 0) (reading : ReadingAhead) (octets : List ℕ) (passed : PassedOver)
+    (ending : Option Fault) (done : Done) (old new : List ℕ) → ClosesCells rules shown passed ending old new
     → passed ≡ reading.filter.passed → octets ≡ reading.window → first_frame reading.reader.format reading.reader.at reading.window ≡ None
     → (first_frame reading.reader.format reading.reader.at octets ≡ None → EndsReading reading.reader.format reading.reader.at octets ending)
     → done ≡ done_at ending
-    → OfEachWorld rules shown (λ world. (here : List ℕ) × (new ≡ old ++ here) × IsQueuedText rules reading cells world reading.window here done)
-queue_finished rules shown shown' reading cells octets passed ending done old between new answers closes is same unfinished ends how = λ world sound is_shown.
-    let on = answers.2 world sound is_shown in
-    let last = rules.closes on.0 passed ending in
+    → OfEachWorld rules shown (λ world. (here : List ℕ) × (new ≡ old ++ here) × IsQueuedText rules reading [] world reading.window here done)
+queue_finished rules shown reading octets passed ending done old new closes is same unfinished ends how = λ world sound is_shown.
     let at_end : EndsReading reading.reader.format reading.reader.at reading.window ending =
     subst (λ (xs : List ℕ). EndsReading reading.reader.format reading.reader.at xs ending) same
     (ends (ap (first_frame reading.reader.format reading.reader.at) same ∙ unfinished)) in
-    let text : IsTextAfter rules reading on.0 reading.window last (done_at ending) =
-    subst (λ (p : PassedOver). IsTextAfter rules reading on.0 reading.window (rules.closes on.0 p ending) (done_at ending)) (sym is)
-    (last_text (capture_rules rules) reading.reader (filter_state reading.filter, on.0) reading.window ending at_end) in (
-      answers.0 ++ last,
-      closes on.0 on.2 on.1 ∙ ap (λ xs. xs ++ last) answers.1 ∙ append_assoc old answers.0 last,
-      (answers.0, last, on.0, refl, on.3, subst (λ (d : Done). IsTextAfter rules reading on.0 reading.window last d) (sym how) text),
+    let has : HasCellsFrom reading reading.window [] (Closes reading.filter.passed ending) =
+    last_cells (filter_state reading.filter) reading.reader.format reading.reader.count reading.reader.at reading.window ending at_end in (
+      rules.closes world passed ending,
+      closes world sound is_shown,
+      ([], Closes reading.filter.passed ending, has, (ap (λ (p : PassedOver). rules.closes world p ending) is, how)),
     )
-
--- Equal cells and octets have the same texts.
-pub queued_at : {World : Type 0} (rules : CellRules World) (reading : ReadingAhead) (cells cells' : List CountedCell) (world : World)
-    (octets octets' text : List ℕ) (done : Done) → cells' ≡ cells → octets ≡ octets' → IsQueuedText rules reading cells' world octets text done
-    → IsQueuedText rules reading cells world octets' text done
-queued_at rules reading cells cells' world octets octets' text done same alike is =
-    subst (λ (cs : List CountedCell). IsQueuedText rules reading cs world octets' text done) same
-    (subst (λ (xs : List ℕ). IsQueuedText rules reading cells' world xs text done) alike is)
 
 -- No octets follow.
 pub at_the_end : (near rest : List ℕ) → rest ≡ [] → near ≡ near ++ rest

@@ -1,7 +1,10 @@
 -- Which cells of a capture count, and at which moments: those of one interface whose time is not before that of an earlier one.
-use Rattle.std.specs.Prelude.{◌-◌, ◌==◌, nat_lt, max, if◌then◌else◌, Bool, ℕ, List, [], ◌∷◌, Option, Some, None, is_some, option_map, unwrap_or, Result, Ok, Err}
+use Rattle.std.specs.Prelude.{◌≡◌, ◌-◌, ◌==◌, nat_lt, max, if◌then◌else◌, Bool, ℕ, List, [], ◌∷◌, Option, Some, None, is_some, option_map, unwrap_or, Result, Ok, Err}
 use Rattle.captures.specs.Moments.{whole_ticks}
+use Rattle.captures.specs.Reading.{IsReading}
 use Rattle.captures.specs.declared.content.NoCell.{NoCell}
+use Rattle.captures.specs.declared.fault.Fault.{Fault}
+use Rattle.captures.specs.declared.format.Format.{Format}
 use Rattle.captures.specs.declared.reader.Record.{Record}
 use Rattle.lab_captures.specs.PassedRecords.{none_passed, one_more_record, without_cell}
 use Rattle.lab_captures.specs.declared.counted.CountedCell.{CountedCell}
@@ -75,3 +78,30 @@ abbrev pub counted_cells : FilterState → List Record → List CountedCell
 counted_cells state [] = []
 counted_cells state (record_read ∷ records) =
     counted_then (filter_record state record_read).0 record_read.number (counted_cells (filter_record state record_read).1 records)
+
+-- How the cells of a capture end.
+pub data CellsEnd : Type 0 where
+  -- With the capture, or at its fault, after these records were passed over.
+  Closes : PassedOver → Option Fault → CellsEnd
+  -- At a cell of a second interface, where none was asked for: the first interface, and this one.
+  Crosses : ℕ → ℕ → CellsEnd
+
+-- How the cells end, if a record is this and those after it end so.
+abbrev pub ends_then : Filtered → CellsEnd → CellsEnd
+ends_then (Counts moment cell) later = later
+ends_then Passed later = later
+ends_then (Several one other) later = Crosses one other
+
+-- How the cells among these records end, from this state on.
+abbrev pub cells_end : FilterState → List Record → Option Fault → CellsEnd
+cells_end state [] ending = Closes state.passed ending
+cells_end state (record_read ∷ records) ending =
+    ends_then (filter_record state record_read).0 (cells_end (filter_record state record_read).1 records ending)
+
+-- From this state on, after this many records, at this place, the octets are read as records among which these cells count, in order, and end so.
+pub record HasCells (state : FilterState) (format : Format) (count at : ℕ) (octets : List ℕ) (cells : List CountedCell) (end : CellsEnd) : Type 0 where
+  pub records : List Record
+  pub ending : Option Fault
+  pub reading : IsReading format count at octets records ending
+  pub counted : cells ≡ counted_cells state records
+  pub ended : end ≡ cells_end state records ending

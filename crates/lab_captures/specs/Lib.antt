@@ -1,10 +1,9 @@
 pub mod CaptureFaults
-pub mod CaptureText
-pub mod CellFilter
-pub mod CellFollowing
-pub mod CellRules
-pub mod CellsText
-pub mod Following
 pub mod PassedRecords
+pub mod CellFilter
 pub mod RunLines
+pub mod CellRules
+pub mod CaptureText
+pub mod CellFollowing
+pub mod CellsText
 pub mod inner

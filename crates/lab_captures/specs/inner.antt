@@ -1,6 +1,5 @@
 -- Definitions that only private functions and proofs use.
 pub mod Waiting
-pub mod Steps
 pub mod Progress
 pub mod FixedRules
 pub mod Answered

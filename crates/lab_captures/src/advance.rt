@@ -1,17 +1,17 @@
 //! One step of a run on one thread: waiting octets are read, and their cells are answered.
 
-ghost use Rattle.std.specs.Prelude.{◌≡◌, ◌≢◌, ◌++◌, IfOk, OnOk, []};
+ghost use Rattle.std.specs.Prelude.{◌≡◌, ◌≢◌, IfOk, OnOk, []};
 ghost use Rattle.lab_captures.specs.CellFollowing.{OfEachWorld};
 ghost use Rattle.lab_captures.specs.inner.Answered.{AnswersCells};
-ghost use Rattle.lab_captures.specs.inner.Ahead.{Advances, AdvancesToEnd, CameSoFar, ReadsCells, early_text};
+ghost use Rattle.lab_captures.specs.inner.Ahead.{Advances, AdvancesToEnd, CameSoFar, EndsAfter, GoesBy, ReadsCells};
 
-use crate::cell_follower::{CellFollower, answer_cells};
 use crate::counted::CountedCell;
-use crate::passed::PassedOver;
+use crate::follower::{CellFollower, answer_cells};
 use crate::queue::Queue;
 use crate::reading_ahead::{Coming, ReadingAhead};
 use crate::run_lines::add_several;
 use std::alloc::AllocError;
+use text_io::Turn;
 
 /// On one thread cells are answered after so many are read: those stay in the cache that is nearest to the processor.
 const FEW: usize = 256;
@@ -27,34 +27,37 @@ pub(crate) enum Going {
     Ended,
 }
 
-/// Answers all cells that were read before, and forgets them.
-pub(crate) fn answer_all<F: CellFollower>(
+/// Answers the cells that were read and forgets them, and then answers what comes after them, if that ends the run.
+pub(crate) fn answer_read<F: CellFollower>(
     follower: &mut F,
+    reading: &ReadingAhead,
+    coming: Coming,
     cells: &mut Vec<CountedCell>,
     answers: &mut Vec<u8>,
-) -> Result<(), AllocError>
-    ensures answered { OnOk result (AnswersCells F.rules (F.shows follower.old) cells.old.items (F.shows follower.new) answers.old.items answers.new.items) }
-    ensures none { OnOk result (cells.new.items ≡ []) }
+) -> Result<Going, AllocError>
+    ensures goes_on { IfOk result (λ going. going ≢ Going.Ended
+        → AnswersCells F.rules (F.shows follower.old) cells.old.items Turn.GoesOn (F.shows follower.new) answers.old.items answers.new.items) }
+    ensures none { IfOk result (λ going. going ≢ Going.Ended → cells.new.items ≡ []) }
+    ensures ends { IfOk result (λ going. going ≡ Going.Ended → OfEachWorld F.rules (F.shows follower.old) (λ world.
+        EndsAfter F.rules reading.now coming cells.old.items world answers.old.items answers.new.items)) }
+    ensures by { IfOk result (λ going. GoesBy going coming) }
 {
-    answer_cells(follower, cells, answers)?;
+    match answer_cells(follower, cells, answers)? {
+        Turn::Ends => return Ok(Going::Ended),
+        Turn::GoesOn => {}
+    }
     cells.clear();
-    Ok(())
-}
-
-/// Appends the text that ends a run early.
-pub(crate) fn add_early<F: CellFollower>(
-    follower: &F,
-    passed: &PassedOver,
-    coming: Coming,
-    answers: &mut Vec<u8>,
-) -> Result<(), AllocError>
-    ensures { OnOk result (OfEachWorld F.rules (F.shows follower.now) (λ world.
-        answers.new.items ≡ answers.old.items ++ early_text F.rules world passed.now coming)) }
-{
     match coming {
-        Coming::Wants | Coming::Enough => Ok(()),
-        Coming::Several(one, other) => add_several(answers, one, other),
-        Coming::Broken(fault) => follower.close(passed, Some(fault), answers),
+        Coming::Wants => Ok(Going::Wants),
+        Coming::Enough => Ok(Going::On),
+        Coming::Several(one, other) => {
+            add_several(answers, one, other)?;
+            Ok(Going::Ended)
+        }
+        Coming::Broken(fault) => {
+            follower.close(&reading.filter.passed(), Some(fault), answers)?;
+            Ok(Going::Ended)
+        }
     }
 }
 
@@ -73,28 +76,20 @@ pub(crate) fn advance<F: CellFollower>(
         Advances F.rules reading.old queue.old.cells.items world reading.new queue.new.cells.items (F.shows follower.new) answers.old.items answers.new.items)) }
     ensures ends { IfOk result (λ going. going ≡ Going.Ended → OfEachWorld F.rules (F.shows follower.old) (λ world.
         AdvancesToEnd F.rules reading.old queue.old.cells.items world answers.old.items answers.new.items)) }
-    ensures came { IfOk result (λ going. CameSoFar going reading.old reading.new) }
+    ensures came { IfOk result (λ going. CameSoFar going reading.old reading.new queue.new.cells.items) }
 {
-    answer_cells(follower, &queue.cells, answers)?;
+    match answer_cells(follower, &queue.cells, answers)? {
+        Turn::Ends => return Ok(Going::Ended),
+        Turn::GoesOn => {}
+    }
     let most = if at_once { usize::MAX } else { FEW };
-    let coming = reading.read::<F>(&mut queue.spare, most)?;
+    let coming = reading.read(&mut queue.spare, most)?;
     queue.turn();
-    match coming {
-        Coming::Wants => {
-            if at_once && reading.window.is_full() && !queue.cells.is_empty() {
-                return Ok(Going::On);
-            }
-            answer_all(follower, &mut queue.cells, answers)?;
-            Ok(Going::Wants)
-        }
-        Coming::Enough => {
-            answer_all(follower, &mut queue.cells, answers)?;
-            Ok(Going::On)
-        }
-        Coming::Several(_, _) | Coming::Broken(_) => {
-            answer_all(follower, &mut queue.cells, answers)?;
-            add_early(follower, &reading.filter.passed(), coming, answers)?;
-            Ok(Going::Ended)
+    if at_once && reading.window.is_full() && !queue.cells.is_empty() {
+        match coming {
+            Coming::Wants => return Ok(Going::On),
+            _ => {}
         }
     }
+    answer_read(follower, reading, coming, &mut queue.cells, answers)
 }

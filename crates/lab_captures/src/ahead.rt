@@ -6,16 +6,17 @@ ghost use Rattle.lab_captures.specs.inner.Answered.{AnswersCells};
 ghost use Rattle.text_io.specs.Devices.{IsPart};
 ghost use Rattle.text_io.specs.Failures.{read_failures, write_failures};
 
-use crate::advance::{Going, add_early, answer_all};
-use crate::cell_follower::{CellFollower, answer_cells};
+use crate::advance::{Going, answer_read};
 use crate::counted::CountedCell;
+use crate::follower::{CellFollower, answer_cells};
 use crate::queue::Queue;
 use crate::reading_ahead::{Coming, ReadingAhead};
 use std::alloc::AllocError;
 use std::thread::{Threads, join_mut};
-use text_io::{Input, Output, RunFault, give_answers};
+use text_io::{Input, Output, RunFault, Turn, give_answers};
 
-/// Reads more octets and the frames among them on one thread, and answers cells that were read before on another.
+/// Reads more octets and the frames among them on one thread, and answers cells that were read before on another. Returns what comes after
+/// those that were read, and whether the run goes on after those that were answered.
 fn read_beside<R: Threads, I: Input + Send, F: CellFollower + Send>(
     rt: &R,
     input: &mut I,
@@ -24,11 +25,12 @@ fn read_beside<R: Threads, I: Input + Send, F: CellFollower + Send>(
     follower: &mut F,
     cells: &[CountedCell],
     answers: &mut Vec<u8>,
-) -> Result<Option<Coming>, RunFault>
+) -> Result<(Option<Coming>, Turn), RunFault>
     requires { length reading.old.window < 131072 }
-    ensures filled { IfOk result (λ coming. FillsAndReads F.rules I.is_known (I.rest input.old) (I.rest input.new)
-        reading.old coming reading.new fresh.old.items fresh.new.items) }
-    ensures answered { OnOk result (AnswersCells F.rules (F.shows follower.old) cells.now (F.shows follower.new) answers.old.items answers.new.items) }
+    ensures filled { IfOk result (λ found. FillsAndReads I.is_known (I.rest input.old) (I.rest input.new)
+        reading.old found.0 reading.new fresh.old.items fresh.new.items) }
+    ensures answered { IfOk result (λ found. AnswersCells F.rules (F.shows follower.old) cells.now found.1 (F.shows follower.new)
+        answers.old.items answers.new.items) }
     ensures fault { result ≢ Err RunFault.WriteFailed }
     ensures reading { I.failures input.new ≡ read_failures result (I.failures input.old) }
 {
@@ -36,18 +38,19 @@ fn read_beside<R: Threads, I: Input + Send, F: CellFollower + Send>(
         rt,
         &mut || -> Result<Option<Coming>, RunFault>
             requires { length reading.now.window < 131072 }
-            ensures filled { IfOk result (λ coming. FillsAndReads F.rules I.is_known (I.rest input.entry.now) (I.rest input.exit.now)
+            ensures filled { IfOk result (λ coming. FillsAndReads I.is_known (I.rest input.entry.now) (I.rest input.exit.now)
                 reading.entry.now coming reading.exit.now fresh.entry.now.items fresh.exit.now.items) }
             ensures fault { result ≢ Err RunFault.WriteFailed }
             ensures reading { I.failures input.exit.now ≡ read_failures result (I.failures input.entry.now) }
-        { reading.fill_and_read::<I, F>(input, fresh) },
-        &mut || -> Result<(), AllocError>
-            ensures { OnOk result (AnswersCells F.rules (F.shows follower.entry.now) cells.entry.now (F.shows follower.exit.now) answers.entry.now.items answers.exit.now.items) }
+        { reading.fill_and_read::<I>(input, fresh) },
+        &mut || -> Result<Turn, AllocError>
+            ensures { IfOk result (λ turn. AnswersCells F.rules (F.shows follower.entry.now) cells.entry.now turn (F.shows follower.exit.now)
+                answers.entry.now.items answers.exit.now.items) }
         { answer_cells(follower, cells, answers) },
     );
     let coming = filled?;
     match answered {
-        Ok(()) => Ok(coming),
+        Ok(turn) => Ok((coming, turn)),
         Err(_) => Err(RunFault::NoMemory),
     }
 }
@@ -69,7 +72,7 @@ fn go_ahead<R: Threads, I: Input + Send, F: CellFollower + Send>(
     ensures fault { result ≢ Err RunFault.WriteFailed }
     ensures reading { I.failures input.new ≡ read_failures result (I.failures input.old) }
 {
-    let coming = read_beside(
+    let (coming, turn) = read_beside(
         rt,
         input,
         reading,
@@ -79,6 +82,10 @@ fn go_ahead<R: Threads, I: Input + Send, F: CellFollower + Send>(
         answers,
     )?;
     queue.turn();
+    match turn {
+        Turn::Ends => return Ok(Going::Ended),
+        Turn::GoesOn => {}
+    }
     let Some(coming) = coming else {
         return Ok(Going::Wants);
     };
@@ -86,12 +93,9 @@ fn go_ahead<R: Threads, I: Input + Send, F: CellFollower + Send>(
         Coming::Wants => Ok(Going::On),
         Coming::Enough => Ok(Going::On),
         Coming::Several(_, _) | Coming::Broken(_) => {
-            if answer_all(follower, &mut queue.cells, answers).is_err() {
-                return Err(RunFault::NoMemory);
-            }
-            match add_early(follower, &reading.filter.passed(), coming, answers) {
+            match answer_read(follower, reading, coming, &mut queue.cells, answers) {
+                Ok(_) => Ok(Going::Ended),
                 Err(_) => Err(RunFault::NoMemory),
-                Ok(()) => Ok(Going::Ended),
             }
         }
     }

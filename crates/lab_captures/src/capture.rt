@@ -1,24 +1,29 @@
-//! The text of a whole capture.
+//! The text of the cells of a whole capture.
 
-ghost use Rattle.std.specs.Prelude.{◌≡◌, ◌≢◌, ◌≤◌, ◌++◌, List, ℕ, [], Err, length, IfOk, OnOk, OnErr};
+ghost use Rattle.std.specs.Prelude.{◌≡◌, ◌≢◌, ◌≤◌, ◌++◌, [], Err, length, IfOk, OnErr, OnOk};
 ghost use Rattle.captures.specs.Opening.{opening_of};
 ghost use Rattle.lab_captures.specs.CaptureFaults.{file_fault_line};
 ghost use Rattle.lab_captures.specs.CaptureText.{IsCaptureText, done_at as ends_at, short_ending as ends_short};
-ghost use Rattle.lab_captures.specs.Following.{OfEachShown};
+ghost use Rattle.lab_captures.specs.CellFilter.{filter_start};
+ghost use Rattle.lab_captures.specs.CellFollowing.{OfEachWorld};
 ghost use Rattle.text_io.specs.Devices.{IsPart, one_more};
 ghost use Rattle.text_io.specs.Failures.{write_failures};
 ghost use Rattle.text_io.specs.Serving.{IsServed};
 
-use crate::driver::{done_at, follow_records};
+use crate::driver::{done_at, follow_on};
 use crate::fault_lines::add_file_fault;
-use crate::follower::Follower;
+use crate::filter::CellFilter;
+use crate::follower::{CellFollower, answers_each_cell};
+use crate::passed::PassedOver;
+use crate::reading_ahead::ReadingAhead;
 use crate::window::Window;
-use captures::{Fault, FileFault, Opening, Reader, RecordFault, open};
+use captures::{Fault, FileFault, Opening, Reader, RecordFault, Tick, open};
 use std::alloc::Global;
+use std::thread::Threads;
 use text_io::{Done, Failed, Input, Output, RunFault, give_last};
 
 /// Reads the first octets of a file, until they say what it is or the file ends.
-pub(crate) fn find_opening<I: Input>(window: &mut Window, input: &mut I) -> Result<Opening, Failed>
+fn find_opening<I: Input>(window: &mut Window, input: &mut I) -> Result<Opening, Failed>
     requires { window.old ≡ [] }
     ensures octets { I.is_known → IfOk result (λ _. I.rest input.old ≡ window.new ++ I.rest input.new) }
     ensures opening { IfOk result (λ opening. opening ≡ opening_of window.new) }
@@ -40,7 +45,7 @@ pub(crate) fn find_opening<I: Input>(window: &mut Window, input: &mut I) -> Resu
 }
 
 /// Returns how a file ends that is too short for a capture.
-pub(crate) fn short_ending(octets: &[u8]) -> Option<Fault>
+fn short_ending(octets: &[u8]) -> Option<Fault>
     ensures { result ≡ ends_short octets.now }
 {
     if octets.is_empty() {
@@ -53,11 +58,7 @@ pub(crate) fn short_ending(octets: &[u8]) -> Option<Fault>
 }
 
 /// Answers a file that isn't read.
-pub(crate) fn refuse<O: Output>(
-    alloc: Global,
-    output: &mut O,
-    fault: FileFault,
-) -> Result<Done, RunFault>
+fn refuse<O: Output>(alloc: Global, output: &mut O, fault: FileFault) -> Result<Done, RunFault>
     ensures done { IfOk result (λ done. done ≡ Done.Ended) }
     ensures given { O.is_known → OnOk result (O.held output.new ≡ O.held output.old ++ file_fault_line fault) }
     ensures front { O.is_known → OnErr result (IsPart (O.held output.old) (O.held output.new) (file_fault_line fault)) }
@@ -72,53 +73,72 @@ pub(crate) fn refuse<O: Output>(
 }
 
 /// Answers a file that is too short for a capture.
-fn close_short<O: Output, F: Follower>(
+fn close_short<O: Output, F: CellFollower>(
     alloc: Global,
     output: &mut O,
     follower: &F,
+    passed: &PassedOver,
     octets: &[u8],
 ) -> Result<Done, RunFault>
     ensures done { IfOk result (λ done. done ≡ ends_at (ends_short octets.now)) }
-    ensures given { O.is_known → OnOk result (OfEachShown F.rules (F.shows follower.now) (λ world.
-        O.held output.new ≡ O.held output.old ++ F.rules.closes world (ends_short octets.now))) }
-    ensures front { O.is_known → OnErr result (OfEachShown F.rules (F.shows follower.now) (λ world.
-        IsPart (O.held output.old) (O.held output.new) (F.rules.closes world (ends_short octets.now)))) }
+    ensures given { O.is_known → OnOk result (OfEachWorld F.rules (F.shows follower.now) (λ world.
+        O.held output.new ≡ O.held output.old ++ F.rules.closes world passed.now (ends_short octets.now))) }
+    ensures front { O.is_known → OnErr result (OfEachWorld F.rules (F.shows follower.now) (λ world.
+        IsPart (O.held output.old) (O.held output.new) (F.rules.closes world passed.now (ends_short octets.now)))) }
     ensures fault { result ≢ Err RunFault.ReadFailed }
     ensures writing { O.failures output.new ≡ write_failures result (O.failures output.old) }
 {
     let ending = short_ending(octets);
     let mut answers = Vec::new(alloc);
-    match follower.close(ending, &mut answers) {
+    match follower.close(passed, ending, &mut answers) {
         Err(_) => Err(RunFault::NoMemory),
         Ok(()) => give_last(output, &mut answers, done_at(ending)),
     }
 }
 
-/// Runs a follower over the records of a capture, in bounded memory: two buffers of 524,288 octets, and the answers that are not written yet.
+/// Runs a follower over the cells of a capture that count, in bounded memory: two buffers of 524,288 octets, the cells that were read from
+/// them, and the answers to these cells.
+///
+/// With one thread, what was read is answered before more is read. With two, records are read on one thread while the cells of those before
+/// them are answered on another, as long as each reading fills the buffer: that of a file does, and that of a pipe doesn't.
 ///
 /// # Errors
 ///
 /// `ReadFailed` or `WriteFailed` if that device failed; the run ends at the first failure. `NoMemory` if an
 /// allocation fails. The output is then a prefix of the text.
-pub fn follow_capture<I: Input, O: Output, F: Follower>(
+pub fn follow_cells<R: Threads, I: Input + Send, O: Output, F: CellFollower + Send>(
+    rt: &R,
+    threads: usize,
     alloc: Global,
+    tick: Tick,
+    interface: Option<u8>,
     input: &mut I,
     output: &mut O,
     follower: &mut F,
 ) -> Result<Done, RunFault>
-    ensures { OfEachShown F.rules (F.shows follower.old) (λ world.
-        IsServed (IsCaptureText F.rules world) I.Input input.old input.new O.Output output.old output.new result) }
+    ensures { OfEachWorld F.rules (F.shows follower.old) (λ world.
+        IsServed (IsCaptureText F.rules (filter_start tick.nanoseconds interface) world)
+        I.Input input.old input.new O.Output output.old output.new result) }
 {
+    answers_each_cell(follower);
+    let filter = CellFilter::new(tick, interface);
     let Ok(mut window) = Window::new(alloc) else {
         return Err(RunFault::NoMemory);
     };
     match find_opening(&mut window, input) {
         Err(_) => Err(RunFault::ReadFailed),
         Ok(Opening::Refused(fault)) => refuse(alloc, output, fault),
-        Ok(Opening::Undecided) => close_short(alloc, output, follower, window.octets()),
+        Ok(Opening::Undecided) => {
+            close_short(alloc, output, follower, &filter.passed(), window.octets())
+        }
         Ok(Opening::Opened(format)) => {
             window.skip(format.start());
-            follow_records(alloc, input, output, follower, window, Reader::new(format))
+            let reading = ReadingAhead {
+                window,
+                reader: Reader::new(format),
+                filter,
+            };
+            follow_on(rt, 1 < threads, alloc, input, output, follower, reading)
         }
     }
 }

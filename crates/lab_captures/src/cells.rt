@@ -5,24 +5,24 @@ ghost use Rattle.hex.specs.Hex.{encode_lower};
 ghost use Rattle.lab_captures.specs.CellsText.{IsCellsText, cell_line};
 ghost use Rattle.text_io.specs.Serving.{IsServed};
 
-use crate::capture::follow_capture;
-use crate::filter::{CellFilter, Filtered};
-use crate::follower::Follower;
-use crate::run_lines::{add_closing, add_several};
-use captures::{Fault, LentCell, Record, Tick};
+use crate::capture::follow_cells;
+use crate::counted::CountedCell;
+use crate::follower::CellFollower;
+use crate::passed::PassedOver;
+use crate::run_lines::add_closing;
+use captures::{Fault, Tick};
 use std::alloc::{AllocError, Global};
+use std::thread::Threads;
 use text_io::{Done, Input, Output, RunFault, Turn};
-use upc_cell::CELL_OCTETS;
+use upc_cell::{CELL_OCTETS, Cell};
 use upc_words::{add_number, add_text};
 
 /// A run of `cells`.
 #[derive(Clone, Copy, Drop, Debug)]
-pub(crate) struct Cells {
-    filter: CellFilter,
-}
+pub(crate) struct Cells;
 
 /// Appends the octets of a cell in hexadecimal digits.
-fn add_octets(answers: &mut Vec<u8>, cell: &LentCell<'_>) -> Result<(), AllocError>
+fn add_octets(answers: &mut Vec<u8>, cell: &Cell) -> Result<(), AllocError>
     ensures { OnOk result (answers.new.items ≡ answers.old.items ++ encode_lower cell.now) }
 {
     let mut digits = [0; 104];
@@ -34,50 +34,43 @@ fn add_octets(answers: &mut Vec<u8>, cell: &LentCell<'_>) -> Result<(), AllocErr
 
 /// Appends the line of a cell.
 #[tactic(auto, using(std::proofs::lemmas::List::append_assoc))]
-fn add_cell(answers: &mut Vec<u8>, moment: u64, cell: &LentCell<'_>) -> Result<(), AllocError>
-    ensures { OnOk result (answers.new.items ≡ answers.old.items ++ cell_line moment cell.now) }
+fn add_cell(answers: &mut Vec<u8>, counted: &CountedCell) -> Result<(), AllocError>
+    ensures { OnOk result (answers.new.items ≡ answers.old.items ++ cell_line counted.now.moment counted.now.cell) }
 {
     add_text(answers, b"cell ")?;
-    add_number(answers, moment)?;
+    add_number(answers, counted.moment)?;
     add_text(answers, b" ")?;
-    add_octets(answers, cell)?;
+    add_octets(answers, &counted.cell)?;
     answers.push(b'\n')?;
     Ok(())
 }
 
-impl Follower for Cells {
-    ghost use Rattle.std.specs.Prelude.{◌≡◌};
-    ghost use Rattle.lab_captures.specs.CellFilter.{FilterState, filter_state};
-    ghost use Rattle.lab_captures.specs.CellsText.{cells_closes, cells_rules, cells_steps};
+impl CellFollower for Cells {
+    ghost use Rattle.lab_captures.specs.CellsText.{CellsWorld, cells_closes, cells_rules, cells_steps};
     ghost use Rattle.lab_captures.specs.inner.FixedRules.{fixed_total};
 
-    ghost World = { FilterState };
+    ghost World = { CellsWorld };
 
-    ghost shows = { λ cells world. world ≡ filter_state cells.filter };
+    ghost shows = { λ cells world. Unit {0} };
 
     ghost rules = { cells_rules };
 
-    fn follow(
+    fn follow_cell(
         &mut self,
-        record_read: &Record<'_>,
+        counted: &CountedCell,
         answers: &mut Vec<u8>,
     ) -> Result<Turn, AllocError> {
-        match self.filter.read(record_read) {
-            Filtered::Counts(moment, cell) => {
-                add_cell(answers, moment, &cell)?;
-                Ok(Turn::GoesOn)
-            }
-            Filtered::Passed => Ok(Turn::GoesOn),
-            Filtered::Several(one, other) => {
-                add_several(answers, one, other)?;
-                Ok(Turn::Ends)
-            }
-        }
+        add_cell(answers, counted)?;
+        Ok(Turn::GoesOn)
     }
 
-    fn close(&self, ending: Option<Fault>, answers: &mut Vec<u8>) -> Result<(), AllocError> {
-        let passed = self.filter.passed();
-        add_closing(answers, &passed, ending)
+    fn close(
+        &self,
+        passed: &PassedOver,
+        ending: Option<Fault>,
+        answers: &mut Vec<u8>,
+    ) -> Result<(), AllocError> {
+        add_closing(answers, passed, ending)
     }
 
     ghost is_total = { fixed_total cells_steps cells_closes };
@@ -86,11 +79,16 @@ impl Follower for Cells {
 /// Answers a capture by its cells, each as a line of a script for `upc run` or `upc ports`. Moments are whole ticks since the first record.
 /// If no interface is asked for, a cell of a second interface ends the run. Comments say how many records were passed over and why.
 ///
+/// With `threads` above 1, records are read on one thread while the cells of earlier ones are written on another, as in [`follow_cells`]. The
+/// output is the same.
+///
 /// # Errors
 ///
 /// `ReadFailed` or `WriteFailed` if that device failed; the run ends at the first failure. `NoMemory` if an
 /// allocation fails. The output is then a prefix of the text.
-pub fn cells_of_capture<I: Input, O: Output>(
+pub fn cells_of_capture<R: Threads, I: Input + Send, O: Output>(
+    rt: &R,
+    threads: usize,
     alloc: Global,
     tick: Tick,
     interface: Option<u8>,
@@ -99,8 +97,8 @@ pub fn cells_of_capture<I: Input, O: Output>(
 ) -> Result<Done, RunFault>
     ensures { IsServed (IsCellsText tick.nanoseconds interface) I.Input input.old input.new O.Output output.old output.new result }
 {
-    let mut cells = Cells {
-        filter: CellFilter::new(tick, interface),
-    };
-    follow_capture(alloc, input, output, &mut cells)
+    let mut cells = Cells;
+    follow_cells(
+        rt, threads, alloc, tick, interface, input, output, &mut cells,
+    )
 }

@@ -1,73 +1,67 @@
-//! Programs that answer the records of a capture.
+//! Programs that answer the cells of a capture that count.
 
 ghost use Rattle.std.specs.Prelude.{IfOk, OnOk};
-ghost use Rattle.lab_captures.specs.CaptureText.{AnswersEachRecord, CaptureRules};
-ghost use Rattle.lab_captures.specs.Following.{ClosesCapture, FollowsRecord};
-ghost use Rattle.lab_captures.specs.inner.Steps.{StepsBy};
+ghost use Rattle.lab_captures.specs.CellFollowing.{ClosesCells, FollowsCell};
+ghost use Rattle.lab_captures.specs.inner.Answered.{AnswersCells};
+ghost use Rattle.lab_captures.specs.CellRules.{AnswersEachCell, CellRules};
 
-use captures::{Fault, Next, Reader, Record};
+use crate::counted::CountedCell;
+use crate::passed::PassedOver;
+use captures::Fault;
 use std::alloc::AllocError;
 use text_io::Turn;
 
-/// A program that gets one record after another and answers each.
+/// A program that gets one cell that counts after another and answers each.
 ///
 /// Its rules say which answers are allowed, as steps from world to world. A follower doesn't have to store its world:
 /// it shows worlds, and its answer must be allowed from each of them.
-pub trait Follower {
+pub trait CellFollower {
     ghost World: { Type 0 };
 
     ghost shows: { Self → World → Type 0 };
 
-    ghost rules: { CaptureRules World };
+    ghost rules: { CellRules World };
 
-    /// Appends the answer to a record to the answers.
-    fn follow(
+    /// Appends the answer to a cell to the answers.
+    fn follow_cell(
         &mut self,
-        record_read: &Record<'_>,
+        counted: &CountedCell,
         answers: &mut Vec<u8>,
     ) -> Result<Turn, AllocError>
         ensures { IfOk result (λ turn.
-            FollowsRecord rules (shows self.old) record_read.now turn (shows self.new) answers.old.items answers.new.items) };
+            FollowsCell rules (shows self.old) counted.now turn (shows self.new) answers.old.items answers.new.items) };
 
-    /// Appends the answer to the end of the capture, or to its fault, to the answers.
-    fn close(&self, ending: Option<Fault>, answers: &mut Vec<u8>) -> Result<(), AllocError>
-        ensures { OnOk result (ClosesCapture rules (shows self.now) ending answers.old.items answers.new.items) };
+    /// Appends the answer to the end of the capture, or to its fault, to the answers. These records were passed over.
+    fn close(
+        &self,
+        passed: &PassedOver,
+        ending: Option<Fault>,
+        answers: &mut Vec<u8>,
+    ) -> Result<(), AllocError>
+        ensures { OnOk result (ClosesCells rules (shows self.now) passed.now ending answers.old.items answers.new.items) };
 
-    ghost is_total: { AnswersEachRecord rules };
+    ghost is_total: { AnswersEachCell rules };
 }
 
-/// What became of the octets that come next.
-#[derive(Clone, Copy, PartialEq, Eq, Debug)]
-pub(crate) enum Step {
-    /// So many octets were answered.
-    Goes(usize),
-    /// More octets are wanted.
-    Wants,
-    /// The run ends early.
-    Ends,
-}
+/// Does nothing at run time. Its contract repeats a fact of the trait, for callers that move the follower to another thread.
+pub(crate) fn answers_each_cell<F: CellFollower>(_: &F)
+    ensures { AnswersEachCell F.rules }
+{}
 
-/// Answers the frame with which octets begin.
-#[inline(always)]
-pub(crate) fn step_by<F: Follower>(
-    reader: &mut Reader,
+/// Answers cells in order, up to one that ends the run.
+pub(crate) fn answer_cells<F: CellFollower>(
     follower: &mut F,
-    octets: &[u8],
+    cells: &[CountedCell],
     answers: &mut Vec<u8>,
-) -> Result<Step, AllocError>
-    ensures { IfOk result (λ step. StepsBy F.rules reader.old (F.shows follower.old) octets.now step
-        reader.new (F.shows follower.new) answers.old.items answers.new.items) }
+) -> Result<Turn, AllocError>
+    ensures { IfOk result (λ turn.
+        AnswersCells F.rules (F.shows follower.old) cells.now turn (F.shows follower.new) answers.old.items answers.new.items) }
 {
-    match reader.next(octets) {
-        Next::Unfinished => Ok(Step::Wants),
-        Next::Passed(own) => Ok(Step::Goes(own)),
-        Next::Broken(fault) => {
-            follower.close(Some(fault), answers)?;
-            Ok(Step::Ends)
+    for counted in cells {
+        match follower.follow_cell(counted, answers)? {
+            Turn::GoesOn => {}
+            Turn::Ends => return Ok(Turn::Ends),
         }
-        Next::Taken(record_read, own) => match follower.follow(&record_read, answers)? {
-            Turn::GoesOn => Ok(Step::Goes(own)),
-            Turn::Ends => Ok(Step::Ends),
-        },
     }
+    Ok(Turn::GoesOn)
 }

@@ -7,7 +7,7 @@ pub fn captures_have_one_text()
     ensures { CapturesHaveOneCellsText }
 {}
 
-/// A run of `cells` that no record ends writes a line for each cell that counts.
+/// The text of `cells` has a line for each cell that counts, and then the answer to their end.
 pub fn cells_are_written()
     ensures { CellsAreWritten }
 {}

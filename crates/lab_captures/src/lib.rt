@@ -4,9 +4,6 @@
 mod advance;
 mod ahead;
 mod capture;
-mod cell_capture;
-mod cell_driver;
-mod cell_follower;
 mod cell_lines;
 mod cells;
 mod counted;
@@ -21,13 +18,11 @@ mod reading_ahead;
 mod run_lines;
 mod window;
 
-pub use capture::follow_capture;
-pub use cell_capture::follow_cells;
-pub use cell_follower::CellFollower;
+pub use capture::follow_cells;
 pub use cell_lines::CellLines;
 pub use cells::cells_of_capture;
 pub use counted::CountedCell;
 pub use filter::{CellFilter, Filtered};
-pub use follower::Follower;
+pub use follower::CellFollower;
 pub use passed::{PassedOver, PassedTally};
 pub use run_lines::{add_closing, add_several};

@@ -4,7 +4,6 @@ ghost use Rattle.std.specs.Prelude.{◌≡◌, ◌≢◌, ◌<◌, Err, IfOk, le
 ghost use Rattle.text_io.specs.Failures.{read_failures};
 ghost use Rattle.lab_captures.specs.inner.Ahead.{FillsAndReads, ReadsCells};
 
-use crate::cell_follower::CellFollower;
 use crate::counted::CountedCell;
 use crate::filter::{CellFilter, Filtered};
 use crate::window::Window;
@@ -40,13 +39,13 @@ impl ReadingAhead {
     /// # Errors
     ///
     /// `ReadFailed` if the input failed, and `NoMemory` if an allocation fails.
-    pub(crate) fn fill_and_read<I: Input, F: CellFollower>(
+    pub(crate) fn fill_and_read<I: Input>(
         &mut self,
         input: &mut I,
         cells: &mut Vec<CountedCell>,
     ) -> Result<Option<Coming>, RunFault>
         requires { length self.old.window < 131072 }
-        ensures filled { IfOk result (λ coming. FillsAndReads F.rules I.is_known (I.rest input.old) (I.rest input.new)
+        ensures filled { IfOk result (λ coming. FillsAndReads I.is_known (I.rest input.old) (I.rest input.new)
             self.old coming self.new cells.old.items cells.new.items) }
         ensures fault { result ≢ Err RunFault.WriteFailed }
         ensures reading { I.failures input.new ≡ read_failures result (I.failures input.old) }
@@ -54,7 +53,7 @@ impl ReadingAhead {
         match self.window.fill(input) {
             Err(_) => Err(RunFault::ReadFailed),
             Ok(0) => Ok(None),
-            Ok(_) => match self.read::<F>(cells, usize::MAX) {
+            Ok(_) => match self.read(cells, usize::MAX) {
                 Err(_) => Err(RunFault::NoMemory),
                 Ok(coming) => Ok(Some(coming)),
             },
@@ -63,12 +62,12 @@ impl ReadingAhead {
 
     /// Reads the whole frames among the octets that wait, and appends the cells that count to the others. It stops at what ends a run,
     /// and after a cell if there are `most` or more then.
-    pub(crate) fn read<F: CellFollower>(
+    pub(crate) fn read(
         &mut self,
         cells: &mut Vec<CountedCell>,
         most: usize,
     ) -> Result<Coming, AllocError>
-        ensures { IfOk result (λ coming. ReadsCells F.rules self.old coming self.new cells.old.items cells.new.items) }
+        ensures { IfOk result (λ coming. ReadsCells self.old coming self.new cells.old.items cells.new.items) }
     {
         loop {
             match self.reader.next(self.window.octets()) {

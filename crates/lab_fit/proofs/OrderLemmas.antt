@@ -10,18 +10,15 @@ use Rattle.std.proofs.lemmas.Bool.{eq-eqb, le-ltb}
 use Rattle.std.proofs.lemmas.Map.Lookups.{exact_unsigned}
 use Rattle.std.proofs.lemmas.Option.{same_Some}
 use Rattle.std.proofs.Math.Nat.{mod-lt}
-use Rattle.captures.specs.declared.reader.Record.{Record}
 use Rattle.lab_captures.specs.CaptureText.{RunsThrough}
-use Rattle.lab_captures.specs.CellFilter.{FilterState, filter_record}
-use Rattle.lab_captures.specs.declared.filter.Filtered.{Filtered}
-use Rattle.lab_captures.specs.declared.filter.Filtered.TheVariants.{Counts, Passed, Several}
+use Rattle.lab_captures.specs.declared.counted.CountedCell.{CountedCell}
 use Rattle.upc_cell.specs.Connection.{is_same_vc, vc_of}
 use Rattle.upc_cell.specs.Header.{header_number, vci_of}
 use Rattle.upc_cell.specs.declared.vc.Vc.{Vc}
 use Rattle.upc_cell.proofs.Public.{vc_is, vc_itself, vc_same}
 use Rattle.lab_fit.specs.Fits.{fit_in, fits_after, with_fit}
 use Rattle.lab_fit.specs.FitLaws.{LinesAreOfConnections}
-use Rattle.lab_fit.specs.FitText.{FitWorld, connection_key, fit_answer, fit_cell_answer, fit_rules, fit_start, put_in_order}
+use Rattle.lab_fit.specs.FitText.{FitWorld, connection_key, fit_answer, fit_rules, fit_start, put_in_order}
 use Rattle.lab_fit.specs.declared.connection_fit.ConnectionFit.{ConnectionFit}
 use Rattle.lab_fit.specs.declared.fault.FitFault.{FitFault}
 use Rattle.lab_fit.proofs.FitLemmas.{fit_in-others}
@@ -149,38 +146,30 @@ apart-with (first ∷ fits) fit apart small =
     ] in
     choice (is_same_vc fit.vc first.vc) refl
 
-apart-cell : (world : FitWorld) (moment : ℕ) (cell : List ℕ) (after : FilterState) (number : ℕ) (next : FitWorld)
-    → (answer : Result (List ConnectionFit) FitFault)
-    → fits_after world.increment world.fits (vc_of world.side cell) moment number ≡ answer
-    → (fit_cell_answer world after number answer).1 ≡ Some next → AreApart world.fits → AreApart next.fits
-apart-cell world moment cell after number next (Err fault) is goes apart = absurd (let no : None ≡ Some next = goes in cc)
-apart-cell world moment cell after number next (Ok new) is goes apart =
-    let to : FitWorld = record world { filter = after; fits = new } in
-    let grew = grew-by world.increment world.fits (vc_of world.side cell) moment number new is in
+apart-by : (world : FitWorld) (counted : CountedCell) (next : FitWorld) (answer : Result (List ConnectionFit) FitFault)
+    → fits_after world.increment world.fits (vc_of world.side counted.cell) counted.moment counted.number ≡ answer
+    → (fit_answer world counted.number answer).1 ≡ Some next → AreApart world.fits → AreApart next.fits
+apart-by world counted next (Err fault) is goes apart = absurd (let no : None ≡ Some next = goes in cc)
+apart-by world counted next (Ok new) is goes apart =
+    let cell = counted.cell in
+    let grew = grew-by world.increment world.fits (vc_of world.side cell) counted.moment counted.number new is in
     let some : 0 < 2 ^ 16 = omega arith in
     let small : vci_of cell < 2 ^ 16 = mod-lt (header_number cell / 2 ^ 4) some in
     let own : grew.fit.vc.vci < 2 ^ 16 = subst (λ (v : Vc). v.vci < 2 ^ 16) (sym grew.own) small in
-    subst (λ (w : FitWorld). AreApart w.fits) (same_Some to next goes)
+    subst (λ (w : FitWorld). AreApart w.fits) (same_Some (record world { fits = new }) next goes)
     (subst AreApart grew.is (apart-with world.fits grew.fit apart own))
 
-apart-next : (world : FitWorld) (answer : Filtered) (after : FilterState) (number : ℕ) (next : FitWorld)
-    → (fit_answer world answer after number).1 ≡ Some next → AreApart world.fits → AreApart next.fits
-apart-next world (Counts moment cell) after number next goes apart =
-    apart-cell world moment cell after number next (fits_after world.increment world.fits (vc_of world.side cell) moment number) refl goes apart
-apart-next world Passed after number next goes apart =
-    subst (λ (w : FitWorld). AreApart w.fits) (same_Some (record world { filter = after }) next goes) apart
-apart-next world (Several one other) after number next goes apart = absurd (let no : None ≡ Some next = goes in cc)
-
-run-apart : (world last : FitWorld) (records : List Record) → RunsThrough fit_rules world records last → AreApart world.fits → AreApart last.fits
+run-apart : (world last : FitWorld) (cells : List CountedCell) → RunsThrough fit_rules world cells last → AreApart world.fits → AreApart last.fits
 run-apart world last [] leads apart = subst (λ (w : FitWorld). AreApart w.fits) (sym leads) apart
-run-apart world last (record_read ∷ records) (here, next, step, leads) apart =
-    let read = filter_record world.filter record_read in
-    run-apart next last records leads (apart-next world read.0 read.1 record_read.number next (ap (λ (s : List ℕ × Option FitWorld). s.1) step) apart)
+run-apart world last (counted ∷ cells) (here, next, step, leads) apart =
+    run-apart next last cells leads
+    (apart-by world counted next (fits_after world.increment world.fits (vc_of world.side counted.cell) counted.moment counted.number) refl
+    (ap (λ (s : List ℕ × Option FitWorld). s.1) step) apart)
 
 or-none : (found : Option ConnectionFit) → or_else found None ≡ found
 or-none None = refl
 or-none (Some fit) = refl
 
 pub lines-of-connections : LinesAreOfConnections
-lines-of-connections increment tick interface side records last leads vc small =
-    put-all last.fits [] vc (run-apart (fit_start increment tick interface side) last records leads tt) small ∙ or-none (fit_in vc last.fits)
+lines-of-connections increment side cells last leads vc small =
+    put-all last.fits [] vc (run-apart (fit_start increment side) last cells leads tt) small ∙ or-none (fit_in vc last.fits)

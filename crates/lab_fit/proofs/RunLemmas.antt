@@ -1,23 +1,19 @@
--- A run of `fit` over records, and the cells that count among them.
+-- A run of `fit` over the cells that count.
 use Rattle.std.proofs.Common.{◌≡◌, ◌≢◌, ℕ, Bool, true, false, cond, List, [], ◌∷◌, Option, Some, None, Result, Ok, Err, refl, sym, ap, ◌∙◌, subst}
 use Rattle.std.specs.Prelude.{MatchOption, length, nat_le, unwrap_or}
 use Rattle.std.proofs.lemmas.Option.{same_Some}
-use Rattle.captures.specs.declared.fault.Fault.{Fault}
-use Rattle.captures.specs.declared.reader.Record.{Record}
-use Rattle.lab_captures.specs.CaptureText.{RunsThrough, done_at}
-use Rattle.lab_captures.specs.CellFilter.{FilterState, counted_cells, counted_then, filter_record, filter_start}
+use Rattle.lab_captures.specs.CaptureText.{RunsThrough, end_done, text_at_end}
+use Rattle.lab_captures.specs.CellFilter.{CellsEnd}
 use Rattle.lab_captures.specs.inner.FixedRules.{fixed_text, text_then}
 use Rattle.lab_captures.proofs.Public.{fixed_only}
 use Rattle.lab_captures.specs.declared.counted.CountedCell.{CountedCell}
-use Rattle.lab_captures.specs.declared.filter.Filtered.{Filtered}
-use Rattle.lab_captures.specs.declared.filter.Filtered.TheVariants.{Counts, Passed, Several}
 use Rattle.text_io.specs.declared.ending.Done.{Done}
 use Rattle.upc_cell.specs.Connection.{is_same_vc, vc_of}
 use Rattle.upc_cell.specs.declared.side.Side.{Side}
 use Rattle.upc_cell.specs.declared.vc.Vc.{Vc}
 use Rattle.upc_cell.proofs.Public.{vc_same, vc_itself}
 use Rattle.lab_fit.specs.Fits.{fit_after, fit_in, fits_after, fits_from, is_in_64_bits, most_connections, no_cells, with_fit, with_checked_fit}
-use Rattle.lab_fit.specs.FitText.{FitWorld, fit_answer, fit_cell_answer, fit_closes, fit_rules, fit_start, fit_steps}
+use Rattle.lab_fit.specs.FitText.{FitWorld, fit_answer, fit_closes, fit_rules, fit_start, fit_steps}
 use Rattle.lab_fit.specs.FitLaws.{FitsAreLeast, FitsAreWritten, IsFitOf, cells_of_vc}
 use Rattle.lab_fit.specs.declared.connection_fit.ConnectionFit.{ConnectionFit}
 use Rattle.lab_fit.specs.declared.fault.FitFault.{FitFault}
@@ -110,32 +106,28 @@ takes-cell increment fits vc moment number new is =
           ap (fit_in other) (sym grew.is) ∙ fit_in-others fits grew.fit other (λ e. away (e ∙ grew.own));
     }
 
--- A record after which the run goes on.
-record GoesOn (world : FitWorld) (answer : Filtered) (after : FilterState) (number : ℕ) (next : FitWorld) : Type 0 where
+-- A cell after which the run goes on.
+record GoesOn (world : FitWorld) (counted : CountedCell) (next : FitWorld) : Type 0 where
   increment : next.increment ≡ world.increment
   side : next.side ≡ world.side
-  filter : next.filter ≡ after
-  silent : (fit_answer world answer after number).0 ≡ []
+  silent : (fit_steps world counted).0 ≡ []
   fits : (vc : Vc) (later : List CountedCell) → over world.increment vc (fit_in vc next.fits) (cells_of_vc world.side vc later)
-      ≡ over world.increment vc (fit_in vc world.fits) (cells_of_vc world.side vc (counted_then answer number later))
+      ≡ over world.increment vc (fit_in vc world.fits) (cells_of_vc world.side vc (counted ∷ later))
 
-goes-cell : (world : FitWorld) (moment : ℕ) (cell : List ℕ) (after : FilterState) (number : ℕ) (next : FitWorld)
-    → (answer : Result (List ConnectionFit) FitFault)
-    → fits_after world.increment world.fits (vc_of world.side cell) moment number ≡ answer
-    → (fit_cell_answer world after number answer).1 ≡ Some next → GoesOn world (Counts moment cell) after number next
-goes-cell world moment cell after number next (Err fault) is goes = absurd (let no : None ≡ Some next = goes in cc)
-goes-cell world moment cell after number next (Ok new) is goes =
-    let to : FitWorld = record world { filter = after; fits = new } in
+goes-by : (world : FitWorld) (counted : CountedCell) (next : FitWorld) (answer : Result (List ConnectionFit) FitFault)
+    → fits_after world.increment world.fits (vc_of world.side counted.cell) counted.moment counted.number ≡ answer
+    → (fit_answer world counted.number answer).1 ≡ Some next → GoesOn world counted next
+goes-by world counted next (Err fault) is goes = absurd (let no : None ≡ Some next = goes in cc)
+goes-by world counted next (Ok new) is goes =
+    let to : FitWorld = record world { fits = new } in
     let same : to ≡ next = same_Some to next goes in
-    let named = vc_of world.side cell in
-    let counted : CountedCell = record { number = number; moment = moment; cell = cell } in
-    let takes = takes-cell world.increment world.fits named moment number new is in
+    let named = vc_of world.side counted.cell in
+    let takes = takes-cell world.increment world.fits named counted.moment counted.number new is in
     let fits : new ≡ next.fits = ap (λ (w : FitWorld). w.fits) same in
     record {
       increment = ap (λ (w : FitWorld). w.increment) (sym same);
       side = ap (λ (w : FitWorld). w.side) (sym same);
-      filter = ap (λ (w : FitWorld). w.filter) (sym same);
-      silent = ap (λ (r : Result (List ConnectionFit) FitFault). (fit_cell_answer world after number r).0) is;
+      silent = ap (λ (r : Result (List ConnectionFit) FitFault). (fit_answer world counted.number r).0) is;
       fits = λ vc later.
           let rest = cells_of_vc world.side vc later in
           let choice : (b : Bool) → is_same_vc vc named ≡ b
@@ -143,8 +135,8 @@ goes-cell world moment cell after number next (Ok new) is goes =
           ≡ over world.increment vc (fit_in vc world.fits) (cond b (counted ∷ rest) rest) = elim [
             | true ↦ λ e.
                 let own : vc ≡ named = vc_same vc named e in
-                let here : fit_in vc new ≡ Some (fit_after world.increment (unwrap_or (fit_in vc world.fits) (no_cells vc number)) moment number) =
-                subst (λ (v : Vc). fit_in v new ≡ Some (fit_after world.increment (unwrap_or (fit_in v world.fits) (no_cells v number)) moment number))
+                let here : fit_in vc new ≡ Some (fit_after world.increment (unwrap_or (fit_in vc world.fits) (no_cells vc counted.number)) counted.moment counted.number) =
+                subst (λ (v : Vc). fit_in v new ≡ Some (fit_after world.increment (unwrap_or (fit_in v world.fits) (no_cells v counted.number)) counted.moment counted.number))
                 (sym own) takes.here in
                 ap (λ (found : Option ConnectionFit). over world.increment vc found rest) here
             | false ↦ λ e.
@@ -159,39 +151,22 @@ goes-cell world moment cell after number next (Ok new) is goes =
           ∙ choice (is_same_vc vc named) refl;
     }
 
-goes-on : (world : FitWorld) (answer : Filtered) (after : FilterState) (number : ℕ) (next : FitWorld)
-    → (fit_answer world answer after number).1 ≡ Some next → GoesOn world answer after number next
-goes-on world (Counts moment cell) after number next goes =
-    goes-cell world moment cell after number next (fits_after world.increment world.fits (vc_of world.side cell) moment number) refl goes
-goes-on world Passed after number next goes =
-    let to : FitWorld = record world { filter = after } in
-    let same : to ≡ next = same_Some to next goes in
-    record {
-      increment = ap (λ (w : FitWorld). w.increment) (sym same);
-      side = ap (λ (w : FitWorld). w.side) (sym same);
-      filter = ap (λ (w : FitWorld). w.filter) (sym same);
-      silent = refl;
-      fits = λ vc later.
-          ap (λ (w : FitWorld). over world.increment vc (fit_in vc w.fits) (cells_of_vc world.side vc later)) (sym same);
-    }
-goes-on world (Several one other) after number next goes = absurd (let no : None ≡ Some next = goes in cc)
+goes-on : (world : FitWorld) (counted : CountedCell) (next : FitWorld) → (fit_steps world counted).1 ≡ Some next → GoesOn world counted next
+goes-on world counted next goes =
+    goes-by world counted next (fits_after world.increment world.fits (vc_of world.side counted.cell) counted.moment counted.number) refl goes
 
 -- The states of a run.
-run-fits : (world last : FitWorld) (records : List Record) → RunsThrough fit_rules world records last → (vc : Vc)
-    → fit_in vc last.fits ≡ over world.increment vc (fit_in vc world.fits) (cells_of_vc world.side vc (counted_cells world.filter records))
+run-fits : (world last : FitWorld) (cells : List CountedCell) → RunsThrough fit_rules world cells last → (vc : Vc)
+    → fit_in vc last.fits ≡ over world.increment vc (fit_in vc world.fits) (cells_of_vc world.side vc cells)
 run-fits world last [] leads vc = ap (λ (w : FitWorld). fit_in vc w.fits) leads
-run-fits world last (record_read ∷ records) (here, next, step, leads) vc =
-    let read = filter_record world.filter record_read in
-    let goes = goes-on world read.0 read.1 record_read.number next (ap (λ (s : List ℕ × Option FitWorld). s.1) step) in
-    let later = counted_cells read.1 records in
-    let Rest : ℕ → Side → FilterState → Type 0 = λ increment side filter.
-    fit_in vc last.fits ≡ over increment vc (fit_in vc next.fits) (cells_of_vc side vc (counted_cells filter records)) in
-    let rest : Rest next.increment next.side next.filter = run-fits next last records leads vc in
-    let same : Rest world.increment world.side read.1 =
-    subst (λ (f : FilterState). Rest world.increment world.side f) goes.filter
-    (subst (λ (s : Side). Rest world.increment s next.filter) goes.side
-    (subst (λ (n : ℕ). Rest n next.side next.filter) goes.increment rest)) in
-    same ∙ goes.fits vc later
+run-fits world last (counted ∷ cells) (here, next, step, leads) vc =
+    let goes = goes-on world counted next (ap (λ (s : List ℕ × Option FitWorld). s.1) step) in
+    let Rest : ℕ → Side → Type 0 = λ increment side.
+    fit_in vc last.fits ≡ over increment vc (fit_in vc next.fits) (cells_of_vc side vc cells) in
+    let rest : Rest next.increment next.side = run-fits next last cells leads vc in
+    let same : Rest world.increment world.side =
+    subst (λ (s : Side). Rest world.increment s) goes.side (subst (λ (n : ℕ). Rest n next.side) goes.increment rest) in
+    same ∙ goes.fits vc cells
 
 -- What the state is that a connection has after all its cells.
 all-cells : (increment : ℕ) (vc : Vc) (cells : List CountedCell) (found : Option ConnectionFit) → found ≡ over increment vc None cells
@@ -204,25 +179,22 @@ all-cells increment vc (cell ∷ cells) found is =
     subst (λ (f : Option ConnectionFit). MatchOption f (all ≡ []) (IsFitOf increment all)) there (through-is increment vc cell cells)
 
 pub fits-are-least : FitsAreLeast
-fits-are-least increment tick interface side records last leads vc =
-    let start = fit_start increment tick interface side in
-    all-cells increment vc (cells_of_vc side vc (counted_cells (filter_start tick interface) records)) (fit_in vc last.fits)
-    (run-fits start last records leads vc)
+fits-are-least increment side cells last leads vc =
+    all-cells increment vc (cells_of_vc side vc cells) (fit_in vc last.fits) (run-fits (fit_start increment side) last cells leads vc)
 
 -- The text of a run.
-run-text : (world last : FitWorld) (records : List Record) → RunsThrough fit_rules world records last → (ending : Option Fault)
-    → fixed_text fit_steps fit_closes world records ending ≡ (fit_closes last ending, done_at ending)
-run-text world last [] leads ending = ap (λ (w : FitWorld). (fit_closes w ending, done_at ending)) (sym leads)
-run-text world last (record_read ∷ records) (here, next, step, leads) ending =
-    let read = filter_record world.filter record_read in
-    let on : (fit_answer world read.0 read.1 record_read.number).1 ≡ Some next = ap (λ (s : List ℕ × Option FitWorld). s.1) step in
-    let goes = goes-on world read.0 read.1 record_read.number next on in
-    let rest : FitWorld → List ℕ × Done = λ w. fixed_text fit_steps fit_closes w records ending in
-    ap (λ (text : List ℕ). text_then text (fit_answer world read.0 read.1 record_read.number).1 rest) goes.silent
+run-text : (world last : FitWorld) (cells : List CountedCell) → RunsThrough fit_rules world cells last → (end : CellsEnd)
+    → fixed_text fit_steps fit_closes world cells end ≡ (text_at_end fit_rules last end, end_done end)
+run-text world last [] leads end = ap (λ (w : FitWorld). (text_at_end fit_rules w end, end_done end)) (sym leads)
+run-text world last (counted ∷ cells) (here, next, step, leads) end =
+    let on : (fit_steps world counted).1 ≡ Some next = ap (λ (s : List ℕ × Option FitWorld). s.1) step in
+    let goes = goes-on world counted next on in
+    let rest : FitWorld → List ℕ × Done = λ w. fixed_text fit_steps fit_closes w cells end in
+    ap (λ (text : List ℕ). text_then text (fit_steps world counted).1 rest) goes.silent
     ∙ ap (λ (after : Option FitWorld). text_then [] after rest) on
-    ∙ run-text next last records leads ending
+    ∙ run-text next last cells leads end
 
 pub fits-are-written : FitsAreWritten
-fits-are-written increment tick interface side records last leads ending text done =
-    let start = fit_start increment tick interface side in
-    fixed_only fit_steps fit_closes records ending start (fit_closes last ending) text (done_at ending) done (run-text start last records leads ending)
+fits-are-written increment side cells last leads end text done =
+    fixed_only fit_steps fit_closes cells end (fit_start increment side) (text_at_end fit_rules last end) text (end_done end) done
+    (run-text (fit_start increment side) last cells leads end)

@@ -3,10 +3,9 @@ use Rattle.std.specs.Prelude.{◌≡◌, ℕ, ◌+◌, ◌^◌, ◌<◌, ◌≤�
 use Rattle.std.specs.BTreeMap.{is_at}
 use Rattle.std.specs.Map.{lookup}
 use Rattle.std.specs.Ordering.{nat_cmp}
-use Rattle.captures.specs.declared.fault.Fault.{Fault}
 use Rattle.captures.specs.declared.reader.Record.{Record}
-use Rattle.lab_captures.specs.CaptureText.{IsTextOfRecords, RunsThrough, done_at}
-use Rattle.lab_captures.specs.CellFilter.{counted_cells, filter_start}
+use Rattle.lab_captures.specs.CaptureText.{IsTextOfCells, RunsThrough, end_done, text_at_end}
+use Rattle.lab_captures.specs.CellFilter.{CellsEnd, counted_cells, filter_start}
 use Rattle.lab_captures.specs.declared.counted.CountedCell.{CountedCell}
 use Rattle.leaky.specs.Bucket.{opening}
 use Rattle.leaky.specs.Bursts.{AllFill}
@@ -17,7 +16,7 @@ use Rattle.upc_cell.specs.Connection.{is_same_vc, vc_of}
 use Rattle.upc_cell.specs.declared.side.Side.{Side}
 use Rattle.upc_cell.specs.declared.vc.Vc.{Vc}
 use Rattle.lab_fit.specs.Fits.{fit_in}
-use Rattle.lab_fit.specs.FitText.{FitWorld, IsFitText, connection_key, fit_closes, fit_rules, fit_start, put_in_order}
+use Rattle.lab_fit.specs.FitText.{FitWorld, IsFitText, connection_key, fit_rules, fit_start, put_in_order}
 use Rattle.lab_fit.specs.declared.connection_fit.ConnectionFit.{ConnectionFit}
 
 -- The cells of a connection, with headers read at this side.
@@ -44,32 +43,26 @@ pub record IsFitOf (increment : ℕ) (cells : List CountedCell) (fit : Connectio
   -- If no cell needs a limit, the named record is that of the first cell.
   pub first : fit.limit ≡ 0 → before ≡ []
 
--- After a run that goes on to the end, the state of each connection is right for its cells among those that count, and a connection without
--- cells has none.
+-- After a run that no cell ends, the state of each connection is right for its cells among those that count, and a connection without cells
+-- has none.
 abbrev pub FitsAreLeast : Type 0
-FitsAreLeast = (increment tick : ℕ) (interface : Option ℕ) (side : Side) (records : List Record) (last : FitWorld)
-    → RunsThrough fit_rules (fit_start increment tick interface side) records last
-    → (vc : Vc)
-    → let cells = cells_of_vc side vc (counted_cells (filter_start tick interface) records) in
-    MatchOption (fit_in vc last.fits) (cells ≡ []) (IsFitOf increment cells)
+FitsAreLeast = (increment : ℕ) (side : Side) (cells : List CountedCell) (last : FitWorld) → RunsThrough fit_rules (fit_start increment side) cells last
+    → (vc : Vc) → let own = cells_of_vc side vc cells in MatchOption (fit_in vc last.fits) (own ≡ []) (IsFitOf increment own)
 
 -- The moments of a connection's cells never go back. A tick has at least one nanosecond.
 abbrev pub MomentsGoOn : Type 0
 MomentsGoOn = (tick : ℕ) (interface : Option ℕ) (side : Side) (records : List Record) (vc : Vc) → 0 < tick
     → GoesOn 0 (moments_counted (cells_of_vc side vc (counted_cells (filter_start tick interface) records)))
 
--- The text of such a run has the table of these states, and nothing before it, and the run has no other text.
+-- The text of such a run is the answer to the end of the cells, with the table of these states, and the run has no other text.
 abbrev pub FitsAreWritten : Type 0
-FitsAreWritten = (increment tick : ℕ) (interface : Option ℕ) (side : Side) (records : List Record) (last : FitWorld)
-    → RunsThrough fit_rules (fit_start increment tick interface side) records last
-    → (ending : Option Fault) (text : List ℕ) (done : Done)
-    → IsTextOfRecords fit_rules (fit_start increment tick interface side) records ending text done
-    ↔ ((text ≡ fit_closes last ending) × (done ≡ done_at ending))
+FitsAreWritten = (increment : ℕ) (side : Side) (cells : List CountedCell) (last : FitWorld) → RunsThrough fit_rules (fit_start increment side) cells last
+    → (end : CellsEnd) (text : List ℕ) (done : Done)
+    → IsTextOfCells fit_rules (fit_start increment side) cells end text done ↔ ((text ≡ text_at_end fit_rules last end) × (done ≡ end_done end))
 
 -- After such a run, the table has one line for each connection with cells, that of its state, and none for another. A channel has 16 bits.
 abbrev pub LinesAreOfConnections : Type 0
-LinesAreOfConnections = (increment tick : ℕ) (interface : Option ℕ) (side : Side) (records : List Record) (last : FitWorld)
-    → RunsThrough fit_rules (fit_start increment tick interface side) records last
+LinesAreOfConnections = (increment : ℕ) (side : Side) (cells : List CountedCell) (last : FitWorld) → RunsThrough fit_rules (fit_start increment side) cells last
     → (vc : Vc) → vc.vci < 2 ^ 16
     → lookup (is_at (nat_cmp (connection_key vc))) (put_in_order [] last.fits) ≡ fit_in vc last.fits
 

@@ -5,12 +5,12 @@ use Rattle.std.specs.BTreeMap.{insert_entry}
 use Rattle.std.specs.Map.{values_of}
 use Rattle.std.specs.Ordering.{nat_cmp}
 use Rattle.captures.specs.declared.fault.Fault.{Fault}
-use Rattle.captures.specs.declared.reader.Record.{Record}
-use Rattle.lab_captures.specs.CaptureText.{CaptureRules, IsCaptureText, fixed_rules}
-use Rattle.lab_captures.specs.CellFilter.{FilterState, filter_record, filter_start}
-use Rattle.lab_captures.specs.RunLines.{closing_lines, several_line}
-use Rattle.lab_captures.specs.declared.filter.Filtered.{Filtered}
-use Rattle.lab_captures.specs.declared.filter.Filtered.TheVariants.{Counts, Passed, Several}
+use Rattle.lab_captures.specs.CaptureText.{IsCaptureText}
+use Rattle.lab_captures.specs.CellFilter.{filter_start}
+use Rattle.lab_captures.specs.CellRules.{CellRules, fixed_rules}
+use Rattle.lab_captures.specs.RunLines.{closing_lines}
+use Rattle.lab_captures.specs.declared.counted.CountedCell.{CountedCell}
+use Rattle.lab_captures.specs.declared.passed.PassedOver.{PassedOver}
 use Rattle.text_io.specs.declared.ending.Done.{Done}
 use Rattle.upc_cell.specs.Connection.{vc_of}
 use Rattle.upc_cell.specs.declared.side.Side.{Side}
@@ -54,44 +54,36 @@ abbrev pub fit_fault_line : FitFault → ℕ → List ℕ
 fit_fault_line TooManyConnections number = line (codes "fault fit 1 TooManyConnections " ++ decimal number)
 fit_fault_line TooLarge number = line (codes "fault fit 2 TooLarge " ++ decimal number)
 
--- The state of a run: the increment in ticks, the side at which headers are read, the state of the filter, and those of the connections, in
--- the order of their first cells.
+-- The state of a run: the increment in ticks, the side at which headers are read, and the states of the connections, in the order of their
+-- first cells.
 pub record FitWorld : Type 0 where
   pub increment : ℕ
   pub side : Side
-  pub filter : FilterState
   pub fits : List ConnectionFit
 
--- The state at first, with a tick of this many nanoseconds and the interface that was asked for.
-abbrev pub fit_start : ℕ → ℕ → Option ℕ → Side → FitWorld
-fit_start increment tick interface side =
-    record { increment = increment; side = side; filter = filter_start tick interface; fits = [] }
+-- The state at first.
+abbrev pub fit_start : ℕ → Side → FitWorld
+fit_start increment side = record { increment = increment; side = side; fits = [] }
 
 -- The answer to a cell, whose record has this number, after which these are the states, or which ends the run for this reason.
-abbrev pub fit_cell_answer : FitWorld → FilterState → ℕ → Result (List ConnectionFit) FitFault → List ℕ × Option FitWorld
-fit_cell_answer world after number (Ok fits) = ([], Some (record world { filter = after; fits = fits }))
-fit_cell_answer world after number (Err fault) = (fit_fault_line fault number, None)
+abbrev pub fit_answer : FitWorld → ℕ → Result (List ConnectionFit) FitFault → List ℕ × Option FitWorld
+fit_answer world number (Ok fits) = ([], Some (record world { fits = fits }))
+fit_answer world number (Err fault) = (fit_fault_line fault number, None)
 
--- The answer to a record with this number that is this, after which this is the state of the filter.
-abbrev pub fit_answer : FitWorld → Filtered → FilterState → ℕ → List ℕ × Option FitWorld
-fit_answer world (Counts moment cell) after number =
-    fit_cell_answer world after number (fits_after world.increment world.fits (vc_of world.side cell) moment number)
-fit_answer world Passed after number = ([], Some (record world { filter = after }))
-fit_answer world (Several one other) after number = (several_line one other, None)
-
--- The answer to a record.
-abbrev pub fit_steps : FitWorld → Record → List ℕ × Option FitWorld
-fit_steps world record_read = fit_answer world (filter_record world.filter record_read).0 (filter_record world.filter record_read).1 record_read.number
+-- The answer to a cell.
+abbrev pub fit_steps : FitWorld → CountedCell → List ℕ × Option FitWorld
+fit_steps world counted =
+    fit_answer world counted.number (fits_after world.increment world.fits (vc_of world.side counted.cell) counted.moment counted.number)
 
 -- The answer to the end: the table, the comments, and the fault if there is one.
-abbrev pub fit_closes : FitWorld → Option Fault → List ℕ
-fit_closes world ending = heading ++ (fit_lines world.fits ++ closing_lines world.filter.passed ending)
+abbrev pub fit_closes : FitWorld → PassedOver → Option Fault → List ℕ
+fit_closes world passed ending = heading ++ (fit_lines world.fits ++ closing_lines passed ending)
 
 -- The rules of `fit`.
-abbrev pub fit_rules : CaptureRules FitWorld
+abbrev pub fit_rules : CellRules FitWorld
 fit_rules = fixed_rules fit_steps fit_closes
 
 -- The output for a whole file, and how the run ends, with this increment in ticks, a tick of this many nanoseconds, the interface that was
 -- asked for and this side.
 abbrev pub IsFitText : ℕ → ℕ → Option ℕ → Side → List ℕ → List ℕ → Done → Type 0
-IsFitText increment tick interface side = IsCaptureText fit_rules (fit_start increment tick interface side)
+IsFitText increment tick interface side = IsCaptureText fit_rules (filter_start tick interface) (fit_start increment side)

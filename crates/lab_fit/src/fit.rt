@@ -1,20 +1,20 @@
 //! The least limits of the connections of a capture.
 
 ghost use Rattle.std.specs.Prelude.{◌≡◌, ◌++◌, IfOk, IfSome, OnOk};
-ghost use Rattle.lab_captures.specs.CellFilter.{filter_state};
 ghost use Rattle.text_io.specs.Serving.{IsServed};
 ghost use Rattle.upc_cell.specs.Connection.{vc_of};
 ghost use Rattle.lab_fit.specs.Fits.{fits_after};
-ghost use Rattle.lab_fit.specs.FitText.{IsFitText, fit_cell_answer, fit_start};
+ghost use Rattle.lab_fit.specs.FitText.{IsFitText, fit_answer, fit_start};
 ghost use Rattle.lab_fit.specs.inner.FitShown.{TurnsFit, fit_world};
 
 use crate::connections::Connections;
 use crate::fit_lines::{add_fit_fault, add_fit_lines, add_heading};
-use captures::{Fault, Record, Tick};
-use lab_captures::{CellFilter, Filtered, Follower, add_closing, add_several, follow_capture};
+use captures::{Fault, Tick};
+use lab_captures::{CellFollower, CountedCell, PassedOver, add_closing, follow_cells};
 use std::alloc::{AllocError, Global};
+use std::thread::Threads;
 use text_io::{Done, Input, Output, RunFault, Turn};
-use upc_cell::{Cell, Side};
+use upc_cell::Side;
 
 /// A run of `fit`.
 #[derive(Drop)]
@@ -24,55 +24,25 @@ pub(crate) struct FitRun {
     increment: u64,
     /// The side at which headers are read.
     side: Side,
-    filter: CellFilter,
     connections: Connections,
 }
 
 impl FitRun {
     /// Starts a run. Returns None if an allocation fails.
-    fn new(
-        alloc: Global,
-        increment: u64,
-        tick: Tick,
-        interface: Option<u8>,
-        side: Side,
-    ) -> Option<FitRun>
-        ensures { IfSome result (λ run. fit_world run ≡ fit_start increment tick.nanoseconds interface side) }
+    fn new(alloc: Global, increment: u64, side: Side) -> Option<FitRun>
+        ensures { IfSome result (λ run. fit_world run ≡ fit_start increment side) }
     {
         let connections = Connections::new(alloc)?;
         Some(FitRun {
             alloc,
             increment,
             side,
-            filter: CellFilter::new(tick, interface),
             connections,
         })
     }
-
-    /// Answers a cell that counts.
-    fn take_cell(
-        &mut self,
-        moment: u64,
-        cell: &Cell,
-        number: u64,
-        answers: &mut Vec<u8>,
-    ) -> Result<Turn, AllocError>
-        ensures { IfOk result (λ turn. TurnsFit answers.old.items answers.new.items turn self.new
-            (fit_cell_answer (fit_world self.old) (filter_state self.old.filter) number
-            (fits_after self.old.increment self.old.connections (vc_of self.old.side cell.now) moment number))) }
-    {
-        let vc = cell.vc_at(self.side);
-        match self.connections.take(self.increment, vc, moment, number)? {
-            None => Ok(Turn::GoesOn),
-            Some(fault) => {
-                add_fit_fault(answers, fault, number)?;
-                Ok(Turn::Ends)
-            }
-        }
-    }
 }
 
-impl Follower for FitRun {
+impl CellFollower for FitRun {
     ghost use Rattle.std.specs.Prelude.{◌≡◌};
     ghost use Rattle.lab_captures.specs.inner.FixedRules.{fixed_total};
     ghost use Rattle.lab_fit.specs.FitText.{FitWorld, fit_closes, fit_rules, fit_steps};
@@ -84,28 +54,33 @@ impl Follower for FitRun {
 
     ghost rules = { fit_rules };
 
-    fn follow(
+    fn follow_cell(
         &mut self,
-        record_read: &Record<'_>,
+        counted: &CountedCell,
         answers: &mut Vec<u8>,
     ) -> Result<Turn, AllocError> {
-        match self.filter.read(record_read) {
-            Filtered::Counts(moment, cell) => {
-                self.take_cell(moment, &cell.cell(), record_read.number, answers)
-            }
-            Filtered::Passed => Ok(Turn::GoesOn),
-            Filtered::Several(one, other) => {
-                add_several(answers, one, other)?;
+        let vc = counted.cell.vc_at(self.side);
+        match self
+            .connections
+            .take(self.increment, vc, counted.moment, counted.number)?
+        {
+            None => Ok(Turn::GoesOn),
+            Some(fault) => {
+                add_fit_fault(answers, fault, counted.number)?;
                 Ok(Turn::Ends)
             }
         }
     }
 
-    fn close(&self, ending: Option<Fault>, answers: &mut Vec<u8>) -> Result<(), AllocError> {
+    fn close(
+        &self,
+        passed: &PassedOver,
+        ending: Option<Fault>,
+        answers: &mut Vec<u8>,
+    ) -> Result<(), AllocError> {
         add_heading(answers)?;
         add_fit_lines(self.alloc, answers, self.connections.fits())?;
-        let passed = self.filter.passed();
-        add_closing(answers, &passed, ending)
+        add_closing(answers, passed, ending)
     }
 
     ghost is_total = { fixed_total fit_steps fit_closes };
@@ -118,13 +93,18 @@ impl Follower for FitRun {
 ///
 /// A cell of a 65,536th connection ends the run, and so does one after which 64 bits don't hold the number of its connection's cells or the
 /// ticks in the bucket. If no interface is asked for, a cell of a second interface ends the run. Comments say how many records were passed
-/// over and why. Memory is bounded: at most some 60 MB with 65,535 connections, and less than one MB with a few hundred.
+/// over and why. Memory is bounded: that of [`follow_cells`], and at most some 60 MB with 65,535 connections, less than one MB with a few hundred.
+///
+/// With `threads` above 1, records are read on one thread while the cells of earlier ones are answered on another, as in [`follow_cells`]. The
+/// output is the same.
 ///
 /// # Errors
 ///
 /// `ReadFailed` or `WriteFailed` if that device failed; the run ends at the first failure. `NoMemory` if an
 /// allocation fails. The output is then a prefix of the text.
-pub fn fit_capture<I: Input, O: Output>(
+pub fn fit_capture<R: Threads, I: Input + Send, O: Output>(
+    rt: &R,
+    threads: usize,
     alloc: Global,
     increment: u64,
     tick: Tick,
@@ -135,8 +115,8 @@ pub fn fit_capture<I: Input, O: Output>(
 ) -> Result<Done, RunFault>
     ensures { IsServed (IsFitText increment tick.nanoseconds interface side) I.Input input.old input.new O.Output output.old output.new result }
 {
-    let Some(mut run) = FitRun::new(alloc, increment, tick, interface, side) else {
+    let Some(mut run) = FitRun::new(alloc, increment, side) else {
         return Err(RunFault::NoMemory);
     };
-    follow_capture(alloc, input, output, &mut run)
+    follow_cells(rt, threads, alloc, tick, interface, input, output, &mut run)
 }

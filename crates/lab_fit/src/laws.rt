@@ -13,7 +13,7 @@ pub fn moments_go_on()
     ensures { MomentsGoOn }
 {}
 
-/// A run that no record ends writes the limits of these states.
+/// A run that no cell ends writes the limits of these states at the end.
 pub fn fits_are_written()
     ensures { FitsAreWritten }
 {}

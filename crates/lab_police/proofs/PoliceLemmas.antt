@@ -17,6 +17,7 @@ use Rattle.text_io.specs.declared.device.Input.{Ghosts as InputView}
 use Rattle.text_io.specs.declared.device.Output.{Ghosts as OutputView}
 use Rattle.text_io.specs.declared.ending.Done.{Done}
 use Rattle.text_io.specs.declared.ending.RunFault.{RunFault}
+use Rattle.text_io.specs.declared.machine.Turn.TheVariants.{GoesOn}
 use Rattle.upc_cell.specs.Connection.{vc_of}
 use Rattle.upc_cell.specs.Header.{has_low_priority}
 use Rattle.upc_cell.specs.declared.vc.Vc.{Vc}
@@ -43,7 +44,7 @@ pub polices_by : (before : PoliceRun) (core : CoreView) (given : Answer) (vc : V
     → ArrivesWithRoom before.core counted.cell counted.moment (Some given) core → vc ≡ vc_of before.core.shape.side counted.cell
     → AddsCell before.lines before.begun counted.number counted.moment vc (has_low_priority counted.cell) given core old new begun
     → not_judged ≡ not_judged_after before.not_judged counted.number given
-    → FollowsCell police_rules (ShowsPolice before) counted (ShowsPolice (record before { core = core; begun = begun; not_judged = not_judged })) old new
+    → FollowsCell police_rules (ShowsPolice before) counted GoesOn (ShowsPolice (record before { core = core; begun = begun; not_judged = not_judged })) old new
 polices_by before core given vc counted begun not_judged old new arrives named adds counts = (
   lined before.lines before.begun counted.number counted.moment vc (has_low_priority counted.cell) given adds.excess,
   adds.added,
@@ -82,7 +83,7 @@ polices_by before core given vc counted begun not_judged old new arrives named a
 
 -- No represented card leaves a cell without an answer.
 pub polices_never : (before after : PoliceRun) (core : CoreView) (counted : CountedCell) (old : List ℕ)
-    → ArrivesWithRoom before.core counted.cell counted.moment None core → FollowsCell police_rules (ShowsPolice before) counted (ShowsPolice after) old old
+    → ArrivesWithRoom before.core counted.cell counted.moment None core → FollowsCell police_rules (ShowsPolice before) counted GoesOn (ShowsPolice after) old old
 polices_never before after core counted old arrives =
     ([], sym (append-nil old), λ world led shown. let on = arrives world.card led shown.agrees in let no = on.1 in cc)
 

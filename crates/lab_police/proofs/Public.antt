@@ -1,6 +1,6 @@
 -- Lemmas for other crates.
 use Rattle.std.proofs.Common.{inl, inr, ℕ, List, Option, refl}
-use Rattle.lab_captures.proofs.Public.{some_cells_capture}
+use Rattle.lab_captures.proofs.Public.{some_capture_text}
 use Rattle.lab_captures.specs.CellFilter.{filter_start}
 use Rattle.lab_captures.specs.declared.cell_lines.CellLines.{CellLines}
 use Rattle.lab_scripts.proofs.Public.{some-script_text}
@@ -16,7 +16,7 @@ police_some : (lines : CellLines) (tick : ℕ) (interface : Option ℕ) (script 
 police_some lines tick interface script octets text Ended explained = (text, Ended, inl (explained, refl))
 police_some lines tick interface script octets text Whole explained =
     let set = set_up_some script (text, explained) in
-    let printed = some_cells_capture police_rules police-total (filter_start tick interface, police_start lines set.0) octets set.2 in
+    let printed = some_capture_text police_rules police-total (filter_start tick interface) (police_start lines set.0) octets set.2 in
     (printed.0, printed.1, inr (set.0, set.1, printed.2))
 
 -- A setup script and a capture have a text.

@@ -7,7 +7,7 @@ use Rattle.card_core.specs.declared.answer.Answer.TheVariants.{JournalFull}
 use Rattle.card_core.specs.declared.step.Step.TheVariants.{Cut}
 use Rattle.lab_captures.specs.CaptureText.{IsCaptureText}
 use Rattle.lab_captures.specs.CellFilter.{filter_start}
-use Rattle.lab_captures.specs.CellRules.{CellRules, capture_rules}
+use Rattle.lab_captures.specs.CellRules.{CellRules}
 use Rattle.lab_captures.specs.RunLines.{closing_lines}
 use Rattle.lab_captures.specs.declared.cell_lines.CellLines.{CellLines}
 use Rattle.lab_captures.specs.declared.counted.CountedCell.{CountedCell}
@@ -79,12 +79,12 @@ after_cell before number given card = record before {
 }
 
 -- A cell is policed: this text answers it, and leads to the next state.
-pub record PolicesCounted (before : PoliceWorld) (counted : CountedCell) (text : List ℕ) (next : PoliceWorld) : Type 0 where
+pub record PolicesCounted (before : PoliceWorld) (counted : CountedCell) (text : List ℕ) (next : Option PoliceWorld) : Type 0 where
   pub given : Answer
   pub card : Card
   pub taken : TakesCellWithRoom before.card counted.cell counted.moment given card
   pub written : text ≡ policed_text before counted given
-  pub after : next ≡ after_cell before counted.number given card
+  pub after : next ≡ Some (after_cell before counted.number given card)
 
 -- An empty line, if there are lines before it.
 abbrev pub police_gap : Bool → List ℕ
@@ -112,4 +112,4 @@ pub record IsSetUpBy (script : List ℕ) (card : Card) : Type 0 where
 abbrev pub IsPoliceText : CellLines → ℕ → Option ℕ → List ℕ → List ℕ → List ℕ → Done → Type 0
 IsPoliceText lines tick interface script octets text done =
     (IsScriptExplained script text Ended × (done ≡ Ended))
-    ⊎ ((card : Card) × IsSetUpBy script card × IsCaptureText (capture_rules police_rules) (filter_start tick interface, police_start lines card) octets text done)
+    ⊎ ((card : Card) × IsSetUpBy script card × IsCaptureText police_rules (filter_start tick interface) (police_start lines card) octets text done)

@@ -25,7 +25,7 @@ use leaky::{Excess, Levels, Verdict, excess_at};
 use line_record::{Line, LineFault};
 use std::alloc::{AllocError, Global};
 use std::thread::Threads;
-use text_io::{Done, Input, Output, RunFault, give_last};
+use text_io::{Done, Input, Output, RunFault, Turn, give_last};
 use upc_cell::{Cell, Vc};
 
 /// The port that every cell of a capture enters.
@@ -220,12 +220,12 @@ impl CellFollower for PoliceRun {
         &mut self,
         counted: &CountedCell,
         answers: &mut Vec<u8>,
-    ) -> Result<(), AllocError> {
+    ) -> Result<Turn, AllocError> {
         let cell = &counted.cell;
         let moment = counted.moment;
         let vc = cell.vc_at(self.core.shape().side);
         let Some(decision) = arrive_with_room(&mut self.core, cell, moment)? else {
-            return Ok(());
+            return Ok(Turn::GoesOn);
         };
         self.begun = add_cell(
             answers,
@@ -239,7 +239,7 @@ impl CellFollower for PoliceRun {
             &self.core,
         )?;
         self.not_judged.count(counted.number, &decision);
-        Ok(())
+        Ok(Turn::GoesOn)
     }
 
     fn close(

@@ -1,79 +1,36 @@
 -- Records that are read before the cells of earlier ones are answered.
 use Rattle.std.specs.Prelude.{◌≡◌, ◌≢◌, ◌⊎◌, ◌+◌, ◌^◌, ◌<◌, ◌≤◌, ℕ, List, [], ◌++◌, length, take, Option, None, Some}
 use Rattle.captures.specs.Frames.{first_frame}
-use Rattle.lab_captures.specs.CellFilter.{filter_state}
+use Rattle.lab_captures.specs.CaptureText.{IsTextOfCells}
+use Rattle.lab_captures.specs.CellFilter.{CellsEnd, Closes, Crosses, HasCells, filter_state}
 use Rattle.lab_captures.specs.CellFollowing.{OfEachWorld}
-use Rattle.lab_captures.specs.CellRules.{CellRules, capture_rules}
-use Rattle.lab_captures.specs.RunLines.{several_line}
-use Rattle.lab_captures.specs.inner.Answered.{StepsThrough}
+use Rattle.lab_captures.specs.CellRules.{CellRules}
 use Rattle.lab_captures.specs.inner.Progress.{CaptureProgress, Texts}
-use Rattle.lab_captures.specs.inner.Steps.{IsTextFrom}
 use Rattle.lab_captures.specs.declared.advance.Going.{Going}
 use Rattle.lab_captures.specs.declared.advance.Going.TheVariants as going
 use Rattle.lab_captures.specs.declared.counted.CountedCell.{CountedCell}
-use Rattle.lab_captures.specs.declared.passed.PassedOver.{PassedOver}
 use Rattle.lab_captures.specs.declared.reading_ahead.Coming.{Coming}
 use Rattle.lab_captures.specs.declared.reading_ahead.Coming.TheVariants as coming
 use Rattle.lab_captures.specs.declared.reading_ahead.ReadingAhead.{ReadingAhead}
 use Rattle.text_io.specs.declared.ending.Done.{Done}
 use Rattle.text_io.specs.declared.ending.Done.TheVariants.{Ended}
 
--- From where the reading is, in this world, the text may answer octets.
-abbrev pub IsTextAfter : {World : Type 0} → CellRules World → ReadingAhead → World → Texts
-IsTextAfter rules reading world octets text done =
-    IsTextFrom (capture_rules rules) reading.reader (filter_state reading.filter, world) octets text done
+-- From where the reading is, these cells of octets count, and end so.
+abbrev pub HasCellsFrom : ReadingAhead → List ℕ → List CountedCell → CellsEnd → Type 0
+HasCellsFrom reading octets cells end =
+    HasCells (filter_state reading.filter) reading.reader.format reading.reader.count reading.reader.at octets cells end
 
 -- From this world, the text may answer these cells, which were read before, and then octets.
 abbrev pub IsQueuedText : {World : Type 0} → CellRules World → ReadingAhead → List CountedCell → World → Texts
-IsQueuedText {World = World} rules reading cells world octets text done = (here : List ℕ) × (more : List ℕ) × (last : World)
-    × (text ≡ here ++ more) × StepsThrough rules world cells here last × IsTextAfter rules reading last octets more done
+IsQueuedText rules reading cells world octets text done =
+    (later : List CountedCell) × (end : CellsEnd) × HasCellsFrom reading octets later end × IsTextOfCells rules world (cells ++ later) end text done
 
--- The text that ends a run early in this world.
-abbrev pub early_text : {World : Type 0} → CellRules World → World → PassedOver → Coming → List ℕ
-early_text rules world passed coming.Wants = []
-early_text rules world passed coming.Enough = []
-early_text rules world passed (coming.Several one other) = several_line one other
-early_text rules world passed (coming.Broken fault) = rules.closes world passed (Some fault)
-
--- The reading went on through some frames. The cells that count among their records came to the others. Any text for these cells and what
--- follows the frames is a text for the frames and what follows them.
-pub record ReadsSoFar {World : Type 0} (rules : CellRules World) (before after : ReadingAhead) (old new : List CountedCell) : Type 0 where
-  pub own : List ℕ
-  pub cut : before.window ≡ own ++ after.window
-  pub place : after.reader.at + length after.window ≡ before.reader.at + length before.window
-  pub near : before.reader.at < 2 ^ 64 → after.reader.at < 2 ^ 64
-  pub moved : (new ≡ old) ⊎ (before.reader.at < after.reader.at)
-  pub fresh : List CountedCell
-  pub grew : new ≡ old ++ fresh
-  pub leads : (world : World) (more text : List ℕ) (done : Done) → IsQueuedText rules after fresh world (after.window ++ more) text done
-      → IsTextAfter rules before world (before.window ++ more) text done
-
--- It came so far, and more octets are wanted.
-pub record ReadsOn {World : Type 0} (rules : CellRules World) (before after : ReadingAhead) (old new : List CountedCell) : Type 0 where
-  pub so_far : ReadsSoFar rules before after old new
-  pub unfinished : first_frame after.reader.format after.reader.at after.window ≡ None
-  pub short : length after.window < 131072
-
--- Enough cells were read, from one frame at least.
-pub record ReadsEnough {World : Type 0} (rules : CellRules World) (before after : ReadingAhead) (old new : List CountedCell) : Type 0 where
-  pub so_far : ReadsSoFar rules before after old new
-  pub moved : before.reader.at < after.reader.at
-
--- The reading came to the end of the run. The cells that count before it came to the others. Any text for these cells and the text that ends
--- the run are a text for the waiting octets, whatever follows them.
-pub record ReadsToEnd {World : Type 0} (rules : CellRules World) (before : ReadingAhead) (ending : Coming) (after : ReadingAhead)
-    (old new : List CountedCell) : Type 0 where
-  pub fresh : List CountedCell
-  pub grew : new ≡ old ++ fresh
-  pub ends : (world last : World) (here more : List ℕ) → StepsThrough rules world fresh here last
-      → IsTextAfter rules before world (before.window ++ more) (here ++ early_text rules last after.filter.passed ending) Ended
-
--- The waiting octets were read so far.
-abbrev pub ReadsCells : {World : Type 0} → CellRules World → ReadingAhead → Coming → ReadingAhead → List CountedCell → List CountedCell → Type 0
-ReadsCells rules before coming.Wants after old new = ReadsOn rules before after old new
-ReadsCells rules before coming.Enough after old new = ReadsEnough rules before after old new
-ReadsCells rules before (coming.Several one other) after old new = ReadsToEnd rules before (coming.Several one other) after old new
-ReadsCells rules before (coming.Broken fault) after old new = ReadsToEnd rules before (coming.Broken fault) after old new
+-- After what was read, and if these octets follow those that wait, these cells count, and end so.
+abbrev pub ComesAfter : ReadingAhead → Coming → List ℕ → List CountedCell → CellsEnd → Type 0
+ComesAfter after coming.Wants more later end = HasCellsFrom after (after.window ++ more) later end
+ComesAfter after coming.Enough more later end = HasCellsFrom after (after.window ++ more) later end
+ComesAfter after (coming.Several one other) more later end = (later ≡ []) × (end ≡ Crosses one other)
+ComesAfter after (coming.Broken fault) more later end = (later ≡ []) × (end ≡ Closes after.filter.passed (Some fault))
 
 -- The reading went on through these octets.
 pub record WentOn (before after : ReadingAhead) : Type 0 where
@@ -82,12 +39,51 @@ pub record WentOn (before after : ReadingAhead) : Type 0 where
   pub place : after.reader.at + length after.window ≡ before.reader.at + length before.window
   pub near : before.reader.at < 2 ^ 64 → after.reader.at < 2 ^ 64
 
--- How far the reading came, by how the run goes on: by one frame at least, or to where more octets are wanted.
-abbrev pub CameSoFar : Going → ReadingAhead → ReadingAhead → Type 0
-CameSoFar going.On before after = WentOn before after × (before.reader.at < after.reader.at)
-CameSoFar going.Wants before after = WentOn before after
-    × (first_frame after.reader.format after.reader.at after.window ≡ None) × (length after.window < 131072)
-CameSoFar going.Ended before after = Unit {0}
+-- The reading went on through some frames. The cells that count among their records came to the others.
+pub record ReadsSoFar (before after : ReadingAhead) (old new : List CountedCell) : Type 0 where
+  pub went : WentOn before after
+  pub moved : (new ≡ old) ⊎ (before.reader.at < after.reader.at)
+  pub fresh : List CountedCell
+  pub grew : new ≡ old ++ fresh
+  pub leads : (more : List ℕ) (later : List CountedCell) (end : CellsEnd) → HasCellsFrom after (after.window ++ more) later end
+      → HasCellsFrom before (before.window ++ more) (fresh ++ later) end
+
+-- How far the reading came: to where more octets are wanted, or through one frame at least.
+abbrev pub CameTo : Coming → ReadingAhead → ReadingAhead → List CountedCell → List CountedCell → Type 0
+CameTo coming.Wants before after old new = WentOn before after × (first_frame after.reader.format after.reader.at after.window ≡ None)
+    × (length after.window < 131072) × ((new ≡ old) ⊎ (before.reader.at < after.reader.at))
+CameTo coming.Enough before after old new = WentOn before after × (before.reader.at < after.reader.at)
+CameTo (coming.Several one other) before after old new = Unit {0}
+CameTo (coming.Broken fault) before after old new = Unit {0}
+
+-- The waiting octets were read so far. The cells that count came to the others.
+pub record ReadsCells (before : ReadingAhead) (how : Coming) (after : ReadingAhead) (old new : List CountedCell) : Type 0 where
+  pub came : CameTo how before after old new
+  pub fresh : List CountedCell
+  pub grew : new ≡ old ++ fresh
+  pub leads : (more : List ℕ) (later : List CountedCell) (end : CellsEnd) → ComesAfter after how more later end
+      → HasCellsFrom before (before.window ++ more) (fresh ++ later) end
+
+-- From this world, the answers grew by a text that answers the cells that were read and what comes after them, and ends the run.
+pub record EndsAfter {World : Type 0} (rules : CellRules World) (after : ReadingAhead) (how : Coming) (cells : List CountedCell) (world : World)
+    (old new : List ℕ) : Type 0 where
+  pub here : List ℕ
+  pub grew : new ≡ old ++ here
+  pub ends : (more : List ℕ) (later : List CountedCell) (end : CellsEnd) → ComesAfter after how more later end
+      → IsTextOfCells rules world (cells ++ later) end here Ended
+
+-- Unless it ends, a run goes on by what comes after what was read.
+abbrev pub GoesBy : Going → Coming → Type 0
+GoesBy going.On how = how ≡ coming.Enough
+GoesBy going.Wants how = how ≡ coming.Wants
+GoesBy going.Ended how = Unit {0}
+
+-- How far the reading came, by how the run goes on: by one frame at least, or to where more octets are wanted, and then no cell waits.
+abbrev pub CameSoFar : Going → ReadingAhead → ReadingAhead → List CountedCell → Type 0
+CameSoFar going.On before after cells = WentOn before after × (before.reader.at < after.reader.at)
+CameSoFar going.Wants before after cells = WentOn before after
+    × (first_frame after.reader.format after.reader.at after.window ≡ None) × (length after.window < 131072) × (cells ≡ [])
+CameSoFar going.Ended before after cells = Unit {0}
 
 -- The reading with these waiting octets.
 abbrev pub with_window : ReadingAhead → List ℕ → ReadingAhead
@@ -101,11 +97,10 @@ pub record FillsFirst (Known : Type 0) (rest rest' : List ℕ) (before : Reading
   pub bounded : length near ≤ 524288
 
 -- The same, and the frames among the octets that wait then were read. None: the input has ended, and nothing changed.
-abbrev pub FillsAndReads : {World : Type 0} → CellRules World → Type 0 → List ℕ → List ℕ → ReadingAhead → Option Coming → ReadingAhead
-    → List CountedCell → List CountedCell → Type 0
-FillsAndReads rules Known rest rest' before None after old new = (after ≡ before) × (new ≡ old) × (Known → before.window ++ rest ≡ before.window ++ rest')
-FillsAndReads rules Known rest rest' before (Some ending) after old new =
-    (near : List ℕ) × FillsFirst Known rest rest' before near × ReadsCells rules (with_window before near) ending after old new
+abbrev pub FillsAndReads : Type 0 → List ℕ → List ℕ → ReadingAhead → Option Coming → ReadingAhead → List CountedCell → List CountedCell → Type 0
+FillsAndReads Known rest rest' before None after old new = (after ≡ before) × (new ≡ old) × (Known → before.window ++ rest ≡ before.window ++ rest')
+FillsAndReads Known rest rest' before (Some how) after old new =
+    (near : List ℕ) × FillsFirst Known rest rest' before near × ReadsCells (with_window before near) how after old new
 
 -- How far the reading came after more octets were read, by how the run goes on.
 abbrev pub CameAhead : Going → ReadingAhead → List ℕ → ReadingAhead → List CountedCell → Type 0
@@ -138,7 +133,7 @@ pub record ReachesQueue {World : Type 0} (rules : CellRules World) (shown : Worl
   pub present : World
   pub sound : rules.is_sound present
   pub is_shown : shown present
-  pub goes : CaptureProgress (IsTextAfter rules reading0 first) (IsQueuedText rules reading cells present) Known Held
+  pub goes : CaptureProgress (IsQueuedText rules reading0 [] first) (IsQueuedText rules reading cells present) Known Held
       reading0.window rest0 reading.window rest before now waiting
 
 -- So far the run came from each sound world that was shown at first.

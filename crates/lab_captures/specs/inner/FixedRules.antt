@@ -1,23 +1,26 @@
--- Rules by which each record has one answer in each world. The law is in `specs/` because implementations of `Follower` cite it.
+-- Rules by which each cell has one answer in each world. The law is in `specs/` because implementations of `CellFollower` cite it.
 use Rattle.std.proofs.Common.{refl}
 use Rattle.std.specs.Prelude.{ℕ, List, [], ◌∷◌, ◌++◌, Option, Some, None}
 use Rattle.captures.specs.declared.fault.Fault.{Fault}
-use Rattle.captures.specs.declared.reader.Record.{Record}
-use Rattle.lab_captures.specs.CaptureText.{AnswersEachRecord, done_at, fixed_rules}
+use Rattle.lab_captures.specs.CaptureText.{end_done, text_at_end}
+use Rattle.lab_captures.specs.CellFilter.{CellsEnd}
+use Rattle.lab_captures.specs.CellRules.{AnswersEachCell, fixed_rules}
+use Rattle.lab_captures.specs.declared.counted.CountedCell.{CountedCell}
+use Rattle.lab_captures.specs.declared.passed.PassedOver.{PassedOver}
 use Rattle.text_io.specs.declared.ending.Done.{Done}
 use Rattle.text_io.specs.declared.ending.Done.TheVariants.{Ended}
 use Rattle.text_io.specs.declared.machine.Turn.{Turn}
 use Rattle.text_io.specs.declared.machine.Turn.TheVariants.{GoesOn, Ends}
 
--- Each record has an answer.
-pub fixed_total : {World : Type 0} (steps : World → Record → List ℕ × Option World) (closes : World → Option Fault → List ℕ)
-    → AnswersEachRecord (fixed_rules steps closes)
+-- Each cell has an answer.
+pub fixed_total : {World : Type 0} (steps : World → CountedCell → List ℕ × Option World) (closes : World → PassedOver → Option Fault → List ℕ)
+    → AnswersEachCell (fixed_rules steps closes)
 fixed_total steps closes = record {
-  keeps = λ before record_read here after sound step. tt;
-  step = λ before record_read sound. ((steps before record_read).0, (steps before record_read).1, refl);
+  keeps = λ before counted here after sound step. tt;
+  step = λ before counted sound. ((steps before counted).0, (steps before counted).1, refl);
 }
 
--- The next world after a record, if the run goes on.
+-- The next world after a cell, if the run goes on.
 abbrev pub world_after : {World : Type 0} → Turn → World → Option World
 world_after GoesOn after = Some after
 world_after Ends after = None
@@ -27,9 +30,9 @@ abbrev pub text_then : {World : Type 0} → List ℕ → Option World → (World
 text_then here None goes = (here, Ended)
 text_then here (Some next) goes = (here ++ (goes next).0, (goes next).1)
 
--- The text that answers these records in order by these steps, and then the end, and how the run ends.
-abbrev pub fixed_text : {World : Type 0} → (World → Record → List ℕ × Option World) → (World → Option Fault → List ℕ) → World → List Record
-    → Option Fault → List ℕ × Done
-fixed_text steps closes world [] ending = (closes world ending, done_at ending)
-fixed_text steps closes world (record_read ∷ records) ending =
-    text_then (steps world record_read).0 (steps world record_read).1 (λ next. fixed_text steps closes next records ending)
+-- The text that answers these cells in order by these steps, and then their end, and how the run ends.
+abbrev pub fixed_text : {World : Type 0} → (World → CountedCell → List ℕ × Option World) → (World → PassedOver → Option Fault → List ℕ) → World
+    → List CountedCell → CellsEnd → List ℕ × Done
+fixed_text steps closes world [] end = (text_at_end (fixed_rules steps closes) world end, end_done end)
+fixed_text steps closes world (counted ∷ cells) end =
+    text_then (steps world counted).0 (steps world counted).1 (λ next. fixed_text steps closes next cells end)

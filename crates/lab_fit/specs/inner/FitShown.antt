@@ -1,6 +1,5 @@
 -- A run of `fit` as its state.
 use Rattle.std.specs.Prelude.{◌≡◌, ℕ, List, ◌++◌, Option}
-use Rattle.lab_captures.specs.CellFilter.{filter_state}
 use Rattle.lab_captures.specs.inner.FixedRules.{world_after}
 use Rattle.text_io.specs.declared.machine.Turn.{Turn}
 use Rattle.lab_fit.specs.FitText.{FitWorld}
@@ -11,7 +10,6 @@ abbrev pub fit_world : FitRun → FitWorld
 fit_world run = record {
   increment = run.increment;
   side = run.side;
-  filter = filter_state run.filter;
   fits = run.connections;
 }
 

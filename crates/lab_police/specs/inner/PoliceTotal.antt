@@ -1,5 +1,6 @@
 -- The rules of `police` are total: each cell has an answer. This law is in `specs/` because the run cites it.
-use Rattle.std.proofs.Common.{◌≡◌, ◌≢◌, ◌⊎◌, inl, inr, ℕ, List, refl, subst, sym}
+use Rattle.std.proofs.Common.{◌≡◌, ◌≢◌, ◌⊎◌, inl, inr, ℕ, List, Some, refl, subst, sym}
+use Rattle.std.proofs.lemmas.Option.{same_Some}
 use Rattle.card_core.specs.declared.answer.Answer.{Answer}
 use Rattle.card_core.specs.declared.answer.Answer.TheVariants as answer
 use Rattle.lab_captures.specs.CellRules.{AnswersEachCell}
@@ -56,12 +57,12 @@ room_some before cell moment led =
 pub police-total : AnswersEachCell police_rules
 police-total = record {
   keeps = λ before counted text after led polices.
-      subst (λ (world : PoliceWorld). IsLed world.card) (sym polices.after)
+      subst (λ (world : PoliceWorld). IsLed world.card) (sym (same_Some after (after_cell before counted.number polices.given polices.card) polices.after))
       (room_led before.card polices.card counted.cell counted.moment polices.given led polices.taken);
   step = λ before counted led.
       let room = room_some before.card counted.cell counted.moment led in (
         policed_text before counted room.0,
-        after_cell before counted.number room.0 room.1,
+        Some (after_cell before counted.number room.0 room.1),
         record { given = room.0; card = room.1; taken = room.2; written = refl; after = refl },
       );
 }

@@ -1,57 +1,43 @@
-use Rattle.std.proofs.Common.{◌++◌, [], refl, sym, ◌∙◌, ap, subst, append-nil}
-use Rattle.text_io.specs.declared.ending.Done.{Done}
-use Rattle.lab_captures.specs.CaptureText.{done_at}
-use Rattle.lab_captures.specs.inner.Steps.{IsTextFrom}
-use Rattle.lab_captures.proofs.Texts.{last_text}
+-- The last answers are those to the end of the input.
+use Rattle.std.proofs.Common.{List, ℕ, ◌++◌, [], refl, sym, ◌∙◌, ap, append-nil}
 use Rattle.lab_captures.proofs.Progresses.{if_done, if_given, on_fault, part_at}
+use Rattle.lab_captures.proofs.QueueProgress.{queue_finished, queued_some}
 use Rattle.lab_captures.proofs.driver.finish.Goals as goal
 
 pub returns-in-Err-clause-front : goal.returns-in-Err-clause-front
 returns-in-Err-clause-front g c = λ known world sound is_shown.
-    let f = g.F.Follower in
-    let ending = c.end-ending.result in
-    let here = f.rules.closes world ending in (
-      here,
-      done_at ending,
-      ([], c.args.answers.now.items ++ here, refl, sym (append-nil (g.O.Output.held c.args.output.now))),
-      last_text f.rules c.args.reader.now world c.args.octets.now ending (c.end-ending.ensures c.requires),
-    )
+    let some = queued_some g.F.CellFollower.rules g.met.F.CellFollower.is_total c.args.reading.now [] world c.args.reading.now.window sound in
+    (some.0, some.1, ([], c.args.answers.now.items ++ some.0, refl, sym (append-nil (g.O.Output.held c.args.output.now))), some.2)
 
 pub returns-in-Ok-clause-given : goal.returns-in-Ok-clause-given
 returns-in-Ok-clause-given g c = λ known.
-    let f = g.F.Follower in
-    let ending = c.end-ending.result in
+    let f = g.F.CellFollower in
+    let finished = queue_finished f.rules (f.shows c.args.follower.now) c.args.reading.now c.octets.result.now c.passed.result c.end-ending.result
+    c.done_at-done.result c.args.answers.now.items c.close.new.answers.items c.in-Ok.ensures c.passed.ensures c.octets.ensures c.requires
+    c.end-ending.ensures c.done_at-done.ensures in
     if_given c.give_last.result c.done_at-done.result _ _ c.give_last.ensures.done (c.give_last.ensures.given known)
     (λ gives world sound is_shown.
-    let here = f.rules.closes world ending in
-    let P : Done → Type 0 = λ done. IsTextFrom f.rules c.args.reader.now world c.args.octets.now here done in (
-      here,
-      gives ∙ ap (λ xs. g.O.Output.held c.args.output.now ++ xs) (c.in-Ok.ensures world sound is_shown),
-      subst P (sym c.done_at-done.ensures)
-          (last_text f.rules c.args.reader.now world c.args.octets.now ending (c.end-ending.ensures c.requires)),
-    ))
+    let end = finished world sound is_shown in
+    (end.0, gives ∙ ap (λ (xs : List ℕ). g.O.Output.held c.args.output.now ++ xs) end.1, end.2))
 
 pub returns-in-Ok-clause-front : goal.returns-in-Ok-clause-front
 returns-in-Ok-clause-front g c = λ known.
-    let f = g.F.Follower in
-    let ending = c.end-ending.result in
+    let f = g.F.CellFollower in
+    let finished = queue_finished f.rules (f.shows c.args.follower.now) c.args.reading.now c.octets.result.now c.passed.result c.end-ending.result
+    c.done_at-done.result c.args.answers.now.items c.close.new.answers.items c.in-Ok.ensures c.passed.ensures c.octets.ensures c.requires
+    c.end-ending.ensures c.done_at-done.ensures in
     on_fault c.give_last.result _ _ (c.give_last.ensures.front known)
-    (λ part world sound is_shown. (
-      f.rules.closes world ending,
-      done_at ending,
-      part_at _ _ _ _ (c.in-Ok.ensures world sound is_shown) part,
-      last_text f.rules c.args.reader.now world c.args.octets.now ending (c.end-ending.ensures c.requires),
-    ))
+    (λ part world sound is_shown.
+    let end = finished world sound is_shown in
+    (end.0, c.done_at-done.result, part_at _ _ _ _ end.1 part, end.2))
 
 pub returns-in-Ok-clause-text : goal.returns-in-Ok-clause-text
 returns-in-Ok-clause-text g c =
-    let f = g.F.Follower in
-    let ending = c.end-ending.result in
+    let f = g.F.CellFollower in
+    let finished = queue_finished f.rules (f.shows c.args.follower.now) c.args.reading.now c.octets.result.now c.passed.result c.end-ending.result
+    c.done_at-done.result c.args.answers.now.items c.close.new.answers.items c.in-Ok.ensures c.passed.ensures c.octets.ensures c.requires
+    c.end-ending.ensures c.done_at-done.ensures in
     if_done c.give_last.result c.done_at-done.result _ c.give_last.ensures.done
     (λ world sound is_shown.
-    let here = f.rules.closes world ending in
-    let P : Done → Type 0 = λ done. IsTextFrom f.rules c.args.reader.now world c.args.octets.now here done in (
-      here,
-      subst P (sym c.done_at-done.ensures)
-          (last_text f.rules c.args.reader.now world c.args.octets.now ending (c.end-ending.ensures c.requires)),
-    ))
+    let end = finished world sound is_shown in
+    (end.0, end.2))

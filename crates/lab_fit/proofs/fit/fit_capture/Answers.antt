@@ -1,6 +1,8 @@
 -- A run shows the state at first. One that could not begin read and wrote nothing.
 use Rattle.std.proofs.Common.{refl, sym}
-use Rattle.lab_captures.proofs.Public.{fixed_total, no_front}
+use Rattle.lab_captures.proofs.CaptureTexts.{no_front}
+use Rattle.lab_captures.proofs.Public.{fixed_total}
+use Rattle.lab_captures.specs.CellFilter.{filter_start}
 use Rattle.lab_fit.specs.FitText.{fit_closes, fit_rules, fit_start, fit_steps}
 use Rattle.lab_fit.proofs.fit.fit_capture.Goals as goal
 
@@ -9,7 +11,7 @@ returns-in_default g c =
     record {
       text = λ ki ko. tt;
       front = λ ki ko.
-          no_front fit_rules (fixed_total fit_steps fit_closes) (fit_start c.args.increment c.args.tick.nanoseconds c.args.interface c.args.side)
+          no_front fit_rules (fixed_total fit_steps fit_closes) (filter_start c.args.tick.nanoseconds c.args.interface) (fit_start c.args.increment c.args.side)
           (g.I.Input.rest c.args.input.now) (g.O.Output.held c.args.output.now) tt;
       left = λ ki. tt;
       whole = λ ki same. cc;
@@ -18,4 +20,4 @@ returns-in_default g c =
     }
 
 pub returns : goal.returns
-returns g c = c.follow_capture.ensures (fit_start c.args.increment c.args.tick.nanoseconds c.args.interface c.args.side) tt (sym c.in-Some.ensures)
+returns g c = c.follow_cells.ensures (fit_start c.args.increment c.args.side) tt (sym c.in-Some.ensures)

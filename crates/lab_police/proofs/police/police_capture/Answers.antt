@@ -6,9 +6,8 @@ use Rattle.text_io.proofs.DriverLemmas.{at-result}
 use Rattle.text_io.proofs.Public.{nothing-begins}
 use Rattle.text_io.specs.declared.ending.Done.TheVariants.{Ended, Whole}
 use Rattle.lab_captures.specs.CaptureText.{IsCaptureText}
-use Rattle.lab_captures.specs.CellFilter.{FilterState, filter_start}
-use Rattle.lab_captures.specs.CellRules.{capture_rules}
-use Rattle.lab_police.specs.PoliceText.{IsPoliceText, PoliceWorld, police_rules, police_start}
+use Rattle.lab_captures.specs.CellFilter.{filter_start}
+use Rattle.lab_police.specs.PoliceText.{IsPoliceText, police_rules, police_start}
 use Rattle.lab_police.specs.declared.setting_up.SetUp.{SetUp}
 use Rattle.lab_police.specs.inner.SetUpCard.{LeadsScriptTo, IsSetUpAs}
 use Rattle.lab_police.proofs.PoliceLemmas.{served_as}
@@ -51,8 +50,8 @@ pub returns-in-Ok-Ready : goal.returns-in-Ok-Ready
 returns-in-Ok-Ready g c =
     let set : IsSetUpAs c.args.setup.now c.in-Ok-Ready.core =
     subst (λ (s : SetUp). LeadsScriptTo c.args.setup.now s) c.in-Ok-Ready.field-0-is c.in-Ok-Ready.ensures in
-    let first : FilterState × PoliceWorld = (filter_start c.args.tick.nanoseconds c.args.interface, police_start c.args.lines set.card) in
+    let first = police_start c.args.lines set.card in
     served_as g.I.Input g.O.Output c.args.input.now c.follow_cells.new.input c.args.output.now c.follow_cells.new.output c.follow_cells.result
-    (IsCaptureText (capture_rules police_rules) first) (IsPoliceText c.args.lines c.args.tick.nanoseconds c.args.interface c.args.setup.now)
+    (IsCaptureText police_rules (filter_start c.args.tick.nanoseconds c.args.interface) first) (IsPoliceText c.args.lines c.args.tick.nanoseconds c.args.interface c.args.setup.now)
     (λ octets text done printed. inr (set.card, set.reached, printed))
-    (c.follow_cells.ensures first.1 set.led (record { lines = refl; agrees = set.agrees; begun = refl; not_judged = c.none.ensures }))
+    (c.follow_cells.ensures first set.led (record { lines = refl; agrees = set.agrees; begun = refl; not_judged = c.none.ensures }))

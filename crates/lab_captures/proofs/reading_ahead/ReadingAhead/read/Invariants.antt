@@ -4,8 +4,8 @@ use Rattle.lab_captures.specs.inner.Ahead.{ReadsSoFar}
 use Rattle.lab_captures.proofs.reading_ahead.ReadingAhead.read.Given as goal
 
 abbrev pub invariant-loop-fault : goal.invariant-loop-fault
-invariant-loop-fault g l = ReadsSoFar g.F.CellFollower.rules l.fn.self l.self l.fn.cells.items l.cells.items
+invariant-loop-fault l = ReadsSoFar l.fn.self l.self l.fn.cells.items l.cells.items
 
 -- Each frame has some octets.
 abbrev pub decreases-loop-fault : goal.decreases-loop-fault
-decreases-loop-fault g l = length l.self.window
+decreases-loop-fault l = length l.self.window

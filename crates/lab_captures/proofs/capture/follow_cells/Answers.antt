@@ -7,28 +7,27 @@ use Rattle.captures.specs.Opening.{opening_of}
 use Rattle.captures.specs.declared.opening.Opening.TheVariants.{Opened, Undecided, Refused}
 use Rattle.lab_captures.specs.CaptureFaults.{file_fault_line}
 use Rattle.lab_captures.specs.CaptureText.{IsCaptureText, done_at, short_ending}
-use Rattle.lab_captures.specs.CellFilter.{FilterState, filter_start, filter_state}
-use Rattle.lab_captures.specs.CellRules.{capture_rules}
+use Rattle.lab_captures.specs.CellFilter.{filter_start, filter_state}
+use Rattle.lab_captures.specs.declared.reading_ahead.ReadingAhead.{ReadingAhead}
 use Rattle.lab_captures.specs.declared.passed.PassedOver.{PassedOver}
 use Rattle.text_io.specs.Devices.{IsPart}
 use Rattle.text_io.specs.Failures.{read_failures}
 use Rattle.text_io.specs.declared.ending.Done.TheVariants.{Ended, Whole}
 use Rattle.text_io.specs.declared.ending.RunFault.TheVariants.{NoMemory, ReadFailed}
 use Rattle.text_io.proofs.DriverLemmas.{at-result}
-use Rattle.lab_captures.proofs.CaptureTexts.{a_front, all_needed, no_front, not_read, opened_enough, opened_text, refused_text, served_at, short_text}
-use Rattle.lab_captures.proofs.CellTotals.{records_total}
+use Rattle.lab_captures.proofs.CaptureTexts.{a_front, all_needed, no_front, not_read, opened_enough, opened_text, refused_text, served_from, short_text}
 use Rattle.lab_captures.proofs.Progresses.{if_done, if_given, on_fault}
-use Rattle.lab_captures.proofs.cell_capture.follow_cells.Goals as goal
+use Rattle.lab_captures.proofs.capture.follow_cells.Goals as goal
 
 pub returns-in_default : goal.returns-in_default
 returns-in_default g c = λ world sound is_shown.
-    let rules = capture_rules g.F.CellFollower.rules in
-    let first : FilterState × g.F.CellFollower.World = (filter_state c.new-filter.result, world) in
-    served_at rules first (filter_start c.args.tick.nanoseconds c.args.interface, world) g.I.Input g.O.Output c.args.input.now c.args.input.now c.args.output.now c.args.output.now
-    (Err NoMemory) (ap (λ (state : FilterState). (state, world)) c.new-filter.ensures)
+    let rules = g.F.CellFollower.rules in
+    let first = filter_state c.new-filter.result in
+    served_from rules first (filter_start c.args.tick.nanoseconds c.args.interface) world g.I.Input g.O.Output c.args.input.now c.args.input.now c.args.output.now c.args.output.now
+    (Err NoMemory) c.new-filter.ensures
     (record {
       text = λ ki ko. tt;
-      front = λ ki ko. no_front rules (records_total g.F.CellFollower.rules c.answers_each_cell.ensures) first (g.I.Input.rest c.args.input.now) (g.O.Output.held c.args.output.now) sound;
+      front = λ ki ko. no_front rules c.answers_each_cell.ensures first world (g.I.Input.rest c.args.input.now) (g.O.Output.held c.args.output.now) sound;
       left = λ ki. tt;
       whole = λ ki same. cc;
       reading = refl;
@@ -43,13 +42,13 @@ skip-requires g c =
 
 pub returns-in-Err : goal.returns-in-Err
 returns-in-Err g c = λ world sound is_shown.
-    let rules = capture_rules g.F.CellFollower.rules in
-    let first : FilterState × g.F.CellFollower.World = (filter_state c.new-filter.result, world) in
-    served_at rules first (filter_start c.args.tick.nanoseconds c.args.interface, world) g.I.Input g.O.Output c.args.input.now c.find_opening.new.input c.args.output.now c.args.output.now
-    (Err ReadFailed) (ap (λ (state : FilterState). (state, world)) c.new-filter.ensures)
+    let rules = g.F.CellFollower.rules in
+    let first = filter_state c.new-filter.result in
+    served_from rules first (filter_start c.args.tick.nanoseconds c.args.interface) world g.I.Input g.O.Output c.args.input.now c.find_opening.new.input c.args.output.now c.args.output.now
+    (Err ReadFailed) c.new-filter.ensures
     (record {
       text = λ ki ko. tt;
-      front = λ ki ko. no_front rules (records_total g.F.CellFollower.rules c.answers_each_cell.ensures) first (g.I.Input.rest c.args.input.now) (g.O.Output.held c.args.output.now) sound;
+      front = λ ki ko. no_front rules c.answers_each_cell.ensures first world (g.I.Input.rest c.args.input.now) (g.O.Output.held c.args.output.now) sound;
       left = λ ki. tt;
       whole = λ ki same. cc;
       reading = c.in-Err.ensures.failed;
@@ -58,23 +57,23 @@ returns-in-Err g c = λ world sound is_shown.
 
 pub returns-in-Ok-Refused : goal.returns-in-Ok-Refused
 returns-in-Ok-Refused g c = λ world sound is_shown.
-    let rules = capture_rules g.F.CellFollower.rules in
-    let first : FilterState × g.F.CellFollower.World = (filter_state c.new-filter.result, world) in
+    let rules = g.F.CellFollower.rules in
+    let first = filter_state c.new-filter.result in
     let all = g.I.Input.rest c.args.input.now in
     let near = c.find_opening.new.window in
     let rest = g.I.Input.rest c.find_opening.new.input in
     let fault = c.in-Ok-Refused.fault in
     let line = file_fault_line fault in
-    let IsText = IsCaptureText rules first in
+    let IsText = IsCaptureText rules first world in
     let is : opening_of near ≡ Refused fault = sym c.in-Ok-Refused.ensures.opening ∙ c.in-Ok-Refused.field-0-is in
     let printed : g.I.Input.is_known → IsText all line Ended =
-    λ ki. subst (λ (xs : List ℕ). IsText xs line Ended) (sym (c.in-Ok-Refused.ensures.octets ki)) (refused_text rules first near rest fault is)
+    λ ki. subst (λ (xs : List ℕ). IsText xs line Ended) (sym (c.in-Ok-Refused.ensures.octets ki)) (refused_text rules first world near rest fault is)
     in
     let here : IsText near line Ended =
-    subst (λ (xs : List ℕ). IsText xs line Ended) (append-nil near) (refused_text rules first near [] fault is)
+    subst (λ (xs : List ℕ). IsText xs line Ended) (append-nil near) (refused_text rules first world near [] fault is)
     in
-    served_at rules first (filter_start c.args.tick.nanoseconds c.args.interface, world) g.I.Input g.O.Output c.args.input.now c.find_opening.new.input c.args.output.now c.refuse.new.output
-    c.refuse.result (ap (λ (state : FilterState). (state, world)) c.new-filter.ensures)
+    served_from rules first (filter_start c.args.tick.nanoseconds c.args.interface) world g.I.Input g.O.Output c.args.input.now c.find_opening.new.input c.args.output.now c.refuse.new.output
+    c.refuse.result c.new-filter.ensures
     (record {
       text = λ ki ko. if_given c.refuse.result Ended _ _ c.refuse.ensures.done (c.refuse.ensures.given ko) (λ gives. (line, gives, printed ki));
       front = λ ki ko.
@@ -88,25 +87,25 @@ returns-in-Ok-Refused g c = λ world sound is_shown.
 
 pub returns-in-Ok-Undecided : goal.returns-in-Ok-Undecided
 returns-in-Ok-Undecided g c = λ world sound is_shown.
-    let rules = capture_rules g.F.CellFollower.rules in
-    let first : FilterState × g.F.CellFollower.World = (filter_state c.new-filter.result, world) in
+    let rules = g.F.CellFollower.rules in
+    let first = filter_state c.new-filter.result in
     let all = g.I.Input.rest c.args.input.now in
     let near = c.find_opening.new.window in
     let rest = g.I.Input.rest c.find_opening.new.input in
     let octets = c.octets.result.now in
-    let here = rules.closes first (short_ending octets) in
+    let here = rules.closes world first.passed (short_ending octets) in
     let done = done_at (short_ending octets) in
-    let IsText = IsCaptureText rules first in
+    let IsText = IsCaptureText rules first world in
     let same : octets ≡ near = c.octets.ensures in
     let is : opening_of octets ≡ Undecided = ap opening_of same ∙ sym c.in-Ok-Undecided.ensures.opening ∙ c.in-Ok-Undecided.field-0-is in
     let at_end : g.I.Input.is_known → rest ≡ [] = λ ki. c.in-Ok-Undecided.ensures.end ki c.in-Ok-Undecided.field-0-is in
     let whole : g.I.Input.is_known → all ≡ octets =
     λ ki. c.in-Ok-Undecided.ensures.octets ki ∙ ap (λ xs. near ++ xs) (at_end ki) ∙ append-nil near ∙ sym same
     in
-    let short : IsText octets here done = short_text rules first octets is in
+    let short : IsText octets here done = short_text rules first world octets is in
     let printed : g.I.Input.is_known → IsText all here done = λ ki. subst (λ (xs : List ℕ). IsText xs here done) (sym (whole ki)) short in
-    served_at rules first (filter_start c.args.tick.nanoseconds c.args.interface, world) g.I.Input g.O.Output c.args.input.now c.find_opening.new.input c.args.output.now c.close_short.new.output
-    c.close_short.result (ap (λ (state : FilterState). (state, world)) c.new-filter.ensures)
+    served_from rules first (filter_start c.args.tick.nanoseconds c.args.interface) world g.I.Input g.O.Output c.args.input.now c.find_opening.new.input c.args.output.now c.close_short.new.output
+    c.close_short.result c.new-filter.ensures
     (record {
       text = λ ki ko. if_given c.close_short.result done _ _ c.close_short.ensures.done (c.close_short.ensures.given ko)
           (λ gives. (here, gives world sound is_shown ∙ ap (λ (p : PassedOver). g.O.Output.held c.args.output.now ++ g.F.CellFollower.rules.closes world p (short_ending octets)) c.passed.ensures, printed ki));
@@ -125,33 +124,33 @@ returns-in-Ok-Undecided g c = λ world sound is_shown.
 
 pub returns-in-Ok-Opened : goal.returns-in-Ok-Opened
 returns-in-Ok-Opened g c = λ world sound is_shown.
-    let rules = capture_rules g.F.CellFollower.rules in
-    let first : FilterState × g.F.CellFollower.World = (filter_state c.new-filter.result, world) in
+    let rules = g.F.CellFollower.rules in
+    let first = filter_state c.new-filter.result in
     let all = g.I.Input.rest c.args.input.now in
     let near = c.find_opening.new.window in
     let rest = g.I.Input.rest c.find_opening.new.input in
     let format = c.in-Ok-Opened.format in
     let reader = c.new-in-Ok-Opened.result in
     let made = c.new-in-Ok-Opened.ensures in
-    let later = c.skip.new.self in
-    let IsText = IsCaptureText rules first in
+    let reading : ReadingAhead = record { window = c.skip.new.self; reader = reader; filter = c.new-filter.result } in
+    let IsText = IsCaptureText rules first world in
     let is : opening_of near ≡ Opened format = sym c.in-Ok-Opened.ensures.opening ∙ c.in-Ok-Opened.field-0-is in
-    let dropped : later ≡ drop (format_start format) near = c.skip.ensures.octets ∙ ap (λ n. drop n near) c.start.ensures in
-    served_at rules first (filter_start c.args.tick.nanoseconds c.args.interface, world) g.I.Input g.O.Output c.args.input.now c.follow_cells_on.new.input c.args.output.now c.follow_cells_on.new.output
-    c.follow_cells_on.result (ap (λ (state : FilterState). (state, world)) c.new-filter.ensures)
+    let dropped : reading.window ≡ drop (format_start format) near = c.skip.ensures.octets ∙ ap (λ n. drop n near) c.start.ensures in
+    served_from rules first (filter_start c.args.tick.nanoseconds c.args.interface) world g.I.Input g.O.Output c.args.input.now c.follow_on.new.input c.args.output.now c.follow_on.new.output
+    c.follow_on.result c.new-filter.ensures
     (record {
       text = λ ki ko.
-          IfOk-weaker c.follow_cells_on.result _ _
+          IfOk-weaker c.follow_on.result _ _
           (λ done each.
           let adds = each world sound is_shown in (
             adds.0,
             adds.1,
             subst (λ (xs : List ℕ). IsText xs adds.0 done) (sym (c.in-Ok-Opened.ensures.octets ki))
-                (opened_text rules first reader format near later is made.format made.count made.at dropped rest adds.0 done adds.2),
+                (opened_text rules world reading format near is made.format made.count made.at dropped rest adds.0 done adds.2),
           ))
-          (c.follow_cells_on.ensures.text ki ko);
+          (c.follow_on.ensures.text ki ko);
       front = λ ki ko.
-          on_fault c.follow_cells_on.result _ _ (c.follow_cells_on.ensures.front ki ko)
+          on_fault c.follow_on.result _ _ (c.follow_on.ensures.front ki ko)
           (λ each.
           let front = each world sound is_shown in (
             front.0,
@@ -160,15 +159,15 @@ returns-in-Ok-Opened g c = λ world sound is_shown.
               front.2.0,
               front.2.1,
               subst (λ (xs : List ℕ). IsText xs (front.0 ++ front.2.0) front.2.1) (sym (c.in-Ok-Opened.ensures.octets ki))
-                  (opened_text rules first reader format near later is made.format made.count made.at dropped rest (front.0 ++ front.2.0) front.2.1 front.2.2),
+                  (opened_text rules world reading format near is made.format made.count made.at dropped rest (front.0 ++ front.2.0) front.2.1 front.2.2),
             ),
           ));
       left = λ ki.
-          IfOk-weaker c.follow_cells_on.result _ _
-          (λ done each. opened_enough rules first reader format all near later rest (g.I.Input.rest c.follow_cells_on.new.input) done
+          IfOk-weaker c.follow_on.result _ _
+          (λ done each. opened_enough rules world reading format all near rest (g.I.Input.rest c.follow_on.new.input) done
           is made.format made.count made.at dropped (c.in-Ok-Opened.ensures.octets ki) (each world sound is_shown))
-          (c.follow_cells_on.ensures.left ki);
-      whole = c.follow_cells_on.ensures.whole;
-      reading = c.follow_cells_on.ensures.read ∙ ap (read_failures c.follow_cells_on.result) c.in-Ok-Opened.ensures.calm;
-      writing = c.follow_cells_on.ensures.written;
+          (c.follow_on.ensures.left ki);
+      whole = c.follow_on.ensures.whole;
+      reading = c.follow_on.ensures.read ∙ ap (read_failures c.follow_on.result) c.in-Ok-Opened.ensures.calm;
+      writing = c.follow_on.ensures.written;
     })

@@ -2,7 +2,7 @@
 -- what is left, from a world that is shown, are a text for the whole.
 use Rattle.std.proofs.Common.{◌≡◌, ◌+◌, min, ◌-◌, ◌*◌, ◌^◌, ◌≤◌, ◌<◌, [], length}
 use Rattle.lab_captures.specs.inner.Ahead.{CameToQueue}
-use Rattle.lab_captures.proofs.cell_driver.follow_cells_on.Given as goal
+use Rattle.lab_captures.proofs.driver.follow_on.Given as goal
 
 abbrev pub invariant-loop-reading : goal.invariant-loop-reading
 invariant-loop-reading g l =

@@ -2,14 +2,15 @@
 use Rattle.std.proofs.Common.{◌≡◌, Ok, [], ◌++◌, List, ℕ, refl, ap, subst, sym, ◌∙◌, arith, append-nil, length}
 use Rattle.std.proofs.lemmas.List.{length-append}
 use Rattle.std.proofs.lemmas.Result.{IfOk-weaker}
+use Rattle.text_io.proofs.DriverLemmas.{at-err, at-ok}
 use Rattle.text_io.specs.declared.ending.Done.TheVariants.{Ended}
-use Rattle.lab_captures.specs.inner.Ahead.{CameSoFar, FillsAhead, with_window}
+use Rattle.lab_captures.specs.inner.Ahead.{CameSoFar, FillsAhead, IsQueuedText, with_window}
 use Rattle.lab_captures.specs.declared.advance.Going.{Going}
 use Rattle.lab_captures.specs.declared.advance.Going.TheVariants as going
 use Rattle.lab_captures.specs.declared.reading_ahead.ReadingAhead.{ReadingAhead}
-use Rattle.lab_captures.proofs.Progresses.{all_given, if_done, if_given, on_fault}
-use Rattle.lab_captures.proofs.QueueProgress.{end_enough, at_the_end, end_part, end_text, queue_advanced, queue_begun, queue_enough, queue_front, queue_front_of_last, queue_refilled, queue_text, queued_at}
-use Rattle.lab_captures.proofs.cell_driver.follow_cells_on.Goals as goal
+use Rattle.lab_captures.proofs.Progresses.{all_given, if_done, if_given, on_fault, reprinted}
+use Rattle.lab_captures.proofs.QueueProgress.{end_enough, at_the_end, end_part, text_at_end, queue_advanced, queue_begun, queue_empty, queue_enough, queue_front, queue_front_of_last, queue_given, queue_refilled, queue_text}
+use Rattle.lab_captures.proofs.driver.follow_on.Goals as goal
 
 pub loop-reading-init : goal.loop-reading-init
 loop-reading-init g c =
@@ -35,7 +36,7 @@ returns-in-Ok-Ended-advance-clause-text g c = λ ki ko.
     let now' = g.O.Output.held c.give_last-in-Ok-Ended-advance.new.output in
     if_given c.give_last-in-Ok-Ended-advance.result Ended _ _ c.give_last-in-Ok-Ended-advance.ensures.done (c.give_last-in-Ok-Ended-advance.ensures.given ko)
     (λ gives. queue_text now' Ended c.loop-reading.invariant.goes ki ko
-    (end_text (g.I.Input.rest c.loop-reading.input) now now' (c.in-Ok-Ended-advance.ensures.ends c.in-Ok-Ended-advance.field-0-is) gives))
+    (text_at_end (g.I.Input.rest c.loop-reading.input) now now' (c.in-Ok-Ended-advance.ensures.ends c.in-Ok-Ended-advance.field-0-is) gives))
 
 pub returns-in-Ok-Ended-advance-clause-front : goal.returns-in-Ok-Ended-advance-clause-front
 returns-in-Ok-Ended-advance-clause-front g c = λ ki ko.
@@ -54,7 +55,7 @@ pub returns-in-Err-refill-clause-front : goal.returns-in-Err-refill-clause-front
 returns-in-Err-refill-clause-front g c = λ ki ko.
     let f = g.F.CellFollower in
     let reading = c.advance.new.reading in
-    let came = subst (λ (going : Going). CameSoFar going c.loop-reading.reading c.advance.new.reading) c.in-Ok-Wants-advance.field-0-is c.in-Ok-Wants-advance.ensures.came in
+    let came = subst (λ (going : Going). CameSoFar going c.loop-reading.reading c.advance.new.reading c.advance.new.queue.cells.items) c.in-Ok-Wants-advance.field-0-is c.in-Ok-Wants-advance.ensures.came in
     let wants = came.0 in
     let on = queue_advanced (f.shows c.advance.new.follower) reading c.advance.new.queue.cells.items wants.own c.advance.new.answers.items
     c.loop-reading.invariant.goes wants.cut (c.in-Ok-Wants-advance.ensures.goes_on
@@ -69,7 +70,7 @@ loop-reading-preserved g c =
     let now = g.O.Output.held c.loop-reading.output in
     let now' = g.O.Output.held c.refill.new.output in
     let rest' = g.I.Input.rest c.refill.new.input in
-    let came = subst (λ (going : Going). CameSoFar going c.loop-reading.reading c.advance.new.reading) c.in-Ok-Wants-advance.field-0-is c.in-Ok-Wants-advance.ensures.came in
+    let came = subst (λ (going : Going). CameSoFar going c.loop-reading.reading c.advance.new.reading c.advance.new.queue.cells.items) c.in-Ok-Wants-advance.field-0-is c.in-Ok-Wants-advance.ensures.came in
     let wants = came.0 in
     let on = queue_advanced (f.shows c.advance.new.follower) reading c.advance.new.queue.cells.items wants.own c.advance.new.answers.items
     c.loop-reading.invariant.goes wants.cut (c.in-Ok-Wants-advance.ensures.goes_on
@@ -84,20 +85,33 @@ loop-reading-preserved g c =
           (λ ko. all_given now now' c.advance.new.answers.items c.refill.new.answers.items (c.in-Ok.ensures.given ko) c.in-Ok.ensures.none);
     }
 
-pub loop-reading-preserved-in-Ok-On-advance : goal.loop-reading-preserved-in-Ok-On-advance
-loop-reading-preserved-in-Ok-On-advance g c =
+pub returns-then-is_err-clause-front : goal.returns-then-is_err-clause-front
+returns-then-is_err-clause-front g c = λ ki ko.
     let f = g.F.CellFollower in
-    let came = subst (λ (going : Going). CameSoFar going c.loop-reading.reading c.advance.new.reading) c.in-Ok-On-advance.field-0-is c.in-Ok-On-advance.ensures.came in
+    let came = subst (λ (going : Going). CameSoFar going c.loop-reading.reading c.advance.new.reading c.advance.new.queue.cells.items) c.in-Ok-On-advance.field-0-is c.in-Ok-On-advance.ensures.came in
+    let on = queue_advanced (f.shows c.advance.new.follower) c.advance.new.reading c.advance.new.queue.cells.items came.0.own c.advance.new.answers.items
+    c.loop-reading.invariant.goes came.0.cut (c.in-Ok-On-advance.ensures.goes_on
+    (λ ended. let bad : going.On ≡ going.Ended = sym c.in-Ok-On-advance.field-0-is ∙ ended in cc)) in
+    queue_front (g.O.Output.held c.give_if_enough.new.output) c.answers_each_cell.ensures on ki ko
+    (at-err c.give_if_enough.result _ (sym c.is_err.ensures.value ∙ c.if-is_err.true) (c.give_if_enough.ensures.front ko))
+
+pub loop-reading-preserved-else-is_err : goal.loop-reading-preserved-else-is_err
+loop-reading-preserved-else-is_err g c =
+    let f = g.F.CellFollower in
+    let came = subst (λ (going : Going). CameSoFar going c.loop-reading.reading c.advance.new.reading c.advance.new.queue.cells.items) c.in-Ok-On-advance.field-0-is c.in-Ok-On-advance.ensures.came in
     let cut = ap (λ (xs : List ℕ). length xs) came.0.cut in
+    let on = queue_advanced (f.shows c.advance.new.follower) c.advance.new.reading c.advance.new.queue.cells.items came.0.own c.advance.new.answers.items
+    c.loop-reading.invariant.goes came.0.cut (c.in-Ok-On-advance.ensures.goes_on
+    (λ ended. let bad : going.On ≡ going.Ended = sym c.in-Ok-On-advance.field-0-is ∙ ended in cc)) in
+    let fine = sym c.is_err.ensures.value ∙ c.if-is_err.false in
     record {
       bounded = omega (arith, cut, length-append came.0.own c.advance.new.reading.window, c.loop-reading.invariant.bounded);
       near = came.0.near c.loop-reading.invariant.near;
       spare = c.in-Ok-On-advance.ensures.spare;
       read = c.loop-reading.invariant.read;
-      written = c.loop-reading.invariant.written;
-      goes = queue_advanced (f.shows c.advance.new.follower) c.advance.new.reading c.advance.new.queue.cells.items came.0.own c.advance.new.answers.items
-          c.loop-reading.invariant.goes came.0.cut (c.in-Ok-On-advance.ensures.goes_on
-          (λ ended. let bad : going.On ≡ going.Ended = sym c.in-Ok-On-advance.field-0-is ∙ ended in cc));
+      written = at-ok c.give_if_enough.result _ fine c.give_if_enough.ensures.calm ∙ c.loop-reading.invariant.written;
+      goes = queue_given (g.O.Output.held c.give_if_enough.new.output) c.give_if_enough.new.answers.items on
+          (λ ko. at-ok c.give_if_enough.result _ fine (c.give_if_enough.ensures.moved ko));
     }
 
 pub returns-in-Ok-eq0-clause-text : goal.returns-in-Ok-eq0-clause-text
@@ -109,12 +123,12 @@ returns-in-Ok-eq0-clause-text g c = λ ki ko.
     let now = g.O.Output.held c.loop-reading.output in
     let now' = g.O.Output.held c.refill.new.output in
     let rest' = g.I.Input.rest c.refill.new.input in
-    let came = subst (λ (going : Going). CameSoFar going c.loop-reading.reading c.advance.new.reading) c.in-Ok-Wants-advance.field-0-is c.in-Ok-Wants-advance.ensures.came in
+    let came = subst (λ (going : Going). CameSoFar going c.loop-reading.reading c.advance.new.reading c.advance.new.queue.cells.items) c.in-Ok-Wants-advance.field-0-is c.in-Ok-Wants-advance.ensures.came in
     let wants = came.0 in
     let on = queue_advanced (f.shows c.advance.new.follower) reading cells wants.own c.advance.new.answers.items
     c.loop-reading.invariant.goes wants.cut (c.in-Ok-Wants-advance.ensures.goes_on
     (λ ended. let bad : going.Wants ≡ going.Ended = sym c.in-Ok-Wants-advance.field-0-is ∙ ended in cc)) in
-    let last = queue_refilled reading' rest' now' c.refill.new.answers.items on refl c.in-Ok-eq0.ensures.front_octets c.in-Ok-eq0.ensures.octets
+    let last = queue_refilled reading' rest' now' c.refill.new.answers.items (queue_empty on came.3) refl c.in-Ok-eq0.ensures.front_octets c.in-Ok-eq0.ensures.octets
     (λ ko. all_given now now' c.advance.new.answers.items c.refill.new.answers.items (c.in-Ok-eq0.ensures.given ko) c.in-Ok-eq0.ensures.none) in
     let none : c.in-Ok-eq0.field-0 ≡ 0 = omega arith in
     let at_end : rest' ≡ [] = c.in-Ok-eq0.ensures.end ki (ap (λ n. Ok n) none) in
@@ -124,8 +138,8 @@ returns-in-Ok-eq0-clause-text g c = λ ki ko.
     let end = ends world sound is_shown in (
       end.0,
       end.1,
-      queued_at f.rules reading' cells c.deref.result.now world reading'.window (reading'.window ++ rest') end.0 done c.deref.ensures.value
-          (at_the_end reading'.window rest' at_end) end.2,
+      reprinted (IsQueuedText f.rules reading' [] world) reading'.window (reading'.window ++ rest') end.0 end.0 done
+          (at_the_end reading'.window rest' at_end) refl end.2,
     )))
     (c.finish.ensures.given ko)
 
@@ -138,12 +152,12 @@ returns-in-Ok-eq0-clause-front g c = λ ki ko.
     let now = g.O.Output.held c.loop-reading.output in
     let now' = g.O.Output.held c.refill.new.output in
     let rest' = g.I.Input.rest c.refill.new.input in
-    let came = subst (λ (going : Going). CameSoFar going c.loop-reading.reading c.advance.new.reading) c.in-Ok-Wants-advance.field-0-is c.in-Ok-Wants-advance.ensures.came in
+    let came = subst (λ (going : Going). CameSoFar going c.loop-reading.reading c.advance.new.reading c.advance.new.queue.cells.items) c.in-Ok-Wants-advance.field-0-is c.in-Ok-Wants-advance.ensures.came in
     let wants = came.0 in
     let on = queue_advanced (f.shows c.advance.new.follower) reading cells wants.own c.advance.new.answers.items
     c.loop-reading.invariant.goes wants.cut (c.in-Ok-Wants-advance.ensures.goes_on
     (λ ended. let bad : going.Wants ≡ going.Ended = sym c.in-Ok-Wants-advance.field-0-is ∙ ended in cc)) in
-    let last = queue_refilled reading' rest' now' c.refill.new.answers.items on refl c.in-Ok-eq0.ensures.front_octets c.in-Ok-eq0.ensures.octets
+    let last = queue_refilled reading' rest' now' c.refill.new.answers.items (queue_empty on came.3) refl c.in-Ok-eq0.ensures.front_octets c.in-Ok-eq0.ensures.octets
     (λ ko. all_given now now' c.advance.new.answers.items c.refill.new.answers.items (c.in-Ok-eq0.ensures.given ko) c.in-Ok-eq0.ensures.none) in
     let none : c.in-Ok-eq0.field-0 ≡ 0 = omega arith in
     let at_end : rest' ≡ [] = c.in-Ok-eq0.ensures.end ki (ap (λ n. Ok n) none) in
@@ -154,8 +168,8 @@ returns-in-Ok-eq0-clause-front g c = λ ki ko.
       end.0,
       end.1,
       end.2,
-      queued_at f.rules reading' cells c.deref.result.now world reading'.window (reading'.window ++ rest') end.0 end.1 c.deref.ensures.value
-          (at_the_end reading'.window rest' at_end) end.3,
+      reprinted (IsQueuedText f.rules reading' [] world) reading'.window (reading'.window ++ rest') end.0 end.0 end.1
+          (at_the_end reading'.window rest' at_end) refl end.3,
     )))
 
 pub returns-in-Ok-eq0-clause-left : goal.returns-in-Ok-eq0-clause-left
@@ -167,21 +181,14 @@ returns-in-Ok-eq0-clause-left g c = λ ki.
     let now = g.O.Output.held c.loop-reading.output in
     let now' = g.O.Output.held c.refill.new.output in
     let rest' = g.I.Input.rest c.refill.new.input in
-    let came = subst (λ (going : Going). CameSoFar going c.loop-reading.reading c.advance.new.reading) c.in-Ok-Wants-advance.field-0-is c.in-Ok-Wants-advance.ensures.came in
+    let came = subst (λ (going : Going). CameSoFar going c.loop-reading.reading c.advance.new.reading c.advance.new.queue.cells.items) c.in-Ok-Wants-advance.field-0-is c.in-Ok-Wants-advance.ensures.came in
     let wants = came.0 in
     let on = queue_advanced (f.shows c.advance.new.follower) reading cells wants.own c.advance.new.answers.items
     c.loop-reading.invariant.goes wants.cut (c.in-Ok-Wants-advance.ensures.goes_on
     (λ ended. let bad : going.Wants ≡ going.Ended = sym c.in-Ok-Wants-advance.field-0-is ∙ ended in cc)) in
-    let last = queue_refilled reading' rest' now' c.refill.new.answers.items on refl c.in-Ok-eq0.ensures.front_octets c.in-Ok-eq0.ensures.octets
+    let last = queue_refilled reading' rest' now' c.refill.new.answers.items (queue_empty on came.3) refl c.in-Ok-eq0.ensures.front_octets c.in-Ok-eq0.ensures.octets
     (λ ko. all_given now now' c.advance.new.answers.items c.refill.new.answers.items (c.in-Ok-eq0.ensures.given ko) c.in-Ok-eq0.ensures.none) in
-    IfOk-weaker c.finish.result _ _
-    (λ done ends. queue_enough done last ki
-    (λ world sound is_shown.
-    let end = ends world sound is_shown in (
-      end.0,
-      queued_at f.rules reading' cells c.deref.result.now world reading'.window reading'.window end.0 done c.deref.ensures.value refl end.1,
-    )))
-    c.finish.ensures.text
+    IfOk-weaker c.finish.result _ _ (λ done ends. queue_enough done last ki ends) c.finish.ensures.text
 
 pub loop-reading-preserved-in-Ok-On : goal.loop-reading-preserved-in-Ok-On
 loop-reading-preserved-in-Ok-On g c =
@@ -264,7 +271,7 @@ returns-in-Ok-Ended-clause-text g c = λ ki ko.
     (λ ko. all_given now now' c.loop-reading.answers.items [] (c.in-Ok-Ended.ensures.given ko) refl) in
     let last = g.O.Output.held c.give_last.new.output in
     if_given c.give_last.result Ended _ _ c.give_last.ensures.done (c.give_last.ensures.given ko)
-    (λ gives. queue_text last Ended filled ki ko (end_text rest' now' last (fills.ends refl) gives))
+    (λ gives. queue_text last Ended filled ki ko (text_at_end rest' now' last (fills.ends refl) gives))
 
 pub returns-in-Ok-Ended-clause-front : goal.returns-in-Ok-Ended-clause-front
 returns-in-Ok-Ended-clause-front g c = λ ki ko.
