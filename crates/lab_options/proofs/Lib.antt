@@ -1,4 +1,2 @@
-pub mod Lines
-pub mod Choosing
-pub mod FitChoosing
-pub mod PoliceChoosing
+pub mod Answering
+pub mod Commands

@@ -1,49 +1,51 @@
 -- The options of `upc-lab cells`.
-use Rattle.std.specs.Prelude.{◌≡◌, ◌⊎◌, ⊤, ℕ, List, [], ◌∷◌, Option, Some, None, codes}
-use Rattle.clap.specs.Simple.{App, new_app, new_rule, with_rule}
+use Rattle.std.specs.Prelude.{ℕ, List, [], ◌∷◌, Option, Some, None, codes, false, option_and_then, option_map, true}
+use Rattle.clap.specs.Simple.{App}
 use Rattle.clap.specs.Walk.{Rule, Text}
-use Rattle.lab_options.specs.OptionLines.{kinds_in, option_value}
+use Rattle.command_line.specs.Arguments.{app_with_rules, argument_rule}
+use Rattle.command_line.specs.CommandLines.{argument_value}
+use Rattle.command_line.specs.declared.stop.Stop.{Stop}
+use Rattle.lab_options.specs.OptionAnswers.{Asks, IsOptionStop}
 use Rattle.lab_options.specs.OptionValues.{interface_of, tick_of}
-use Rattle.upc_choice.specs.Stopping.{AsksHelp, IsFaulty}
-use Rattle.upc_choice.specs.declared.choice.Stop.{Stop}
-use Rattle.upc_choice.specs.declared.choice.Stop.TheVariants.{Help, Words, NoMemory}
+use Rattle.lab_options.specs.declared.cells.CellsOptions.{CellsOptions}
 
 -- The option `--tick TIME`, whose value is 100ns if it isn't given.
 abbrev pub tick_rule : Rule
-tick_rule = record (new_rule (codes "tick")) {
-  long = Some (codes "tick");
-  value_names = 1;
-  defaults = codes "100ns" ∷ [];
-}
+tick_rule = argument_rule (codes "tick") true (Some (codes "100ns")) false
 
 -- The option `--interface N`.
 abbrev pub interface_rule : Rule
-interface_rule = record (new_rule (codes "interface")) { long = Some (codes "interface"); value_names = 1 }
+interface_rule = argument_rule (codes "interface") true None false
 
 -- The command `upc-lab cells`: these options, and that for help, which every command has.
 unfoldable pub cells_app : App
-cells_app = with_rule (with_rule (new_app (codes "upc-lab cells")) tick_rule) interface_rule
+cells_app = app_with_rules (codes "upc-lab cells") (tick_rule ∷ interface_rule ∷ [])
 
--- The value of `--tick` in the words.
-abbrev pub written_tick : List Text → Option Text
-written_tick words = option_value cells_app words (codes "tick")
+-- What is asked for: the nanoseconds of a tick, and the interface, if any.
+pub record CellsAsked : Type 0 where
+  pub nanoseconds : ℕ
+  pub interface : Option ℕ
 
--- The value of `--interface` in the words, if it is given.
-abbrev pub written_interface : List Text → Option Text
-written_interface words = option_value cells_app words (codes "interface")
+-- What options of `cells` ask for.
+abbrev pub cells_asked_by : CellsOptions → CellsAsked
+cells_asked_by options = record { nanoseconds = options.tick.nanoseconds; interface = options.interface }
 
--- The words have no error for clap, and ask for a tick of this many nanoseconds and for this interface, if any.
-pub record AsksCells (words : List Text) (nanoseconds : ℕ) (asked : Option ℕ) : Type 0 where
-  pub faultless : kinds_in cells_app words ≡ []
-  pub tick : tick_of (written_tick words) ≡ Some nanoseconds
-  pub interface : interface_of (written_interface words) ≡ Some asked
+-- What these values spell, if each spells something.
+abbrev pub cells_values : Option Text → Option Text → Option CellsAsked
+cells_values tick interface =
+    option_and_then (λ nanoseconds. option_map (λ asked. record {
+      nanoseconds = nanoseconds;
+      interface = asked;
+    }) (interface_of interface)) (tick_of tick)
 
--- A value spells nothing.
-abbrev pub HasWrongValue : List Text → Type 0
-HasWrongValue words = (tick_of (written_tick words) ≡ None) ⊎ (interface_of (written_interface words) ≡ None)
+-- What the values of the options in the words spell.
+abbrev pub cells_asked : List Text → Option CellsAsked
+cells_asked words = cells_values (argument_value cells_app words (codes "tick")) (argument_value cells_app words (codes "interface"))
+
+-- The words have no error for clap, and ask for this.
+abbrev pub AsksCells : List Text → CellsAsked → Type 0
+AsksCells = Asks cells_app cells_asked
 
 -- The Stops that words may give. NoMemory is always allowed.
 abbrev pub IsCellsStop : List Text → Stop → Type 0
-IsCellsStop words (Help text) = AsksHelp (kinds_in cells_app words)
-IsCellsStop words (Words text) = IsFaulty (kinds_in cells_app words) ⊎ HasWrongValue words
-IsCellsStop words NoMemory = ⊤
+IsCellsStop = IsOptionStop cells_app cells_asked

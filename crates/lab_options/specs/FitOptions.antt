@@ -1,35 +1,27 @@
 -- The options of `upc-lab fit`.
-use Rattle.std.specs.Prelude.{◌≡◌, ◌⊎◌, ⊤, ℕ, List, [], ◌∷◌, Option, Some, None, codes, option_and_then, option_map, true}
-use Rattle.clap.specs.Simple.{App, new_app, new_rule, with_rule}
+use Rattle.std.specs.Prelude.{ℕ, List, [], ◌∷◌, Option, Some, None, codes, false, option_and_then, option_map, true}
+use Rattle.clap.specs.Simple.{App}
 use Rattle.clap.specs.Walk.{Rule, Text}
+use Rattle.command_line.specs.Arguments.{app_with_rules, argument_rule}
+use Rattle.command_line.specs.CommandLines.{argument_value}
+use Rattle.command_line.specs.declared.stop.Stop.{Stop}
 use Rattle.lab_options.specs.CellsOptions.{interface_rule, tick_rule}
-use Rattle.lab_options.specs.OptionLines.{kinds_in, option_value}
+use Rattle.lab_options.specs.OptionAnswers.{Asks, IsOptionStop}
 use Rattle.lab_options.specs.OptionValues.{fit_increment_of, interface_of, fit_side_of, tick_of}
 use Rattle.lab_options.specs.declared.fit.FitOptions.{FitOptions}
 use Rattle.upc_cell.specs.declared.side.Side.{Side}
-use Rattle.upc_choice.specs.Stopping.{AsksHelp, IsFaulty}
-use Rattle.upc_choice.specs.declared.choice.Stop.{Stop}
-use Rattle.upc_choice.specs.declared.choice.Stop.TheVariants.{Help, Words, NoMemory}
 
 -- The option `--increment T`, which must be given.
 abbrev pub increment_rule : Rule
-increment_rule = record (new_rule (codes "increment")) {
-  long = Some (codes "increment");
-  value_names = 1;
-  required = true;
-}
+increment_rule = argument_rule (codes "increment") true None true
 
 -- The option `--side SIDE`, whose value is uni if it isn't given.
 abbrev pub side_rule : Rule
-side_rule = record (new_rule (codes "side")) {
-  long = Some (codes "side");
-  value_names = 1;
-  defaults = codes "uni" ∷ [];
-}
+side_rule = argument_rule (codes "side") true (Some (codes "uni")) false
 
 -- The command `upc-lab fit`: these options, those of `cells`, and that for help, which every command has.
 unfoldable pub fit_app : App
-fit_app = with_rule (with_rule (with_rule (with_rule (new_app (codes "upc-lab fit")) increment_rule) tick_rule) interface_rule) side_rule
+fit_app = app_with_rules (codes "upc-lab fit") (increment_rule ∷ tick_rule ∷ interface_rule ∷ side_rule ∷ [])
 
 -- What is asked for: the increment in ticks, the nanoseconds of a tick, the interface, if any, and the side.
 pub record FitAsked : Type 0 where
@@ -59,16 +51,13 @@ fit_values increment tick interface side =
 
 -- What the values of the options in the words spell.
 abbrev pub fit_asked : List Text → Option FitAsked
-fit_asked words = fit_values (option_value fit_app words (codes "increment")) (option_value fit_app words (codes "tick"))
-    (option_value fit_app words (codes "interface")) (option_value fit_app words (codes "side"))
+fit_asked words = fit_values (argument_value fit_app words (codes "increment")) (argument_value fit_app words (codes "tick"))
+    (argument_value fit_app words (codes "interface")) (argument_value fit_app words (codes "side"))
 
 -- The words have no error for clap, and ask for this.
-pub record AsksFit (words : List Text) (asked : FitAsked) : Type 0 where
-  pub faultless : kinds_in fit_app words ≡ []
-  pub values : fit_asked words ≡ Some asked
+abbrev pub AsksFit : List Text → FitAsked → Type 0
+AsksFit = Asks fit_app fit_asked
 
 -- The Stops that words may give. NoMemory is always allowed.
 abbrev pub IsFitStop : List Text → Stop → Type 0
-IsFitStop words (Help text) = AsksHelp (kinds_in fit_app words)
-IsFitStop words (Words text) = IsFaulty (kinds_in fit_app words) ⊎ (fit_asked words ≡ None)
-IsFitStop words NoMemory = ⊤
+IsFitStop = IsOptionStop fit_app fit_asked

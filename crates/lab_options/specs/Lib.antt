@@ -1,5 +1,5 @@
 -- The options of the subcommands over captures. Read the modules in this order:
-pub mod OptionLines
+pub mod OptionAnswers
 pub mod OptionValues
 pub mod CellsOptions
 pub mod FitOptions

@@ -1,41 +1,32 @@
 -- The argument and the options of `upc-lab police`.
-use Rattle.std.specs.Prelude.{◌≡◌, ◌⊎◌, ⊤, ℕ, List, [], ◌∷◌, Option, Some, None, codes, option_and_then, option_map, true}
+use Rattle.std.specs.Prelude.{ℕ, List, [], ◌∷◌, Option, Some, None, codes, false, option_and_then, option_map, true}
 use Rattle.std.specs.String.{string_bytes}
-use Rattle.clap.specs.Simple.{App, new_app, new_rule, with_rule}
+use Rattle.clap.specs.Simple.{App}
 use Rattle.clap.specs.Walk.{Rule, Text}
+use Rattle.command_line.specs.Arguments.{app_with_rules, argument_rule}
+use Rattle.command_line.specs.CommandLines.{argument_value}
+use Rattle.command_line.specs.declared.stop.Stop.{Stop}
 use Rattle.lab_captures.specs.declared.cell_lines.CellLines.{CellLines}
 use Rattle.lab_options.specs.CellsOptions.{interface_rule, tick_rule}
-use Rattle.lab_options.specs.OptionLines.{kinds_in, option_value}
+use Rattle.lab_options.specs.OptionAnswers.{Asks, IsOptionStop}
 use Rattle.lab_options.specs.OptionValues.{cell_lines_of, interface_of, setup_name_of, threads_of, tick_of}
 use Rattle.lab_options.specs.declared.police.PoliceOptions.{PoliceOptions}
-use Rattle.upc_choice.specs.Stopping.{AsksHelp, IsFaulty}
-use Rattle.upc_choice.specs.declared.choice.Stop.{Stop}
-use Rattle.upc_choice.specs.declared.choice.Stop.TheVariants.{Help, Words, NoMemory}
 
 -- The argument SETUP, which must be given.
 abbrev pub setup_rule : Rule
-setup_rule = record (new_rule (codes "SETUP")) { required = true }
+setup_rule = argument_rule (codes "SETUP") false None true
 
 -- The option `--lines LINES`, whose value is all if it isn't given.
 abbrev pub lines_rule : Rule
-lines_rule = record (new_rule (codes "lines")) {
-  long = Some (codes "lines");
-  value_names = 1;
-  defaults = codes "all" ∷ [];
-}
+lines_rule = argument_rule (codes "lines") true (Some (codes "all")) false
 
 -- The option `--threads N`, whose value is 2 if it isn't given.
 abbrev pub threads_rule : Rule
-threads_rule = record (new_rule (codes "threads")) {
-  long = Some (codes "threads");
-  value_names = 1;
-  defaults = codes "2" ∷ [];
-}
+threads_rule = argument_rule (codes "threads") true (Some (codes "2")) false
 
 -- The command `upc-lab police`: this argument and these options, the options of `cells`, and that for help, which every command has.
 unfoldable pub police_app : App
-police_app =
-    with_rule (with_rule (with_rule (with_rule (with_rule (new_app (codes "upc-lab police")) setup_rule) tick_rule) interface_rule) lines_rule) threads_rule
+police_app = app_with_rules (codes "upc-lab police") (setup_rule ∷ tick_rule ∷ interface_rule ∷ lines_rule ∷ threads_rule ∷ [])
 
 -- What is asked for: the name of the file with the setup script, the nanoseconds of a tick, the interface, if any, which cells have lines,
 -- and the number of threads.
@@ -69,16 +60,13 @@ police_values setup tick interface lines threads =
 
 -- What the values of the argument and the options in the words spell.
 abbrev pub police_asked : List Text → Option PoliceAsked
-police_asked words = police_values (option_value police_app words (codes "SETUP")) (option_value police_app words (codes "tick"))
-    (option_value police_app words (codes "interface")) (option_value police_app words (codes "lines")) (option_value police_app words (codes "threads"))
+police_asked words = police_values (argument_value police_app words (codes "SETUP")) (argument_value police_app words (codes "tick"))
+    (argument_value police_app words (codes "interface")) (argument_value police_app words (codes "lines")) (argument_value police_app words (codes "threads"))
 
 -- The words have no error for clap, and ask for this.
-pub record AsksPolice (words : List Text) (asked : PoliceAsked) : Type 0 where
-  pub faultless : kinds_in police_app words ≡ []
-  pub values : police_asked words ≡ Some asked
+abbrev pub AsksPolice : List Text → PoliceAsked → Type 0
+AsksPolice = Asks police_app police_asked
 
 -- The Stops that words may give. NoMemory is always allowed.
 abbrev pub IsPoliceStop : List Text → Stop → Type 0
-IsPoliceStop words (Help text) = AsksHelp (kinds_in police_app words)
-IsPoliceStop words (Words text) = IsFaulty (kinds_in police_app words) ⊎ (police_asked words ≡ None)
-IsPoliceStop words NoMemory = ⊤
+IsPoliceStop = IsOptionStop police_app police_asked

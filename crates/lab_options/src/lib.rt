@@ -1,9 +1,8 @@
-//! The options of `upc-lab`'s subcommands over captures, read by the crate `clap`.
+//! The options of `upc-lab`'s subcommands over captures.
 #![tactic(auto)]
 
 mod cells;
 mod fit;
-mod line;
 mod police;
 mod values;
 

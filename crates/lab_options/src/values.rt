@@ -1,16 +1,35 @@
 //! The values of options.
 
-ghost use Rattle.std.specs.Prelude.{◌≡◌, option_map};
+ghost use Rattle.std.specs.Prelude.{◌≡◌, codes, option_map};
+ghost use Rattle.command_line.specs.Arguments.{text_named, texts_of};
 ghost use Rattle.lab_options.specs.OptionValues.{cell_lines_of, fit_increment_of, fit_side_of, interface_of, setup_name_of, threads_of, tick_of};
 ghost use Rattle.lab_options.specs.inner.Answered.{IsWrongValue};
 
 use captures::Tick;
+use command_line::{Argument, Stop, Value, text_of};
 use lab_captures::CellLines;
 use lab_sizes::duration;
 use std::alloc::Global;
 use upc_cell::Side;
-use upc_choice::Stop;
 use upc_script::number;
+
+/// The option `--tick`.
+pub(crate) const TICK: Argument = Argument {
+    name: "tick",
+    value_name: Some("TIME"),
+    default: Some("100ns"),
+    required: false,
+    help: "The length of a tick: a number with ns, us, ms or s",
+};
+
+/// The option `--interface`.
+pub(crate) const INTERFACE: Argument = Argument {
+    name: "interface",
+    value_name: Some("N"),
+    default: None,
+    required: false,
+    help: "Only the cells of this interface, 0 to 3",
+};
 
 /// The message about a wrong value of `--tick`.
 pub(crate) const WRONG_TICK: &str =
@@ -21,18 +40,18 @@ pub(crate) const WRONG_INTERFACE: &str =
     "error: the value of '--interface' is a number from 0 to 3\n";
 
 /// Returns the tick that the value of `--tick` spells, if it has one.
-pub(crate) fn tick_of(text: Option<&str>) -> Option<Tick>
-    ensures { option_map (λ tick. tick.nanoseconds) result ≡ tick_of (option_map (λ text. text.now) text.entry) }
+pub(crate) fn tick_of(values: &[Value]) -> Option<Tick>
+    ensures { option_map (λ tick. tick.nanoseconds) result ≡ tick_of (text_named (texts_of values.now) (codes "tick")) }
 {
-    let nanoseconds = duration(text?.as_bytes())?;
+    let nanoseconds = duration(text_of(values, "tick")?.as_bytes())?;
     Tick::new(nanoseconds)
 }
 
 /// Returns the interface that the value of `--interface` spells, or none without that option. None if the value is wrong.
-pub(crate) fn interface_of(text: Option<&str>) -> Option<Option<u8>>
-    ensures { result ≡ interface_of (option_map (λ text. text.now) text.entry) }
+pub(crate) fn interface_of(values: &[Value]) -> Option<Option<u8>>
+    ensures { result ≡ interface_of (text_named (texts_of values.now) (codes "interface")) }
 {
-    let Some(text) = text else {
+    let Some(text) = text_of(values, "interface") else {
         return Some(None);
     };
     match number(text.as_bytes()) {
@@ -42,20 +61,20 @@ pub(crate) fn interface_of(text: Option<&str>) -> Option<Option<u8>>
 }
 
 /// Returns the increment that the value of `--increment` spells, in ticks.
-pub(crate) fn fit_increment_of(text: Option<&str>) -> Option<u64>
-    ensures { result ≡ fit_increment_of (option_map (λ text. text.now) text.entry) }
+pub(crate) fn fit_increment_of(values: &[Value]) -> Option<u64>
+    ensures { result ≡ fit_increment_of (text_named (texts_of values.now) (codes "increment")) }
 {
-    match number(text?.as_bytes()) {
+    match number(text_of(values, "increment")?.as_bytes()) {
         Some(increment) if 0 < increment && increment <= 1 << 48 => Some(increment),
         _ => None,
     }
 }
 
 /// Returns the side that the value of `--side` names.
-pub(crate) fn fit_side_of(text: Option<&str>) -> Option<Side>
-    ensures { result ≡ fit_side_of (option_map (λ text. text.now) text.entry) }
+pub(crate) fn fit_side_of(values: &[Value]) -> Option<Side>
+    ensures { result ≡ fit_side_of (text_named (texts_of values.now) (codes "side")) }
 {
-    match text? {
+    match text_of(values, "side")? {
         "uni" => Some(Side::Uni),
         "nni" => Some(Side::Nni),
         _ => None,
@@ -63,18 +82,18 @@ pub(crate) fn fit_side_of(text: Option<&str>) -> Option<Side>
 }
 
 /// Returns the name of the setup file, unless it is empty.
-pub(crate) fn setup_name_of<'a>(text: Option<&'a str>) -> Option<&'a str>
-    ensures { option_map (λ name. name.now) result ≡ setup_name_of (option_map (λ text. text.now) text.entry) }
+pub(crate) fn setup_name_of(values: &[Value]) -> Option<&str>
+    ensures { option_map (λ name. name.now) result ≡ setup_name_of (text_named (texts_of values.now) (codes "SETUP")) }
 {
-    let name = text?;
+    let name = text_of(values, "SETUP")?;
     if name.is_empty() { None } else { Some(name) }
 }
 
 /// Returns which cells the value of `--lines` gives lines.
-pub(crate) fn cell_lines_of(text: Option<&str>) -> Option<CellLines>
-    ensures { result ≡ cell_lines_of (option_map (λ text. text.now) text.entry) }
+pub(crate) fn cell_lines_of(values: &[Value]) -> Option<CellLines>
+    ensures { result ≡ cell_lines_of (text_named (texts_of values.now) (codes "lines")) }
 {
-    match text? {
+    match text_of(values, "lines")? {
         "all" => Some(CellLines::All),
         "refused" => Some(CellLines::Refused),
         "none" => Some(CellLines::Nothing),
@@ -83,10 +102,10 @@ pub(crate) fn cell_lines_of(text: Option<&str>) -> Option<CellLines>
 }
 
 /// Returns the number of threads that the value of `--threads` spells.
-pub(crate) fn threads_of(text: Option<&str>) -> Option<u8>
-    ensures { result ≡ threads_of (option_map (λ text. text.now) text.entry) }
+pub(crate) fn threads_of(values: &[Value]) -> Option<u8>
+    ensures { result ≡ threads_of (text_named (texts_of values.now) (codes "threads")) }
 {
-    match number(text?.as_bytes()) {
+    match number(text_of(values, "threads")?.as_bytes()) {
         Some(threads) if 0 < threads && threads <= 64 => Some(threads as u8),
         _ => None,
     }

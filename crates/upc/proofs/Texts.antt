@@ -2,8 +2,8 @@
 use Rattle.std.proofs.Common.{◌≡◌, ℕ, List}
 use Rattle.text_io.specs.declared.ending.Done.{Done}
 use Rattle.upc.specs.Subcommand.{IsTextOf, HasOneText}
-use Rattle.upc_choice.specs.declared.choice.Choice.{Choice}
-use Rattle.upc_choice.specs.declared.choice.Choice.TheVariants.{Check, Eval, Run, Ports}
+use Rattle.command_line.specs.declared.choice.Choice.{Choice}
+use Rattle.command_line.specs.declared.choice.Choice.TheVariants.{Check, Eval, Run, Ports}
 use Rattle.upc_programs.proofs.Public.{some-check_text, one-check_text, some-eval_text, one-eval_text}
 use Rattle.upc_run.proofs.Public.{some-run_text, one-run_text}
 use Rattle.upc_ports.proofs.Public.{some-ports_text}

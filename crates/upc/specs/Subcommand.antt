@@ -4,8 +4,8 @@ use Rattle.upc_programs.specs.Check.{IsCheckText}
 use Rattle.upc_programs.specs.Eval.{IsEvalText}
 use Rattle.upc_run.specs.RunText.{IsRunText}
 use Rattle.upc_ports.specs.PortsText.{IsPortsText}
-use Rattle.upc_choice.specs.declared.choice.Choice.{Choice}
-use Rattle.upc_choice.specs.declared.choice.Choice.TheVariants.{Check, Eval, Run, Ports}
+use Rattle.command_line.specs.declared.choice.Choice.{Choice}
+use Rattle.command_line.specs.declared.choice.Choice.TheVariants.{Check, Eval, Run, Ports}
 use Rattle.text_io.specs.declared.ending.Done.{Done}
 
 -- The output for a whole input, and how the run ends. For `ports`, IsPortsText doesn't fix every answer.

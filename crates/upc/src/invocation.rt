@@ -3,18 +3,17 @@
 ghost use Rattle.std.specs.Prelude.{◌≡◌, ◌≢◌, Ok as TheOk};
 ghost use Rattle.upc.specs.FailureLines.{failure_line};
 ghost use Rattle.upc.specs.Subcommand.{IsTextOf};
-ghost use Rattle.upc_choice.specs.declared.choice.Choice.TheVariants.{Ports};
-ghost use Rattle.upc_exit.specs.ExitStatus.{status_of};
-ghost use Rattle.upc_exit.specs.Invocation.{CarriesOut, IsStatusFor};
-ghost use Rattle.upc_exit.specs.Messages.{Reports};
+ghost use Rattle.command_line.specs.declared.choice.Choice.TheVariants.{Ports};
+ghost use Rattle.command_line.specs.ExitStatus.{status_of};
+ghost use Rattle.command_line.specs.Invocation.{CarriesOut, IsStatusFor};
+ghost use Rattle.command_line.specs.Messages.{Reports};
 
 use crate::subcommand::run_alone;
+use command_line::{Choice, Stop, status, write_message};
 use std::alloc::Global;
 use std::sync::Wait;
 use std::thread::Threads;
 use text_io::{Done, Input, Output, RunFault, give_all};
-use upc_choice::{Choice, Stop};
-use upc_exit::{status, write_message};
 use upc_ports::run_ports;
 
 /// The message for a failure.

@@ -7,13 +7,12 @@ mod subcommand;
 #[cfg(test)]
 mod tests;
 
+pub use command_line::{Choice, Stop, choose, status};
+use command_line::{OfProcess, awaited, words_after_name};
 use invocation::{carry_out, carry_out_alone};
 use std::io::IsTerminal;
 use std::process::ExitCode;
 use text_io::{ReaderInput, WriterOutput};
-use upc_choice::{OfProcess, awaited, words_after_name};
-pub use upc_choice::{Choice, Stop, choose};
-pub use upc_exit::status;
 pub use upc_ports::{run_ports, run_ports_with};
 pub use upc_programs::{check_source, eval_bytes};
 pub use upc_run::run_script;

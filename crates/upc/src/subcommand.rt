@@ -3,11 +3,11 @@
 ghost use Rattle.std.specs.Prelude.{◌≢◌};
 ghost use Rattle.text_io.specs.Serving.{IsServed};
 ghost use Rattle.upc.specs.Subcommand.{IsTextOf};
-ghost use Rattle.upc_choice.specs.declared.choice.Choice.TheVariants.{Ports};
+ghost use Rattle.command_line.specs.declared.choice.Choice.TheVariants.{Ports};
 
+use command_line::Choice;
 use std::alloc::Global;
 use text_io::{Done, Input, Output, RunFault};
-use upc_choice::Choice;
 use upc_programs::{check_source, eval_bytes};
 use upc_run::run_script;
 

@@ -7,10 +7,10 @@ use Rattle.lab_setups.specs.RulesFiles.{octets_of_texts}
 use Rattle.text_io.specs.declared.device.Input.{Ghosts as InputView}
 use Rattle.text_io.specs.declared.device.Output.{Ghosts as OutputView}
 use Rattle.text_io.specs.declared.ending.RunFault.{RunFault}
-use Rattle.upc_choice.specs.ShownWords.{shown_word}
-use Rattle.upc_choice.specs.declared.choice.Stop.{Stop}
-use Rattle.upc_exit.specs.Invocation.{CarriesOut, IsStatusFor}
-use Rattle.upc_exit.specs.Messages.{IsIdle, WritesMessage}
+use Rattle.command_line.specs.ShownWords.{shown_word}
+use Rattle.command_line.specs.declared.stop.Stop.{Stop}
+use Rattle.command_line.specs.Invocation.{CarriesOut, IsStatusFor}
+use Rattle.command_line.specs.Messages.{IsIdle, WritesMessage}
 use Rattle.upc_lab.specs.LabText.{IsAskedText}
 use Rattle.upc_lab.specs.ShownNames.{shown_name}
 use Rattle.upc_lab.specs.declared.choice.Asked.{Asked}

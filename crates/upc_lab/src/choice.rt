@@ -1,24 +1,16 @@
-//! The words of the command line, read by the crate `clap`.
+//! What the words of the command line ask for.
 
-ghost use Rattle.std.specs.Prelude.{◌≡◌, List, ℕ, [], false, true, IfErr, IfOk, IfSome, IsErrAnd, IsOkAnd, IsSome, IsSomeAnd, Some, codes, drop, map, option_map};
+ghost use Rattle.std.specs.Prelude.{◌≡◌, [], false, Err, IfErr, IfOk, IsOkAnd, IsSome, IsSomeAnd, Some, drop, map};
 ghost use Rattle.std.specs.String.{string_bytes};
-ghost use Rattle.clap.specs.Values.{kind_of};
-ghost use Rattle.clap.specs.Simple.{app_of};
-ghost use Rattle.clap.specs.Kinds.{FailsBy};
-ghost use Rattle.upc_choice.specs.Choice.{with_name};
-ghost use Rattle.upc_choice.specs.Stopping.{IsStopFor, StopsAt};
-ghost use Rattle.upc_lab.specs.LabWords.{AsksLab, IsLabStop, NamesLab, begins_cells, begins_fit, begins_police, begins_with, lab_alone, lab_app, lab_faults_in, lab_line, lab_named};
+ghost use Rattle.command_line.specs.Stopping.{StopsAt};
+ghost use Rattle.upc_lab.specs.LabWords.{AsksLab, IsLabStop, NamesLab, begins_cells, begins_fit, begins_police, begins_with, lab_faults_in};
 ghost use Rattle.upc_lab.specs.declared.choice.Asked.{Asked as TheAsked};
-ghost use Rattle.upc_lab.specs.inner.FoundName.{lab_name_in};
-ghost use Rattle.upc_lab.specs.inner.RowNamed.{row_named};
-ghost use Rattle.upc_lab.specs.inner.PartialCommands.{plain_app, rules_app};
 
-use clap::{Command, Error};
+use command_line::{Program, Row, Stop, row_of_words};
 use lab_options::{
     CellsOptions, FitOptions, PoliceOptions, cells_options, fit_options, police_options,
 };
-use std::alloc::{AllocError, Global};
-use upc_choice::{Stop, stop_for};
+use std::alloc::Global;
 
 /// A subcommand without options.
 #[derive(Clone, Copy, Debug, PartialEq, Eq)]
@@ -51,6 +43,80 @@ pub enum Asked {
     /// Print the verdicts on the cells of a capture.
     Police(PoliceOptions),
 }
+
+/// The program, without its subcommands.
+const LAB: Program = Program {
+    name: "upc-lab",
+    about: "Rules for classes of ATM cells, the programs of upc, and the contracts that it polices",
+    after_help: "All read standard input, to its end.",
+    wants_one: true,
+};
+
+/// Its subcommands. None stands for one with options, which has a command of its own.
+const SUBCOMMANDS: [Row<Option<Subcommand>>; 10] = [
+    Row {
+        name: "rules",
+        about: "Compile rules for cells and print the octets of their program",
+        example: Some("Example: printf 'vpi 1 and vci 32..127 -> 1\\n' | upc-lab rules"),
+        means: Some(Subcommand::Rules),
+    },
+    Row {
+        name: "why",
+        about: "Read rules, a line `cells` and cells, and print which rule decides each",
+        example: Some(
+            "Example: (cat examples/customer.rules; echo cells; tail -n +2 examples/customer.eval) | upc-lab why",
+        ),
+        means: Some(Subcommand::Why),
+    },
+    Row {
+        name: "asm",
+        about: "Compile rules for cells and print their program in assembly, with the rules as comments",
+        example: Some("Example: upc-lab asm < examples/customer.rules"),
+        means: Some(Subcommand::Asm),
+    },
+    Row {
+        name: "list",
+        about: "List a program in hexadecimal, with the octets of each instruction",
+        example: Some("Example: echo 0006000000000007 | upc-lab list"),
+        means: Some(Subcommand::List),
+    },
+    Row {
+        name: "trace",
+        about: "Run a program in hexadecimal on cells, and print each step",
+        example: Some("Example: upc-lab trace < examples/customer.eval"),
+        means: Some(Subcommand::Trace),
+    },
+    Row {
+        name: "size",
+        about: "Print the buckets of contracts on paper, and the rates that they police",
+        example: Some("Example: echo cbr1 pcr 353207 cdvt 250us tick 100ns | upc-lab size"),
+        means: Some(Subcommand::Size),
+    },
+    Row {
+        name: "explain",
+        about: "Explain the faults of a script, or after a line `source` that of a source of assembly",
+        example: Some("Example: upc-lab explain < examples/desk-refusals.run"),
+        means: Some(Subcommand::Explain),
+    },
+    Row {
+        name: "cells",
+        about: "Print the ATM cells of a capture of a link as lines of a script",
+        example: Some("It has options: `upc-lab cells --help` lists them"),
+        means: None,
+    },
+    Row {
+        name: "fit",
+        about: "Print the least limit under which all cells of each connection of a capture conform",
+        example: Some("It has options: `upc-lab fit --help` lists them"),
+        means: None,
+    },
+    Row {
+        name: "police",
+        about: "Police the ATM cells of a capture by the contracts of a setup script",
+        example: Some("It has options: `upc-lab police --help` lists them"),
+        means: None,
+    },
+];
 
 /// Reads the words after the program's name: `cells`, `fit` or `police` and its options, or the name of another subcommand. The forms of
 /// help that `clap` has request help. Any other word, any further word and no word is an error. As everywhere in `clap`, `--` ends the
@@ -122,202 +188,17 @@ fn choose_plain(alloc: Global, words: Vec<String>) -> Result<Subcommand, Stop>
     ensures granted { (subcommand : Subcommand) → NamesLab (map string_bytes words.items) subcommand
         → IfErr result (λ stop. stop ≡ Stop.NoMemory) }
 {
-    let Ok(words) = line_of_words(alloc, words) else {
-        return Err(Stop::NoMemory);
-    };
-    let Ok(command) = own_command(alloc) else {
-        return Err(Stop::NoMemory);
-    };
-    let found = found_in(command, words.as_slice());
-    answer_to(alloc, found)
+    subcommand_of(row_of_words(alloc, &LAB, &SUBCOMMANDS, words))
 }
 
-/// Puts the program's name before the words, because `clap` takes the first word as the name.
-fn line_of_words(alloc: Global, mut words: Vec<String>) -> Result<Vec<String>, AllocError>
-    ensures { IfOk result (λ all. map string_bytes all.items ≡ lab_line (map string_bytes words.items)) }
+/// Returns the subcommand of a row.
+fn subcommand_of(row: Result<Option<Option<Subcommand>>, Stop>) -> Result<Subcommand, Stop>
+    requires { IfOk row (λ row. IsSomeAnd row (λ meaning. IsSome meaning)) }
+    ensures named { IfOk row (λ row. IsOkAnd result (λ subcommand. row ≡ Some (Some subcommand))) }
+    ensures stopped { IfErr row (λ stop. result ≡ Err stop) }
 {
-    let name = String::from_str(alloc, "upc-lab")?;
-    words.insert(0, name)?;
-    Ok(words)
-}
-
-/// Returns the command `upc-lab`.
-#[tactic(auto, unfolding(crate::specs::LabWords::lab_app))]
-fn own_command<'a>(alloc: Global) -> Result<Command<'a>, AllocError>
-    ensures { IfOk result (λ command. app_of command ≡ lab_app) }
-{
-    let command = bare_command(alloc);
-    let command = with_subcommand(
-        alloc,
-        command,
-        "rules",
-        "Compile rules for cells and print the octets of their program",
-        "Example: printf 'vpi 1 and vci 32..127 -> 1\\n' | upc-lab rules",
-    )?;
-    let command = with_subcommand(
-        alloc,
-        command,
-        "why",
-        "Read rules, a line `cells` and cells, and print which rule decides each",
-        "Example: (cat examples/customer.rules; echo cells; tail -n +2 examples/customer.eval) | upc-lab why",
-    )?;
-    let command = with_subcommand(
-        alloc,
-        command,
-        "asm",
-        "Compile rules for cells and print their program in assembly, with the rules as comments",
-        "Example: upc-lab asm < examples/customer.rules",
-    )?;
-    let command = with_program_subcommands(alloc, command)?;
-    with_capture_subcommands(alloc, command)
-}
-
-/// Adds the subcommands for programs, contracts and faults.
-fn with_program_subcommands<'a>(
-    alloc: Global,
-    command: Command<'a>,
-) -> Result<Command<'a>, AllocError>
-    requires { app_of command ≡ rules_app }
-    ensures { IfOk result (λ command. app_of command ≡ plain_app) }
-{
-    let command = with_subcommand(
-        alloc,
-        command,
-        "list",
-        "List a program in hexadecimal, with the octets of each instruction",
-        "Example: echo 0006000000000007 | upc-lab list",
-    )?;
-    let command = with_subcommand(
-        alloc,
-        command,
-        "trace",
-        "Run a program in hexadecimal on cells, and print each step",
-        "Example: upc-lab trace < examples/customer.eval",
-    )?;
-    let command = with_subcommand(
-        alloc,
-        command,
-        "size",
-        "Print the buckets of contracts on paper, and the rates that they police",
-        "Example: echo cbr1 pcr 353207 cdvt 250us tick 100ns | upc-lab size",
-    )?;
-    with_subcommand(
-        alloc,
-        command,
-        "explain",
-        "Explain the faults of a script, or after a line `source` that of a source of assembly",
-        "Example: upc-lab explain < examples/desk-refusals.run",
-    )
-}
-
-/// Adds the subcommands for captures.
-#[tactic(auto, unfolding(crate::specs::LabWords::lab_app))]
-fn with_capture_subcommands<'a>(
-    alloc: Global,
-    command: Command<'a>,
-) -> Result<Command<'a>, AllocError>
-    requires { app_of command ≡ plain_app }
-    ensures { IfOk result (λ command. app_of command ≡ lab_app) }
-{
-    let command = with_subcommand(
-        alloc,
-        command,
-        "cells",
-        "Print the ATM cells of a capture of a link as lines of a script",
-        "It has options: `upc-lab cells --help` lists them",
-    )?;
-    let command = with_subcommand(
-        alloc,
-        command,
-        "fit",
-        "Print the least limit under which all cells of each connection of a capture conform",
-        "It has options: `upc-lab fit --help` lists them",
-    )?;
-    with_subcommand(
-        alloc,
-        command,
-        "police",
-        "Police the ATM cells of a capture by the contracts of a setup script",
-        "It has options: `upc-lab police --help` lists them",
-    )
-}
-
-fn bare_command<'a>(alloc: Global) -> Command<'a>
-    ensures { app_of result ≡ lab_alone }
-{
-    Command::new(alloc, "upc-lab")
-        .about(
-            "Rules for classes of ATM cells, the programs of upc, and the contracts that it polices",
-        )
-        .after_help("All read standard input, to its end.")
-        .subcommand_required(true)
-}
-
-#[tactic(auto, unfolding(upc_choice::specs::Choice::with_name))]
-fn with_subcommand<'a>(
-    alloc: Global,
-    command: Command<'a>,
-    name: &'a str,
-    about: &'a str,
-    example: &'a str,
-) -> Result<Command<'a>, AllocError>
-    ensures { IfOk result (λ more. app_of more ≡ with_name (app_of command.entry) name.entry.now) }
-{
-    command.subcommand(Command::new(alloc, name).about(about).after_help(example))
-}
-
-/// Returns the name of the subcommand in the words, if `clap` accepts them.
-fn found_in<'a>(command: Command<'a>, words: &'a [String]) -> Result<Option<&'a str>, Error>
-    requires { app_of command ≡ lab_app }
-    ensures kinds { (given : List (List ℕ)) → map string_bytes words.entry.now ≡ lab_line given
-        → FailsBy (lab_faults_in given) result }
-    ensures name { (given : List (List ℕ)) → map string_bytes words.entry.now ≡ lab_line given
-        → IfOk result (λ name. option_map (λ text. text.now) name ≡ lab_name_in given) }
-{
-    match command.try_get_matches_from(words) {
-        Ok(matches) => Ok(matches.subcommand_name()),
-        Err(error) => Err(error),
+    match row {
+        Ok(row) => Ok(row.unwrap().unwrap()),
+        Err(stop) => Err(stop),
     }
-}
-
-fn answer_to(alloc: Global, found: Result<Option<&str>, Error>) -> Result<Subcommand, Stop>
-    requires { IfOk found (λ name. IsSomeAnd name (λ text. IsSome (lab_named text.now))) }
-    ensures named { IfOk found.entry (λ name. IfSome name (λ text. IsOkAnd result (λ subcommand. lab_named text.now ≡ Some subcommand))) }
-    ensures stopped { IfErr found.entry (λ error. IsErrAnd result (IsStopFor (kind_of error))) }
-{
-    match found {
-        Ok(name) => Ok(named(name.unwrap()).unwrap()),
-        Err(error) => Err(stop_for(alloc, error)),
-    }
-}
-
-/// The name of each subcommand.
-const SUBCOMMANDS: [(&[u8], Subcommand); 7] = [
-    (b"rules", Subcommand::Rules),
-    (b"why", Subcommand::Why),
-    (b"asm", Subcommand::Asm),
-    (b"list", Subcommand::List),
-    (b"trace", Subcommand::Trace),
-    (b"size", Subcommand::Size),
-    (b"explain", Subcommand::Explain),
-];
-
-/// Returns the subcommand of the row with this name.
-fn named_among(name: &[u8], rows: &[(&[u8], Subcommand)]) -> Option<Subcommand>
-    ensures { result ≡ row_named name.now (map (λ row. (row.0.now, row.1)) rows.now) }
-{
-    let mut left = rows;
-    while let [row, rest @ ..] = left {
-        if row.0 == name {
-            return Some(row.1);
-        }
-        left = rest;
-    }
-    None
-}
-
-fn named(name: &str) -> Option<Subcommand>
-    ensures { result ≡ lab_named name.now }
-{
-    named_among(name.as_bytes(), &SUBCOMMANDS)
 }

@@ -2,9 +2,9 @@
 
 ghost use Rattle.std.specs.Prelude.{◌≡◌};
 ghost use Rattle.text_io.specs.Serving.{IsServed};
-ghost use Rattle.upc_exit.specs.ExitStatus.{status_of};
-ghost use Rattle.upc_exit.specs.Invocation.{CarriesOut, IsStatusFor};
-ghost use Rattle.upc_exit.specs.Messages.{Reports};
+ghost use Rattle.command_line.specs.ExitStatus.{status_of};
+ghost use Rattle.command_line.specs.Invocation.{CarriesOut, IsStatusFor};
+ghost use Rattle.command_line.specs.Messages.{Reports};
 ghost use Rattle.upc_lab.specs.LabMessages.{lab_failure_line, shell_status_of};
 ghost use Rattle.upc_lab.specs.LabText.{IsAskedText, IsLabText};
 ghost use Rattle.upc_lab.specs.SetupFile.{CarriesAllOut, IsStatusIn, rules_in_files};
@@ -12,6 +12,7 @@ ghost use Rattle.upc_lab.specs.SetupFile.{CarriesAllOut, IsStatusIn, rules_in_fi
 use crate::choice::{Asked, Subcommand};
 use crate::reason::Reasoned;
 use crate::setup_file::{SetupFiles, Unreadable};
+use command_line::{Stop, status, write_message};
 use lab_captures::cells_of_capture;
 use lab_faults::{Ahead, explain_faults};
 use lab_fit::fit_capture;
@@ -22,8 +23,6 @@ use lab_sizes::size_contracts;
 use std::alloc::Global;
 use std::thread::Threads;
 use text_io::{Done, Output, RunFault, give_all};
-use upc_choice::Stop;
-use upc_exit::{status, write_message};
 
 /// The message for a failure of a run over these devices.
 fn line_of<'a, I: Reasoned, O: Reasoned>(fault: RunFault, input: &'a I, output: &'a O) -> &'a [u8]

@@ -13,6 +13,7 @@ mod setup_file;
 mod tests;
 
 pub use choice::{Asked, Subcommand, choose};
+use command_line::{OfProcess, Stop, words_after_name};
 pub use invocation::{carry_out, shell_status};
 pub use lab_captures::cells_of_capture;
 pub use lab_faults::{LookedAt, explain_faults};
@@ -31,7 +32,6 @@ pub use setup_file::{SetupFiles, Unreadable, read_setup};
 use std::io::IsTerminal;
 use std::process::ExitCode;
 use text_io::WriterOutput;
-use upc_choice::{OfProcess, Stop, words_after_name};
 
 fn main(rt: HostRuntime) -> ExitCode {
     let line = OfProcess(&rt);

@@ -1,8 +1,9 @@
 //! What the program says if its input is a terminal, because nothing else shows that it waits for input.
 
 ghost use Rattle.std.specs.Prelude.{◌≡◌, Some};
+ghost use Rattle.command_line.specs.Subcommands.{meaning_in};
 ghost use Rattle.upc_lab.specs.LabMessages.{asked_notice, lab_name_of, lab_notice};
-ghost use Rattle.upc_lab.specs.LabWords.{lab_named};
+ghost use Rattle.upc_lab.specs.LabWords.{lab_subcommands};
 
 use crate::choice::{Asked, Subcommand};
 
@@ -21,7 +22,7 @@ pub fn awaited(asked: &Asked) -> &'static str
 /// Returns the notice for a subcommand without options, which begins with its name.
 fn notice_of(subcommand: Subcommand) -> &'static str
     ensures text { result.now ≡ lab_notice subcommand }
-    ensures named { lab_named (lab_name_of subcommand) ≡ Some subcommand }
+    ensures named { meaning_in lab_subcommands (lab_name_of subcommand) ≡ Some subcommand }
 {
     match subcommand {
         Subcommand::Rules => "upc-lab rules: reading rules from the terminal, to its end",

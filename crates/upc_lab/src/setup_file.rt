@@ -9,6 +9,7 @@ ghost use Rattle.upc_lab.specs.SetupFile.{IsUnreadable, IsUnreadableSetup, IsUnr
 use crate::choice::Asked;
 use crate::file_names::{add_shown_name, name_given};
 use crate::reason::in_words;
+use command_line::{CommandLine, Stop};
 use lab_setups::{SharedText, files_read};
 use std::alloc::{AllocError, Global};
 use std::collections::BTreeMap;
@@ -17,7 +18,6 @@ use std::io::Read;
 use std::path::Path;
 use std::rt::Files;
 use std::{io, str};
-use upc_choice::{CommandLine, Stop};
 
 /// The maximum number of octets of a text of rules.
 const MOST_RULES_OCTETS: u64 = 1048576;

@@ -9,13 +9,13 @@ use crate::{
     shell_status,
 };
 use captures::Tick;
+use command_line::{InMemory, Stop, words_after_name};
 use std::alloc::{AllocError, Global};
 use std::process::Abort;
 use std::rt::Files;
 use std::test::Fail;
 use std::thread::Threads;
 use text_io::{Failed, FaultyInput, FaultyOutput, Output};
-use upc_choice::{InMemory, Stop, words_after_name};
 
 /// The exit status, the output and the messages of a run.
 #[derive(Drop)]

@@ -1,12 +1,12 @@
 //! Tests of the options.
 
 use captures::Tick;
+use command_line::Stop;
 use lab_captures::CellLines;
 use lab_options::{CellsOptions, FitOptions, cells_options, fit_options, police_options};
 use std::alloc::{AllocError, Global};
 use std::test::Fail;
 use upc_cell::Side;
-use upc_choice::Stop;
 
 fn words_of(alloc: Global, line: &str) -> Result<Vec<String>, AllocError> {
     let mut words = Vec::new(alloc);

@@ -1,38 +1,35 @@
 -- The answers to values of options.
-use Rattle.std.specs.Prelude.{◌≡◌, ◌⊎◌, ⊤, Option, Some, None, Result, Ok, Err}
+use Rattle.std.specs.Prelude.{◌≡◌, ⊤, List, Option, Some, None, Result, Ok, Err, codes}
 use Rattle.clap.specs.Walk.{Text}
-use Rattle.lab_options.specs.OptionValues.{interface_of, tick_of}
-use Rattle.lab_options.specs.FitOptions.{FitAsked, asked_by}
-use Rattle.lab_options.specs.PoliceOptions.{PoliceAsked, police_asked_by}
-use Rattle.lab_options.specs.declared.cells.CellsOptions.{CellsOptions}
-use Rattle.lab_options.specs.declared.fit.FitOptions.{FitOptions}
-use Rattle.lab_options.specs.declared.police.PoliceOptions.{PoliceOptions}
-use Rattle.upc_choice.specs.declared.choice.Stop.{Stop}
-use Rattle.upc_choice.specs.declared.choice.Stop.TheVariants.{Help, Words, NoMemory}
+use Rattle.command_line.specs.Arguments.{text_named}
+use Rattle.command_line.specs.declared.stop.Stop.{Stop}
+use Rattle.command_line.specs.declared.stop.Stop.TheVariants.{Help, Words, NoMemory}
+use Rattle.lab_options.specs.CellsOptions.{CellsAsked, cells_values}
+use Rattle.lab_options.specs.FitOptions.{FitAsked, fit_values}
+use Rattle.lab_options.specs.PoliceOptions.{PoliceAsked, police_values}
 
 -- No request for help.
 abbrev pub IsWrongValue : Stop → Type 0
 IsWrongValue (Help text) = ⊥
 IsWrongValue _ = ⊤
 
--- The options that both values spell, or words about a wrong one.
-abbrev pub AnswersValues : Option Text → Option Text → Result CellsOptions Stop → Type 0
-AnswersValues tick interface (Ok options) =
-    (tick_of tick ≡ Some options.tick.nanoseconds) × (interface_of interface ≡ Some options.interface)
-AnswersValues tick interface (Err (Help text)) = ⊥
-AnswersValues tick interface (Err (Words text)) = (tick_of tick ≡ None) ⊎ (interface_of interface ≡ None)
-AnswersValues tick interface (Err NoMemory) = ⊤
+-- The options that values spell, or words about a wrong one.
+abbrev pub AnswersValues : {Asked Options : Type 0} → (Options → Asked) → Option Asked → Result Options Stop → Type 0
+AnswersValues asked_by spelled (Ok options) = spelled ≡ Some (asked_by options)
+AnswersValues asked_by spelled (Err (Help text)) = ⊥
+AnswersValues asked_by spelled (Err (Words text)) = spelled ≡ None
+AnswersValues asked_by spelled (Err NoMemory) = ⊤
 
--- The options of `fit` that values spell, or words about a wrong one.
-abbrev pub AnswersFit : Option FitAsked → Result FitOptions Stop → Type 0
-AnswersFit spelled (Ok options) = spelled ≡ Some (asked_by options)
-AnswersFit spelled (Err (Help text)) = ⊥
-AnswersFit spelled (Err (Words text)) = spelled ≡ None
-AnswersFit spelled (Err NoMemory) = ⊤
+-- What named values of `cells` spell.
+abbrev pub cells_spelled : List (Text × Option Text) → Option CellsAsked
+cells_spelled texts = cells_values (text_named texts (codes "tick")) (text_named texts (codes "interface"))
 
--- The options of `police` that values spell, or words about a wrong one.
-abbrev pub AnswersPolice : Option PoliceAsked → Result PoliceOptions Stop → Type 0
-AnswersPolice spelled (Ok options) = spelled ≡ Some (police_asked_by options)
-AnswersPolice spelled (Err (Help text)) = ⊥
-AnswersPolice spelled (Err (Words text)) = spelled ≡ None
-AnswersPolice spelled (Err NoMemory) = ⊤
+-- What named values of `fit` spell.
+abbrev pub fit_spelled : List (Text × Option Text) → Option FitAsked
+fit_spelled texts = fit_values (text_named texts (codes "increment")) (text_named texts (codes "tick")) (text_named texts (codes "interface"))
+    (text_named texts (codes "side"))
+
+-- What named values of `police` spell.
+abbrev pub police_spelled : List (Text × Option Text) → Option PoliceAsked
+police_spelled texts = police_values (text_named texts (codes "SETUP")) (text_named texts (codes "tick")) (text_named texts (codes "interface"))
+    (text_named texts (codes "lines")) (text_named texts (codes "threads"))

@@ -1,14 +1,24 @@
 -- The options are those that clap finds in the words, if their values spell something.
-use Rattle.std.proofs.Common.{rules, map}
+use Rattle.std.proofs.Common.{ap, map}
 use Rattle.std.specs.String.{string_bytes}
-use Rattle.lab_options.specs.CellsOptions.{cells_app}
-use Rattle.lab_options.proofs.Choosing.{answers}
+use Rattle.std.proofs.lemmas.Result.{IfOk-weaker}
+use Rattle.command_line.specs.Arguments.{texts_of}
+use Rattle.lab_options.specs.CellsOptions.{cells_app, cells_asked, cells_asked_by}
+use Rattle.lab_options.specs.inner.Answered.{cells_spelled}
+use Rattle.lab_options.proofs.Answering.{answers}
+use Rattle.lab_options.proofs.Commands.{cells_is_free}
 use Rattle.lab_options.proofs.cells.cells_options.Goals as goal
+
+pub values_of_words-found-requires : goal.values_of_words-found-requires
+unfolding cells_app
+values_of_words-found-requires c = cells_is_free
 
 pub returns : goal.returns
 unfolding cells_app
 returns c =
-    let found = c.values_in-found in
-    let all = answers (map string_bytes c.args.words.items) found.result c.answer_to.result (found.ensures.kinds _ (search rules))
-    (found.ensures.tick _ (search rules)) (found.ensures.interface _ (search rules)) c.answer_to.ensures.values c.answer_to.ensures.stopped in
+    let found = c.values_of_words-found in
+    let all = answers cells_app cells_asked cells_asked_by (map string_bytes c.args.words.items) (λ values. cells_spelled (texts_of values.items)) found.result c.answer_to.result
+    found.ensures.faultless found.ensures.stopped found.ensures.taken
+    (IfOk-weaker found.result _ _ (λ values same. ap cells_spelled same) found.ensures.values)
+    c.answer_to.ensures.values c.answer_to.ensures.stopped in
     record { asked = all.asked; stopped = all.stopped; granted = all.granted }

@@ -1,19 +1,26 @@
--- The choice is what clap finds in the words.
-use Rattle.std.proofs.Common.{rules, map}
+-- The subcommand is that of the row which the words name.
+use Rattle.std.proofs.Common.{map}
 use Rattle.std.specs.String.{string_bytes}
-use Rattle.upc_lab.proofs.LabChoosing.{answers, named_in}
+use Rattle.upc_lab.specs.LabWords.{lab_app}
+use Rattle.upc_lab.proofs.LabChoosing.{answers, lab_is_plain, row_is_plain}
 use Rattle.upc_lab.proofs.choice.choose_plain.Goals as goal
 
-pub answer_to-requires : goal.answer_to-requires
-answer_to-requires c =
-    let found = c.found_in-found in
-    named_in (map string_bytes c.args.words.items) found.result c.requires.cells c.requires.fit c.requires.police (found.ensures.kinds _ (search rules)) (found.ensures.name _ (search rules))
+pub row_of_words-requires : goal.row_of_words-requires
+unfolding lab_app
+row_of_words-requires c = lab_is_plain
+
+pub subcommand_of-requires : goal.subcommand_of-requires
+unfolding lab_app
+subcommand_of-requires c =
+    row_is_plain (map string_bytes c.args.words.items) c.row_of_words.result c.requires.cells c.requires.fit c.requires.police
+    c.row_of_words.ensures.faultless c.row_of_words.ensures.asked
 
 pub returns : goal.returns
+unfolding lab_app
 returns c =
-    let found = c.found_in-found in
-    let all = answers (map string_bytes c.args.words.items) found.result c.answer_to.result (found.ensures.kinds _ (search rules))
-    (found.ensures.name _ (search rules)) c.answer_to.ensures.named c.answer_to.ensures.stopped in
+    let row = c.row_of_words.ensures in
+    let all = answers (map string_bytes c.args.words.items) c.row_of_words.result c.subcommand_of.result c.requires.cells c.requires.fit c.requires.police
+    row.faultless row.asked row.stopped row.taken row.granted c.subcommand_of.ensures.named c.subcommand_of.ensures.stopped in
     record {
       asked = all.asked;
       faultless = all.faultless;

@@ -1,0 +1,7 @@
+pub mod Choosing
+pub mod PlainWords
+pub mod Reading
+pub mod SameValues
+pub mod Stops
+pub mod UpcChoosing
+pub mod WordLemmas

@@ -1,0 +1,23 @@
+//! Command lines: the words as they are shown, the subcommand that they name or the values of their options, and how a program ends.
+#![tactic(auto)]
+
+mod arguments;
+mod choice;
+mod exit;
+mod line;
+mod messages;
+mod notice;
+mod stop;
+mod subcommands;
+mod word_sources;
+mod words;
+
+pub use arguments::{Argument, Options, Value, text_of, values_of_words};
+pub use choice::{Choice, choose};
+pub use exit::status;
+pub use messages::write_message;
+pub use notice::awaited;
+pub use stop::Stop;
+pub use subcommands::{Program, Row, row_of_words};
+pub use word_sources::{CommandLine, InMemory, OfProcess};
+pub use words::words_after_name;

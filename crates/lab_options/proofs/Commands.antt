@@ -1,0 +1,20 @@
+-- clap's definitions, computed for each command.
+use Rattle.std.proofs.Common.{◌≡◌, refl, true}
+use Rattle.clap.specs.Faults.{is_simple_and_free}
+use Rattle.clap.proofs.OnLiterals.{clap_on_literals}
+use Rattle.command_line.specs.Arguments.{app_with_rules}
+use Rattle.lab_options.specs.CellsOptions.{cells_app}
+use Rattle.lab_options.specs.FitOptions.{fit_app}
+use Rattle.lab_options.specs.PoliceOptions.{police_app}
+
+pub cells_is_free : is_simple_and_free cells_app ≡ true
+unfolding cells_app app_with_rules clap_on_literals
+cells_is_free = refl
+
+pub fit_is_free : is_simple_and_free fit_app ≡ true
+unfolding fit_app app_with_rules clap_on_literals
+fit_is_free = refl
+
+pub police_is_free : is_simple_and_free police_app ≡ true
+unfolding police_app app_with_rules clap_on_literals
+police_is_free = refl

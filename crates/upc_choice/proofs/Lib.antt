@@ -1,5 +1,0 @@
-pub mod Choosing
-pub mod PlainWords
-pub mod Public
-pub mod Stops
-pub mod WordLemmas
