@@ -2,6 +2,7 @@
 use Rattle.std.proofs.Common.{ℕ, List}
 use Rattle.text_io.specs.declared.ending.Done.{Done}
 use Rattle.lab_captures.proofs.Public.{fixed_total, some_capture_text, some_cells_text}
+use Rattle.lab_captures.specs.CellFilter.{filter_start}
 use Rattle.lab_faults.proofs.Public.{some-explain_text}
 use Rattle.lab_fit.specs.FitText.{fit_closes, fit_rules, fit_start, fit_steps}
 use Rattle.lab_programs.proofs.Public.{some-list_text, some-trace_text}
@@ -30,5 +31,5 @@ some-asked_text (Cells options) setup rules octets = some_cells_text options.tic
 some-asked_text (Police options) setup rules octets =
     some_setup_text options.lines options.tick.nanoseconds options.interface setup rules octets
 some-asked_text (Fit options) setup rules octets =
-    some_capture_text fit_rules (fixed_total fit_steps fit_closes)
-    (fit_start options.increment options.tick.nanoseconds options.interface options.side) octets tt
+    some_capture_text fit_rules (fixed_total fit_steps fit_closes) (filter_start options.tick.nanoseconds options.interface)
+    (fit_start options.increment options.side) octets tt

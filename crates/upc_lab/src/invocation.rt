@@ -89,6 +89,9 @@ fn run_plain<I: Ahead, O: Output>(
     }
 }
 
+/// How many threads may work at once where no option says so.
+const THREADS: usize = 2;
+
 /// Runs what was asked for over the whole input, with the files that the words name.
 fn run<R: Threads, I: Ahead + Send, O: Output>(
     rt: &R,
@@ -103,6 +106,8 @@ fn run<R: Threads, I: Ahead + Send, O: Output>(
     match asked {
         Asked::Plain(subcommand) => run_plain(alloc, *subcommand, input, output),
         Asked::Cells(options) => cells_of_capture(
+            rt,
+            THREADS,
             alloc,
             options.tick,
             options.interface,
@@ -110,6 +115,8 @@ fn run<R: Threads, I: Ahead + Send, O: Output>(
             output,
         ),
         Asked::Fit(options) => fit_capture(
+            rt,
+            THREADS,
             alloc,
             options.increment,
             options.tick,

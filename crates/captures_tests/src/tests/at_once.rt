@@ -10,7 +10,7 @@ use std::alloc::{AllocError, Global};
 use std::sync::atomic::{AtomicU64, Ordering};
 use std::test::Fail;
 use std::thread::Threads;
-use text_io::{Done, Failed, Input, WriterOutput};
+use text_io::{Done, Failed, Input, Turn, WriterOutput};
 
 /// How often one looks for the other. That takes a second or so, and a thread that is at work is found sooner.
 const MOST_LOOKS: u64 = 200_000_000;
@@ -89,7 +89,7 @@ impl Waiting<'_> {
 }
 
 impl CellFollower for Waiting<'_> {
-    ghost use Rattle.std.specs.Prelude.{◌≡◌, []};
+    ghost use Rattle.std.specs.Prelude.{◌≡◌, [], Some};
     ghost use Rattle.std.proofs.Common.{refl};
 
     ghost World = { Unit {0} };
@@ -97,7 +97,7 @@ impl CellFollower for Waiting<'_> {
     ghost shows = { λ waiting world. Unit {0} };
 
     ghost rules = { record {
-      steps = λ before counted text after. text ≡ [];
+      steps = λ before counted text next. (text ≡ []) × (next ≡ Some tt);
       closes = λ world passed ending. [];
       is_sound = λ world. Unit {0};
     } };
@@ -106,7 +106,7 @@ impl CellFollower for Waiting<'_> {
         &mut self,
         _counted: &CountedCell,
         _answers: &mut Vec<u8>,
-    ) -> Result<(), AllocError> {
+    ) -> Result<Turn, AllocError> {
         if self.cells == 0 {
             self.meet(1);
         }
@@ -114,7 +114,7 @@ impl CellFollower for Waiting<'_> {
             self.meet(2);
         }
         self.cells = self.cells.saturating_add(1);
-        Ok(())
+        Ok(Turn::GoesOn)
     }
 
     fn close(
@@ -128,7 +128,7 @@ impl CellFollower for Waiting<'_> {
 
     ghost is_total = { record {
       keeps = λ before counted here after led steps. tt;
-      step = λ before counted led. ([], tt, refl);
+      step = λ before counted led. ([], Some tt, (refl, refl));
     } };
 }
 

@@ -5,11 +5,13 @@ use captures::Tick;
 use lab_fit::{FitFault, fit_capture};
 use std::alloc::Global;
 use std::test::Fail;
+use std::thread::Threads;
 use text_io::{Done, ReaderInput, RunFault, WriterOutput};
 use upc_cell::Side;
 
 /// The output of `fit` for a capture of such records, and how the run ends, with a tick of one second.
 fn fitted(
+    rt: &impl Threads,
     alloc: Global,
     records: &[(u8, u8, u8)],
     increment: u64,
@@ -30,6 +32,8 @@ fn fitted(
     let mut source = ReaderInput::new(capture.as_slice());
     let mut sink = WriterOutput::new(Vec::new(alloc));
     let done = fit_capture(
+        rt,
+        2,
         alloc,
         increment,
         tick,
@@ -84,7 +88,7 @@ fn least_limits_by_hand(rt: HostRuntime) -> Result<(), Fail> {
             Done::Ended,
         ),
     ] {
-        match fitted(rt.alloc(), &cells[..count], increment, interface) {
+        match fitted(&rt, rt.alloc(), &cells[..count], increment, interface) {
             Ok((printed, ended)) => {
                 assert_eq!(rt; printed.as_slice(), text);
                 assert_eq!(rt; ended, done);
