@@ -1,4 +1,5 @@
 //! One module for each kind of answer.
 
+mod comparisons;
 mod faults;
 mod values;
