@@ -13,7 +13,7 @@ mod setup_file;
 mod tests;
 
 pub use choice::{Asked, Subcommand, choose};
-use command_line::{OfProcess, Stop, words_after_name};
+use command_line::{OfProcess, Stop, status, words_after_name};
 pub use invocation::{carry_out, shell_status};
 pub use lab_captures::cells_of_capture;
 pub use lab_faults::{LookedAt, explain_faults};
@@ -29,9 +29,19 @@ pub use notice::awaited;
 pub use progress::{Counted, reads_capture};
 pub use reason::{Knowing, Reasoned, Work};
 pub use setup_file::{SetupFiles, Unreadable, read_setup};
-use std::io::IsTerminal;
+use std::alloc::Global;
+use std::io::{BufReader, IsTerminal, Read};
 use std::process::ExitCode;
-use text_io::WriterOutput;
+use text_io::{RunFault, WriterOutput};
+
+/// Standard input with a buffer, which has no room if no memory is left. `why` takes an octet at a time, so that it takes nothing after the line
+/// `cells`; the buffer saves it a call of the system for each. A larger piece is read past the buffer.
+fn buffered<D: Read + Drop>(alloc: Global, device: D, again: D) -> Result<BufReader<D>, RunFault> {
+    match BufReader::new(alloc, device) {
+        Ok(reader) => Ok(reader),
+        Err(_) => BufReader::with_capacity(alloc, 0, again).map_err(|_| RunFault::NoMemory),
+    }
+}
 
 fn main(rt: HostRuntime) -> ExitCode {
     let line = OfProcess(&rt);
@@ -52,11 +62,15 @@ fn main(rt: HostRuntime) -> ExitCode {
     } else {
         None
     };
-    let stdin = Knowing::new(rt.alloc(), Work::Reading, rt.stdin());
+    let reader = match buffered(rt.alloc(), rt.stdin(), rt.stdin()) {
+        Ok(reader) => reader,
+        Err(fault) => return ExitCode::from(status(&Err(fault))),
+    };
+    let stdin = Knowing::new(rt.alloc(), Work::Reading, reader);
     let mut input = LookedAt::new(rt.alloc(), Counted::new(rt.alloc(), stdin, shown_on));
     let mut output = Knowing::new(rt.alloc(), Work::Writing, rt.stdout());
     let mut errors = WriterOutput::new(rt.stderr());
-    let status = carry_out(
+    let ended = carry_out(
         &rt,
         rt.alloc(),
         &chosen,
@@ -66,5 +80,5 @@ fn main(rt: HostRuntime) -> ExitCode {
         &mut errors,
     );
     input.input.finish();
-    ExitCode::from(shell_status(status, output.is_closed()))
+    ExitCode::from(shell_status(ended, output.is_closed()))
 }
