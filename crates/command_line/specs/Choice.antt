@@ -12,11 +12,11 @@ use Rattle.command_line.specs.declared.choice.Choice.TheVariants.{Check, Eval, R
 abbrev pub subcommands : List (Text × Choice)
 subcommands = (codes "check", Check) ∷ (codes "eval", Eval) ∷ (codes "run", Run) ∷ (codes "ports", Ports) ∷ []
 
--- The command `upc`: these subcommands, and no option except help, which every command has.
+-- The command `upc`: these subcommands, and no option except those for help and the version.
 unfoldable pub upc_app : App
 upc_app = app_with (codes "upc") false (row_names subcommands)
 
--- The kinds of error in the words; a request for help is one of them. The list is empty if clap accepts the words.
+-- The kinds of error in the words; a request for help or the version is one of them. The list is empty if clap accepts the words.
 abbrev pub faults_in : List Text → Kinds
 faults_in = kinds_in upc_app
 

@@ -9,7 +9,7 @@ use Rattle.clap.specs.Walk.{Text, first_of}
 abbrev pub named_words : App → List Text → List Text
 named_words app words = app.top.name ∷ words
 
--- The kinds of error in the words; a request for help is one of them. The list is empty if clap accepts the words.
+-- The kinds of error in the words; a request for help or the version is one of them. The list is empty if clap accepts the words.
 unfoldable pub kinds_in : App → List Text → Kinds
 kinds_in app words = fault_of app (named_words app words)
 

@@ -9,11 +9,11 @@ use Rattle.clap.specs.Faults.{is_simple_and_free}
 use Rattle.command_line.specs.CommandLines.{kinds_in}
 use Rattle.command_line.specs.Subcommands.{meaning_in}
 
--- The option takes no value, and only requests something, as help does.
+-- The option takes no value, and only requests something, as those for help and the version do.
 abbrev pub is_request_rule : Rule → Bool
 is_request_rule rule = not (is_some rule.index) && (not (takes_values rule) && is_request (action_of rule))
 
--- No option of the command asks for anything but help.
+-- No option of the command asks for anything but help and the version.
 abbrev pub has_requests_alone : Shape → Bool
 has_requests_alone command = list_all is_request_rule command.rules
 
@@ -26,7 +26,7 @@ is_plain_subcommand known command =
 abbrev pub is_taken : App → Text → Bool
 is_taken app name = is_empty (kinds_in app (name ∷ [])) && is_empty (kinds_in app (name ∷ codes "--" ∷ []))
 
--- The command has only help beside subcommands without arguments, each of which is a row, and takes the name of each row.
+-- The command has only help and the version beside subcommands without arguments, each of which is a row, and takes the name of each row.
 abbrev pub is_plain_command : {Meaning : Type 0} → App → List (Text × Meaning) → Bool
 is_plain_command app table =
     is_simple_and_free app

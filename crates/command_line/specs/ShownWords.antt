@@ -20,7 +20,7 @@ most_word_octets = 1024
 abbrev pub shown_character : ℕ → ℕ
 shown_character character = if is_control character then 65533 else character
 
--- The octets as they are shown: their characters, of which U+FFFD stands for octets that aren't UTF-8.
+-- The octets as they are shown: their characters, with U+FFFD in place of octets that aren't UTF-8.
 abbrev pub shown_text : List ℕ → List ℕ
 shown_text octets = encode_utf8_all (map shown_character (chars (utf8_lossy octets)))
 

@@ -1,5 +1,5 @@
 -- Commands whose subcommands take no arguments, and the rows of a table that their words name.
-use Rattle.std.specs.Prelude.{◌≡◌, ◌⊎◌, Bool, List, [], ◌∷◌, Option, Some, None, MatchOption, IsSomeAnd, fold, find, codes, map, option_map}
+use Rattle.std.specs.Prelude.{◌≡◌, ◌⊎◌, Bool, List, [], ◌∷◌, Option, Some, None, MatchOption, IsSomeAnd, fold, find, codes, map, option_map, true}
 use Rattle.std.specs.Str.{bytes_eq}
 use Rattle.clap.specs.Walk.{Text}
 use Rattle.clap.specs.Simple.{App, new_app, new_shape, on_top, with_subcommand}
@@ -10,11 +10,11 @@ use Rattle.command_line.specs.declared.subcommands.Row.{Row}
 unfoldable pub with_name : App → Text → App
 with_name app name = with_subcommand app (new_shape name)
 
--- The command without its subcommands. It may want one of them.
+-- The command without its subcommands. It has a version, and may want one of them.
 abbrev pub bare_app : Text → Bool → App
-bare_app name wants_one = on_top (λ top. record top { subcommand_required = wants_one }) (new_app name)
+bare_app name wants_one = on_top (λ top. record top { has_version = true; subcommand_required = wants_one }) (new_app name)
 
--- The command with subcommands of these names, and no option except help, which every command has.
+-- The command with subcommands of these names, and no option except those for help, which every command has, and for the version.
 unfoldable pub app_with : Text → Bool → List Text → App
 app_with name wants_one names = fold with_name (bare_app name wants_one) names
 

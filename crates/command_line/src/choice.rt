@@ -7,6 +7,7 @@ ghost use Rattle.command_line.specs.Stopping.{StopsAt};
 
 use crate::stop::Stop;
 use crate::subcommands::{Program, Row, row_of_words};
+use crate::version::VERSION;
 use std::alloc::Global;
 
 /// What the program should do: one choice for each subcommand.
@@ -25,6 +26,7 @@ pub enum Choice {
 /// The program, without its subcommands.
 const UPC: Program = Program {
     name: "upc",
+    version: VERSION,
     about: "Usage parameter control of ATM cells by BPF programs",
     after_help: "Without a word upc does what `upc eval` does. All read standard input, to its end.",
     wants_one: false,
@@ -59,8 +61,8 @@ const SUBCOMMANDS: [Row<Choice>; 4] = [
 ];
 
 /// Reads the words after the program's name. The one word is the name of a subcommand; no word means `eval`. The forms
-/// of help that `clap` has request help. Any other word and any further word is an error. As everywhere in `clap`, `--`
-/// ends the options and isn't a word itself, so it may be last.
+/// of help that `clap` has request help, and `--version` and `-V` the version. Any other word and any further word is an error. As
+/// everywhere in `clap`, `--` ends the options and isn't a word itself, so it may be last.
 pub fn choose(alloc: Global, words: Vec<String>) -> Result<Choice, Stop>
     ensures chosen { IfOk result (IsChosen (map string_bytes words.items)) }
     ensures faultless { IfOk result (λ _. faults_in (map string_bytes words.items) ≡ []) }

@@ -9,6 +9,7 @@ mod messages;
 mod notice;
 mod stop;
 mod subcommands;
+mod version;
 mod word_sources;
 mod words;
 
@@ -19,5 +20,6 @@ pub use messages::write_message;
 pub use notice::awaited;
 pub use stop::Stop;
 pub use subcommands::{Program, Row, row_of_words};
+pub use version::VERSION;
 pub use word_sources::{CommandLine, InMemory, OfProcess};
 pub use words::words_after_name;

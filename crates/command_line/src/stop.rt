@@ -10,7 +10,7 @@ use std::alloc::Global;
 /// Why the words give no choice. A text is the whole message, with its last line feed.
 #[derive(Debug, Drop)]
 pub enum Stop {
-    /// Help was requested. The text goes to the standard output, and the exit status is 0.
+    /// Help or the version was requested. The text goes to the standard output, and the exit status is 0.
     Help(String),
     /// A word is wrong, or there is one too many. The text goes to standard error, and the exit status is 2.
     Words(String),
@@ -18,7 +18,7 @@ pub enum Stop {
     NoMemory,
 }
 
-/// Returns why an error of `clap` gives no choice: it asks for help, a word is wrong, or an allocation failed. The text is
+/// Returns why an error of `clap` gives no choice: it asks for help or the version, a word is wrong, or an allocation failed. The text is
 /// clap's.
 pub(crate) fn stop_for(alloc: Global, error: Error) -> Stop
     ensures { IsStopFor (kind_of error) result }
@@ -29,7 +29,7 @@ pub(crate) fn stop_for(alloc: Global, error: Error) -> Stop
     };
     match kind {
         ErrorKind::OutOfMemory => Stop::NoMemory,
-        ErrorKind::DisplayHelp => Stop::Help(text),
+        ErrorKind::DisplayHelp | ErrorKind::DisplayVersion => Stop::Help(text),
         _ => Stop::Words(text),
     }
 }

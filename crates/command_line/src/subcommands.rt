@@ -22,6 +22,8 @@ use std::alloc::{AllocError, Global};
 pub struct Program {
     /// Its name.
     pub name: &'static str,
+    /// Its version, which `--version` and `-V` print after the name.
+    pub version: &'static str,
     /// What it does, as help says.
     pub about: &'static str,
     /// The end of its help.
@@ -44,7 +46,7 @@ pub struct Row<T> {
 }
 
 /// Reads the words after the name of a program. The one word is the name of a row, and the answer is what that row means;
-/// None if there is no word. The forms of help that `clap` has request help. Any other word and any further word is an error.
+/// None if there is no word. The forms of help that `clap` has request help, and `--version` and `-V` the version. Any other word and any further word is an error.
 /// As everywhere in `clap`, `--` ends the options and isn't a word itself, so it may be last.
 pub fn row_of_words<T: Copy>(
     alloc: Global,
@@ -94,6 +96,7 @@ fn bare_command<'a>(alloc: Global, program: &Program) -> Command<'a>
     ensures { app_of result ≡ bare_app program.now.name.now program.now.wants_one }
 {
     Command::new(alloc, program.name)
+        .version(program.version)
         .about(program.about)
         .after_help(program.after_help)
         .subcommand_required(program.wants_one)

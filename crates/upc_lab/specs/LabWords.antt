@@ -29,11 +29,11 @@ abbrev pub lab_table : List (Text × Option Subcommand)
 lab_table =
     map (λ row. (row.0, Some row.1)) lab_subcommands ++ (codes "cells", None) ∷ (codes "fit", None) ∷ (codes "police", None) ∷ []
 
--- The command `upc-lab`: these subcommands, of which it wants one, and no option except help, which every command has.
+-- The command `upc-lab`: these subcommands, of which it wants one, and no option except those for help and the version.
 unfoldable pub lab_app : App
 lab_app = app_with (codes "upc-lab") true (row_names lab_table)
 
--- The kinds of error in the words; a request for help is one of them. The list is empty if clap accepts the words.
+-- The kinds of error in the words; a request for help or the version is one of them. The list is empty if clap accepts the words.
 abbrev pub lab_faults_in : List Text → Kinds
 lab_faults_in = kinds_in lab_app
 

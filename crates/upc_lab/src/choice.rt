@@ -6,7 +6,7 @@ ghost use Rattle.command_line.specs.Stopping.{StopsAt};
 ghost use Rattle.upc_lab.specs.LabWords.{AsksLab, IsLabStop, NamesLab, begins_cells, begins_fit, begins_police, begins_with, lab_faults_in};
 ghost use Rattle.upc_lab.specs.declared.choice.Asked.{Asked as TheAsked};
 
-use command_line::{Program, Row, Stop, row_of_words};
+use command_line::{Program, Row, Stop, VERSION, row_of_words};
 use lab_options::{
     CellsOptions, FitOptions, PoliceOptions, cells_options, fit_options, police_options,
 };
@@ -47,6 +47,7 @@ pub enum Asked {
 /// The program, without its subcommands.
 const LAB: Program = Program {
     name: "upc-lab",
+    version: VERSION,
     about: "Rules for classes of ATM cells, the programs of upc, and the contracts that it polices",
     after_help: "All read standard input, to its end.",
     wants_one: true,

@@ -8,7 +8,7 @@ use Rattle.lab_options.specs.CellsOptions.{CellsAsked, cells_values}
 use Rattle.lab_options.specs.FitOptions.{FitAsked, fit_values}
 use Rattle.lab_options.specs.PoliceOptions.{PoliceAsked, police_values}
 
--- No request for help.
+-- No request for help or the version.
 abbrev pub IsWrongValue : Stop → Type 0
 IsWrongValue (Help text) = ⊥
 IsWrongValue _ = ⊤
