@@ -8,11 +8,7 @@ with many cells in the time that is drawn has counts of cells, and the greatest 
 import argparse
 import sys
 
-from captures.policing import card_of
-from plots.levels import OtherSetup, Plan
-from plots.verdicts import OTHER, NoVerdicts, read_verdicts
-
-MOST_CONNECTIONS = 4
+from plots.chosen import NotDrawn, drawn
 
 
 def connection(word):
@@ -31,37 +27,15 @@ def options():
     return reader.parse_args()
 
 
-def contracts_of(setup):
-    """Returns the contracts of each connection of a script."""
-    if setup is None:
-        return {}
-    card = card_of(setup.read())
-    if card is None:
-        raise OtherSetup("a line of the setup has a fault: upc-lab explain says where")
-    return {vc: connection.contracts for vc, connection in card.connections.items()}
-
-
-def drawn(asked):
-    """Returns the plan of a picture."""
-    contracts = contracts_of(asked.setup)
-    cells = read_verdicts(sys.stdin, asked.connection)
-    for vc in asked.connection or []:
-        if vc not in cells:
-            raise NoVerdicts("no line has a cell of %d/%d" % vc)
-    judged = sorted(vc for vc, it in cells.items() if any(verdict != OTHER for verdict in it.verdicts))
-    if not asked.connection and not judged:
-        raise NoVerdicts("no line has a cell that was judged; --connection names one to draw")
-    chosen = asked.connection or judged[:MOST_CONNECTIONS]
-    return Plan({vc: cells[vc] for vc in chosen}, contracts, asked.begin, asked.end)
-
-
 def main():
     asked = options()
     try:
-        plan = drawn(asked)
-    except (NoVerdicts, OtherSetup) as fault:
+        plan, ending = drawn(sys.stdin, asked.setup and asked.setup.read(), asked.connection, asked.begin, asked.end)
+    except NotDrawn as fault:
         print(f"plot: {fault}", file=sys.stderr)
         return 1
+    if ending:
+        print(f"plot: the cells before this line are drawn: {ending}", file=sys.stderr)
     from plots.drawing import draw  # it takes a second, so faults come first
 
     draw(plan, [(int(moment), text) for moment, text in asked.remark], sys.stdout.buffer)

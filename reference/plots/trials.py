@@ -1,4 +1,4 @@
-"""Compares the levels that pictures show with those of the buckets at each tick, on random cells.
+"""Compares the levels that pictures show with those of the buckets at each tick, on random cells; and what is said where none is drawn.
 
     python3 -m plots.trials [COUNT] [SEED]
 
@@ -9,6 +9,8 @@ import sys
 from bisect import bisect_right
 from copy import deepcopy
 
+from captures.policing import HEADING, TABLE, row
+from plots.chosen import NotDrawn, drawn
 from plots.levels import Plan
 from plots.verdicts import NUMBERS, Cells
 from policer.contract import Contract
@@ -74,12 +76,43 @@ def is_drawn_right(random_):
     return counts == shown.counts == [sum(it) for it in shown.spans] and all(is_right(plan, it, known, shown.is_few) for it in shown.fills)
 
 
+LINES = [row(HEADING), row((1, 5, 1, 100, 0, 1, "pass", "-", "-")), row((2, 9, 1, 101, 0, "-", "NoConnection", "-", "-"))]
+COUNTS = ["\n", row(TABLE), row((1, 100, 1, 0, 0, 0)), "# 1 not judged: no connection; first record 2\n"]
+SETUP = b"card 1 1 1 1\nrules any.rules\nsetup 1 100 p1 cbr1:10/5\n"
+
+# Verdicts, a setup, connections, a time, and what is said of them; nothing of the first one.
+SAID = [
+    (LINES + COUNTS, SETUP, None, None, None, None),
+    (LINES + COUNTS + ["fault capture 1 CutOff 40\n"], None, None, None, None, "fault capture 1 CutOff 40"),
+    (LINES + ["fault capture 2 Several 0 1\n"], SETUP, None, None, None, "fault capture 2 Several 0 1"),
+    (LINES + COUNTS, None, None, 6, 8, "no cell of 1/100 is from 6 to 8: the first is at 5, the last at 5"),
+    (LINES + COUNTS, None, None, 9, 4, "no cell of 1/100 is from 9 to 4: the first is at 5, the last at 5"),
+    (LINES + COUNTS, None, [(7, 7)], None, None, "no line has a cell of 7/7"),
+    (LINES + COUNTS, SETUP, [(1, 101)], None, None, "the setup has no connection 1/101"),
+    (LINES + COUNTS, SETUP.replace(b"100", b"99"), None, None, None, "the setup has no connection 1/100"),
+    (LINES + COUNTS, SETUP + b"cell 0 00100640\n", None, None, None, "a setup with rules and cells of its own can't be drawn"),
+    (LINES + COUNTS, SETUP + b"set\n", None, None, None, "a line of the setup has a fault: upc-lab police says which"),
+    ([row(HEADING), LINES[2]], None, None, None, None, "no line has a cell that was judged; --connection names one to draw"),
+    (COUNTS[1:], None, None, None, None, "no cell has a line: police the capture with --lines all"),
+    ([LINES[0], *COUNTS], None, [(1, 100)], None, None, "no line has a cell of 1/100"),
+]
+
+
+def said(lines, *asked):
+    """Returns what is said of verdicts."""
+    try:
+        return drawn(iter(lines), *asked)[1]
+    except NotDrawn as fault:
+        return str(fault)
+
+
 def main(count="100", seed="1"):
     """Compares, and returns the exit status."""
-    wrong = [number for number in range(int(count)) if not is_drawn_right(random.Random(f"{seed} {number}"))]
-    for number in wrong:
-        print(f"otherwise: the levels of picture {number} of seed {seed}")
-    print(f"{int(count) - len(wrong)} passed, {len(wrong)} failed")
+    wrong = [f"the levels of picture {number} of seed {seed}" for number in range(int(count)) if not is_drawn_right(random.Random(f"{seed} {number}"))]
+    wrong += [f"{said(*asked)!r} is said, and not {known!r}" for *asked, known in SAID if said(*asked) != known]
+    for it in wrong:
+        print(f"otherwise: {it}")
+    print(f"{int(count) + len(SAID) - len(wrong)} passed, {len(wrong)} failed")
     return 1 if wrong else 0
 
 

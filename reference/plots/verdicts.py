@@ -1,4 +1,5 @@
 """The lines of cells that `upc-lab police --lines all` prints, by connection."""
+import itertools
 from array import array
 
 from captures.policing import HEADING, TABLE
@@ -39,7 +40,8 @@ class Cells:
 
 
 def read_verdicts(lines, wanted):
-    """Returns the cells of each connection that has some, or of those that are wanted."""
+    """Returns the cells of each connection that has some, or of those that are wanted, and the line at which policing ended, if it didn't
+    end with the capture."""
     heading, cells, wanted = next(lines, ""), {}, wanted and set(wanted)
     if heading.split("\t")[: len(TABLE)] == list(TABLE) or heading.rstrip("\n") == "\t".join(TABLE):
         raise NoVerdicts("no cell has a line: police the capture with --lines all")
@@ -54,14 +56,20 @@ def read_verdicts(lines, wanted):
             if vc not in cells:
                 cells[vc] = Cells()
             cells[vc].add(fields[1], *fields[4:7])
-    check_counts(lines, cells)
-    return cells
+    else:
+        line = ""
+    return cells, ending(itertools.chain([line], lines), cells)
 
 
-def check_counts(lines, cells):
-    """Refuses lines of refused cells alone: a connection then has passed cells in the table, and no line of one."""
+def ending(lines, cells):
+    """Returns the line about a fault or a second link, if there is one. Refuses lines of refused cells alone: a connection then has passed
+    cells in the table, and no line of one."""
+    found = None
     for line in lines:
         fields = line.split("\t")
+        if line.strip() and not line.startswith("#") and len(fields) != len(TABLE):
+            found = line.rstrip("\n")
         vc = fields[0].isdigit() and len(fields) == len(TABLE) and (int(fields[0]), int(fields[1]))
         if vc in cells and int(fields[2]) and PASS not in cells[vc].verdicts:
             raise NoVerdicts("the cells of %d/%d that passed have no lines: police the capture with --lines all" % vc)
+    return found
