@@ -3,7 +3,7 @@ import re
 import textwrap
 
 from .definitions import sentence
-from .index import BUGS, TESTS, Index
+from .index import BUGS, TESTS
 
 # How many answers are shown whole, and how many names of tests and bugs of each.
 MOST_SHOWN, MOST_NAMES = 6, 6
@@ -97,9 +97,9 @@ def name_of(found):
     return f"{found.kind} {getattr(it, 'full', it.name)}  {it.path}:{it.line}"
 
 
-def answer(sources, words, whole=False, is_code=False):
-    """Returns the answer to a question, or the code that answers it: the best whole, and the names of some others."""
-    found = Index(sources, is_code).search(words)
+def answer(sources, index, words, whole=False):
+    """Returns the answer to a question by an index: the best whole, and the names of some others."""
+    found = index.search(words)
     if not found:
         return f"nothing has one of the words {' '.join(words)}\n"
     shown = found if whole else [it for it in found if it.rank == found[0].rank][:MOST_SHOWN]

@@ -2,8 +2,8 @@
 import math
 import re
 
-from .parts import HEADER, all_parts, cases, types_of
-from .words import meanings_of, stems_of
+from .parts import HEADER, all_parts, all_sections, cases, types_of
+from .words import IDLE, meanings_of, searched_stems, stems_of
 
 # What a word counts in each field of an answer. REST is the text around the sentence that answers.
 NAME, SENTENCE, HEADING, TEXT, REST, CONTEXT = 3.0, 2.0, 1.5, 1.0, 0.6, 0.5
@@ -15,8 +15,20 @@ WORTH = 0.4
 APART = 0.5
 # From how often on another occurrence of a word adds little; and how much longer texts count less.
 OFTEN, LONG = 1.2, 0.5
-# The pages that say what the programs do; the others say how and why.
-RULING = ("docs/FORMATS.md", "docs/RULES.md", "docs/CONTRACTS.md", "docs/LAB.md", "include/upc.h")
+# How much a page counts: those that say what the programs do before those that say how and why. A question how something is done
+# is about the pages for those who do it, a question why about those with reasons, and a question what something is about its names.
+RULING = ("docs/FORMATS.md", "docs/RULES.md", "docs/CONTRACTS.md", "docs/LAB.md")
+DOING = ("docs/CONTRIBUTING.md", "README.md")
+REASONING = ("docs/ARCHITECTURE.md", "docs/DECISIONS.md")
+NAMING = ("docs/GLOSSARY.md",)
+RULES, CALLS, OTHERS, ASKED, SECTION = 1.3, 1.2, 0.75, 1.8, 0.9
+HOW = re.compile(r"how (do|can|should) (i|we|you)\b|how to\b|(add|adding|build|building|install|installing|run|running|change|changing|contribute)\b")
+WHY = re.compile(r"why\b|reasons?\b")
+WHAT = re.compile(r"what (is|are) (a|an|the)? ?\w+$|what does \w+ mean$|(definition|meaning) of\b")
+# How much a section or a function counts whose name is what was asked for, or most of it.
+WHOLE, MOST = 2.0, 1.4
+# What a question how something is done has besides its subject.
+ANOTHER = frozenset("add adding another extra new one".split())
 STRING = re.compile(r'"((?:[^"\\\n]|\\.)*)"')
 COMMENT = re.compile(r"^\s*//+ ?(.*)$", re.M)
 # Tests come after what they test, and bugs last.
@@ -37,19 +49,26 @@ class Answer:
             for stem in stems:
                 self.words[stem] = self.words.get(stem, 0) + weight
                 self.length += weight
+            said = [it for it in stems if it not in IDLE]
             self.pairs.update(zip(stems, stems[1:]))
+            self.pairs.update(zip(said, said[1:]))
+        self.title = frozenset(searched_stems(it.name)) if kind == "function" or kind == "page" and not it.heading else frozenset()
 
 
 class Index:
     """All answers, by their words."""
 
-    def __init__(self, sources, is_code=False):
-        """Makes the index of all answers, or of the functions and types that the programs are made of."""
-        self.answers, self.having = [it for it in answers(sources) if it.is_code or not is_code], {}
+    def __init__(self, sources, found=None):
+        """Makes the index of all answers, or of these."""
+        self.answers, self.having = list(answers(sources)) if found is None else found, {}
         for it in self.answers:
             for stem in it.words:
                 self.having.setdefault(stem, []).append(it)
         self.usual = sum(it.length for it in self.answers) / len(self.answers)
+
+    def of_code(self):
+        """Returns the index of the functions and types that the programs are made of."""
+        return Index(None, [it for it in self.answers if it.is_code])
 
     def rarity(self, stem):
         """Returns how rare a word is: the fewer answers have it, the greater the number."""
@@ -79,11 +98,23 @@ class Index:
 
     def search(self, words):
         """Returns the answers to a question, the best first: each by its sentence that fits best."""
-        fits = [self.fits(it) for it in meanings_of(words)]
+        asked = " ".join(words).lower()
+        favoured = DOING if HOW.match(asked) else REASONING if WHY.match(asked) else NAMING if WHAT.match(asked) else ()
+        if favoured == DOING:
+            words = [it for it in words if it.lower() not in ANOTHER] or words
+        meanings = meanings_of(words)
+        fits, stems = [self.fits(it) for it in meanings], {stem for it in meanings for stem in it[0]}
+        titles = {frozenset(it) for it in meanings[0]} if len(meanings) == 1 else {frozenset(stems)}
         best = {}
         for answer in {answer for it in fits for answer in it}:
             each = [it.get(answer, 0) for it in fits]
             answer.score = sum(each) * sum(it > 0 for it in each) / len(each) * answer.counts
+            if answer.title in titles:
+                answer.score *= WHOLE
+            elif answer.title and answer.title < stems and len(stems) <= 2 * len(answer.title):
+                answer.score *= MOST
+            if getattr(answer.it, "path", None) in favoured:
+                answer.score *= ASKED
             if id(answer.it) not in best or best[id(answer.it)].score < answer.score:
                 best[id(answer.it)] = answer
         least = WORTH * max((it.score for it in best.values()), default=0)
@@ -96,6 +127,11 @@ class Index:
 def is_identifier(name, words):
     """Returns whether one of these words is this name, as code spells names: of several words, or asked for alone."""
     return name in words and (len(words) == 1 or "_" in name or bool(re.search("[a-z][A-Z]", name)))
+
+
+def counts_of(path):
+    """Returns how much a page or the header counts."""
+    return RULES if path in RULING else CALLS if path == HEADER else OTHERS
 
 
 def answers(sources):
@@ -114,8 +150,10 @@ def answers(sources):
         for it in types_of(crate):
             if "/src/tests" not in it.path:
                 yield Answer("type", it, 0.9, [(NAME, it.name), (SENTENCE, it.text), (TEXT, it.about), (CONTEXT, crate)])
+    for it in all_sections():
+        yield Answer("page", it, counts_of(it.path) * SECTION, [(NAME, it.name), (CONTEXT, it.path), (REST, it.text)])
     for it in all_parts():
-        counts = 1.3 if it.path in RULING else 0.7
+        counts = counts_of(it.path)
         for sentence in it.sentences:
             yield Answer("declaration" if it.path == HEADER else "page", it, counts, [(NAME, it.name), (SENTENCE, sentence), (HEADING, it.heading), (CONTEXT, it.path), (REST, f"{it.about} {it.text}")])
     for it in cases():

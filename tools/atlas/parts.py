@@ -8,6 +8,8 @@ HEADER = "include/upc.h"
 # The table of docs/GLOSSARY.md with the words of others.
 OTHERS = "Other words for the same"
 TYPE = re.compile(r"(?:pub(?:\(\w+\))? )?(?:struct|enum|trait|type|const) (\w+)")
+# How many parts of a section tell what it is about.
+MOST_OF_SECTION = 3
 # What begins a declaration of the header, and its name; and a constant of an enum with its comment.
 DECLARED = re.compile(r"(?:#define|typedef struct|enum|uint32_t|void|const char) \*?(?:(UPC_MOST_\w+|UPC_LAST_\w+|UPC_VERSION|UPC_\w*STACK|upc_\w+)\b|(?=\{))")
 MEMBER = re.compile(r"\s*(UPC_\w+)(?: = [^,/]*)?,?\s*/\*(.*)")
@@ -67,6 +69,17 @@ def row_of(path, number, heading, columns, cells, lead):
     """Returns a row as a part: its first cell is its name, and each other cell goes by its column if there are several."""
     others = [it if len(cells) < 3 else f"{column}: {it}" for column, it in zip(columns[1:], cells[1:]) if it]
     return Part(path, number, heading, cells[0], "; ".join(others), f"{columns[0]} {lead}")
+
+
+def sections_of(path, text):
+    """Yields the sections of a page: each has its heading for a name, and its first parts for a text."""
+    found, line = {}, 0
+    for it in parts_of(path, text):
+        found.setdefault(it.heading, []).append(f"{it.name} {it.text}".strip())
+    for number, it in enumerate(text.split("\n"), 1):
+        heading = re.sub(r"`| *<!-- .* -->$", "", it).lstrip("# ") if it.startswith("#") else ""
+        if heading in found:
+            yield Part(path, number, "", heading, " ".join(found.pop(heading)[:MOST_OF_SECTION]))
 
 
 def header_parts():
@@ -135,6 +148,12 @@ def cases():
         for number, (line, below) in enumerate(zip(lines, lines[1:]), 1):
             if line.startswith("# "):
                 yield Part(path, number, "", line[2:], below.partition(": ")[2])
+
+
+def all_sections():
+    """Yields the sections of all pages. The words of others are no answer: they lead to one."""
+    for path in pages():
+        yield from (it for it in sections_of(path, text_of(path)) if it.name != OTHERS)
 
 
 def all_parts():

@@ -18,6 +18,10 @@ class Sources:
             self.by_name.setdefault(it.name, []).append(it)
         self.test_crates = {it.crate for it in self.functions if it.is_test}
 
+    def make(self):
+        """Makes all that is made when it is first asked for."""
+        self.promisers, self.reached_by_tests, self.owners_of_methods, self.public, self.edits_by_function, self.patches
+
     @functools.cached_property
     def edits(self):
         return [it for crate in self.crates for it in edits.edits_of(crate)]

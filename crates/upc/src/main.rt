@@ -17,6 +17,7 @@ pub use upc_ports::{run_ports, run_ports_with};
 pub use upc_programs::{check_source, eval_bytes};
 pub use upc_run::run_script;
 
+/// Where the program begins: reads its words, and does what they ask for.
 fn main(rt: HostRuntime) -> ExitCode {
     let chosen = match words_after_name(rt.alloc(), &OfProcess(&rt)) {
         Ok(words) => choose(rt.alloc(), words),

@@ -43,6 +43,7 @@ fn buffered<D: Read + Drop>(alloc: Global, device: D, again: D) -> Result<BufRea
     }
 }
 
+/// Where the program begins: reads its words, and does what they ask for.
 fn main(rt: HostRuntime) -> ExitCode {
     let line = OfProcess(&rt);
     let chosen = match words_after_name(rt.alloc(), &line) {

@@ -39,7 +39,8 @@ class Questions(unittest.TestCase):
     @classmethod
     def setUpClass(cls):
         sources = Sources()
-        cls.index, cls.code = Index(sources), Index(sources, is_code=True)
+        cls.index = Index(sources)
+        cls.code = cls.index.of_code()
 
     def test_places_are_there(self):
         every = [it for it in self.index.answers if not it.rank]
