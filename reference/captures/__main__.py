@@ -15,7 +15,7 @@ from captures.fit_cases import case_of, edges
 def ran(program, case):
     """Returns what the program prints for a case, with its messages, and its status."""
     words = [program, "fit", "--increment", str(case.increment), "--tick", f"{case.tick}ns", "--side", case.side]
-    words += [] if case.interface is None else ["--interface", str(case.interface)]
+    words += [] if case.link is None else ["--link", case.link]
     it = subprocess.run(words, input=case.octets, stdout=subprocess.PIPE, stderr=subprocess.PIPE)
     return it.stdout.decode() + it.stderr.decode(), it.returncode
 

@@ -3,11 +3,12 @@ import subprocess
 
 from captures.counting import Capture
 from captures.making import capture_of
+from captures.reading import link_for
 
 
-def cells_of(octets, tick, interface):
+def cells_of(octets, tick, link):
     """Returns the output for a file and the exit status. A tick is in nanoseconds."""
-    capture = Capture(octets, tick, interface)
+    capture = Capture(octets, tick, link)
     lines = "".join(f"cell {it.moment} {it.cell.hex()}\n" for it in capture.cells)
     ended = capture.refused or capture.several
     text = lines + (ended or capture.closing())
@@ -17,10 +18,10 @@ def cells_of(octets, tick, interface):
 def difference(lab, draw):
     """Returns what differs on a random capture, or None."""
     octets = capture_of(draw)
-    (word, tick), interface = draw.choice([("1us", 1000), ("100ns", 100), ("3ns", 3), ("1s", 10**9)]), draw.choice([None, None, 0, 1])
-    words = ["--tick", word] + (["--interface", str(interface)] if interface is not None else [])
+    (word, tick), link = draw.choice([("1us", 1000), ("100ns", 100), ("3ns", 3), ("1s", 10**9)]), link_for(draw, octets)
+    words = ["--tick", word] + (["--link", link] if link is not None else [])
     ran = subprocess.run([lab, "cells", *words], input=octets, stdout=subprocess.PIPE, stderr=subprocess.PIPE)
-    ours, theirs = (ran.stdout, ran.returncode), cells_of(octets, tick, interface)
+    ours, theirs = (ran.stdout, ran.returncode), cells_of(octets, tick, link)
     if ours == theirs and not ran.stderr:
         return None
     return f"{' '.join(words)} of {octets.hex()} prints {ours} {ran.stderr}, not {theirs}"

@@ -12,23 +12,23 @@ REASONS = {
     "errored": "received with an error",
     "cut short": "fewer than 52 octets of a cell",
     "back": "a time before that of an earlier cell",
-    "other interface": "another interface",
+    "other link": "another link",
 }
 
 
 class Capture:
-    """The cells of a capture that count, for a tick in nanoseconds and an interface or None."""
+    """The cells of a capture that count, for a tick in nanoseconds and the word of a link or None."""
 
-    def __init__(self, octets, tick, interface):
+    def __init__(self, octets, tick, link):
         self.tick = tick
-        self.asked = interface
+        self.asked = link
         # The numbers of the records that were passed over, by the type that holds no cell, and by reason.
         self.other_types = {}
         self.passed = {reason: [] for reason in REASONS}
         self.fault = None
         # The line about a file that isn't read.
         self.refused = None
-        # The line about a cell of a second interface, if none was asked for. The reading ends there.
+        # The line about a cell of a second link, if none was asked for. The reading ends there.
         self.several = None
         self.cells = []
         try:
@@ -42,21 +42,21 @@ class Capture:
         """Sorts the records into those whose cells count and those that are passed over."""
         begun, chosen, latest = None, self.asked, 0
         for record in records:
-            begun = record.time if begun is None else begun
-            latest = max(latest, begun)
             if isinstance(record.reason, OtherType):
                 self.other_types.setdefault(record.reason.kind, []).append(record.number)
                 continue
             if record.reason:
                 self.passed[record.reason].append(record.number)
                 continue
+            begun = record.time if begun is None else begun
+            latest = max(latest, begun)
             if chosen is None:
-                chosen = record.interface
-            if record.interface != chosen:
+                chosen = record.link
+            if record.link != chosen:
                 if self.asked is None:
-                    self.several = f"fault interface 1 Several {chosen} {record.interface}\n"
+                    self.several = f"fault link 1 Several {chosen} {record.link}\n"
                     return
-                self.passed["other interface"].append(record.number)
+                self.passed["other link"].append(record.number)
             elif record.time < latest:
                 self.passed["back"].append(record.number)
             else:

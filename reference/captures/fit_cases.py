@@ -3,10 +3,12 @@ import random
 import struct
 from collections import namedtuple
 
+from captures.reading import link_for
+
 SECOND = 2**32
 LONGEST = 65535
-# What `fit` is asked: the octets, the increment in ticks, the tick in nanoseconds, the interface or None, and the side.
-Case = namedtuple("Case", "octets increment tick interface side")
+# What `fit` is asked: the octets, the increment in ticks, the tick in nanoseconds, the word of a link or None, and the side.
+Case = namedtuple("Case", "octets increment tick link side")
 
 
 def record(time, header, kind=3, flags=0, octets=52, extensions=0, length=None):
@@ -39,7 +41,7 @@ def records(random_, count, unit):
         made.append(record(
             time,
             header_of(random_, few),
-            kind=random_.choice([2, 48, 7]) if odd < 0.05 else 3,
+            kind=random_.choice([2, 48, 2, 48, 7]) if odd < 0.05 else 3,
             flags=random_.choice(interfaces) | (0x10 if 0.05 < odd < 0.08 else 0),
             octets=random_.randrange(52) if 0.08 < odd < 0.1 else 52,
             extensions=random_.randint(1, 3) if 0.1 < odd < 0.15 else 0,
@@ -85,5 +87,4 @@ def case_of(seed, number):
     if random_.random() < 0.05 and len(octets) > 11:
         at = random_.randrange(len(octets))
         octets = octets[:at] + bytes([random_.randrange(256)]) + octets[at + 1 :]
-    interface = random_.choice([None, None, 0, 1])
-    return Case(octets, increment, tick, interface, random_.choice(["uni", "nni"]))
+    return Case(octets, increment, tick, link_for(random_, octets), random_.choice(["uni", "nni"]))

@@ -55,9 +55,9 @@ def ended_at(increment, connections):
     return "fault fit {1} {0}\n".format(*min(faults)) if faults else None
 
 
-def fitted(octets, increment, tick, interface, side):
+def fitted(octets, increment, tick, link, side):
     """Returns the output of `fit` for a capture, and its status."""
-    capture = Capture(octets, tick, interface)
+    capture = Capture(octets, tick, link)
     connections = {}
     for cell in capture.cells:
         connections.setdefault(connection_of(cell.cell, side), []).append(cell)

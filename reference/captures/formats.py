@@ -51,7 +51,7 @@ def erf_records(octets):
     while place < len(octets):
         head = frame_at(octets, place, 16)
         size = sized(number(head, 10, ">", "H"), 16, MOST_FRAME, place)
-        yield frame_at(octets, place, size)
+        yield None, frame_at(octets, place, size)
         place += size
 
 
@@ -60,7 +60,7 @@ def pcap_records(octets, order):
     while place < len(octets):
         head = frame_at(octets, place, 16)
         size = 16 + sized(number(head, 8, order), 16, MOST_FRAME, place)
-        yield record_in(frame_at(octets, place, size)[16:], place)
+        yield None, record_in(frame_at(octets, place, size)[16:], place)
         place += size
 
 
@@ -84,11 +84,12 @@ def packet_of(block, order, interfaces, place):
         raise Broken(f"12 NoInterface {interface}", place)
     if len(block) < 32 + length:
         raise Broken(f"13 LongPacket {length}", place)
-    return record_in(block[28:28 + length], place)
+    return interface, record_in(block[28:28 + length], place)
 
 
 def pcapng_records(octets):
-    place, order, interfaces = 0, "<", 0
+    # The interfaces of the sections so far, and those of the present section.
+    place, order, before, interfaces = 0, "<", 0, 0
     while place < len(octets):
         head = frame_at(octets, place, 12)
         own = block_order(head, order, place)
@@ -106,7 +107,7 @@ def pcapng_records(octets):
             version = number(block, 12, own, "H")
             if version != 1:
                 raise Broken(f"9 OtherVersion {version}", place)
-            order, interfaces = own, 0
+            order, before, interfaces = own, before + interfaces, 0
         elif kind == 1:
             if size < 20:
                 raise Broken(f"10 ShortBlock {size}", place)
@@ -115,12 +116,13 @@ def pcapng_records(octets):
                 raise Broken(f"11 OtherLink {link}", place)
             interfaces += 1
         elif kind == 6:
-            yield packet_of(block, own, interfaces, place)
+            interface, record = packet_of(block, own, interfaces, place)
+            yield before + interface, record
         place += size
 
 
 def records_of(octets):
-    """Returns an iterator of the records in a file, each as its octets."""
+    """Returns an iterator of the records in a file: the interface of the packet of each in a pcapng file, or None, and its octets."""
     if len(octets) < 16:
         return short_file(octets)
     magic = number(octets, 0, ">")

@@ -8,10 +8,11 @@ from captures.fitting import fitted
 from captures.mutating import contained, mutated, mutated_capture, whole
 from captures.police_cases import Traffic, script_of, usual_lines
 from captures.policing import card_of, policed
+from captures.reading import link_for
 
-# What is asked: a subcommand, a capture, a tick in nanoseconds, an interface or None, the increment and the side of `fit`, the lines and the
+# What is asked: a subcommand, a capture, a tick in nanoseconds, the word of a link or None, the increment and the side of `fit`, the lines and the
 # script of `police`, and how many octets a read gives at most.
-Case = namedtuple("Case", "subcommand octets tick interface increment side lines script most")
+Case = namedtuple("Case", "subcommand octets tick link increment side lines script most")
 
 SUBCOMMANDS = ["cells", "fit", "police"]
 SIDES = ["uni", "nni"]
@@ -52,38 +53,48 @@ def cases_of(seed):
             script = script_without_faults(random.Random(f"{seed} script {number}"))
         draw = random.Random(f"{seed} fuzz {number}")
         subcommand, tick = draw.choice(["cells"] * 5 + ["fit"] * 4 + ["police"] * 2), draw.choice(TICKS)
-        interface, increment = draw.choice([None, None, 0, 1, 2, 3]), draw.choice([*INCREMENTS, draw.randrange(1, 5000)])
+        increment = draw.choice([*INCREMENTS, draw.randrange(1, 5000)])
         side, lines, most = draw.choice(SIDES), draw.choice(LINES), draw.choice(READS)
         given = script if subcommand == "police" else b""
         for octets in captures_of(draw, given, tick):
-            yield Case(subcommand, octets, tick, interface, increment, side, lines, given, most if len(octets) < 5000 else max(most, 1000))
+            link = link_for(draw, octets)
+            yield Case(subcommand, octets, tick, link, increment, side, lines, given, most if len(octets) < 5000 else max(most, 1000))
         number += 1
 
 
 def wanted(case):
     """Returns the output for a case and the exit status."""
     if case.subcommand == "cells":
-        return cells_of(case.octets, case.tick, case.interface)
+        return cells_of(case.octets, case.tick, case.link)
     if case.subcommand == "fit":
-        text, status = fitted(case.octets, case.increment, case.tick, case.interface, case.side)
+        text, status = fitted(case.octets, case.increment, case.tick, case.link, case.side)
         return text.encode(), status
-    return policed(case.script, case.octets, case.tick, case.interface, case.lines)
+    return policed(case.script, case.octets, case.tick, case.link, case.lines)
+
+
+def link_numbers(word):
+    """Returns three numbers for a link: the packet's interface plus 1, the card's interface plus 1, and the channel plus 1. 0 says there is none."""
+    if word is None:
+        return [0, 0, 0]
+    packet, _, rest = word.rpartition(":")
+    interface, *channel = [int(it) for it in rest.split("/")]
+    return [int(packet) + 1 if packet else 0, interface + 1, channel[0] * 2048 + channel[1] + 1 if channel else 0]
 
 
 def packed(case, output, status):
     """Returns a case and what is wanted for the program: numbers of 64 bits, and three parts with their lengths."""
     numbers = [
-        SUBCOMMANDS.index(case.subcommand), case.tick, 4 if case.interface is None else case.interface, case.increment,
+        SUBCOMMANDS.index(case.subcommand), case.tick, *link_numbers(case.link), case.increment,
         SIDES.index(case.side), LINES.index(case.lines), case.most, status,
     ]
     parts = [struct.pack("<Q", len(it)) + it for it in (case.script, case.octets, output)]
-    return struct.pack("<8Q", *numbers) + b"".join(parts)
+    return struct.pack("<10Q", *numbers) + b"".join(parts)
 
 
 def words_of(case, setup):
     """Returns the words that ask the program for a case. The script is in the file `setup`."""
     words = [case.subcommand, "--tick", f"{case.tick}ns"]
-    words += [] if case.interface is None else ["--interface", str(case.interface)]
+    words += [] if case.link is None else ["--link", case.link]
     words += ["--increment", str(case.increment), "--side", case.side] if case.subcommand == "fit" else []
     return words + (["--lines", case.lines, setup] if case.subcommand == "police" else [])
 

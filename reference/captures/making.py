@@ -4,11 +4,23 @@ import struct
 SECTION_TYPE = 0x0A0D0D0A
 
 
-def record(draw, time):
-    """Returns a record at this time, and mostly a cell."""
-    kind = draw.choice([3] * 12 + [7] * 3 + [2, 1])
-    flags = draw.choice([0] * 10 + [4, 0x14, 0x24]) | (draw.choice([0] * 30 + [1]))
-    octets = bytes(4) * (kind == 7) + bytes([0, 0x10, 6, draw.choice([0x40, 0x50])]) + draw.randbytes(48)
+# The kind of most cells, and the flags and the multi-channel header that they share.
+PLAIN = (3, 0, bytes(4))
+
+
+def link(draw):
+    """Returns the kind, the flags and the multi-channel header of a link's cells."""
+    if draw.random() < 0.6:
+        return PLAIN
+    return draw.choice([3, 7]), draw.choice([0, 1, 3, 0x40, 0x43]), draw.choice([bytes(4), bytes([0, 1, 0, 0]), bytes([0, 0, 4, 1]), draw.randbytes(4)])
+
+
+def record(draw, time, by=PLAIN):
+    """Returns a record at this time, and mostly a cell of this link."""
+    kind, bits, channel = by if draw.random() < 0.97 else link(draw)
+    kind = kind if draw.random() < 0.88 else draw.choice([2, 1])
+    flags = draw.choice([0] * 10 + [4, 0x14, 0x24]) | bits
+    octets = channel * (kind == 7) + bytes([0, 0x10, 6, draw.choice([0x40, 0x50])]) + draw.randbytes(48)
     if draw.random() < 0.05:
         octets = octets[:draw.randrange(len(octets))]
     extensions = b""
@@ -21,8 +33,9 @@ def record(draw, time):
 
 def records(draw):
     time, made = draw.choice([0, 1_700_000_000 << 32, 2**64 - 2**33]), []
+    by = link(draw)
     for _ in range(draw.randrange(12)):
-        made.append(record(draw, time))
+        made.append(record(draw, time, by))
         time += draw.choice([1, 2**20, 2**32, -5, 12345])
     return made
 
@@ -44,14 +57,15 @@ def block(order, kind, body):
 def in_pcapng(draw, made):
     blocks, interfaces = [], None
     for it in made + [None]:
-        if interfaces is None or draw.random() < 0.1:
+        if interfaces is None or draw.random() < 0.03:
             order, interfaces = draw.choice("<>"), draw.choice([1, 1, 2])
+            usual = draw.randrange(interfaces)
             blocks.append(block(order, SECTION_TYPE, struct.pack(order + "IHHq", 0x1A2B3C4D, 1, 0, -1)))
             blocks += [block(order, 1, struct.pack(order + "HHI", 197, 0, 0))] * interfaces
         if draw.random() < 0.1:
             blocks.append(block(order, draw.choice([2, 3, 5, 0x80000001]), draw.randbytes(8)))
         if it is not None:
-            interface = draw.randrange(interfaces)
+            interface = usual if draw.random() < 0.9 else draw.randrange(interfaces)
             blocks.append(block(order, 6, struct.pack(order + "IIIII", interface, 1, 2, len(it), len(it)) + it))
     return b"".join(blocks)
 

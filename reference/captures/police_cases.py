@@ -10,6 +10,7 @@ from collections import namedtuple
 from captures.fit_cases import LONGEST, SECOND, as_pcap, record
 from captures.making import in_pcapng
 from captures.policing import card_of, judged
+from captures.reading import link_for
 from policer.card import LAST_MOMENT
 from policer.faults import Fault
 from policer.run_dialogue import RunDialogue
@@ -18,8 +19,8 @@ from trials import cells
 from trials.numbers_at_limits import near
 from trials.scripts import Script
 
-# What `police` is asked: the script, the capture, the tick in nanoseconds, the interface or None, and which lines.
-Case = namedtuple("Case", "script octets tick interface lines")
+# What `police` is asked: the script, the capture, the tick in nanoseconds, the word of a link or None, and which lines.
+Case = namedtuple("Case", "script octets tick link lines")
 
 TICKS = [1, 100, 100, 333, 1000, 10**6]
 LINES = ["all", "all", "refused", "none"]
@@ -78,7 +79,7 @@ class Traffic:
         self.begun = random_.choice([0, 0, 1_700_000_000 * SECOND + 12345])
         self.last = (LAST_TIME - self.begun) * 10**9 // (SECOND * tick)
         self.moment = 0
-        self.interfaces = random_.choice([[0]] * 6 + [[2], [0] * 9 + [1]])
+        self.interfaces = random_.choice([[0]] * 6 + [[2], [0x40], [0] * 9 + [1], [0] * 19 + [0x40]])
 
     def time(self):
         """Returns the first time whose moment is the present one."""
@@ -146,9 +147,9 @@ def case_of(seed, number):
     """Returns the case of this number. Seed and number determine it."""
     random_ = random.Random(f"{seed} police {number}")
     script, tick = script_of(random_), random_.choice(TICKS)
-    interface = random_.choice([None] * 10 + [0] * 6 + [1, 2, 3])
     count = random_.choice([0, 1, 10, 30, 60, 100, 200, 300])
-    return Case(script, capture_of(random_, script, tick, count), tick, interface, random_.choice(LINES))
+    octets = capture_of(random_, script, tick, count)
+    return Case(script, octets, tick, link_for(random_, octets), random_.choice(LINES))
 
 
 def long_case(seed, number):
@@ -157,7 +158,7 @@ def long_case(seed, number):
     lines = without_faults(usual_lines(random_))
     script, tick = b"\n".join(lines) + b"\n", random_.choice(TICKS)
     count = random_.choice([7_000, 7_800, 9_000, 16_000, 25_000])
-    return Case(script, capture_of(random_, script, tick, count), tick, random_.choice([None, 0]), random_.choice(LINES))
+    return Case(script, capture_of(random_, script, tick, count), tick, random_.choice([None, "0"]), random_.choice(LINES))
 
 
 def cell_at(ticks, header=0x00100640, flags=0, kind=3):
@@ -200,11 +201,11 @@ def edges():
         (one + b"cell 0 00100640\nrelease 1 100\nsetup 1 101 p1 cbr1:1/1\nsetup 1 100 p1 cbr1:7/0\n", ones),
         # Paths of twelve bits, and flow control beside paths of eight.
         (nodes, cell_at(0, 0x80100640) + cell_at(1, 0x00100640)), (one, cell_at(0, 0x80100640) + cell_at(1, 0xF0100641) + cell_at(2, 0x01100640)),
-        # Two interfaces, at once and later; and records of each reason, in the wrong order.
+        # Two links, at once and later; and records of each reason, in the wrong order.
         (one, cell_at(0, flags=1) + cell_at(1)), (one, ones + cell_at(6, flags=3) + b"no record"), (one, cell_at(9, flags=0x10) + cell_at(8, kind=2) + ones),
     ]
     cases = [Case(script, octets, 1000, None, lines) for script, octets in given for lines in ("all", "refused", "none")]
     cases += [Case(full_card(), cell_at(0, 0x03F003F0) + cell_at(1, 0), 1000, None, "all"), Case(one + b"\n" * 10**6, ones, 1000, None, "none")]
     both = cell_at(0) + cell_at(1, flags=1) + cell_at(2, flags=2) + cell_at(3)
-    cases += [Case(one, both, 1000, interface, "all") for interface in range(4)]
+    cases += [Case(one, both, 1000, link, "all") for link in ("0", "1", "2", "3", "0:0", "0/0/0")]
     return cases + [Case(one, cell_at(0) + record(LAST_TIME, bytes.fromhex("00100641")), tick, None, "all") for tick in (1, 100, 10**9)]

@@ -1,6 +1,6 @@
 """What `upc-lab police` prints of a script and a capture, and its exit status.
 
-    python3 -m captures.policing SETUP [--tick NANOSECONDS] [--interface N] [--lines all|refused|none] < CAPTURE
+    python3 -m captures.policing SETUP [--tick NANOSECONDS] [--link LINK] [--lines all|refused|none] < CAPTURE
 """
 import argparse
 import sys
@@ -101,18 +101,18 @@ class Policed:
         return "\n" * bool(self.rows) + "".join(row(it) for it in [TABLE] + counts) + "".join(comments)
 
 
-def policed(script, octets, tick, interface, lines):
+def policed(script, octets, tick, link, lines):
     """Returns the output and the exit status, or None if `upc-lab explain` has a fault line for the script."""
     card = card_of(script)
     if card is None:
         return None
-    capture = Capture(octets, tick, interface)
+    capture = Capture(octets, tick, link)
     if capture.refused:
         return capture.refused.encode(), 1
     cells = Policed(card, lines)
     for counted in capture.cells:
         cells.take(counted)
-    # A cell of a second interface ends the run at once.
+    # A cell of a second link ends the run at once.
     ended = capture.several or cells.table() + capture.closing()
     return (cells.cells() + ended).encode(), 1 if capture.several or capture.fault else 0
 
@@ -122,10 +122,10 @@ def main():
     reader = argparse.ArgumentParser(description=__doc__.split("\n", 1)[0])
     reader.add_argument("setup", type=argparse.FileType("rb"))
     reader.add_argument("--tick", type=int, default=100)
-    reader.add_argument("--interface", type=int)
+    reader.add_argument("--link")
     reader.add_argument("--lines", choices=("all", "refused", "none"), default="all")
     asked = reader.parse_args()
-    given = policed(asked.setup.read(), sys.stdin.buffer.read(), asked.tick, asked.interface, asked.lines)
+    given = policed(asked.setup.read(), sys.stdin.buffer.read(), asked.tick, asked.link, asked.lines)
     if given is None:
         print("a line of the script has a fault: upc-lab explain says where", file=sys.stderr)
         return 1

@@ -15,35 +15,63 @@ MORE = 0x80
 # The flags of a record that was received or stored with an error.
 ERRORS = 0x30
 
-# A record: its number from 1, its interface, its time in units of 2^-32 seconds, its cell or None, and why it holds none or None.
-Record = namedtuple("Record", "number interface time cell reason")
+# A record: its number from 1, the word of its link, its time in units of 2^-32 seconds, its cell or None, and why it holds none or None.
+Record = namedtuple("Record", "number link time cell reason")
 # The reason that a record is of a type that holds no cell.
 OtherType = namedtuple("OtherType", "kind")
 
 
 def content_of(octets):
-    """Returns the cell of a record, and why it holds none."""
+    """Returns the cell of a record, and why it holds none, and its multi-channel header."""
     kind = octets[8] & ~MORE
     if kind not in CHANNEL:
-        return None, OtherType(kind)
+        return None, OtherType(kind), b""
     if octets[9] & ERRORS:
-        return None, "errored"
+        return None, "errored", b""
     place, has_more = HEADER, octets[8] & MORE
     while has_more:
         has_more = place < len(octets) and octets[place] & MORE
         place += EXTENSION
+    channel = octets[place : place + CHANNEL[kind]]
     place += CHANNEL[kind]
     cell = octets[place : place + CELL]
-    return (cell, None) if len(cell) == CELL else (None, "cut short")
+    return (cell, None, channel) if len(cell) == CELL else (None, "cut short", b"")
 
 
-def record_of(number, octets):
+def link_of(packet, flags, channel):
+    """Returns the word of a link."""
+    word = str(flags & 3 | (flags & 0x40) >> 4)
+    if packet is not None:
+        word = f"{packet}:{word}"
+    if channel:
+        word += f"/{channel[1] & 15}/{(channel[2] & 7) << 8 | channel[3]}"
+    return word
+
+
+def record_of(number, packet, octets):
     """Returns the record that these octets encode."""
-    cell, reason = content_of(octets)
-    return Record(number, octets[9] % 4, struct.unpack_from("<Q", octets)[0], cell, reason)
+    cell, reason, channel = content_of(octets)
+    return Record(number, link_of(packet, octets[9], channel), struct.unpack_from("<Q", octets)[0], cell, reason)
 
 
 def records_of(octets):
     """Yields the records of a capture. Raises what formats.py raises where it is no capture."""
-    for number, record in enumerate(formats.records_of(octets), 1):
-        yield record_of(number, record)
+    for number, (packet, record) in enumerate(formats.records_of(octets), 1):
+        yield record_of(number, packet, record)
+
+
+def links_in(octets):
+    """Returns the words of the links of a capture's cells, as far as it is one, each once."""
+    words = []
+    try:
+        for record in records_of(octets):
+            words += [] if record.cell is None else [record.link]
+    except (formats.Broken, formats.Refused):
+        pass
+    return list(dict.fromkeys(words))
+
+
+def link_for(draw, octets):
+    """Returns no link, or the word of one, mostly of one of the capture."""
+    words = links_in(octets)
+    return draw.choice([None, None, draw.choice(words or ["0"]), draw.choice(words or ["0"]), draw.choice(["0", "7", "0:0", "1:0", "0/0/0", "3:0/15/2047"])])

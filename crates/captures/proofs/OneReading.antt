@@ -2,6 +2,8 @@
 use Rattle.std.proofs.Common.{◌≡◌, ◌+◌, ◌-◌, inl, inr, ℕ, List, [], ◌∷◌, length, take, drop, Option, Some, None, Result, Ok, Err, arith, refl, ◌∙◌, sym, ap, subst}
 use Rattle.std.proofs.lemmas.Bool.{cases_lt}
 use Rattle.captures.specs.Frames.{Frame, first_frame}
+use Rattle.captures.specs.Framing.{Framed}
+use Rattle.captures.specs.Links.{IsChannelOf, channel_before}
 use Rattle.captures.specs.Reading.{EndsReading, HasOneReading, IsFraming, IsGiven, IsRecordFault, count_after, records_in}
 use Rattle.captures.specs.Record.{HasExtensions}
 use Rattle.captures.specs.RecordContent.{IsContent, cell_place}
@@ -12,6 +14,8 @@ use Rattle.captures.specs.declared.fault.Fault.{Fault}
 use Rattle.captures.specs.declared.fault.RecordFault.{RecordFault}
 use Rattle.captures.specs.declared.format.Format.{Format}
 use Rattle.captures.specs.declared.format.Format.TheVariants.{Erf, Pcap, PcapNg}
+use Rattle.captures.specs.declared.link.Channel.{Channel}
+use Rattle.captures.specs.declared.link.Link.{Link}
 use Rattle.captures.specs.declared.reader.Record.{Record}
 
 -- A record has one number of extension headers.
@@ -52,23 +56,42 @@ one_content octets (Ok cell) (Ok second) one other =
     let same : one.1.0 ≡ other.1.0 = one_extensions octets one.1.0 other.1.0 one.1.1 other.1.1 in
     ap Ok (one.1.2.1 ∙ ap (λ k. take 52 (drop (cell_place octets k) octets)) same ∙ sym other.1.2.1)
 
-same_record : (a b : Record) → a.number ≡ b.number → a.interface ≡ b.interface → a.time ≡ b.time → a.content ≡ b.content → a ≡ b
-same_record a b numbers interfaces times contents =
+-- A record has one channel.
+one_channel : (octets : List ℕ) (content : Result (List ℕ) NoCell) (a b : Option Channel)
+    → IsChannelOf octets content a → IsChannelOf octets content b → a ≡ b
+one_channel octets (Err why) a b one other = one ∙ sym other
+one_channel octets (Ok cell) a b one other =
+    let same : one.0 ≡ other.0 = one_extensions octets one.0 other.0 one.1 other.1 in
+    one.2 ∙ ap (λ k. channel_before octets (cell_place octets k)) same ∙ sym other.2
+
+same_parts : (a b : Link) → a.packet ≡ b.packet → a.interface ≡ b.interface → a.channel ≡ b.channel → a ≡ b
+same_parts a b packets interfaces channels =
+    ap (λ n. record a { packet = n }) packets
+    ∙ ap (λ n. record a { packet = b.packet; interface = n }) interfaces
+    ∙ ap (λ n. record b { channel = n }) channels
+
+same_record : (a b : Record) → a.number ≡ b.number → a.link ≡ b.link → a.time ≡ b.time → a.content ≡ b.content → a ≡ b
+same_record a b numbers links times contents =
     ap (λ n. record a { number = n }) numbers
-    ∙ ap (λ n. record a { number = b.number; interface = n }) interfaces
+    ∙ ap (λ n. record a { number = b.number; link = n }) links
     ∙ ap (λ n. record b { time = n; content = a.content }) times
     ∙ ap (λ n. record b { content = n }) contents
 
 -- A record has one reading.
-one_record_of : (number : ℕ) (octets : List ℕ) (a b : Record) → IsRecordOf number octets a → IsRecordOf number octets b → a ≡ b
-one_record_of number octets a b one other =
+one_record_of : (number : ℕ) (framed : Framed) (a b : Record) → IsRecordOf number framed a → IsRecordOf number framed b → a ≡ b
+one_record_of number framed a b one other =
+    let contents : a.content ≡ b.content = one_content framed.octets a.content b.content one.content other.content in
+    let moved : IsChannelOf framed.octets b.content a.link.channel =
+    subst (λ (content : Result (List ℕ) NoCell). IsChannelOf framed.octets content a.link.channel) contents one.channel
+    in
     same_record
     a
     b
     (one.numbered ∙ sym other.numbered)
-    (one.interface ∙ sym other.interface)
+    (same_parts a.link b.link (one.packet ∙ sym other.packet) (one.interface ∙ sym other.interface)
+    (one_channel framed.octets b.content a.link.channel b.link.channel moved other.channel))
     (one.time ∙ sym other.time)
-    (one_content octets a.content b.content one.content other.content)
+    contents
 
 -- Octets end a file for one reason.
 one_fault : (format : Format) (at : ℕ) (octets : List ℕ) (a b : RecordFault)
@@ -112,13 +135,13 @@ ends_apart format at octets (Some fault) frame begins (same, inr ends) =
     let bad : Some (Err fault.reason) ≡ Some (Ok frame) = sym ends ∙ begins in cc
 
 -- One thing is given of a frame.
-one_given : (count : ℕ) (held : Option (List ℕ)) (a b : Option Record) → IsGiven count held a → IsGiven count held b → a ≡ b
+one_given : (count : ℕ) (held : Option Framed) (a b : Option Record) → IsGiven count held a → IsGiven count held b → a ≡ b
 one_given count None None None one other = refl
 one_given count None None (Some record_read) one other = absurd other
 one_given count None (Some record_read) b one other = absurd one
-one_given count (Some octets) None b one other = absurd one
-one_given count (Some octets) (Some record_read) None one other = absurd other
-one_given count (Some octets) (Some record_read) (Some second) one other = ap Some (one_record_of (count + 1) octets record_read second one other)
+one_given count (Some framed) None b one other = absurd one
+one_given count (Some framed) (Some record_read) None one other = absurd other
+one_given count (Some framed) (Some record_read) (Some second) one other = ap Some (one_record_of (count + 1) framed record_read second one other)
 
 -- Octets are one list of frames.
 one_framing : (format : Format) (count at : ℕ) (octets : List ℕ) (frames others : List (Option Record)) (ending other : Option Fault)

@@ -1,5 +1,5 @@
 -- What a file is by its first octets, whatever follows them.
-use Rattle.std.proofs.Common.{◌≡◌, ◌≢◌, ◌≤◌, ◌<◌, ◌+◌, ◌%◌, ◌==◌, inl, inr, ℕ, Bool, true, false, List, ◌++◌, length, take, drop, arith, refl, ◌∙◌, sym, ap, subst, length-append, if◌then◌else◌}
+use Rattle.std.proofs.Common.{◌≡◌, ◌≢◌, ◌≤◌, ◌<◌, ◌%◌, ◌==◌, inl, inr, ℕ, Bool, true, false, List, ◌++◌, length, arith, refl, ◌∙◌, sym, ap, subst, length-append, if◌then◌else◌}
 use Rattle.std.specs.List.{list_all}
 use Rattle.std.proofs.lemmas.Bool.{cases_lt}
 use Rattle.std.proofs.lemmas.List.{take-append-le}
@@ -21,7 +21,7 @@ by_tests : Bool → Bool → Bool → Bool → Bool → Opening → Opening → 
 by_tests high low blocks gzip text p q =
     if high then p
     else if low then q
-    else if blocks then Opened (PcapNg (section_begun LowestFirst))
+    else if blocks then Opened (PcapNg (section_begun LowestFirst 0))
     else if gzip then Refused Gzip
     else if text then Refused Text
     else Opened Erf
@@ -97,7 +97,7 @@ unfolding pcap_opening_by
 by_link P order link opened refused = by_test P (link == 197) (Opened (Pcap order)) (Refused (OtherLink link)) opened refused
 
 -- What holds of each case holds of a file.
-tests_all : (P : Opening → Type 0) (high low blocks gzip text : Bool) (p q : Opening) → P p → P q → P (Opened (PcapNg (section_begun LowestFirst)))
+tests_all : (P : Opening → Type 0) (high low blocks gzip text : Bool) (p q : Opening) → P p → P q → P (Opened (PcapNg (section_begun LowestFirst 0)))
     → P (Refused Gzip) → P (Refused Text) → P (Opened Erf) → P (by_tests high low blocks gzip text p q)
 unfolding by_tests
 tests_all P true low blocks gzip text p q at_p at_q ng gz tx erf = at_p
@@ -117,7 +117,7 @@ pcap_all P order xs none opened refused =
 
 opening_all : (P : Opening → Type 0) (xs : List ℕ) → (length xs < 24 → P Undecided)
     → (24 ≤ length xs → (order : Order) → P (Opened (Pcap order))) → ((link : ℕ) → P (Refused (OtherLink link)))
-    → P (Opened (PcapNg (section_begun LowestFirst))) → P (Refused Gzip) → P (Refused Text) → P (Opened Erf) → P (opening_of xs)
+    → P (Opened (PcapNg (section_begun LowestFirst 0))) → P (Refused Gzip) → P (Refused Text) → P (Opened Erf) → P (opening_of xs)
 opening_all P xs none pcap link ng gz tx erf =
     elim (cases_lt (length xs) 16) [
       | inl short ↦ subst P (sym (when_below (length xs) 16 Undecided (opening_by (file_magic xs) xs) short)) (none (omega arith))
@@ -142,7 +142,7 @@ header_within xs format is =
     (λ short same. cc)
     (λ long order same. let equal : Pcap order ≡ format = cc in subst (λ (f : Format). format_start f ≤ length xs) equal long)
     (λ link same. cc)
-    (λ same. let equal : PcapNg (section_begun LowestFirst) ≡ format = cc in subst (λ (f : Format). format_start f ≤ length xs) equal (omega arith))
+    (λ same. let equal : PcapNg (section_begun LowestFirst 0) ≡ format = cc in subst (λ (f : Format). format_start f ≤ length xs) equal (omega arith))
     (λ same. cc) (λ same. cc)
     (λ same. let equal : Erf ≡ format = cc in subst (λ (f : Format). format_start f ≤ length xs) equal (omega arith))
     is

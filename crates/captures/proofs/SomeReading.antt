@@ -5,9 +5,10 @@ use Rattle.std.proofs.lemmas.Bool.Decides.{nat_tests}
 use Rattle.std.proofs.lemmas.List.{get_or_past}
 use Rattle.captures.specs.Blocks.{block_order, even_block, most_block}
 use Rattle.captures.specs.Frames.{Frame, first_frame, frame_held, frame_of_size, frame_size, head_length, held_frame}
-use Rattle.captures.specs.Framing.{number_in_order, or_fault, sized}
+use Rattle.captures.specs.Framing.{Framed, number_in_order, or_fault, sized}
 use Rattle.captures.specs.Reading.{HasSomeReading, IsFraming, IsGiven, count_after, records_in}
 use Rattle.captures.specs.Record.{HasExtensions, record_flags, record_interface, record_length, record_time, record_type}
+use Rattle.captures.specs.Links.{IsChannelOf, channel_before}
 use Rattle.captures.specs.RecordContent.{IsContent, IsErrored, IsOfCell, cell_place}
 use Rattle.captures.specs.RecordReading.{IsRecordOf}
 use Rattle.captures.specs.declared.content.NoCell.{NoCell}
@@ -18,6 +19,7 @@ use Rattle.captures.specs.declared.fault.RecordFault.TheVariants.{CutOff, TooFar
 use Rattle.captures.specs.declared.format.Format.{Format}
 use Rattle.captures.specs.declared.format.Format.TheVariants.{Erf, Pcap, PcapNg}
 use Rattle.captures.specs.declared.format.Order.{Order}
+use Rattle.captures.specs.declared.link.Channel.{Channel}
 use Rattle.captures.specs.declared.reader.Record.{Record}
 use Rattle.captures.proofs.First.{has_head, lacks_head, when_above, when_below}
 
@@ -74,16 +76,26 @@ some_content octets =
       ]
     ]
 
-some_record_of : (number : ℕ) (octets : List ℕ) → (record_read : Record) × IsRecordOf number octets record_read
-some_record_of number octets =
-    let content = some_content octets in (
-      record { number = number; interface = record_interface octets; time = record_time octets; content = content.0 },
-      record { numbered = refl; interface = refl; time = refl; content = content.1 },
+some_channel : (octets : List ℕ) (content : Result (List ℕ) NoCell) → IsContent octets content → (channel : Option Channel) × IsChannelOf octets content channel
+some_channel octets (Err why) holds = (None, refl)
+some_channel octets (Ok cell) holds = (channel_before octets (cell_place octets holds.1.0), (holds.1.0, holds.1.1, refl))
+
+some_record_of : (number : ℕ) (framed : Framed) → (record_read : Record) × IsRecordOf number framed record_read
+some_record_of number framed =
+    let content = some_content framed.octets in
+    let channel = some_channel framed.octets content.0 content.1 in (
+      record {
+        number = number;
+        link = record { packet = framed.packet; interface = record_interface framed.octets; channel = channel.0 };
+        time = record_time framed.octets;
+        content = content.0;
+      },
+      record { numbered = refl; packet = refl; interface = refl; channel = channel.1; time = refl; content = content.1 },
     )
 
-some_given : (count : ℕ) (held : Option (List ℕ)) → (given : Option Record) × IsGiven count held given
+some_given : (count : ℕ) (held : Option Framed) → (given : Option Record) × IsGiven count held given
 some_given count None = (None, tt)
-some_given count (Some octets) = let record_read = some_record_of (count + 1) octets in (Some record_read.0, record_read.1)
+some_given count (Some framed) = let record_read = some_record_of (count + 1) framed in (Some record_read.0, record_read.1)
 
 -- A frame has octets, and no more than there are.
 sized_some : (before least most stated size : ℕ) → 0 < before + least → sized before least most stated ≡ Ok size → 0 < size
@@ -114,7 +126,7 @@ block_some (Ok order) octets size is =
     (λ n one. sized_some 0 12 most_block (number_in_order order (drop 4 octets)) n (omega arith) one) is
 
 -- The size of a frame is that of its length field.
-size_of_held : (at size : ℕ) (held : Result (Format × Option (List ℕ)) RecordFault) (frame : Frame) → held_frame at size held ≡ Ok frame → frame.size ≡ size
+size_of_held : (at size : ℕ) (held : Result (Format × Option Framed) RecordFault) (frame : Frame) → held_frame at size held ≡ Ok frame → frame.size ≡ size
 size_of_held at size (Err reason) frame is = cc
 size_of_held at size (Ok held) frame is =
     elim (cases_lt (at + size) (2 ^ 64)) [

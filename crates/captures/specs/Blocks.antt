@@ -1,7 +1,7 @@
 -- The blocks of a pcapng file. Each begins with its type and its length, of four octets each, and ends with its length.
 use Rattle.std.specs.Prelude.{◌+◌, ◌-◌, ◌%◌, ◌^◌, ◌==◌, nat_lt, nat_le, min, if◌then◌else◌, Bool, ℕ, List, length, take, drop, Option, Some, None, Result, Ok, Err}
 use Rattle.byteorder.specs.Endian.{big_number}
-use Rattle.captures.specs.Framing.{half_in_order, number_in_order, or_fault, record_in_packet, sized}
+use Rattle.captures.specs.Framing.{Framed, half_in_order, number_in_order, or_fault, record_in_packet, sized}
 use Rattle.captures.specs.declared.block.Section.{Section}
 use Rattle.captures.specs.declared.fault.RecordFault.{RecordFault}
 use Rattle.captures.specs.declared.fault.RecordFault.TheVariants.{OddLength, LengthsDiffer, OtherMagic, OtherVersion, ShortBlock, OtherLink, NoInterface, LongPacket}
@@ -38,19 +38,23 @@ block_size section octets =
     or_fault (block_order section octets) (λ order.
     or_fault (sized 0 12 most_block (number_in_order order (drop 4 octets))) even_block)
 
--- A section begins, with numbers in this order and no interface.
-abbrev pub section_begun : Order → Section
-section_begun order = record { order = order; interfaces = 0 }
+-- A section begins, with numbers in this order, after so many interfaces of earlier sections, and with no interface of its own.
+abbrev pub section_begun : Order → ℕ → Section
+section_begun order before = record { order = order; before = before; interfaces = 0 }
+
+-- The number among the interfaces of the whole file of an interface that has this one in its section, both from 0.
+abbrev pub interface_in_file : Section → ℕ → ℕ
+interface_in_file section interface = min (section.before + interface) (2 ^ 64 - 1)
 
 -- A section has one interface more. An interface is named by a number below 2^32.
 abbrev pub with_interface : Section → Section
-with_interface section = record { order = section.order; interfaces = min (section.interfaces + 1) (2 ^ 64 - 1) }
+with_interface section = record section { interfaces = min (section.interfaces + 1) (2 ^ 64 - 1) }
 
--- The section that a section header of version 1 begins.
-abbrev pub section_of_header : Order → List ℕ → Result Section RecordFault
-section_of_header order block =
+-- The section that a section header of version 1 begins after another section.
+abbrev pub section_of_header : Section → Order → List ℕ → Result Section RecordFault
+section_of_header section order block =
     if nat_lt (length block) 28 then Err (ShortBlock (length block))
-    else if half_in_order order (drop 12 block) == 1 then Ok (section_begun order)
+    else if half_in_order order (drop 12 block) == 1 then Ok (section_begun order (interface_in_file section section.interfaces))
     else Err (OtherVersion (half_in_order order (drop 12 block)))
 
 -- The section after the description of an interface, whose packets are records: its link type, in octets 8 and 9, is 197.
@@ -62,21 +66,22 @@ section_of_interface section block =
 
 -- The record in an enhanced packet block: in octets 8 to 11 is the number of an interface, from 0, in octets 20 to 23 the length
 -- of the packet, and the packet begins with octet 28. What comes after it is not read, nor are the block's own times.
-abbrev pub record_of_packet : Section → List ℕ → Result (List ℕ) RecordFault
+abbrev pub record_of_packet : Section → List ℕ → Result Framed RecordFault
 record_of_packet section block =
     if nat_lt (length block) 32 then Err (ShortBlock (length block))
     else if nat_le section.interfaces (number_in_order section.order (drop 8 block))
     then Err (NoInterface (number_in_order section.order (drop 8 block)))
     else if nat_lt (length block) (32 + number_in_order section.order (drop 20 block))
     then Err (LongPacket (number_in_order section.order (drop 20 block)))
-    else record_in_packet (take (number_in_order section.order (drop 20 block)) (drop 28 block))
+    else or_fault (record_in_packet (take (number_in_order section.order (drop 20 block)) (drop 28 block))) (λ octets.
+    Ok (record { packet = Some (interface_in_file section (number_in_order section.order (drop 8 block))); octets = octets }))
 
 -- The section after a block of this type, and the record in it, if it is an enhanced packet block. Blocks of other types are passed over.
-abbrev pub held_of_type : Section → Order → ℕ → List ℕ → Result (Section × Option (List ℕ)) RecordFault
+abbrev pub held_of_type : Section → Order → ℕ → List ℕ → Result (Section × Option Framed) RecordFault
 held_of_type section order kind block =
-    if kind == 0x0a0d0d0a then or_fault (section_of_header order block) (λ begun. Ok (begun, None))
+    if kind == 0x0a0d0d0a then or_fault (section_of_header section order block) (λ begun. Ok (begun, None))
     else if kind == 1 then or_fault (section_of_interface section block) (λ more. Ok (more, None))
-    else if kind == 6 then or_fault (record_of_packet section block) (λ octets. Ok (section, Some octets))
+    else if kind == 6 then or_fault (record_of_packet section block) (λ framed. Ok (section, Some framed))
     else Ok (section, None)
 
 -- The order of the numbers in a whole block, which ends with its length.
@@ -87,6 +92,6 @@ whole_block_order section block =
     else Err (LengthsDiffer (number_in_order order (drop (length block - 4) block))))
 
 -- The section after a whole block, and the record in it.
-abbrev pub block_held : Section → List ℕ → Result (Section × Option (List ℕ)) RecordFault
+abbrev pub block_held : Section → List ℕ → Result (Section × Option Framed) RecordFault
 block_held section block =
     or_fault (whole_block_order section block) (λ order. held_of_type section order (number_in_order order block) block)

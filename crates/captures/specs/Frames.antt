@@ -1,7 +1,7 @@
 -- The frame with which octets begin: how long it is, and what it holds.
 use Rattle.std.specs.Prelude.{◌+◌, ◌^◌, nat_lt, if◌then◌else◌, ℕ, List, length, take, drop, Option, Some, None, Result, Ok, Err}
 use Rattle.captures.specs.Blocks.{block_held, block_size}
-use Rattle.captures.specs.Framing.{number_in_order, or_fault, record_in_packet, sized}
+use Rattle.captures.specs.Framing.{Framed, number_in_order, or_fault, record_in_packet, sized}
 use Rattle.captures.specs.Record.{record_length}
 use Rattle.captures.specs.declared.fault.RecordFault.{RecordFault}
 use Rattle.captures.specs.declared.fault.RecordFault.TheVariants.{TooFar}
@@ -28,19 +28,19 @@ frame_size (Pcap order) octets = sized 16 16 65535 (number_in_order order (drop 
 frame_size (PcapNg section) octets = block_size section octets
 
 -- How the file goes on after a whole frame, and the record in the frame, if there is one.
-unfoldable pub frame_held : Format → List ℕ → Result (Format × Option (List ℕ)) RecordFault
-frame_held Erf frame = Ok (Erf, Some frame)
-frame_held (Pcap order) frame = or_fault (record_in_packet (drop 16 frame)) (λ octets. Ok (Pcap order, Some octets))
+unfoldable pub frame_held : Format → List ℕ → Result (Format × Option Framed) RecordFault
+frame_held Erf frame = Ok (Erf, Some (record { packet = None; octets = frame }))
+frame_held (Pcap order) frame = or_fault (record_in_packet (drop 16 frame)) (λ octets. Ok (Pcap order, Some (record { packet = None; octets = octets })))
 frame_held (PcapNg section) frame = or_fault (block_held section frame) (λ held. Ok (PcapNg held.0, held.1))
 
 -- What the first frame of a file's octets is: how many octets it has, and what it holds.
 pub record Frame : Type 0 where
   pub size : ℕ
   pub after : Format
-  pub held : Option (List ℕ)
+  pub held : Option Framed
 
 -- A whole frame, which ends before octet 2^64 of the file.
-abbrev pub held_frame : ℕ → ℕ → Result (Format × Option (List ℕ)) RecordFault → Result Frame RecordFault
+abbrev pub held_frame : ℕ → ℕ → Result (Format × Option Framed) RecordFault → Result Frame RecordFault
 held_frame at size held =
     or_fault held (λ it. if nat_lt (at + size) (2 ^ 64) then Ok (record { size = size; after = it.0; held = it.1 }) else Err TooFar)
 

@@ -1,12 +1,18 @@
 -- How frames follow one another in a file, and what each holds: a record as it is, a packet of a pcap file, or a block of a
 -- pcapng file, of link type ERF (197).
-use Rattle.std.specs.Prelude.{◌+◌, nat_lt, if◌then◌else◌, ℕ, List, length, take, Result, Ok, Err}
+use Rattle.std.specs.Prelude.{◌+◌, nat_lt, if◌then◌else◌, ℕ, List, Option, length, take, Result, Ok, Err}
 use Rattle.byteorder.specs.Endian.{big_number, little_number}
 use Rattle.captures.specs.Record.{record_length}
 use Rattle.captures.specs.declared.fault.RecordFault.{RecordFault}
 use Rattle.captures.specs.declared.fault.RecordFault.TheVariants.{ShortLength, LongLength, ShortRecord}
 use Rattle.captures.specs.declared.format.Order.{Order}
 use Rattle.captures.specs.declared.format.Order.TheVariants.{HighestFirst, LowestFirst}
+
+-- A record in a frame: the interface of its packet among those of a pcapng file, from 0, and the octets of the record. In a file of another
+-- format there is no such interface.
+pub record Framed : Type 0 where
+  pub packet : Option ℕ
+  pub octets : List ℕ
 
 -- What follows from the value, or the fault.
 abbrev pub or_fault : {A B : Type 0} → Result A RecordFault → (A → Result B RecordFault) → Result B RecordFault

@@ -1,5 +1,6 @@
 pub mod Record
 pub mod RecordContent
+pub mod Links
 pub mod RecordReading
 pub mod Framing
 pub mod Blocks

@@ -53,7 +53,7 @@ abbrev pub opening_by : ℕ → List ℕ → Opening
 opening_by magic octets =
     if is_pcap_magic HighestFirst magic then pcap_opening HighestFirst octets
     else if is_pcap_magic LowestFirst magic then pcap_opening LowestFirst octets
-    else if is_pcapng_magic magic then Opened (PcapNg (section_begun LowestFirst))
+    else if is_pcapng_magic magic then Opened (PcapNg (section_begun LowestFirst 0))
     else if is_gzip_magic magic then Refused Gzip
     else if begins_as_text octets then Refused Text
     else Opened Erf

@@ -2,6 +2,7 @@
 use Rattle.std.specs.Prelude.{◌≡◌, ◌≤◌, ◌<◌, ◌+◌, ◌^◌, ◌⊎◌, ℕ, List, [], ◌∷◌, ◌++◌, length, drop, Option, Some, None, Ok, Err}
 use Rattle.captures.specs.Blocks.{most_block}
 use Rattle.captures.specs.Frames.{Frame, first_frame}
+use Rattle.captures.specs.Framing.{Framed}
 use Rattle.captures.specs.RecordReading.{IsRecordOf}
 use Rattle.captures.specs.declared.fault.Fault.{Fault}
 use Rattle.captures.specs.declared.fault.RecordFault.{RecordFault}
@@ -26,11 +27,11 @@ EndsReading format at octets None = octets ≡ []
 EndsReading format at octets (Some fault) = (fault.at ≡ at) × IsRecordFault format at octets fault.reason
 
 -- What is given of a frame after this many records: the record in it, or nothing if it holds none.
-abbrev pub IsGiven : ℕ → Option (List ℕ) → Option Record → Type 0
+abbrev pub IsGiven : ℕ → Option Framed → Option Record → Type 0
 IsGiven count None None = Unit {0}
 IsGiven count None (Some record_read) = ⊥
-IsGiven count (Some octets) None = ⊥
-IsGiven count (Some octets) (Some record_read) = IsRecordOf (count + 1) octets record_read
+IsGiven count (Some framed) None = ⊥
+IsGiven count (Some framed) (Some record_read) = IsRecordOf (count + 1) framed record_read
 
 -- How many records there are after a frame.
 abbrev pub count_after : ℕ → Option Record → ℕ

@@ -1,5 +1,5 @@
 -- A record as capture cards write it, in the Extensible Record Format (ERF), as the list of its octets.
-use Rattle.std.specs.Prelude.{◌≤◌, ◌<◌, ◌*◌, ◌+◌, ◌%◌, ℕ, List, drop, slice_index}
+use Rattle.std.specs.Prelude.{◌≤◌, ◌<◌, ◌*◌, ◌+◌, ◌/◌, ◌%◌, ℕ, List, drop, slice_index}
 use Rattle.byteorder.specs.Endian.{big_number, little_number}
 
 -- The time at which a record was received: the number in its first eight octets, the lowest first, in units of 2^-32
@@ -15,9 +15,10 @@ record_type octets = slice_index octets 8 % 128
 abbrev pub record_flags : List ℕ → ℕ
 record_flags octets = slice_index octets 9
 
--- The interface at which a record was received: the lowest two bits of its flags.
+-- The interface at which a record was received: bits 0 and 1 of its flags, and bit 6 as the third bit. Cards of up to four interfaces
+-- leave bit 6 at 0.
 abbrev pub record_interface : List ℕ → ℕ
-record_interface octets = record_flags octets % 4
+record_interface octets = record_flags octets % 4 + 4 * (record_flags octets / 64 % 2)
 
 -- The length of a record with all of its headers, in octets: the number in octets 10 and 11, the highest first.
 unfoldable pub record_length : List ℕ → ℕ

@@ -1,12 +1,16 @@
 -- A record, from its octets.
-use Rattle.std.specs.Prelude.{◌≡◌, ℕ, List}
+use Rattle.std.specs.Prelude.{◌≡◌, ℕ}
+use Rattle.captures.specs.Framing.{Framed}
+use Rattle.captures.specs.Links.{IsChannelOf}
 use Rattle.captures.specs.Record.{record_interface, record_time}
 use Rattle.captures.specs.RecordContent.{IsContent}
 use Rattle.captures.specs.declared.reader.Record.{Record}
 
--- The record with this number and these octets.
-pub record IsRecordOf (number : ℕ) (octets : List ℕ) (record_read : Record) : Type 0 where
+-- The record with this number, in this frame.
+pub record IsRecordOf (number : ℕ) (framed : Framed) (record_read : Record) : Type 0 where
   pub numbered : record_read.number ≡ number
-  pub interface : record_read.interface ≡ record_interface octets
-  pub time : record_read.time ≡ record_time octets
-  pub content : IsContent octets record_read.content
+  pub packet : record_read.link.packet ≡ framed.packet
+  pub interface : record_read.link.interface ≡ record_interface framed.octets
+  pub channel : IsChannelOf framed.octets record_read.content record_read.link.channel
+  pub time : record_read.time ≡ record_time framed.octets
+  pub content : IsContent framed.octets record_read.content

@@ -1,11 +1,12 @@
 //! The blocks of a pcapng file.
 
 ghost use Rattle.std.specs.Prelude.{◌≡◌, ◌≤◌, ◌+◌, length, IfErr, IfOk, IfSome, Ok, Err, option_map};
-ghost use Rattle.captures.specs.Blocks.{block_order, block_size, block_held, even_block, held_of_type, is_section_header as begins_section, order_of_magic, record_of_packet, section_of_header, section_of_interface, whole_block_order};
+ghost use Rattle.captures.specs.Blocks.{block_order, block_size, block_held, even_block, held_of_type, interface_in_file, is_section_header as begins_section, order_of_magic, record_of_packet, section_of_header, section_of_interface, whole_block_order};
+ghost use Rattle.captures.specs.inner.Lent.{framed_of};
 ghost use Rattle.captures.specs.Framing.{record_in_packet as record_of, sized as size_stated};
 
 use crate::fault::RecordFault;
-use crate::format::Order;
+use crate::format::{LentRecord, Order};
 use crate::packet::{from_place, record_in_packet, sized};
 use byteorder::{BigEndian, ByteOrder};
 
@@ -35,6 +36,8 @@ const PACKET_PLACE: usize = 28;
 pub struct Section {
     /// In which order the octets of its numbers come.
     pub order: Order,
+    /// How many interfaces earlier sections of the file have.
+    pub before: u64,
     /// How many interfaces it has.
     pub interfaces: u64,
 }
@@ -45,7 +48,7 @@ pub(crate) struct BlockHeld<'a> {
     /// The section after the block.
     pub(crate) section: Section,
     /// The record in the block.
-    pub(crate) framed: Option<&'a [u8]>,
+    pub(crate) framed: Option<LentRecord<'a>>,
 }
 
 /// Returns whether octets begin with a section header.
@@ -79,10 +82,10 @@ fn even(size: usize) -> Result<usize, RecordFault>
     }
 }
 
-/// Returns the section that a header begins, with numbers in this order.
-fn begun_by(order: Order, block: &[u8]) -> Result<Section, RecordFault>
+/// Returns the section that a header begins after another section, with numbers in this order.
+fn begun_by(section: Section, order: Order, block: &[u8]) -> Result<Section, RecordFault>
     requires { length block.now ≤ 131072 }
-    ensures { result ≡ section_of_header order block.now }
+    ensures { result ≡ section_of_header section order block.now }
 {
     if block.len() < SECTION_HEADER_OCTETS {
         return Err(RecordFault::ShortBlock(block.len() as u32));
@@ -90,6 +93,7 @@ fn begun_by(order: Order, block: &[u8]) -> Result<Section, RecordFault>
     match order.half_in(from_place(block, 12)) {
         1 => Ok(Section {
             order,
+            before: section.in_file(section.interfaces),
             interfaces: 0,
         }),
         version => Err(RecordFault::OtherVersion(version)),
@@ -97,6 +101,13 @@ fn begun_by(order: Order, block: &[u8]) -> Result<Section, RecordFault>
 }
 
 impl Section {
+    /// Returns the number among the interfaces of the whole file of one with this number in its section.
+    fn in_file(self, interface: u64) -> u64
+        ensures { result ≡ interface_in_file self interface }
+    {
+        self.before.saturating_add(interface)
+    }
+
     /// Returns the order of the numbers in a block, from its first twelve octets.
     fn order_of(self, octets: &[u8]) -> Result<Order, RecordFault>
         requires { 12 ≤ length octets.now }
@@ -131,6 +142,7 @@ impl Section {
         match self.order.half_in(from_place(block, 8)) {
             LINK_ERF => Ok(Section {
                 order: self.order,
+                before: self.before,
                 interfaces: self.interfaces.saturating_add(1),
             }),
             link => Err(RecordFault::OtherLink(link)),
@@ -138,11 +150,11 @@ impl Section {
     }
 
     /// Returns the record in an enhanced packet block.
-    fn record_in(self, block: &[u8]) -> Result<&[u8], RecordFault>
+    fn record_in(self, block: &[u8]) -> Result<LentRecord<'_>, RecordFault>
         requires { length block.now ≤ 131072 }
-        ensures record { IfOk result (λ octets. record_of_packet self block.now ≡ Ok octets.now) }
+        ensures record { IfOk result (λ framed. record_of_packet self block.now ≡ Ok (framed_of framed)) }
         ensures fault { IfErr result (λ reason. record_of_packet self block.now ≡ Err reason) }
-        ensures headed { IfOk result (λ octets. 16 ≤ length octets.now) }
+        ensures headed { IfOk result (λ framed. 16 ≤ length framed.octets.now) }
     {
         if block.len() < ENHANCED_PACKET_OCTETS {
             return Err(RecordFault::ShortBlock(block.len() as u32));
@@ -156,7 +168,10 @@ impl Section {
             return Err(RecordFault::LongPacket(captured));
         }
         let packet = &from_place(block, PACKET_PLACE)[..captured as usize];
-        record_in_packet(packet)
+        Ok(LentRecord {
+            packet: Some(self.in_file(u64::from(interface))),
+            octets: record_in_packet(packet)?,
+        })
     }
 
     /// Returns what a block of this type holds.
@@ -168,13 +183,13 @@ impl Section {
     ) -> Result<BlockHeld<'_>, RecordFault>
         requires { length block.now ≤ 131072 }
         ensures held { IfOk result (λ held. held_of_type self order kind block.now
-            ≡ Ok (held.section, option_map (λ octets. octets.now) held.framed)) }
+            ≡ Ok (held.section, option_map framed_of held.framed)) }
         ensures fault { IfErr result (λ reason. held_of_type self order kind block.now ≡ Err reason) }
-        ensures headed { IfOk result (λ held. IfSome held.framed (λ octets. 16 ≤ length octets.now)) }
+        ensures headed { IfOk result (λ held. IfSome held.framed (λ framed. 16 ≤ length framed.octets.now)) }
     {
         match kind {
             SECTION_HEADER => Ok(BlockHeld {
-                section: begun_by(order, block)?,
+                section: begun_by(self, order, block)?,
                 framed: None,
             }),
             INTERFACE => Ok(BlockHeld {
@@ -212,9 +227,9 @@ impl Section {
         requires whole { 12 ≤ length block.now }
         requires bounded { length block.now ≤ 131072 }
         ensures held { IfOk result (λ held. block_held self block.now
-            ≡ Ok (held.section, option_map (λ octets. octets.now) held.framed)) }
+            ≡ Ok (held.section, option_map framed_of held.framed)) }
         ensures fault { IfErr result (λ reason. block_held self block.now ≡ Err reason) }
-        ensures headed { IfOk result (λ held. IfSome held.framed (λ octets. 16 ≤ length octets.now)) }
+        ensures headed { IfOk result (λ held. IfSome held.framed (λ framed. 16 ≤ length framed.octets.now)) }
     {
         let order = self.order_of_whole(block)?;
         self.held_by_type(order, order.number_in(block), block)

@@ -1,23 +1,22 @@
 //! The cell in a record.
 
-ghost use Rattle.std.specs.Prelude.{◌≡◌, ◌≤◌, ◌+◌, ◌*◌, length, take, drop};
+ghost use Rattle.std.specs.Prelude.{◌≡◌, ◌≤◌, ◌+◌, ◌*◌, length, take, drop, IfOk};
 ghost use Rattle.captures.specs.Record.{HasExtensions};
-ghost use Rattle.captures.specs.RecordContent.{IsContent};
-ghost use Rattle.captures.specs.inner.Received.{IsCellFrom, IsPlaced, IsReceived};
+ghost use Rattle.captures.specs.RecordContent.{FromCellPlace, IsContent};
+ghost use Rattle.captures.specs.inner.Received.{ComesAfterHeaders, IsCellFrom, IsPlaced, IsReceived};
 
 use crate::lent_cell::LentCell;
+use crate::link::CHANNEL_OCTETS;
 use crate::packet::HEADER_OCTETS;
 use thiserror::Error;
 use upc_cell::CELL_OCTETS;
 
 /// The octets of an extension header.
 const EXTENSION_OCTETS: usize = 8;
-/// The octets of a multi-channel header.
-const CHANNEL_OCTETS: usize = 4;
 /// The type of a record that holds a cell.
 const ATM: u8 = 3;
 /// The type of a record that holds a cell after a multi-channel header.
-const MC_ATM: u8 = 7;
+pub(crate) const MC_ATM: u8 = 7;
 
 /// Why a record holds no cell.
 #[derive(Clone, Copy, PartialEq, Eq, Debug, Error)]
@@ -51,7 +50,8 @@ fn extensions_in(octets: &[u8]) -> usize
 /// Returns the place, if a cell begins there, or how much of it there is.
 #[inline(always)]
 fn place_from(octets: &[u8], place: usize) -> Result<usize, NoCell>
-    ensures { IsPlaced (IsCellFrom octets.now place) octets.now result }
+    ensures placed { IsPlaced (IsCellFrom octets.now place) octets.now result }
+    ensures same { IfOk result (λ found. found ≡ place) }
 {
     if octets.len() < place {
         return Err(NoCell::CutShort(0));
@@ -68,7 +68,8 @@ fn place_from(octets: &[u8], place: usize) -> Result<usize, NoCell>
 fn received_place(octets: &[u8], channel: usize) -> Result<usize, NoCell>
     requires header { 16 ≤ length octets.now }
     requires small { channel ≤ 4 }
-    ensures { IsPlaced (IsReceived octets.now channel) octets.now result }
+    ensures placed { IsPlaced (IsReceived octets.now channel) octets.now result }
+    ensures after { IfOk result (λ place. ComesAfterHeaders octets.now channel place) }
 {
     if octets[9] / 0x10 % 4 != 0 {
         return Err(NoCell::Errored);
@@ -81,7 +82,8 @@ fn received_place(octets: &[u8], channel: usize) -> Result<usize, NoCell>
 #[inline(always)]
 pub(crate) fn place_of(octets: &[u8]) -> Result<usize, NoCell>
     requires { 16 ≤ length octets.now }
-    ensures { IsPlaced (IsContent octets.now) octets.now result }
+    ensures placed { IsPlaced (IsContent octets.now) octets.now result }
+    ensures after { IfOk result (λ place. FromCellPlace octets.now (λ it. place ≡ it)) }
 {
     match octets[8] % 0x80 {
         ATM => received_place(octets, 0),

@@ -34,13 +34,22 @@ pub enum Format {
     PcapNg(Section),
 }
 
+/// A record in a frame.
+#[derive(Clone, Copy)]
+pub(crate) struct LentRecord<'a> {
+    /// The interface of its packet among those of a pcapng file.
+    pub(crate) packet: Option<u64>,
+    /// Its octets.
+    pub(crate) octets: &'a [u8],
+}
+
 /// How a file goes on after a frame, and the record in the frame, if it has one.
 #[derive(Clone, Copy)]
 pub(crate) struct Held<'a> {
     /// What the file has of records after the frame.
     pub(crate) after: Format,
     /// The record in the frame.
-    pub(crate) framed: Option<&'a [u8]>,
+    pub(crate) framed: Option<LentRecord<'a>>,
 }
 
 impl Order {
@@ -70,6 +79,7 @@ impl Order {
 }
 
 impl Format {
+    ghost use Rattle.captures.specs.inner.Lent.{framed_of};
     ghost use Rattle.captures.specs.Frames.{format_start, frame_held, frame_size, head_length};
 
     /// Returns how many octets of the file come before its first record, packet or block.
@@ -122,18 +132,24 @@ impl Format {
         requires whole { head_length self ≤ length frame.now }
         requires bounded { length frame.now ≤ 131072 }
         ensures held { IfOk result (λ held. frame_held self frame.now
-            ≡ Ok (held.after, option_map (λ octets. octets.now) held.framed)) }
+            ≡ Ok (held.after, option_map framed_of held.framed)) }
         ensures fault { IfErr result (λ reason. frame_held self frame.now ≡ Err reason) }
-        ensures headed { IfOk result (λ held. IfSome held.framed (λ octets. 16 ≤ length octets.now)) }
+        ensures headed { IfOk result (λ held. IfSome held.framed (λ framed. 16 ≤ length framed.octets.now)) }
     {
         match self {
             Format::Erf => Ok(Held {
                 after: self,
-                framed: Some(frame),
+                framed: Some(LentRecord {
+                    packet: None,
+                    octets: frame,
+                }),
             }),
             Format::Pcap(_) => Ok(Held {
                 after: self,
-                framed: Some(record_in_packet(from_place(frame, PACKET_HEADER_OCTETS))?),
+                framed: Some(LentRecord {
+                    packet: None,
+                    octets: record_in_packet(from_place(frame, PACKET_HEADER_OCTETS))?,
+                }),
             }),
             Format::PcapNg(section) => {
                 let held = section.held_in(frame)?;

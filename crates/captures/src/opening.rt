@@ -77,6 +77,7 @@ fn open_by(magic: u32, octets: &[u8]) -> Opening
         0xd4c3_b2a1 | 0x4d3c_b2a1 => open_pcap(Order::LowestFirst, octets),
         0x0a0d_0d0a => Opening::Opened(Format::PcapNg(Section {
             order: Order::LowestFirst,
+            before: 0,
             interfaces: 0,
         })),
         _ if magic / 0x100 == 0x001f_8b08 => Opening::Refused(FileFault::Gzip),

@@ -1,13 +1,16 @@
 //! The records of a capture, one after the other.
 
 ghost use Rattle.std.specs.Prelude.{◌≡◌, ◌≤◌, length};
+ghost use Rattle.captures.specs.Links.{IsChannelOf};
+ghost use Rattle.captures.specs.inner.Lent.{framed_of};
 ghost use Rattle.captures.specs.RecordContent.{IsContent};
 ghost use Rattle.captures.specs.RecordReading.{IsRecordOf};
 
 use crate::content::{NoCell, cell_at, place_of};
 use crate::fault::{Fault, RecordFault};
-use crate::format::Format;
+use crate::format::{Format, LentRecord};
 use crate::lent_cell::LentCell;
+use crate::link::{Channel, Link, channel_before};
 use byteorder::{ByteOrder, LittleEndian};
 
 /// A record of a capture. It borrows its cell from the octets that it was read from.
@@ -15,8 +18,8 @@ use byteorder::{ByteOrder, LittleEndian};
 pub struct Record<'a> {
     /// The number of the record in its capture, from 1.
     pub number: u64,
-    /// The interface at which it was received, 0 to 3.
-    pub interface: u8,
+    /// The link by which it was received. Only a record with a cell has its channel.
+    pub link: Link,
     /// When it was received, in units of 2^-32 seconds since 1970.
     pub time: u64,
     /// Its cell, which the octets lend, or why it holds none.
@@ -48,18 +51,45 @@ pub struct Reader {
     ghost counted: { count ≤ at },
 }
 
-/// Returns the record with this number and content, whose octets begin with these.
+/// Returns the record with this number, channel and content, in this frame.
 #[inline(always)]
-fn record_of<'a>(number: u64, octets: &'a [u8], content: Result<LentCell<'a>, NoCell>) -> Record<'a>
-    requires headed { 16 ≤ length octets.now }
-    requires held { IsContent octets.now content }
-    ensures { IsRecordOf number octets.now result }
+fn record_of<'a>(
+    number: u64,
+    framed: LentRecord<'a>,
+    channel: Option<Channel>,
+    content: Result<LentCell<'a>, NoCell>,
+) -> Record<'a>
+    requires headed { 16 ≤ length framed.octets.now }
+    requires channel { IsChannelOf framed.octets.now content channel }
+    requires held { IsContent framed.octets.now content }
+    ensures { IsRecordOf number (framed_of framed.entry) result }
 {
+    let flags = framed.octets[9];
     Record {
         number,
-        interface: octets[9] % 4,
-        time: LittleEndian::read_u64(octets),
+        link: Link {
+            packet: framed.packet,
+            interface: flags % 4 + 4 * (flags / 0x40 % 2),
+            channel,
+        },
+        time: LittleEndian::read_u64(framed.octets),
         content,
+    }
+}
+
+/// Returns the record with this number, in this frame.
+#[inline(always)]
+fn record_in(number: u64, framed: LentRecord<'_>) -> Record<'_>
+    requires { 16 ≤ length framed.octets.now }
+    ensures { IsRecordOf number (framed_of framed.entry) result }
+{
+    match place_of(framed.octets) {
+        Ok(place) => {
+            let channel = channel_before(framed.octets, place);
+            let content = Ok(cell_at(framed.octets, place));
+            record_of(number, framed, channel, content)
+        }
+        Err(why) => record_of(number, framed, None, Err(why)),
     }
 }
 
@@ -113,13 +143,7 @@ impl Reader {
             return Next::Passed(size);
         };
         self.count += 1;
-        match place_of(framed) {
-            Ok(place) => {
-                let content = Ok(cell_at(framed, place));
-                Next::Taken(record_of(self.count, framed, content), size)
-            }
-            Err(why) => Next::Taken(record_of(self.count, framed, Err(why)), size),
-        }
+        Next::Taken(record_in(self.count, framed), size)
     }
 
     /// `Broken` at the current place.

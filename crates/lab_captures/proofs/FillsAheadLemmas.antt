@@ -1,6 +1,7 @@
 -- A step of a run on two threads.
 use Rattle.std.proofs.Common.{◌≡◌, ◌⊎◌, inl, inr, ◌≤◌, ℕ, List, [], ◌++◌, Option, None, Some, take, refl, sym, ◌∙◌, subst, length, arith}
 use Rattle.std.proofs.lemmas.List.{take_all}
+use Rattle.captures.specs.declared.link.Link.{Link}
 use Rattle.captures.specs.declared.fault.Fault.{Fault}
 use Rattle.lab_captures.specs.CellFollowing.{OfEachWorld}
 use Rattle.lab_captures.specs.CellRules.{CellRules}
@@ -99,7 +100,7 @@ ahead_to_end rules shown shown' shown'' Known rest rest' before after comes cell
     (advances_to_end rules shown shown' (with_window before filled.0) after comes cells spare fresh old between new answers filled.2 none ends)
 
 -- What isn't the end of the octets that wait, nor enough cells, ends a run.
-pub ends_by : (how : Going) (comes : Coming) → ((first : ℕ) × (other : ℕ) × (comes ≡ coming.Several first other)) ⊎ ((fault : Fault) × (comes ≡ coming.Broken fault))
+pub ends_by : (how : Going) (comes : Coming) → ((first : Link) × (other : Link) × (comes ≡ coming.Several first other)) ⊎ ((fault : Fault) × (comes ≡ coming.Broken fault))
     → GoesBy how comes → how ≡ going.Ended
 ends_by going.On comes (inl several) by = let no : coming.Several several.0 several.1 ≡ coming.Enough = sym several.2 ∙ by in cc
 ends_by going.On comes (inr broken) by = let no : coming.Broken broken.0 ≡ coming.Enough = sym broken.1 ∙ by in cc

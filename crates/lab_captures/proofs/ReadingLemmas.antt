@@ -5,6 +5,7 @@ use Rattle.captures.specs.Frames.{first_frame}
 use Rattle.captures.specs.Reading.{ComesNext, TakesFrame}
 use Rattle.captures.specs.declared.fault.Fault.{Fault}
 use Rattle.captures.specs.declared.format.Format.{Format}
+use Rattle.captures.specs.declared.link.Link.{Link}
 use Rattle.captures.specs.declared.reader.Next.TheVariants.{Broken as BrokenNext, Unfinished}
 use Rattle.captures.specs.declared.reader.Reader.{Reader}
 use Rattle.captures.specs.declared.reader.Record.{Record}
@@ -152,8 +153,8 @@ ends_here before between old new end0 more later end reads has none =
     subst (λ (e : CellsEnd). HasCellsFrom before (before.window ++ more) (reads.fresh ++ later) e) (sym none.1)
     (subst (λ (cells : List CountedCell). HasCellsFrom before (before.window ++ more) (reads.fresh ++ cells) end0) (sym none.0) (reads.leads more [] end0 has))
 
--- At a cell of a second interface.
-pub reads_several : (before between after : ReadingAhead) (record_read : Record) (one other own : ℕ) (old new : List CountedCell)
+-- At a cell of a second link.
+pub reads_several : (before between after : ReadingAhead) (record_read : Record) (one other : Link) (own : ℕ) (old new : List CountedCell)
     → ReadsSoFar before between old new → TakesFrame between.reader between.window (Some record_read) own after.reader
     → filter_record (filter_state between.filter) record_read ≡ (Several one other, filter_state after.filter)
     → ReadsCells before (coming.Several one other) after old new

@@ -1,10 +1,12 @@
--- Which cells of a capture count, and at which moments: those of one interface whose time is not before that of an earlier one.
-use Rattle.std.specs.Prelude.{◌≡◌, ◌-◌, ◌==◌, nat_lt, max, if◌then◌else◌, Bool, ℕ, List, [], ◌∷◌, Option, Some, None, is_some, option_map, unwrap_or, Result, Ok, Err}
+-- Which cells of a capture count, and at which moments: those of one link whose time is not before that of an earlier one.
+use Rattle.std.specs.Prelude.{◌≡◌, ◌-◌, nat_lt, max, if◌then◌else◌, Bool, ℕ, List, [], ◌∷◌, Option, Some, None, is_some, option_map, unwrap_or, Result, Ok, Err}
+use Rattle.captures.specs.Links.{same_link}
 use Rattle.captures.specs.Moments.{whole_ticks}
 use Rattle.captures.specs.Reading.{IsReading}
 use Rattle.captures.specs.declared.content.NoCell.{NoCell}
 use Rattle.captures.specs.declared.fault.Fault.{Fault}
 use Rattle.captures.specs.declared.format.Format.{Format}
+use Rattle.captures.specs.declared.link.Link.{Link}
 use Rattle.captures.specs.declared.reader.Record.{Record}
 use Rattle.lab_captures.specs.PassedRecords.{none_passed, one_more_record, without_cell}
 use Rattle.lab_captures.specs.declared.counted.CountedCell.{CountedCell}
@@ -13,12 +15,12 @@ use Rattle.lab_captures.specs.declared.filter.Filtered.{Filtered}
 use Rattle.lab_captures.specs.declared.filter.Filtered.TheVariants.{Counts, Passed, Several}
 use Rattle.lab_captures.specs.declared.passed.PassedOver.{PassedOver}
 
--- The state of a filter: the nanoseconds of a tick, whether an interface was asked for, the interface that was, or that of the first cell,
--- the time of the first record and the latest time of a cell, and the records passed over.
+-- The state of a filter: the nanoseconds of a tick, whether a link was asked for, the link that was, or that of the first cell, the time of
+-- the first cell of any link and the latest time of a cell that counts, and the records passed over.
 pub record FilterState : Type 0 where
   pub tick : ℕ
   pub asked : Bool
-  pub interface : Option ℕ
+  pub link : Option Link
   pub clock : Option (ℕ × ℕ)
   pub passed : PassedOver
 
@@ -27,17 +29,17 @@ abbrev pub filter_state : CellFilter → FilterState
 filter_state filter = record {
   tick = filter.tick.nanoseconds;
   asked = filter.asked;
-  interface = filter.interface;
+  link = filter.link;
   clock = option_map (λ clock. (clock.first, clock.latest)) filter.clock;
   passed = filter.passed;
 }
 
--- The state at first, with a tick of this many nanoseconds and the interface that was asked for.
-abbrev pub filter_start : ℕ → Option ℕ → FilterState
-filter_start tick interface =
-    record { tick = tick; asked = is_some interface; interface = interface; clock = None; passed = none_passed }
+-- The state at first, with a tick of this many nanoseconds and the link that was asked for.
+abbrev pub filter_start : ℕ → Option Link → FilterState
+filter_start tick link =
+    record { tick = tick; asked = is_some link; link = link; clock = None; passed = none_passed }
 
--- A cell of the right interface, where the first record came at the one time and the latest cell at the other.
+-- A cell of the right link, where the first cell came at the one time and the latest cell at the other.
 abbrev pub filter_at_time : FilterState → ℕ → ℕ → Record → List ℕ → Filtered × FilterState
 filter_at_time state first latest record_read cell =
     if nat_lt record_read.time latest
@@ -47,25 +49,29 @@ filter_at_time state first latest record_read cell =
       record state { clock = Some (first, max latest record_read.time) },
     )
 
--- A cell of some interface.
-abbrev pub filter_at_interface : FilterState → ℕ → ℕ → Record → List ℕ → Option ℕ → Filtered × FilterState
-filter_at_interface state first latest record_read cell None =
-    filter_at_time (record state { interface = Some record_read.interface }) first latest record_read cell
-filter_at_interface state first latest record_read cell (Some interface) =
-    if interface == record_read.interface then filter_at_time state first latest record_read cell
+-- A cell of some link.
+abbrev pub filter_at_link : FilterState → ℕ → ℕ → Record → List ℕ → Option Link → Filtered × FilterState
+filter_at_link state first latest record_read cell None =
+    filter_at_time (record state { link = Some record_read.link }) first latest record_read cell
+filter_at_link state first latest record_read cell (Some link) =
+    if same_link link record_read.link then filter_at_time state first latest record_read cell
     else if state.asked
-    then (Passed, record state { clock = Some (first, latest); passed = record state.passed { other_interface = one_more_record state.passed.other_interface record_read.number } })
-    else (Several interface record_read.interface, state)
+    then (Passed, record state { clock = Some (first, latest); passed = record state.passed { other_link = one_more_record state.passed.other_link record_read.number } })
+    else (Several link record_read.link, state)
 
--- A record, by what it holds.
-abbrev pub filter_content : FilterState → ℕ × ℕ → Record → Result (List ℕ) NoCell → Filtered × FilterState
-filter_content state clock record_read (Err why) =
-    (Passed, record state { clock = Some clock; passed = without_cell state.passed why record_read.number })
-filter_content state clock record_read (Ok cell) = filter_at_interface state clock.0 clock.1 record_read cell state.interface
+-- A cell. The time of the first cell, of whatever link, is moment 0.
+abbrev pub filter_cell : FilterState → ℕ × ℕ → Record → List ℕ → Filtered × FilterState
+filter_cell state clock record_read cell = filter_at_link state clock.0 clock.1 record_read cell state.link
 
--- What a record is in this state, and the next state. The first record's time is moment 0.
+-- A record, by what it holds. One without a cell has no time that matters.
+abbrev pub filter_content : FilterState → Record → Result (List ℕ) NoCell → Filtered × FilterState
+filter_content state record_read (Err why) = (Passed, record state { passed = without_cell state.passed why record_read.number })
+filter_content state record_read (Ok cell) =
+    filter_cell state (unwrap_or state.clock (record_read.time, record_read.time)) record_read cell
+
+-- What a record is in this state, and the next state.
 abbrev pub filter_record : FilterState → Record → Filtered × FilterState
-filter_record state record_read = filter_content state (unwrap_or state.clock (record_read.time, record_read.time)) record_read record_read.content
+filter_record state record_read = filter_content state record_read record_read.content
 
 -- The cells that count among a record with this number and those after it.
 abbrev pub counted_then : Filtered → ℕ → List CountedCell → List CountedCell
@@ -83,8 +89,8 @@ counted_cells state (record_read ∷ records) =
 pub data CellsEnd : Type 0 where
   -- With the capture, or at its fault, after these records were passed over.
   Closes : PassedOver → Option Fault → CellsEnd
-  -- At a cell of a second interface, where none was asked for: the first interface, and this one.
-  Crosses : ℕ → ℕ → CellsEnd
+  -- At a cell of a second link, where none was asked for: the first link, and this one.
+  Crosses : Link → Link → CellsEnd
 
 -- How the cells end, if a record is this and those after it end so.
 abbrev pub ends_then : Filtered → CellsEnd → CellsEnd

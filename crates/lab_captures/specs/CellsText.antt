@@ -2,6 +2,7 @@
 use Rattle.std.specs.Prelude.{◌≡◌, ◌↔◌, ℕ, List, ◌++◌, codes, decimal, flat_map, Option, Some}
 use Rattle.hex.specs.Hex.{encode_lower}
 use Rattle.captures.specs.declared.fault.Fault.{Fault}
+use Rattle.captures.specs.declared.link.Link.{Link}
 use Rattle.lab_captures.specs.CaptureText.{IsCaptureText, IsTextOfCells, end_done, text_at_end}
 use Rattle.lab_captures.specs.CellFilter.{CellsEnd, filter_start}
 use Rattle.lab_captures.specs.CellRules.{CellRules, fixed_rules}
@@ -30,9 +31,9 @@ cells_closes world passed ending = closing_lines passed ending
 abbrev pub cells_rules : CellRules CellsWorld
 cells_rules = fixed_rules cells_steps cells_closes
 
--- The output for a whole file, and how the run ends, with a tick of this many nanoseconds and the interface that was asked for.
-abbrev pub IsCellsText : ℕ → Option ℕ → List ℕ → List ℕ → Done → Type 0
-IsCellsText tick interface = IsCaptureText cells_rules (filter_start tick interface) tt
+-- The output for a whole file, and how the run ends, with a tick of this many nanoseconds and the link that was asked for.
+abbrev pub IsCellsText : ℕ → Option Link → List ℕ → List ℕ → Done → Type 0
+IsCellsText tick link = IsCaptureText cells_rules (filter_start tick link) tt
 
 -- The lines of these cells.
 abbrev pub counted_lines : List CountedCell → List ℕ
@@ -46,7 +47,7 @@ CellsAreWritten = (cells : List CountedCell) (end : CellsEnd) (text : List ℕ) 
 
 -- A file has exactly one output.
 abbrev pub CapturesHaveOneCellsText : Type 0
-CapturesHaveOneCellsText = (tick : ℕ) (interface : Option ℕ) (octets : List ℕ)
-    → ((text : List ℕ) × (done : Done) × IsCellsText tick interface octets text done)
-    × ((one other : List ℕ) (ends other_ends : Done) → IsCellsText tick interface octets one ends
-    → IsCellsText tick interface octets other other_ends → (one ≡ other) × (ends ≡ other_ends))
+CapturesHaveOneCellsText = (tick : ℕ) (link : Option Link) (octets : List ℕ)
+    → ((text : List ℕ) × (done : Done) × IsCellsText tick link octets text done)
+    × ((one other : List ℕ) (ends other_ends : Done) → IsCellsText tick link octets one ends
+    → IsCellsText tick link octets other other_ends → (one ≡ other) × (ends ≡ other_ends))

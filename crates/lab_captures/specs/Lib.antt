@@ -1,6 +1,7 @@
 pub mod CaptureFaults
 pub mod PassedRecords
 pub mod CellFilter
+pub mod LinkWords
 pub mod RunLines
 pub mod CellRules
 pub mod CaptureText

@@ -25,7 +25,7 @@ none_passed = record {
   errored = no_tally;
   cut_short = no_tally;
   back = no_tally;
-  other_interface = no_tally;
+  other_link = no_tally;
 }
 
 -- The tallies of the types, which have the numbers from 0 on, with one record more of this type, which has this number.
@@ -66,4 +66,4 @@ passed_lines passed =
     ++ tally_line passed.errored (codes "received with an error")
     ++ tally_line passed.cut_short (codes "fewer than 52 octets of a cell")
     ++ tally_line passed.back (codes "a time before that of an earlier cell")
-    ++ tally_line passed.other_interface (codes "another interface")
+    ++ tally_line passed.other_link (codes "another link")

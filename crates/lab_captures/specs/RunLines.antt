@@ -1,14 +1,15 @@
 -- The lines that several subcommands over captures have.
-use Rattle.std.specs.Prelude.{ℕ, List, [], ◌++◌, codes, decimal, Option, Some, None}
+use Rattle.std.specs.Prelude.{ℕ, List, [], ◌++◌, codes, Option, Some, None}
 use Rattle.captures.specs.declared.fault.Fault.{Fault}
+use Rattle.captures.specs.declared.link.Link.{Link}
 use Rattle.lab_captures.specs.CaptureFaults.{capture_fault_line}
+use Rattle.lab_captures.specs.LinkWords.{link_word}
 use Rattle.lab_captures.specs.PassedRecords.{passed_lines}
 use Rattle.lab_captures.specs.declared.passed.PassedOver.{PassedOver}
-use Rattle.upc_words.specs.FaultLines.{line}
 
--- The answer to a cell of a second interface, where none was asked for.
-abbrev pub several_line : ℕ → ℕ → List ℕ
-several_line one other = (codes "fault interface 1 Several " ++ decimal one) ++ line (codes " " ++ decimal other)
+-- The answer to a cell of a second link, where none was asked for.
+abbrev pub several_line : Link → Link → List ℕ
+several_line one other = codes "fault link 1 Several " ++ link_word one ++ codes " " ++ link_word other ++ codes "\n"
 
 -- The fault at which the reading ended, if there is one.
 abbrev pub ending_line : Option Fault → List ℕ

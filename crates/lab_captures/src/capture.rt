@@ -17,7 +17,7 @@ use crate::follower::{CellFollower, answers_each_cell};
 use crate::passed::PassedOver;
 use crate::reading_ahead::ReadingAhead;
 use crate::window::Window;
-use captures::{Fault, FileFault, Opening, Reader, RecordFault, Tick, open};
+use captures::{Fault, FileFault, Link, Opening, Reader, RecordFault, Tick, open};
 use std::alloc::Global;
 use std::thread::Threads;
 use text_io::{Done, Failed, Input, Output, RunFault, give_last};
@@ -111,17 +111,17 @@ pub fn follow_cells<R: Threads, I: Input + Send, O: Output, F: CellFollower + Se
     threads: usize,
     alloc: Global,
     tick: Tick,
-    interface: Option<u8>,
+    link: Option<Link>,
     input: &mut I,
     output: &mut O,
     follower: &mut F,
 ) -> Result<Done, RunFault>
     ensures { OfEachWorld F.rules (F.shows follower.old) (λ world.
-        IsServed (IsCaptureText F.rules (filter_start tick.nanoseconds interface) world)
+        IsServed (IsCaptureText F.rules (filter_start tick.nanoseconds link) world)
         I.Input input.old input.new O.Output output.old output.new result) }
 {
     answers_each_cell(follower);
-    let filter = CellFilter::new(tick, interface);
+    let filter = CellFilter::new(tick, link);
     let Ok(mut window) = Window::new(alloc) else {
         return Err(RunFault::NoMemory);
     };

@@ -10,7 +10,7 @@ use crate::counted::CountedCell;
 use crate::follower::CellFollower;
 use crate::passed::PassedOver;
 use crate::run_lines::add_closing;
-use captures::{Fault, Tick};
+use captures::{Fault, Link, Tick};
 use std::alloc::{AllocError, Global};
 use std::thread::Threads;
 use text_io::{Done, Input, Output, RunFault, Turn};
@@ -76,8 +76,8 @@ impl CellFollower for Cells {
     ghost is_total = { fixed_total cells_steps cells_closes };
 }
 
-/// Answers a capture by its cells, each as a line of a script for `upc run` or `upc ports`. Moments are whole ticks since the first record.
-/// If no interface is asked for, a cell of a second interface ends the run. Comments say how many records were passed over and why.
+/// Answers a capture by its cells, each as a line of a script for `upc run` or `upc ports`. Moments are whole ticks since the first cell.
+/// If no link is asked for, a cell of a second link ends the run. Comments say how many records were passed over and why.
 ///
 /// With `threads` above 1, records are read on one thread while the cells of earlier ones are written on another, as in [`follow_cells`]. The
 /// output is the same.
@@ -91,14 +91,12 @@ pub fn cells_of_capture<R: Threads, I: Input + Send, O: Output>(
     threads: usize,
     alloc: Global,
     tick: Tick,
-    interface: Option<u8>,
+    link: Option<Link>,
     input: &mut I,
     output: &mut O,
 ) -> Result<Done, RunFault>
-    ensures { IsServed (IsCellsText tick.nanoseconds interface) I.Input input.old input.new O.Output output.old output.new result }
+    ensures { IsServed (IsCellsText tick.nanoseconds link) I.Input input.old input.new O.Output output.old output.new result }
 {
     let mut cells = Cells;
-    follow_cells(
-        rt, threads, alloc, tick, interface, input, output, &mut cells,
-    )
+    follow_cells(rt, threads, alloc, tick, link, input, output, &mut cells)
 }

@@ -1,45 +1,45 @@
 //! Which cells of a capture count, and at which moments.
 
 ghost use Rattle.std.specs.Prelude.{◌≡◌};
-ghost use Rattle.lab_captures.specs.CellFilter.{filter_at_interface, filter_at_time, filter_record, filter_start, filter_state};
+ghost use Rattle.lab_captures.specs.CellFilter.{filter_at_link, filter_at_time, filter_record, filter_start, filter_state};
 
 use crate::passed::PassedOver;
-use captures::{Clock, LentCell, Record, Tick};
+use captures::{Clock, LentCell, Link, Record, Tick};
 
-/// What a record is to a run that reads the cells of one interface.
+/// What a record is to a run that reads the cells of one link.
 #[derive(PartialEq, Eq, Drop, Debug)]
 pub enum Filtered<'a> {
-    /// Its cell counts: the moment, in whole ticks since the first record, and the cell.
+    /// Its cell counts: the moment, in whole ticks since the first cell of the capture, and the cell.
     Counts(u64, LentCell<'a>),
     /// It is passed over.
     Passed,
-    /// Its cell is of a second interface, and none was asked for: the first interface, and this one.
-    Several(u8, u8),
+    /// Its cell is of a second link, and none was asked for: the first link, and this one.
+    Several(Link, Link),
 }
 
-/// Says of each record of a capture whether its cell counts. If an interface was asked for, its cells count, otherwise those of the first
-/// cell's interface. A cell with a time before that of an earlier one does not count.
+/// Says of each record of a capture whether its cell counts. If a link was asked for, its cells count, otherwise those of the first
+/// cell's link. A cell with a time before that of an earlier one does not count.
 #[derive(Clone, Copy, Drop, Debug)]
 pub struct CellFilter {
     tick: Tick,
-    /// Whether an interface was asked for.
+    /// Whether a link was asked for.
     asked: bool,
-    /// The interface that was asked for, or that of the first cell.
-    interface: Option<u8>,
-    /// None before the first record.
+    /// The link that was asked for, or that of the first cell.
+    link: Option<Link>,
+    /// None before the first cell.
     clock: Option<Clock>,
     passed: PassedOver,
 }
 
 impl CellFilter {
-    /// Starts with this tick, for the interface that was asked for.
-    pub fn new(tick: Tick, interface: Option<u8>) -> CellFilter
-        ensures { filter_state result ≡ filter_start tick.nanoseconds interface }
+    /// Starts with this tick, for the link that was asked for.
+    pub fn new(tick: Tick, link: Option<Link>) -> CellFilter
+        ensures { filter_state result ≡ filter_start tick.nanoseconds link }
     {
         CellFilter {
             tick,
-            asked: interface.is_some(),
-            interface,
+            asked: link.is_some(),
+            link,
             clock: None,
             passed: PassedOver::none(),
         }
@@ -53,7 +53,7 @@ impl CellFilter {
         self.passed
     }
 
-    /// Reads a cell of the right interface.
+    /// Reads a cell of the right link.
     #[inline(always)]
     fn read_at<'a>(
         &mut self,
@@ -83,17 +83,17 @@ impl CellFilter {
         record_read: &Record<'a>,
         cell: &LentCell<'a>,
     ) -> Filtered<'a>
-        ensures { filter_at_interface (filter_state self.old) clock.first clock.latest record_read.now cell.now self.old.interface
+        ensures { filter_at_link (filter_state self.old) clock.first clock.latest record_read.now cell.now self.old.link
             ≡ (result, filter_state self.new) }
     {
-        match self.interface {
-            None => self.interface = Some(record_read.interface),
-            Some(interface) if interface == record_read.interface => {}
-            Some(interface) => {
+        match self.link {
+            None => self.link = Some(record_read.link),
+            Some(link) if link.is_same(record_read.link) => {}
+            Some(link) => {
                 if !self.asked {
-                    return Filtered::Several(interface, record_read.interface);
+                    return Filtered::Several(link, record_read.link);
                 }
-                self.passed.other_interface = self.passed.other_interface.with(record_read.number);
+                self.passed.other_link = self.passed.other_link.with(record_read.number);
                 self.clock = Some(clock);
                 return Filtered::Passed;
             }
@@ -106,17 +106,18 @@ impl CellFilter {
     pub fn read<'a>(&mut self, record_read: &Record<'a>) -> Filtered<'a>
         ensures { filter_record (filter_state self.old) record_read.now ≡ (result, filter_state self.new) }
     {
-        let clock = match self.clock {
-            Some(clock) => clock,
-            None => Clock::new(record_read.time),
-        };
         match &record_read.content {
             Err(why) => {
-                self.clock = Some(clock);
                 self.passed.count(*why, record_read.number);
                 Filtered::Passed
             }
-            Ok(cell) => self.read_cell(clock, record_read, cell),
+            Ok(cell) => {
+                let clock = match self.clock {
+                    Some(clock) => clock,
+                    None => Clock::new(record_read.time),
+                };
+                self.read_cell(clock, record_read, cell)
+            }
         }
     }
 }

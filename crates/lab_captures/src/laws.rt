@@ -2,7 +2,7 @@
 
 ghost use Rattle.lab_captures.specs.CellsText.{CapturesHaveOneCellsText, CellsAreWritten};
 
-/// A file has one text of `cells`, for each tick and interface.
+/// A file has one text of `cells`, for each tick and link.
 pub fn captures_have_one_text()
     ensures { CapturesHaveOneCellsText }
 {}

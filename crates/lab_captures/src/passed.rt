@@ -47,10 +47,10 @@ pub struct PassedOver {
     pub errored: PassedTally,
     /// They have fewer than 52 octets of a cell.
     pub cut_short: PassedTally,
-    /// Their time is before that of an earlier cell, or of the first record.
+    /// Their time is before that of an earlier cell.
     pub back: PassedTally,
-    /// They are of another interface than the one that was asked for.
-    pub other_interface: PassedTally,
+    /// They are of another link than the one that was asked for.
+    pub other_link: PassedTally,
 }
 
 impl PassedOver {
@@ -64,7 +64,7 @@ impl PassedOver {
             errored: none,
             cut_short: none,
             back: none,
-            other_interface: none,
+            other_link: none,
         }
     }
 
@@ -158,5 +158,5 @@ pub(crate) fn add_passed(answers: &mut Vec<u8>, passed: &PassedOver) -> Result<(
         passed.back,
         b"a time before that of an earlier cell",
     )?;
-    add_tally(answers, passed.other_interface, b"another interface")
+    add_tally(answers, passed.other_link, b"another link")
 }

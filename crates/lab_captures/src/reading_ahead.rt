@@ -7,7 +7,7 @@ ghost use Rattle.lab_captures.specs.inner.Ahead.{FillsAndReads, ReadsCells};
 use crate::counted::CountedCell;
 use crate::filter::{CellFilter, Filtered};
 use crate::window::Window;
-use captures::{Fault, Next, Reader};
+use captures::{Fault, Link, Next, Reader};
 use std::alloc::AllocError;
 use text_io::{Input, RunFault};
 
@@ -18,8 +18,8 @@ pub(crate) enum Coming {
     Wants,
     /// Enough cells were read. There may be more frames.
     Enough,
-    /// A cell of a second interface, where none was asked for: the first interface, and this one.
-    Several(u8, u8),
+    /// A cell of a second link, where none was asked for: the first link, and this one.
+    Several(Link, Link),
     /// A fault of the capture.
     Broken(Fault),
 }

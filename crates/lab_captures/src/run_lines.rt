@@ -3,19 +3,24 @@
 ghost use Rattle.std.specs.Prelude.{◌≡◌, ◌++◌, OnOk};
 ghost use Rattle.lab_captures.specs.RunLines.{closing_lines, ending_line, several_line};
 
-use crate::fault_lines::{add_capture_fault, add_with_number};
+use crate::fault_lines::add_capture_fault;
+use crate::link_words::add_link;
 use crate::passed::{PassedOver, add_passed};
-use captures::Fault;
+use captures::{Fault, Link};
 use std::alloc::AllocError;
-use upc_words::add_numbered;
+use upc_words::add_text;
 
-/// Appends the answer to a cell of a second interface.
+/// Appends the answer to a cell of a second link.
 #[tactic(auto, using(std::proofs::lemmas::List::append_assoc))]
-pub fn add_several(answers: &mut Vec<u8>, one: u8, other: u8) -> Result<(), AllocError>
+pub fn add_several(answers: &mut Vec<u8>, one: Link, other: Link) -> Result<(), AllocError>
     ensures { OnOk result (answers.new.items ≡ answers.old.items ++ several_line one other) }
 {
-    add_with_number(answers, b"fault interface 1 Several ", one as u32)?;
-    add_numbered(answers, b" ", other as usize)
+    add_text(answers, b"fault link 1 Several ")?;
+    add_link(answers, one)?;
+    add_text(answers, b" ")?;
+    add_link(answers, other)?;
+    answers.push(b'\n')?;
+    Ok(())
 }
 
 /// Appends the fault at which the reading ended, if there is one.

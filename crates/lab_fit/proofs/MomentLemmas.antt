@@ -1,13 +1,15 @@
 -- The moments of cells that count never go back.
-use Rattle.std.proofs.Common.{◌≡◌, ℕ, ◌+◌, ◌-◌, ◌*◌, ◌/◌, ◌%◌, ◌^◌, ◌<◌, ◌≤◌, ◌==◌, max, nat_lt, Bool, true, false, cond, List, [], ◌∷◌, Option, Some, None, Result, Ok, Err, refl, sym, subst, arith}
+use Rattle.std.proofs.Common.{◌≡◌, ℕ, ◌+◌, ◌-◌, ◌*◌, ◌/◌, ◌%◌, ◌^◌, ◌<◌, ◌≤◌, max, nat_lt, Bool, true, false, cond, List, [], ◌∷◌, Option, Some, None, Result, Ok, Err, refl, sym, subst, arith}
 use Rattle.std.specs.Bool.{⊤}
 use Rattle.std.specs.Prelude.{MatchOption, filter, unwrap_or}
 use Rattle.std.proofs.lemmas.Bool.{ltb-false}
 use Rattle.std.proofs.lemmas.Nat.{div-add-mod', le-div}
+use Rattle.captures.specs.Links.{same_link}
 use Rattle.captures.specs.Moments.{whole_ticks}
 use Rattle.captures.specs.declared.content.NoCell.{NoCell}
+use Rattle.captures.specs.declared.link.Link.{Link}
 use Rattle.captures.specs.declared.reader.Record.{Record}
-use Rattle.lab_captures.specs.CellFilter.{FilterState, counted_cells, counted_then, filter_at_interface, filter_at_time, filter_content, filter_record, filter_start}
+use Rattle.lab_captures.specs.CellFilter.{FilterState, counted_cells, counted_then, filter_at_link, filter_at_time, filter_cell, filter_content, filter_record, filter_start}
 use Rattle.lab_captures.specs.PassedRecords.{one_more_record}
 use Rattle.lab_captures.specs.declared.counted.CountedCell.{CountedCell}
 use Rattle.lab_captures.specs.declared.filter.Filtered.{Filtered}
@@ -61,15 +63,15 @@ module _ (record_read : Record) (first latest earliest : ℕ) (ordered : first �
       ] in
       choice (nat_lt record_read.time latest) refl
 
-  at-interface : (state : FilterState) (cell : List ℕ) (interface : Option ℕ) → 0 < state.tick → earliest ≤ whole_ticks (latest - first) state.tick
-      → Reads state.tick earliest (filter_at_interface state first latest record_read cell interface)
-  at-interface state cell None some on = at-time (record state { interface = Some record_read.interface }) cell some on
-  at-interface state cell (Some interface) some on =
+  at-link : (state : FilterState) (cell : List ℕ) (link : Option Link) → 0 < state.tick → earliest ≤ whole_ticks (latest - first) state.tick
+      → Reads state.tick earliest (filter_at_link state first latest record_read cell link)
+  at-link state cell None some on = at-time (record state { link = Some record_read.link }) cell some on
+  at-link state cell (Some link) some on =
       let other : Filtered × FilterState = (
         Passed,
-        record state { clock = Some (first, latest); passed = record state.passed { other_interface = one_more_record state.passed.other_interface record_read.number } },
+        record state { clock = Some (first, latest); passed = record state.passed { other_link = one_more_record state.passed.other_link record_read.number } },
       ) in
-      let several : Filtered × FilterState = (Several interface record_read.interface, state) in
+      let several : Filtered × FilterState = (Several link record_read.link, state) in
       let asked : (b : Bool) → Reads state.tick earliest (cond b other several) = elim [
         | true ↦ ((ordered, on), refl)
         | false ↦ tt
@@ -78,25 +80,25 @@ module _ (record_read : Record) (first latest earliest : ℕ) (ordered : first �
         | true ↦ at-time state cell some on
         | false ↦ asked state.asked
       ] in
-      choice (interface == record_read.interface)
+      choice (same_link link record_read.link)
 
-  at-content : (state : FilterState) (content : Result (List ℕ) NoCell) → 0 < state.tick → earliest ≤ whole_ticks (latest - first) state.tick
-      → Reads state.tick earliest (filter_content state (first, latest) record_read content)
-  at-content state (Err why) some on = ((ordered, on), refl)
-  at-content state (Ok cell) some on = at-interface state cell state.interface some on
-
-at-clock : (state : FilterState) (record_read : Record) (earliest : ℕ) (clock : Option (ℕ × ℕ)) → 0 < state.tick
+at-clock : (state : FilterState) (record_read : Record) (cell : List ℕ) (earliest : ℕ) (clock : Option (ℕ × ℕ)) → 0 < state.tick
     → MatchOption clock (earliest ≡ 0) (λ clock. (clock.0 ≤ clock.1) × (earliest ≤ whole_ticks (clock.1 - clock.0) state.tick))
-    → Reads state.tick earliest (filter_content state (unwrap_or clock (record_read.time, record_read.time)) record_read record_read.content)
-at-clock state record_read earliest None some on =
+    → Reads state.tick earliest (filter_cell state (unwrap_or clock (record_read.time, record_read.time)) record_read cell)
+at-clock state record_read cell earliest None some on =
     let same : record_read.time ≤ record_read.time = omega arith in
     let none : earliest ≤ whole_ticks (record_read.time - record_read.time) state.tick = omega (arith, on) in
-    at-content record_read record_read.time record_read.time earliest same state record_read.content some none
-at-clock state record_read earliest (Some clock) some on = at-content record_read clock.0 clock.1 earliest on.0 state record_read.content some on.1
+    at-link record_read record_read.time record_read.time earliest same state cell state.link some none
+at-clock state record_read cell earliest (Some clock) some on = at-link record_read clock.0 clock.1 earliest on.0 state cell state.link some on.1
+
+at-content : (state : FilterState) (record_read : Record) (content : Result (List ℕ) NoCell) (earliest : ℕ) → 0 < state.tick → IsOn state earliest
+    → Reads state.tick earliest (filter_content state record_read content)
+at-content state record_read (Err why) earliest some on = (on, refl)
+at-content state record_read (Ok cell) earliest some on = at-clock state record_read cell earliest state.clock some on
 
 reads-on : (state : FilterState) (record_read : Record) (earliest : ℕ) → 0 < state.tick → IsOn state earliest
     → Reads state.tick earliest (filter_record state record_read)
-reads-on state record_read earliest some on = at-clock state record_read earliest state.clock some on
+reads-on state record_read earliest some on = at-content state record_read record_read.content earliest some on
 
 counted-on : (answer : Filtered) (after : FilterState) (tick earliest number : ℕ) (later : List CountedCell) → IsNext tick earliest answer after
     → ((from : ℕ) → IsOn after from → after.tick ≡ tick → GoesOn from (moments_counted later))
@@ -129,5 +131,5 @@ GoesOn-filter test earliest (cell ∷ cells) goes =
     choice (test cell)
 
 pub moments-go-on : MomentsGoOn
-moments-go-on tick interface side records vc some =
-    GoesOn-filter (λ counted. is_same_vc vc (vc_of side counted.cell)) 0 (counted_cells (filter_start tick interface) records) (cells-go-on (filter_start tick interface) records 0 some refl)
+moments-go-on tick link side records vc some =
+    GoesOn-filter (λ counted. is_same_vc vc (vc_of side counted.cell)) 0 (counted_cells (filter_start tick link) records) (cells-go-on (filter_start tick link) records 0 some refl)

@@ -3,6 +3,7 @@ use Rattle.std.specs.Prelude.{◌≡◌, ℕ, ◌+◌, ◌^◌, ◌<◌, ◌≤�
 use Rattle.std.specs.BTreeMap.{is_at}
 use Rattle.std.specs.Map.{lookup}
 use Rattle.std.specs.Ordering.{nat_cmp}
+use Rattle.captures.specs.declared.link.Link.{Link}
 use Rattle.captures.specs.declared.reader.Record.{Record}
 use Rattle.lab_captures.specs.CaptureText.{IsTextOfCells, RunsThrough, end_done, text_at_end}
 use Rattle.lab_captures.specs.CellFilter.{CellsEnd, counted_cells, filter_start}
@@ -51,8 +52,8 @@ FitsAreLeast = (increment : ℕ) (side : Side) (cells : List CountedCell) (last 
 
 -- The moments of a connection's cells never go back. A tick has at least one nanosecond.
 abbrev pub MomentsGoOn : Type 0
-MomentsGoOn = (tick : ℕ) (interface : Option ℕ) (side : Side) (records : List Record) (vc : Vc) → 0 < tick
-    → GoesOn 0 (moments_counted (cells_of_vc side vc (counted_cells (filter_start tick interface) records)))
+MomentsGoOn = (tick : ℕ) (link : Option Link) (side : Side) (records : List Record) (vc : Vc) → 0 < tick
+    → GoesOn 0 (moments_counted (cells_of_vc side vc (counted_cells (filter_start tick link) records)))
 
 -- The text of such a run is the answer to the end of the cells, with the table of these states, and the run has no other text.
 abbrev pub FitsAreWritten : Type 0
@@ -68,7 +69,7 @@ LinesAreOfConnections = (increment : ℕ) (side : Side) (cells : List CountedCel
 
 -- A file has exactly one output.
 abbrev pub CapturesHaveOneFitText : Type 0
-CapturesHaveOneFitText = (increment tick : ℕ) (interface : Option ℕ) (side : Side) (octets : List ℕ)
-    → ((text : List ℕ) × (done : Done) × IsFitText increment tick interface side octets text done)
-    × ((one other : List ℕ) (ends other_ends : Done) → IsFitText increment tick interface side octets one ends
-    → IsFitText increment tick interface side octets other other_ends → (one ≡ other) × (ends ≡ other_ends))
+CapturesHaveOneFitText = (increment tick : ℕ) (link : Option Link) (side : Side) (octets : List ℕ)
+    → ((text : List ℕ) × (done : Done) × IsFitText increment tick link side octets text done)
+    × ((one other : List ℕ) (ends other_ends : Done) → IsFitText increment tick link side octets one ends
+    → IsFitText increment tick link side octets other other_ends → (one ≡ other) × (ends ≡ other_ends))

@@ -5,6 +5,7 @@ use Rattle.std.specs.BTreeMap.{insert_entry}
 use Rattle.std.specs.Map.{values_of}
 use Rattle.std.specs.Ordering.{nat_cmp}
 use Rattle.captures.specs.declared.fault.Fault.{Fault}
+use Rattle.captures.specs.declared.link.Link.{Link}
 use Rattle.lab_captures.specs.CaptureText.{IsCaptureText}
 use Rattle.lab_captures.specs.CellFilter.{filter_start}
 use Rattle.lab_captures.specs.CellRules.{CellRules, fixed_rules}
@@ -83,7 +84,7 @@ fit_closes world passed ending = heading ++ (fit_lines world.fits ++ closing_lin
 abbrev pub fit_rules : CellRules FitWorld
 fit_rules = fixed_rules fit_steps fit_closes
 
--- The output for a whole file, and how the run ends, with this increment in ticks, a tick of this many nanoseconds, the interface that was
+-- The output for a whole file, and how the run ends, with this increment in ticks, a tick of this many nanoseconds, the link that was
 -- asked for and this side.
-abbrev pub IsFitText : ℕ → ℕ → Option ℕ → Side → List ℕ → List ℕ → Done → Type 0
-IsFitText increment tick interface side = IsCaptureText fit_rules (filter_start tick interface) (fit_start increment side)
+abbrev pub IsFitText : ℕ → ℕ → Option Link → Side → List ℕ → List ℕ → Done → Type 0
+IsFitText increment tick link side = IsCaptureText fit_rules (filter_start tick link) (fit_start increment side)

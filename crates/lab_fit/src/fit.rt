@@ -9,7 +9,7 @@ ghost use Rattle.lab_fit.specs.inner.FitShown.{TurnsFit, fit_world};
 
 use crate::connections::Connections;
 use crate::fit_lines::{add_fit_fault, add_fit_lines, add_heading};
-use captures::{Fault, Tick};
+use captures::{Fault, Link, Tick};
 use lab_captures::{CellFollower, CountedCell, PassedOver, add_closing, follow_cells};
 use std::alloc::{AllocError, Global};
 use std::thread::Threads;
@@ -92,7 +92,7 @@ impl CellFollower for FitRun {
 /// same cells at the same moments. Headers are read at this side.
 ///
 /// A cell of a 65,536th connection ends the run, and so does one after which 64 bits don't hold the number of its connection's cells or the
-/// ticks in the bucket. If no interface is asked for, a cell of a second interface ends the run. Comments say how many records were passed
+/// ticks in the bucket. If no link is asked for, a cell of a second link ends the run. Comments say how many records were passed
 /// over and why. Memory is bounded: that of [`follow_cells`], and at most some 60 MB with 65,535 connections, less than one MB with a few hundred.
 ///
 /// With `threads` above 1, records are read on one thread while the cells of earlier ones are answered on another, as in [`follow_cells`]. The
@@ -108,15 +108,15 @@ pub fn fit_capture<R: Threads, I: Input + Send, O: Output>(
     alloc: Global,
     increment: u64,
     tick: Tick,
-    interface: Option<u8>,
+    link: Option<Link>,
     side: Side,
     input: &mut I,
     output: &mut O,
 ) -> Result<Done, RunFault>
-    ensures { IsServed (IsFitText increment tick.nanoseconds interface side) I.Input input.old input.new O.Output output.old output.new result }
+    ensures { IsServed (IsFitText increment tick.nanoseconds link side) I.Input input.old input.new O.Output output.old output.new result }
 {
     let Some(mut run) = FitRun::new(alloc, increment, side) else {
         return Err(RunFault::NoMemory);
     };
-    follow_cells(rt, threads, alloc, tick, interface, input, output, &mut run)
+    follow_cells(rt, threads, alloc, tick, link, input, output, &mut run)
 }

@@ -23,7 +23,7 @@ pub fn lines_are_of_connections()
     ensures { LinesAreOfConnections }
 {}
 
-/// A file has one text of `fit`, for each increment, tick, interface and side.
+/// A file has one text of `fit`, for each increment, tick, link and side.
 pub fn captures_have_one_text()
     ensures { CapturesHaveOneFitText }
 {}

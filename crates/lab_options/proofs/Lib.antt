@@ -1,2 +1,4 @@
 pub mod Answering
 pub mod Commands
+pub mod LinkLemmas
+pub mod CutLemmas

@@ -1,46 +1,48 @@
 -- The options of `upc-lab cells`.
 use Rattle.std.specs.Prelude.{ℕ, List, [], ◌∷◌, Option, Some, None, codes, false, option_and_then, option_map, true}
+use Rattle.captures.specs.declared.link.Link.{Link}
 use Rattle.clap.specs.Simple.{App}
 use Rattle.clap.specs.Walk.{Rule, Text}
 use Rattle.command_line.specs.Arguments.{app_with_rules, argument_rule}
 use Rattle.command_line.specs.CommandLines.{argument_value}
 use Rattle.command_line.specs.declared.stop.Stop.{Stop}
 use Rattle.lab_options.specs.OptionAnswers.{Asks, IsOptionStop}
-use Rattle.lab_options.specs.OptionValues.{interface_of, tick_of}
+use Rattle.lab_options.specs.LinkOption.{link_of}
+use Rattle.lab_options.specs.OptionValues.{tick_of}
 use Rattle.lab_options.specs.declared.cells.CellsOptions.{CellsOptions}
 
 -- The option `--tick TIME`, whose value is 100ns if it isn't given.
 abbrev pub tick_rule : Rule
 tick_rule = argument_rule (codes "tick") true (Some (codes "100ns")) false
 
--- The option `--interface N`.
-abbrev pub interface_rule : Rule
-interface_rule = argument_rule (codes "interface") true None false
+-- The option `--link LINK`.
+abbrev pub link_rule : Rule
+link_rule = argument_rule (codes "link") true None false
 
 -- The command `upc-lab cells`: these options, and that for help, which every command has.
 unfoldable pub cells_app : App
-cells_app = app_with_rules (codes "upc-lab cells") (tick_rule ∷ interface_rule ∷ [])
+cells_app = app_with_rules (codes "upc-lab cells") (tick_rule ∷ link_rule ∷ [])
 
--- What is asked for: the nanoseconds of a tick, and the interface, if any.
+-- What is asked for: the nanoseconds of a tick, and the link, if any.
 pub record CellsAsked : Type 0 where
   pub nanoseconds : ℕ
-  pub interface : Option ℕ
+  pub link : Option Link
 
 -- What options of `cells` ask for.
 abbrev pub cells_asked_by : CellsOptions → CellsAsked
-cells_asked_by options = record { nanoseconds = options.tick.nanoseconds; interface = options.interface }
+cells_asked_by options = record { nanoseconds = options.tick.nanoseconds; link = options.link }
 
 -- What these values spell, if each spells something.
 abbrev pub cells_values : Option Text → Option Text → Option CellsAsked
-cells_values tick interface =
+cells_values tick link =
     option_and_then (λ nanoseconds. option_map (λ asked. record {
       nanoseconds = nanoseconds;
-      interface = asked;
-    }) (interface_of interface)) (tick_of tick)
+      link = asked;
+    }) (link_of link)) (tick_of tick)
 
 -- What the values of the options in the words spell.
 abbrev pub cells_asked : List Text → Option CellsAsked
-cells_asked words = cells_values (argument_value cells_app words (codes "tick")) (argument_value cells_app words (codes "interface"))
+cells_asked words = cells_values (argument_value cells_app words (codes "tick")) (argument_value cells_app words (codes "link"))
 
 -- The words have no error for clap, and ask for this.
 abbrev pub AsksCells : List Text → CellsAsked → Type 0

@@ -1,13 +1,15 @@
 -- The options of `upc-lab fit`.
 use Rattle.std.specs.Prelude.{ℕ, List, [], ◌∷◌, Option, Some, None, codes, false, option_and_then, option_map, true}
+use Rattle.captures.specs.declared.link.Link.{Link}
 use Rattle.clap.specs.Simple.{App}
 use Rattle.clap.specs.Walk.{Rule, Text}
 use Rattle.command_line.specs.Arguments.{app_with_rules, argument_rule}
 use Rattle.command_line.specs.CommandLines.{argument_value}
 use Rattle.command_line.specs.declared.stop.Stop.{Stop}
-use Rattle.lab_options.specs.CellsOptions.{interface_rule, tick_rule}
+use Rattle.lab_options.specs.CellsOptions.{link_rule, tick_rule}
 use Rattle.lab_options.specs.OptionAnswers.{Asks, IsOptionStop}
-use Rattle.lab_options.specs.OptionValues.{fit_increment_of, interface_of, fit_side_of, tick_of}
+use Rattle.lab_options.specs.LinkOption.{link_of}
+use Rattle.lab_options.specs.OptionValues.{fit_increment_of, fit_side_of, tick_of}
 use Rattle.lab_options.specs.declared.fit.FitOptions.{FitOptions}
 use Rattle.upc_cell.specs.declared.side.Side.{Side}
 
@@ -21,13 +23,13 @@ side_rule = argument_rule (codes "side") true (Some (codes "uni")) false
 
 -- The command `upc-lab fit`: these options, those of `cells`, and that for help, which every command has.
 unfoldable pub fit_app : App
-fit_app = app_with_rules (codes "upc-lab fit") (increment_rule ∷ tick_rule ∷ interface_rule ∷ side_rule ∷ [])
+fit_app = app_with_rules (codes "upc-lab fit") (increment_rule ∷ tick_rule ∷ link_rule ∷ side_rule ∷ [])
 
--- What is asked for: the increment in ticks, the nanoseconds of a tick, the interface, if any, and the side.
+-- What is asked for: the increment in ticks, the nanoseconds of a tick, the link, if any, and the side.
 pub record FitAsked : Type 0 where
   pub increment : ℕ
   pub nanoseconds : ℕ
-  pub interface : Option ℕ
+  pub link : Option Link
   pub side : Side
 
 -- What options of `fit` ask for.
@@ -35,24 +37,24 @@ abbrev pub asked_by : FitOptions → FitAsked
 asked_by options = record {
   increment = options.increment;
   nanoseconds = options.tick.nanoseconds;
-  interface = options.interface;
+  link = options.link;
   side = options.side;
 }
 
 -- What these values spell, if each spells something.
 abbrev pub fit_values : Option Text → Option Text → Option Text → Option Text → Option FitAsked
-fit_values increment tick interface side =
+fit_values increment tick link side =
     option_and_then (λ ticks. option_and_then (λ nanoseconds. option_and_then (λ asked. option_map (λ at. record {
       increment = ticks;
       nanoseconds = nanoseconds;
-      interface = asked;
+      link = asked;
       side = at;
-    }) (fit_side_of side)) (interface_of interface)) (tick_of tick)) (fit_increment_of increment)
+    }) (fit_side_of side)) (link_of link)) (tick_of tick)) (fit_increment_of increment)
 
 -- What the values of the options in the words spell.
 abbrev pub fit_asked : List Text → Option FitAsked
 fit_asked words = fit_values (argument_value fit_app words (codes "increment")) (argument_value fit_app words (codes "tick"))
-    (argument_value fit_app words (codes "interface")) (argument_value fit_app words (codes "side"))
+    (argument_value fit_app words (codes "link")) (argument_value fit_app words (codes "side"))
 
 -- The words have no error for clap, and ask for this.
 abbrev pub AsksFit : List Text → FitAsked → Type 0

@@ -1,6 +1,7 @@
 -- The options of the subcommands over captures. Read the modules in this order:
 pub mod OptionAnswers
 pub mod OptionValues
+pub mod LinkOption
 pub mod CellsOptions
 pub mod FitOptions
 pub mod PoliceOptions

@@ -1,5 +1,5 @@
 -- What the value of an option spells.
-use Rattle.std.specs.Prelude.{◌==◌, ◌^◌, if◌then◌else◌, ℕ, Option, Some, None, codes, length, option_and_then, option_map}
+use Rattle.std.specs.Prelude.{◌==◌, ◌^◌, if◌then◌else◌, ℕ, Option, Some, None, codes, length, option_and_then}
 use Rattle.std.specs.Str.{bytes_eq}
 use Rattle.clap.specs.Walk.{Text}
 use Rattle.lab_captures.specs.declared.cell_lines.CellLines.{CellLines}
@@ -16,11 +16,6 @@ positive number = if number == 0 then None else Some number
 -- The nanoseconds of a tick: a time of `upc-lab size` that isn't 0.
 abbrev pub tick_of : Option Text → Option ℕ
 tick_of text = option_and_then (λ word. option_and_then positive (duration_of word)) text
-
--- The interface, 0 to 3, or none if none is asked for.
-abbrev pub interface_of : Option Text → Option (Option ℕ)
-interface_of None = Some None
-interface_of (Some text) = option_map Some (number_up_to 3 text)
 
 -- An increment that a bucket can have: 1 to 2^48 ticks.
 abbrev pub fit_increment_of : Option Text → Option ℕ

@@ -1,15 +1,17 @@
 -- The argument and the options of `upc-lab police`.
 use Rattle.std.specs.Prelude.{ℕ, List, [], ◌∷◌, Option, Some, None, codes, false, option_and_then, option_map, true}
 use Rattle.std.specs.String.{string_bytes}
+use Rattle.captures.specs.declared.link.Link.{Link}
 use Rattle.clap.specs.Simple.{App}
 use Rattle.clap.specs.Walk.{Rule, Text}
 use Rattle.command_line.specs.Arguments.{app_with_rules, argument_rule}
 use Rattle.command_line.specs.CommandLines.{argument_value}
 use Rattle.command_line.specs.declared.stop.Stop.{Stop}
 use Rattle.lab_captures.specs.declared.cell_lines.CellLines.{CellLines}
-use Rattle.lab_options.specs.CellsOptions.{interface_rule, tick_rule}
+use Rattle.lab_options.specs.CellsOptions.{link_rule, tick_rule}
 use Rattle.lab_options.specs.OptionAnswers.{Asks, IsOptionStop}
-use Rattle.lab_options.specs.OptionValues.{cell_lines_of, interface_of, setup_name_of, threads_of, tick_of}
+use Rattle.lab_options.specs.LinkOption.{link_of}
+use Rattle.lab_options.specs.OptionValues.{cell_lines_of, setup_name_of, threads_of, tick_of}
 use Rattle.lab_options.specs.declared.police.PoliceOptions.{PoliceOptions}
 
 -- The argument SETUP, which must be given.
@@ -26,14 +28,14 @@ threads_rule = argument_rule (codes "threads") true (Some (codes "2")) false
 
 -- The command `upc-lab police`: this argument and these options, the options of `cells`, and that for help, which every command has.
 unfoldable pub police_app : App
-police_app = app_with_rules (codes "upc-lab police") (setup_rule ∷ tick_rule ∷ interface_rule ∷ lines_rule ∷ threads_rule ∷ [])
+police_app = app_with_rules (codes "upc-lab police") (setup_rule ∷ tick_rule ∷ link_rule ∷ lines_rule ∷ threads_rule ∷ [])
 
--- What is asked for: the name of the file with the setup script, the nanoseconds of a tick, the interface, if any, which cells have lines,
+-- What is asked for: the name of the file with the setup script, the nanoseconds of a tick, the link, if any, which cells have lines,
 -- and the number of threads.
 pub record PoliceAsked : Type 0 where
   pub setup : Text
   pub nanoseconds : ℕ
-  pub interface : Option ℕ
+  pub link : Option Link
   pub lines : CellLines
   pub threads : ℕ
 
@@ -42,26 +44,26 @@ abbrev pub police_asked_by : PoliceOptions → PoliceAsked
 police_asked_by options = record {
   setup = string_bytes options.setup;
   nanoseconds = options.tick.nanoseconds;
-  interface = options.interface;
+  link = options.link;
   lines = options.lines;
   threads = options.threads;
 }
 
 -- What these values spell, if each spells something.
 abbrev pub police_values : Option Text → Option Text → Option Text → Option Text → Option Text → Option PoliceAsked
-police_values setup tick interface lines threads =
+police_values setup tick link lines threads =
     option_and_then (λ name. option_and_then (λ nanoseconds. option_and_then (λ asked. option_and_then (λ which. option_map (λ number. record {
       setup = name;
       nanoseconds = nanoseconds;
-      interface = asked;
+      link = asked;
       lines = which;
       threads = number;
-    }) (threads_of threads)) (cell_lines_of lines)) (interface_of interface)) (tick_of tick)) (setup_name_of setup)
+    }) (threads_of threads)) (cell_lines_of lines)) (link_of link)) (tick_of tick)) (setup_name_of setup)
 
 -- What the values of the argument and the options in the words spell.
 abbrev pub police_asked : List Text → Option PoliceAsked
 police_asked words = police_values (argument_value police_app words (codes "SETUP")) (argument_value police_app words (codes "tick"))
-    (argument_value police_app words (codes "interface")) (argument_value police_app words (codes "lines")) (argument_value police_app words (codes "threads"))
+    (argument_value police_app words (codes "link")) (argument_value police_app words (codes "lines")) (argument_value police_app words (codes "threads"))
 
 -- The words have no error for clap, and ask for this.
 abbrev pub AsksPolice : List Text → PoliceAsked → Type 0

@@ -6,10 +6,9 @@ ghost use Rattle.command_line.specs.Arguments.{texts_of};
 ghost use Rattle.lab_options.specs.CellsOptions.{AsksCells, CellsAsked, IsCellsStop, cells_asked_by};
 ghost use Rattle.lab_options.specs.inner.Answered.{AnswersValues, cells_spelled};
 
-use crate::values::{
-    INTERFACE, TICK, WRONG_INTERFACE, WRONG_TICK, interface_of, tick_of, wrong_value,
-};
-use captures::Tick;
+use crate::link::link_of;
+use crate::values::{LINK, TICK, WRONG_LINK, WRONG_TICK, tick_of, wrong_value};
+use captures::{Link, Tick};
 use command_line::{Options, Stop, Value, values_of_words};
 use std::alloc::Global;
 
@@ -18,18 +17,18 @@ use std::alloc::Global;
 pub struct CellsOptions {
     /// How long a tick is.
     pub tick: Tick,
-    /// The interface whose cells are read. Without one the cells of a capture may be of one interface only.
-    pub interface: Option<u8>,
+    /// The link whose cells are read. Without one the cells of a capture may be of one link only.
+    pub link: Option<Link>,
 }
 
 const CELLS: Options = Options {
     name: "upc-lab cells",
     about: "Print the ATM cells of a capture of a link as lines of a script",
     after_help: "Standard input is an ERF file, or pcap or pcapng with ERF records.\nExample: examples/make-capture | upc-lab cells --tick 1us",
-    arguments: &[TICK, INTERFACE],
+    arguments: &[TICK, LINK],
 };
 
-/// Reads the words after `upc-lab cells`: `--tick TIME`, which is 100ns if it isn't given, and `--interface N`. The forms of
+/// Reads the words after `upc-lab cells`: `--tick TIME`, which is 100ns if it isn't given, and `--link LINK`. The forms of
 /// help that `clap` has request help. Any other word is an error, and so is a wrong value.
 pub fn cells_options(alloc: Global, words: Vec<String>) -> Result<CellsOptions, Stop>
     ensures asked { IfOk result (λ options. AsksCells (map string_bytes words.items) (cells_asked_by options)) }
@@ -48,10 +47,10 @@ fn read(alloc: Global, values: &[Value]) -> Result<CellsOptions, Stop>
     let Some(tick) = tick_of(values) else {
         return Err(wrong_value(alloc, WRONG_TICK));
     };
-    let Some(interface) = interface_of(values) else {
-        return Err(wrong_value(alloc, WRONG_INTERFACE));
+    let Some(link) = link_of(values) else {
+        return Err(wrong_value(alloc, WRONG_LINK));
     };
-    Ok(CellsOptions { tick, interface })
+    Ok(CellsOptions { tick, link })
 }
 
 fn answer_to(alloc: Global, found: Result<Vec<Value>, Stop>) -> Result<CellsOptions, Stop>

@@ -6,11 +6,11 @@ ghost use Rattle.command_line.specs.Arguments.{texts_of};
 ghost use Rattle.lab_options.specs.FitOptions.{AsksFit, FitAsked, IsFitStop, asked_by};
 ghost use Rattle.lab_options.specs.inner.Answered.{AnswersValues, fit_spelled};
 
+use crate::link::link_of;
 use crate::values::{
-    INTERFACE, TICK, WRONG_INTERFACE, WRONG_TICK, fit_increment_of, fit_side_of, interface_of,
-    tick_of, wrong_value,
+    LINK, TICK, WRONG_LINK, WRONG_TICK, fit_increment_of, fit_side_of, tick_of, wrong_value,
 };
-use captures::Tick;
+use captures::{Link, Tick};
 use command_line::{Argument, Options, Stop, Value, values_of_words};
 use std::alloc::Global;
 use upc_cell::Side;
@@ -22,8 +22,8 @@ pub struct FitOptions {
     pub increment: u64,
     /// How long a tick is.
     pub tick: Tick,
-    /// The interface whose cells are read. Without one the cells of a capture may be of one interface only.
-    pub interface: Option<u8>,
+    /// The link whose cells are read. Without one the cells of a capture may be of one link only.
+    pub link: Option<Link>,
     /// The side at which headers are read.
     pub side: Side,
 }
@@ -48,10 +48,10 @@ const FIT: Options = Options {
     name: "upc-lab fit",
     about: "Print the least limit under which all cells of each connection of a capture conform",
     after_help: "Standard input is an ERF file, or pcap or pcapng with ERF records.\nExample: examples/make-capture | upc-lab fit --increment 10 --tick 1us",
-    arguments: &[INCREMENT, TICK, INTERFACE, SIDE],
+    arguments: &[INCREMENT, TICK, LINK, SIDE],
 };
 
-/// Reads the words after `upc-lab fit`: `--increment T`, `--tick TIME`, which is 100ns if it isn't given, `--interface N`, and
+/// Reads the words after `upc-lab fit`: `--increment T`, `--tick TIME`, which is 100ns if it isn't given, `--link LINK`, and
 /// `--side SIDE`, which is uni if it isn't given. The forms of help that `clap` has request help. Any other word is an error,
 /// and so are a wrong value and words without an increment.
 pub fn fit_options(alloc: Global, words: Vec<String>) -> Result<FitOptions, Stop>
@@ -77,8 +77,8 @@ fn read(alloc: Global, values: &[Value]) -> Result<FitOptions, Stop>
     let Some(tick) = tick_of(values) else {
         return Err(wrong_value(alloc, WRONG_TICK));
     };
-    let Some(interface) = interface_of(values) else {
-        return Err(wrong_value(alloc, WRONG_INTERFACE));
+    let Some(link) = link_of(values) else {
+        return Err(wrong_value(alloc, WRONG_LINK));
     };
     let Some(side) = fit_side_of(values) else {
         return Err(wrong_value(alloc, "error: the value of '--side' is uni or nni\n"));
@@ -86,7 +86,7 @@ fn read(alloc: Global, values: &[Value]) -> Result<FitOptions, Stop>
     Ok(FitOptions {
         increment,
         tick,
-        interface,
+        link,
         side,
     })
 }

@@ -3,6 +3,8 @@
 
 mod cells;
 mod fit;
+pub mod laws;
+mod link;
 mod police;
 mod values;
 

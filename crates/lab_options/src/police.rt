@@ -6,11 +6,12 @@ ghost use Rattle.command_line.specs.Arguments.{texts_of};
 ghost use Rattle.lab_options.specs.PoliceOptions.{AsksPolice, IsPoliceStop, PoliceAsked, police_asked_by};
 ghost use Rattle.lab_options.specs.inner.Answered.{AnswersValues, police_spelled};
 
+use crate::link::link_of;
 use crate::values::{
-    INTERFACE, TICK, WRONG_INTERFACE, WRONG_TICK, cell_lines_of, interface_of, setup_name_of,
-    threads_of, tick_of, wrong_value,
+    LINK, TICK, WRONG_LINK, WRONG_TICK, cell_lines_of, setup_name_of, threads_of, tick_of,
+    wrong_value,
 };
-use captures::Tick;
+use captures::{Link, Tick};
 use command_line::{Argument, Options, Stop, Value, values_of_words};
 use lab_captures::CellLines;
 use std::alloc::Global;
@@ -22,8 +23,8 @@ pub struct PoliceOptions {
     pub setup: String,
     /// How long a tick is.
     pub tick: Tick,
-    /// The interface whose cells are read. Without one the cells of a capture may be of one interface only.
-    pub interface: Option<u8>,
+    /// The link whose cells are read. Without one the cells of a capture may be of one link only.
+    pub link: Option<Link>,
     /// Which cells have lines.
     pub lines: CellLines,
     /// How many threads may work at once, 1 to 64.
@@ -58,10 +59,10 @@ const POLICE: Options = Options {
     name: "upc-lab police",
     about: "Police the ATM cells of a capture by the contracts of a setup script",
     after_help: "Standard input is an ERF file, or pcap or pcapng with ERF records.\nExample: examples/make-capture | upc-lab police examples/police.setup --tick 1us",
-    arguments: &[SETUP, TICK, INTERFACE, LINES, THREADS],
+    arguments: &[SETUP, TICK, LINK, LINES, THREADS],
 };
 
-/// Reads the words after `upc-lab police`: the name of a file, `--tick TIME`, which is 100ns if it isn't given, `--interface N`,
+/// Reads the words after `upc-lab police`: the name of a file, `--tick TIME`, which is 100ns if it isn't given, `--link LINK`,
 /// `--lines LINES`, which is all if it isn't given, and `--threads N`, which is 2 if it isn't given. The forms of help that `clap` has
 /// request help. Any other word is an error, and so are a wrong value, an empty name and words without a name.
 pub fn police_options(alloc: Global, words: Vec<String>) -> Result<PoliceOptions, Stop>
@@ -84,8 +85,8 @@ fn read(alloc: Global, values: &[Value]) -> Result<PoliceOptions, Stop>
     let Some(tick) = tick_of(values) else {
         return Err(wrong_value(alloc, WRONG_TICK));
     };
-    let Some(interface) = interface_of(values) else {
-        return Err(wrong_value(alloc, WRONG_INTERFACE));
+    let Some(link) = link_of(values) else {
+        return Err(wrong_value(alloc, WRONG_LINK));
     };
     let Some(lines) = cell_lines_of(values) else {
         return Err(wrong_value(
@@ -105,7 +106,7 @@ fn read(alloc: Global, values: &[Value]) -> Result<PoliceOptions, Stop>
     Ok(PoliceOptions {
         setup,
         tick,
-        interface,
+        link,
         lines,
         threads,
     })

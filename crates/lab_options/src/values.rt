@@ -2,7 +2,7 @@
 
 ghost use Rattle.std.specs.Prelude.{◌≡◌, codes, option_map};
 ghost use Rattle.command_line.specs.Arguments.{text_named, texts_of};
-ghost use Rattle.lab_options.specs.OptionValues.{cell_lines_of, fit_increment_of, fit_side_of, interface_of, setup_name_of, threads_of, tick_of};
+ghost use Rattle.lab_options.specs.OptionValues.{cell_lines_of, fit_increment_of, fit_side_of, setup_name_of, threads_of, tick_of};
 ghost use Rattle.lab_options.specs.inner.Answered.{IsWrongValue};
 
 use captures::Tick;
@@ -22,22 +22,22 @@ pub(crate) const TICK: Argument = Argument {
     help: "The length of a tick: a number with ns, us, ms or s",
 };
 
-/// The option `--interface`.
-pub(crate) const INTERFACE: Argument = Argument {
-    name: "interface",
-    value_name: Some("N"),
+/// The option `--link`.
+pub(crate) const LINK: Argument = Argument {
+    name: "link",
+    value_name: Some("LINK"),
     default: None,
     required: false,
-    help: "Only the cells of this interface, 0 to 3",
+    help: "Only the cells of this link, as 0, 0/2/5, 1:0 or 1:0/2/5",
 };
 
 /// The message about a wrong value of `--tick`.
 pub(crate) const WRONG_TICK: &str =
     "error: the value of '--tick' is a number above 0 with ns, us, ms or s, as 100ns\n";
 
-/// The message about a wrong value of `--interface`.
-pub(crate) const WRONG_INTERFACE: &str =
-    "error: the value of '--interface' is a number from 0 to 3\n";
+/// The message about a wrong value of `--link`.
+pub(crate) const WRONG_LINK: &str =
+    "error: the value of '--link' is an interface from 0 to 7, with /PORT/CONNECTION after it for MC_ATM, and with N: before it in a pcapng file, as 0, 0/2/5, 1:0 or 1:0/2/5\n";
 
 /// Returns the tick that the value of `--tick` spells, if it has one.
 pub(crate) fn tick_of(values: &[Value]) -> Option<Tick>
@@ -45,19 +45,6 @@ pub(crate) fn tick_of(values: &[Value]) -> Option<Tick>
 {
     let nanoseconds = duration(text_of(values, "tick")?.as_bytes())?;
     Tick::new(nanoseconds)
-}
-
-/// Returns the interface that the value of `--interface` spells, or none without that option. None if the value is wrong.
-pub(crate) fn interface_of(values: &[Value]) -> Option<Option<u8>>
-    ensures { result ≡ interface_of (text_named (texts_of values.now) (codes "interface")) }
-{
-    let Some(text) = text_of(values, "interface") else {
-        return Some(None);
-    };
-    match number(text.as_bytes()) {
-        Some(interface) if interface <= 3 => Some(Some(interface as u8)),
-        _ => None,
-    }
 }
 
 /// Returns the increment that the value of `--increment` spells, in ticks.

@@ -5,6 +5,7 @@ use Rattle.captures.specs.declared.fault.Fault.{Fault}
 use Rattle.card_core.specs.declared.answer.Answer.{Answer}
 use Rattle.card_core.specs.declared.answer.Answer.TheVariants.{JournalFull}
 use Rattle.card_core.specs.declared.step.Step.TheVariants.{Cut}
+use Rattle.captures.specs.declared.link.Link.{Link}
 use Rattle.lab_captures.specs.CaptureText.{IsCaptureText}
 use Rattle.lab_captures.specs.CellFilter.{filter_start}
 use Rattle.lab_captures.specs.CellRules.{CellRules}
@@ -109,7 +110,7 @@ pub record IsSetUpBy (script : List ℕ) (card : Card) : Type 0 where
   pub reached : EndsAt run_rules 0 None (lines_of script) answers (Some card)
 
 -- The text for a setup script and a whole capture, and how the run ends.
-abbrev pub IsPoliceText : CellLines → ℕ → Option ℕ → List ℕ → List ℕ → List ℕ → Done → Type 0
-IsPoliceText lines tick interface script octets text done =
+abbrev pub IsPoliceText : CellLines → ℕ → Option Link → List ℕ → List ℕ → List ℕ → Done → Type 0
+IsPoliceText lines tick link script octets text done =
     (IsScriptExplained script text Ended × (done ≡ Ended))
-    ⊎ ((card : Card) × IsSetUpBy script card × IsCaptureText police_rules (filter_start tick interface) (police_start lines card) octets text done)
+    ⊎ ((card : Card) × IsSetUpBy script card × IsCaptureText police_rules (filter_start tick link) (police_start lines card) octets text done)

@@ -2,7 +2,7 @@
 
 ghost use Rattle.lab_police.specs.PoliceLaws.{PolicesEachCapture};
 
-/// A setup script and a capture have a text, for each choice of lines, tick and interface.
+/// A setup script and a capture have a text, for each choice of lines, tick and link.
 pub fn each_capture_has_a_text()
     ensures { PolicesEachCapture }
 {}

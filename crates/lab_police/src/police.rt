@@ -18,7 +18,7 @@ use crate::cell_lines::{add_line, has_line};
 use crate::connection_counts::add_counts;
 use crate::not_judged::{NotJudged, add_not_judged};
 use crate::setting_up::{SetUp, set_up};
-use captures::{Fault, Tick};
+use captures::{Fault, Link, Tick};
 use card_core::{Core, DeskFault, Judgement, Unjudged};
 use lab_captures::{CellFollower, CellLines, CountedCell, PassedOver, add_closing, follow_cells};
 use leaky::{Excess, Levels, Verdict, excess_at};
@@ -292,11 +292,11 @@ pub fn police_capture<R: Threads, I: Input + Send, O: Output>(
     setup: &[u8],
     lines: CellLines,
     tick: Tick,
-    interface: Option<u8>,
+    link: Option<Link>,
     input: &mut I,
     output: &mut O,
 ) -> Result<Done, RunFault>
-    ensures { IsServed (IsPoliceText lines tick.nanoseconds interface setup.now) I.Input input.old input.new O.Output output.old output.new result }
+    ensures { IsServed (IsPoliceText lines tick.nanoseconds link setup.now) I.Input input.old input.new O.Output output.old output.new result }
 {
     match set_up(alloc, setup) {
         Err(_) => Err(RunFault::NoMemory),
@@ -308,7 +308,7 @@ pub fn police_capture<R: Threads, I: Input + Send, O: Output>(
                 begun: false,
                 not_judged: NotJudged::none(),
             };
-            follow_cells(rt, threads, alloc, tick, interface, input, output, &mut run)
+            follow_cells(rt, threads, alloc, tick, link, input, output, &mut run)
         }
     }
 }

@@ -2,6 +2,7 @@
 use Rattle.std.proofs.Common.{ℕ, List, [], ◌∷◌, ◌++◌, map, Option, append-nil, append_assoc, ap, refl, subst, sym, ◌≡◌, ◌∙◌}
 use Rattle.std.proofs.lemmas.List.{map-append}
 use Rattle.std.specs.Global.{Vec}
+use Rattle.captures.specs.declared.link.Link.{Link}
 use Rattle.lab_captures.specs.declared.cell_lines.CellLines.{CellLines}
 use Rattle.text_io.specs.declared.ending.Done.{Done}
 use Rattle.lab_setups.specs.FilesRead.{AreTextsForFiles, IsTextForFile, octets_of_name, octets_of_names}
@@ -11,13 +12,13 @@ use Rattle.lab_setups.specs.SetupText.{IsSetupPoliced, MayBeSetupPoliced}
 use Rattle.lab_setups.proofs.Existence as existence
 
 -- A setup script, texts of rules and a capture have a text.
-pub some_setup_text : (lines : CellLines) (tick : ℕ) (interface : Option ℕ) (setup : List ℕ) (texts : List (List ℕ)) (octets : List ℕ)
-    → (text : List ℕ) × (done : Done) × MayBeSetupPoliced lines tick interface setup texts octets text done
+pub some_setup_text : (lines : CellLines) (tick : ℕ) (link : Option Link) (setup : List ℕ) (texts : List (List ℕ)) (octets : List ℕ)
+    → (text : List ℕ) × (done : Done) × MayBeSetupPoliced lines tick link setup texts octets text done
 some_setup_text = existence.polices_each
 
 -- A text by the rules as they are is one where the code of any rules may be reported as too long.
-pub setup_text_may_be : (lines : CellLines) (tick : ℕ) (interface : Option ℕ) (setup : List ℕ) (texts : List (List ℕ)) (octets text : List ℕ) (done : Done)
-    → IsSetupPoliced lines tick interface setup texts octets text done → MayBeSetupPoliced lines tick interface setup texts octets text done
+pub setup_text_may_be : (lines : CellLines) (tick : ℕ) (link : Option Link) (setup : List ℕ) (texts : List (List ℕ)) (octets text : List ℕ) (done : Done)
+    → IsSetupPoliced lines tick link setup texts octets text done → MayBeSetupPoliced lines tick link setup texts octets text done
 setup_text_may_be = existence.may_be_policed
 
 -- The text of one more file goes after those so far.

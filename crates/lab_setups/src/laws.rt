@@ -2,7 +2,7 @@
 
 ghost use Rattle.lab_setups.specs.SetupLaws.{LoadCommandsLoad, PolicesEachSetup, ProgramsKeepLines, ScriptsWithoutRulesStay};
 
-/// A setup script, the texts of its files of rules and a capture have a text, for each choice of lines, tick and interface.
+/// A setup script, the texts of its files of rules and a capture have a text, for each choice of lines, tick and link.
 pub fn each_setup_has_a_text()
     ensures { PolicesEachSetup }
 {}

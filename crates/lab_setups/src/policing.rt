@@ -8,7 +8,7 @@ ghost use Rattle.lab_setups.specs.SetupText.{IsSetupPoliced, MayBeSetupPoliced};
 
 use crate::expanding::{Expanded, expand_setup};
 use crate::shared_text::SharedText;
-use captures::Tick;
+use captures::{Link, Tick};
 use lab_captures::CellLines;
 use lab_police::{police_capture, write_faults};
 use std::alloc::Global;
@@ -35,24 +35,24 @@ pub fn police_setup<R: Threads, I: Input + Send, O: Output>(
     texts: &[SharedText],
     lines: CellLines,
     tick: Tick,
-    interface: Option<u8>,
+    link: Option<Link>,
     input: &mut I,
     output: &mut O,
 ) -> Result<Done, RunFault>
-    ensures served { IsServed (MayBeSetupPoliced lines tick.nanoseconds interface setup.now (octets_of_texts texts.now))
+    ensures served { IsServed (MayBeSetupPoliced lines tick.nanoseconds link setup.now (octets_of_texts texts.now))
         I.Input input.old input.new O.Output output.old output.new result }
     ensures policed { I.is_known → O.is_known → IfOk result (λ done.
-        Adds (λ text. IsSetupPoliced lines tick.nanoseconds interface setup.now (octets_of_texts texts.now) (I.rest input.old) text done)
+        Adds (λ text. IsSetupPoliced lines tick.nanoseconds link setup.now (octets_of_texts texts.now) (I.rest input.old) text done)
         (O.held output.old) (O.held output.new)) }
 {
     match expand_setup(alloc, setup, texts) {
         Err(_) => Err(RunFault::NoMemory),
         Ok(Expanded::Faulty(text)) => write_faults(output, text),
         Ok(Expanded::Itself) => police_capture(
-            rt, threads, alloc, setup, lines, tick, interface, input, output,
+            rt, threads, alloc, setup, lines, tick, link, input, output,
         ),
         Ok(Expanded::Replaced(script)) => police_capture(
-            rt, threads, alloc, &script, lines, tick, interface, input, output,
+            rt, threads, alloc, &script, lines, tick, link, input, output,
         ),
     }
 }

@@ -27,9 +27,9 @@ some-lab_text lab.Explain octets = some-explain_text octets
 pub some-asked_text : (asked : Asked) (setup : List ℕ) (rules : List (List ℕ)) (octets : List ℕ)
     → (answer : List ℕ) × (done : Done) × IsAskedText setup rules asked octets answer done
 some-asked_text (Plain subcommand) setup rules octets = some-lab_text subcommand octets
-some-asked_text (Cells options) setup rules octets = some_cells_text options.tick.nanoseconds options.interface octets
+some-asked_text (Cells options) setup rules octets = some_cells_text options.tick.nanoseconds options.link octets
 some-asked_text (Police options) setup rules octets =
-    some_setup_text options.lines options.tick.nanoseconds options.interface setup rules octets
+    some_setup_text options.lines options.tick.nanoseconds options.link setup rules octets
 some-asked_text (Fit options) setup rules octets =
-    some_capture_text fit_rules (fixed_total fit_steps fit_closes) (filter_start options.tick.nanoseconds options.interface)
+    some_capture_text fit_rules (fixed_total fit_steps fit_closes) (filter_start options.tick.nanoseconds options.link)
     (fit_start options.increment options.side) octets tt

@@ -30,6 +30,6 @@ IsLabText lab.Explain = IsExplainText
 -- how the run ends. Only `police` has files.
 abbrev pub IsAskedText : List ℕ → List (List ℕ) → Asked → List ℕ → List ℕ → Done → Type 0
 IsAskedText setup rules (Plain subcommand) = IsLabText subcommand
-IsAskedText setup rules (Cells options) = IsCellsText options.tick.nanoseconds options.interface
-IsAskedText setup rules (Police options) = MayBeSetupPoliced options.lines options.tick.nanoseconds options.interface setup rules
-IsAskedText setup rules (Fit options) = IsFitText options.increment options.tick.nanoseconds options.interface options.side
+IsAskedText setup rules (Cells options) = IsCellsText options.tick.nanoseconds options.link
+IsAskedText setup rules (Police options) = MayBeSetupPoliced options.lines options.tick.nanoseconds options.link setup rules
+IsAskedText setup rules (Fit options) = IsFitText options.increment options.tick.nanoseconds options.link options.side

@@ -8,7 +8,7 @@ use crate::{
     Asked, CellsOptions, LookedAt, Reasoned, SetupFiles, Unreadable, carry_out, choose, read_setup,
     shell_status,
 };
-use captures::Tick;
+use captures::{Channel, Link, Tick};
 use command_line::{InMemory, Stop, words_after_name};
 use std::alloc::{AllocError, Global};
 use std::process::Abort;
@@ -262,10 +262,17 @@ fn help_is_written_and_nothing_is_read(rt: HostRuntime) -> Result<(), Fail> {
 
 #[test]
 fn the_options_of_cells_are_read(rt: HostRuntime) -> Result<(), Fail> {
-    let answer = chosen_by(rt.alloc(), "cells --interface 1 --tick 1us")?;
+    let answer = chosen_by(rt.alloc(), "cells --link 1/2/3 --tick 1us")?;
     let options = CellsOptions {
         tick: Tick::new(1000).expect(&rt, "a tick"),
-        interface: Some(1),
+        link: Some(Link {
+            packet: None,
+            interface: 1,
+            channel: Some(Channel {
+                port: 2,
+                connection: 3,
+            }),
+        }),
     };
     assert!(rt; matches!(answer, Ok(Asked::Cells(found)) if found == options));
     Ok(())

@@ -21,6 +21,10 @@ IsReceived octets channel (Err (CutShort number)) =
 IsReceived octets channel (Ok cell) =
     (¬ IsErrored octets) × (n : ℕ) × HasExtensions octets n × IsCellFrom octets (16 + 8 * n + channel) (Ok cell)
 
+-- A cell comes after the extension headers of a record and this many octets of multi-channel header.
+abbrev pub ComesAfterHeaders : List ℕ → ℕ → ℕ → Type 0
+ComesAfterHeaders octets channel place = (n : ℕ) × HasExtensions octets n × (place ≡ 16 + 8 * n + channel)
+
 -- A cell of these octets begins at this place, and is what is held. Or this is why none is.
 abbrev pub IsPlaced : (Result (List ℕ) NoCell → Type 0) → List ℕ → Result ℕ NoCell → Type 0
 IsPlaced IsHeld octets (Ok place) = (place + 52 ≤ length octets) × IsHeld (Ok (take 52 (drop place octets)))

@@ -1,7 +1,7 @@
 //! Least limits by hand, and the texts of faults.
 
-use super::link::record_of;
-use captures::Tick;
+use super::link::{plain, record_of};
+use captures::{Link, Tick};
 use lab_fit::{FitFault, fit_capture};
 use std::alloc::Global;
 use std::test::Fail;
@@ -15,7 +15,7 @@ fn fitted(
     alloc: Global,
     records: &[(u8, u8, u8)],
     increment: u64,
-    interface: Option<u8>,
+    link: Option<Link>,
 ) -> Result<(Vec<u8>, Done), RunFault> {
     let Some(tick) = Tick::new(1_000_000_000) else {
         return Err(RunFault::NoMemory);
@@ -37,7 +37,7 @@ fn fitted(
         alloc,
         increment,
         tick,
-        interface,
+        link,
         Side::Uni,
         &mut source,
         &mut sink,
@@ -57,7 +57,7 @@ fn least_limits_by_hand(rt: HostRuntime) -> Result<(), Fail> {
         (33, 101, 1),
         (30, 101, 0),
     ];
-    for (count, increment, interface, text, done) in [
+    for (count, increment, link, text, done) in [
         (
             0,
             10,
@@ -75,11 +75,11 @@ fn least_limits_by_hand(rt: HostRuntime) -> Result<(), Fail> {
         (
             8,
             4,
-            Some(0),
-            b"vpi\tvci\tcells\tlimit\trecord\n1\t100\t2\t0\t2\n1\t101\t4\t0\t1\n# 1 passed over: a time before that of an earlier cell; first record 8\n# 1 passed over: another interface; first record 7\n",
+            Some(plain(0)),
+            b"vpi\tvci\tcells\tlimit\trecord\n1\t100\t2\t0\t2\n1\t101\t4\t0\t1\n# 1 passed over: a time before that of an earlier cell; first record 8\n# 1 passed over: another link; first record 7\n",
             Done::Whole,
         ),
-        (7, 10, None, b"fault interface 1 Several 0 1\n", Done::Ended),
+        (7, 10, None, b"fault link 1 Several 0 1\n", Done::Ended),
         (
             4,
             0x8000_0000_0000_0000,
@@ -88,7 +88,7 @@ fn least_limits_by_hand(rt: HostRuntime) -> Result<(), Fail> {
             Done::Ended,
         ),
     ] {
-        match fitted(&rt, rt.alloc(), &cells[..count], increment, interface) {
+        match fitted(&rt, rt.alloc(), &cells[..count], increment, link) {
             Ok((printed, ended)) => {
                 assert_eq!(rt; printed.as_slice(), text);
                 assert_eq!(rt; ended, done);

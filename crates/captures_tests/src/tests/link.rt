@@ -1,4 +1,15 @@
-//! Records of a link, made by hand.
+//! Links, and records of one, made by hand.
+
+use captures::Link;
+
+/// The link of this interface of a card, in a file that is not pcapng.
+pub fn plain(interface: u8) -> Link {
+    Link {
+        packet: None,
+        interface,
+        channel: None,
+    }
+}
 
 /// A record with a cell of path 1 and this channel, received after this many seconds at this interface.
 pub fn record_of(seconds: u8, channel: u8, interface: u8) -> [u8; 68] {

@@ -1,6 +1,7 @@
 //! Tests of the options.
 
-use captures::Tick;
+use super::link::plain;
+use captures::{Channel, Link, Tick};
 use command_line::Stop;
 use lab_captures::CellLines;
 use lab_options::{CellsOptions, FitOptions, cells_options, fit_options, police_options};
@@ -18,17 +19,29 @@ fn words_of(alloc: Global, line: &str) -> Result<Vec<String>, AllocError> {
 
 #[test]
 fn options_have_their_values_or_their_defaults(rt: HostRuntime) -> Result<(), Fail> {
-    for (line, nanoseconds, interface) in [
+    for (line, nanoseconds, link) in [
         ("", 100, None),
         ("--tick 1us", 1000, None),
-        ("--tick=2ns --interface=3", 2, Some(3)),
-        ("--interface 0 --tick 1s", 1000000000, Some(0)),
-        ("--interface 2", 100, Some(2)),
+        ("--tick=2ns --link=3", 2, Some(plain(3))),
+        ("--link 0 --tick 1s", 1000000000, Some(plain(0))),
+        ("--link 7", 100, Some(plain(7))),
+        (
+            "--link 18446744073709551615:1/15/2047",
+            100,
+            Some(Link {
+                packet: Some(u64::MAX),
+                interface: 1,
+                channel: Some(Channel {
+                    port: 15,
+                    connection: 2047,
+                }),
+            }),
+        ),
     ] {
         let answer = cells_options(rt.alloc(), words_of(rt.alloc(), line)?);
         let tick = Tick::new(nanoseconds).expect(&rt, "a tick");
         assert!(rt;
-            matches!(answer, Ok(options) if options == CellsOptions { tick, interface }),
+            matches!(answer, Ok(options) if options == CellsOptions { tick, link }),
             "{line}"
         );
     }
@@ -44,9 +57,15 @@ fn wrong_words_are_refused(rt: HostRuntime) -> Result<(), Fail> {
         "--tick 1",
         "--tick 1.5us",
         "--tick 1us --tick 1us",
-        "--interface 4",
-        "--interface -1",
-        "--interface",
+        "--link 8",
+        "--link -1",
+        "--link",
+        "--link :0",
+        "--link 0:",
+        "--link 0/0",
+        "--link 0/16/0",
+        "--link 0/0/2048",
+        "--link 18446744073709551616:0",
         "--threads 2",
     ] {
         let answer = cells_options(rt.alloc(), words_of(rt.alloc(), line)?);
@@ -67,7 +86,7 @@ fn help_is_requested(rt: HostRuntime) -> Result<(), Fail> {
 #[test]
 fn fit_wants_an_increment(rt: HostRuntime) -> Result<(), Fail> {
     let tick = Tick::new(100).expect(&rt, "a tick");
-    for (line, increment, interface, side) in [
+    for (line, increment, link, side) in [
         ("--increment 1", 1, None, Side::Uni),
         (
             "--increment 281474976710656 --side nni",
@@ -76,16 +95,16 @@ fn fit_wants_an_increment(rt: HostRuntime) -> Result<(), Fail> {
             Side::Nni,
         ),
         (
-            "--side=uni --interface 3 --increment=10",
+            "--side=uni --link 3 --increment=10",
             10,
-            Some(3),
+            Some(plain(3)),
             Side::Uni,
         ),
     ] {
         let options = FitOptions {
             increment,
             tick,
-            interface,
+            link,
             side,
         };
         let answer = fit_options(rt.alloc(), words_of(rt.alloc(), line)?);
@@ -98,7 +117,7 @@ fn fit_wants_an_increment(rt: HostRuntime) -> Result<(), Fail> {
         "--increment x",
         "--increment 1 --side both",
         "--increment 1 --tick 0s",
-        "--increment 1 --interface 4",
+        "--increment 1 --link 8",
     ] {
         let answer = fit_options(rt.alloc(), words_of(rt.alloc(), line)?);
         assert!(rt; matches!(answer, Err(Stop::Words(_))), "{line}");
@@ -108,7 +127,7 @@ fn fit_wants_an_increment(rt: HostRuntime) -> Result<(), Fail> {
 
 #[test]
 fn police_wants_a_file(rt: HostRuntime) -> Result<(), Fail> {
-    for (line, setup, nanoseconds, interface, lines, threads) in [
+    for (line, setup, nanoseconds, link, lines, threads) in [
         ("a.setup", "a.setup", 100, None, CellLines::All, 2),
         (
             "--tick 1us b --lines refused",
@@ -119,10 +138,10 @@ fn police_wants_a_file(rt: HostRuntime) -> Result<(), Fail> {
             2,
         ),
         (
-            "--lines=none --threads=64 --interface=3 -- --tick",
+            "--lines=none --threads=64 --link=3 -- --tick",
             "--tick",
             100,
-            Some(3),
+            Some(plain(3)),
             CellLines::Nothing,
             64,
         ),
@@ -139,7 +158,7 @@ fn police_wants_a_file(rt: HostRuntime) -> Result<(), Fail> {
         let answer = police_options(rt.alloc(), words_of(rt.alloc(), line)?);
         assert!(rt;
             matches!(&answer, Ok(found) if found.setup.as_str() == setup
-                && (found.tick, found.interface, found.lines, found.threads) == (tick, interface, lines, threads)),
+                && (found.tick, found.link, found.lines, found.threads) == (tick, link, lines, threads)),
             "{line}"
         );
     }
@@ -149,7 +168,7 @@ fn police_wants_a_file(rt: HostRuntime) -> Result<(), Fail> {
         "a --lines passed",
         "a --lines",
         "a --tick 0s",
-        "a --interface 4",
+        "a --link 8",
         "a --threads 0",
         "a --threads 65",
         "a --threads two",

@@ -3,9 +3,10 @@
 
 mod blocks;
 
+use super::link::plain;
 use captures::{
-    Clock, Fault, FileFault, Format, Next, NoCell, Opening, Order, Reader, RecordFault, Section,
-    Tick, open,
+    Channel, Clock, Fault, FileFault, Format, Next, NoCell, Opening, Order, Reader, RecordFault,
+    Section, Tick, open,
 };
 use std::test::Fail;
 
@@ -45,11 +46,37 @@ fn records_and_what_they_hold(rt: HostRuntime) -> Result<(), Fail> {
         };
         assert_eq!(rt; taken, usize::from(length));
         assert_eq!(rt;
-            (record.number, record.interface, record.time),
+            (record.number, record.link.interface, record.time),
             (1, flags % 4, 0x1_8000_0000)
         );
         assert_eq!(rt; record.content.map(|cell| cell.bytes()[0]), content);
         assert_eq!(rt; (reader.count, reader.at), (1, u64::from(length)));
+    }
+    Ok(())
+}
+
+#[test]
+fn links_of_records(rt: HostRuntime) -> Result<(), Fail> {
+    // A cell of type 7 has the header of octets 16 to 19 before it: port 1, connection 0x213.
+    for (kind, flags, interface, channel) in [
+        (3, 0x04, 0, None),
+        (3, 0x43, 7, None),
+        (7, 0x80, 0, Some((1, 0x213))),
+        (7, 0xc2, 6, Some((1, 0x213))),
+        (7, 0x11, 1, None),
+        (48, 0x41, 5, None),
+    ] {
+        let mut reader = Reader::new(Format::Erf);
+        let octets = octets_of(kind, flags, 72);
+        let Next::Taken(record, _) = reader.next(&octets) else {
+            return Err(Fail::new("no record"));
+        };
+        assert_eq!(rt; record.link.packet, None);
+        assert_eq!(rt; record.link.interface, interface);
+        assert_eq!(rt;
+            record.link.channel,
+            channel.map(|(port, connection)| Channel { port, connection })
+        );
     }
     Ok(())
 }
@@ -138,8 +165,8 @@ fn records_in_pcap_files(rt: HostRuntime) -> Result<(), Fail> {
             };
             assert_eq!(rt; taken, 16 + packet as usize);
             assert_eq!(rt;
-                (record.number, record.interface, record.time),
-                (1, 1, 0x1_8000_0000)
+                (record.number, record.link, record.time),
+                (1, plain(1), 0x1_8000_0000)
             );
             assert_eq!(rt; record.content.map(|cell| cell.bytes()[0]), content);
             assert_eq!(rt; reader.at, 40 + u64::from(packet));
@@ -216,6 +243,7 @@ fn what_files_are(rt: HostRuntime) -> Result<(), Fail> {
             b"\x0a\x0d\x0d\x0a            ",
             Opening::Opened(Format::PcapNg(Section {
                 order: Order::LowestFirst,
+                before: 0,
                 interfaces: 0,
             })),
         ),

@@ -22,14 +22,14 @@ AnswersValues asked_by spelled (Err NoMemory) = ⊤
 
 -- What named values of `cells` spell.
 abbrev pub cells_spelled : List (Text × Option Text) → Option CellsAsked
-cells_spelled texts = cells_values (text_named texts (codes "tick")) (text_named texts (codes "interface"))
+cells_spelled texts = cells_values (text_named texts (codes "tick")) (text_named texts (codes "link"))
 
 -- What named values of `fit` spell.
 abbrev pub fit_spelled : List (Text × Option Text) → Option FitAsked
-fit_spelled texts = fit_values (text_named texts (codes "increment")) (text_named texts (codes "tick")) (text_named texts (codes "interface"))
+fit_spelled texts = fit_values (text_named texts (codes "increment")) (text_named texts (codes "tick")) (text_named texts (codes "link"))
     (text_named texts (codes "side"))
 
 -- What named values of `police` spell.
 abbrev pub police_spelled : List (Text × Option Text) → Option PoliceAsked
-police_spelled texts = police_values (text_named texts (codes "SETUP")) (text_named texts (codes "tick")) (text_named texts (codes "interface"))
+police_spelled texts = police_values (text_named texts (codes "SETUP")) (text_named texts (codes "tick")) (text_named texts (codes "link"))
     (text_named texts (codes "lines")) (text_named texts (codes "threads"))

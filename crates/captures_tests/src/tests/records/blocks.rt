@@ -2,7 +2,8 @@
 //! description of pcapng.
 
 use super::octets_of;
-use captures::{Fault, Format, Next, Opening, Order, Reader, RecordFault, Section, open};
+use crate::tests::link::plain;
+use captures::{Fault, Format, Link, Next, Opening, Order, Reader, RecordFault, Section, open};
 use std::test::Fail;
 
 /// The octets of a number in this order.
@@ -91,14 +92,19 @@ fn records_in_pcapng_files(rt: HostRuntime) -> Result<(), Fail> {
         let octets = blocks_of(order, [(148, 0), (148, 0)]);
         let mut reader = Reader::new(Format::PcapNg(Section {
             order,
+            before: 4,
             interfaces: 1,
         }));
         let Next::Taken(record, own) = reader.next(&octets[48..]) else {
             return Err(Fail::new("no record"));
         };
+        let link = Link {
+            packet: Some(4),
+            ..plain(2)
+        };
         assert_eq!(rt;
-            (record.number, record.interface, record.time, own),
-            (1, 2, 0x1_8000_0000, 100)
+            (record.number, record.link, record.time, own),
+            (1, link, 0x1_8000_0000, 100)
         );
         assert_eq!(rt; record.content.map(|cell| cell.bytes()[0]), Ok(16));
     }

@@ -23,7 +23,7 @@ pub returns-in_default : goal.returns-in_default
 returns-in_default g c = λ world sound is_shown.
     let rules = g.F.CellFollower.rules in
     let first = filter_state c.new-filter.result in
-    served_from rules first (filter_start c.args.tick.nanoseconds c.args.interface) world g.I.Input g.O.Output c.args.input.now c.args.input.now c.args.output.now c.args.output.now
+    served_from rules first (filter_start c.args.tick.nanoseconds c.args.link) world g.I.Input g.O.Output c.args.input.now c.args.input.now c.args.output.now c.args.output.now
     (Err NoMemory) c.new-filter.ensures
     (record {
       text = λ ki ko. tt;
@@ -44,7 +44,7 @@ pub returns-in-Err : goal.returns-in-Err
 returns-in-Err g c = λ world sound is_shown.
     let rules = g.F.CellFollower.rules in
     let first = filter_state c.new-filter.result in
-    served_from rules first (filter_start c.args.tick.nanoseconds c.args.interface) world g.I.Input g.O.Output c.args.input.now c.find_opening.new.input c.args.output.now c.args.output.now
+    served_from rules first (filter_start c.args.tick.nanoseconds c.args.link) world g.I.Input g.O.Output c.args.input.now c.find_opening.new.input c.args.output.now c.args.output.now
     (Err ReadFailed) c.new-filter.ensures
     (record {
       text = λ ki ko. tt;
@@ -72,7 +72,7 @@ returns-in-Ok-Refused g c = λ world sound is_shown.
     let here : IsText near line Ended =
     subst (λ (xs : List ℕ). IsText xs line Ended) (append-nil near) (refused_text rules first world near [] fault is)
     in
-    served_from rules first (filter_start c.args.tick.nanoseconds c.args.interface) world g.I.Input g.O.Output c.args.input.now c.find_opening.new.input c.args.output.now c.refuse.new.output
+    served_from rules first (filter_start c.args.tick.nanoseconds c.args.link) world g.I.Input g.O.Output c.args.input.now c.find_opening.new.input c.args.output.now c.refuse.new.output
     c.refuse.result c.new-filter.ensures
     (record {
       text = λ ki ko. if_given c.refuse.result Ended _ _ c.refuse.ensures.done (c.refuse.ensures.given ko) (λ gives. (line, gives, printed ki));
@@ -104,7 +104,7 @@ returns-in-Ok-Undecided g c = λ world sound is_shown.
     in
     let short : IsText octets here done = short_text rules first world octets is in
     let printed : g.I.Input.is_known → IsText all here done = λ ki. subst (λ (xs : List ℕ). IsText xs here done) (sym (whole ki)) short in
-    served_from rules first (filter_start c.args.tick.nanoseconds c.args.interface) world g.I.Input g.O.Output c.args.input.now c.find_opening.new.input c.args.output.now c.close_short.new.output
+    served_from rules first (filter_start c.args.tick.nanoseconds c.args.link) world g.I.Input g.O.Output c.args.input.now c.find_opening.new.input c.args.output.now c.close_short.new.output
     c.close_short.result c.new-filter.ensures
     (record {
       text = λ ki ko. if_given c.close_short.result done _ _ c.close_short.ensures.done (c.close_short.ensures.given ko)
@@ -136,7 +136,7 @@ returns-in-Ok-Opened g c = λ world sound is_shown.
     let IsText = IsCaptureText rules first world in
     let is : opening_of near ≡ Opened format = sym c.in-Ok-Opened.ensures.opening ∙ c.in-Ok-Opened.field-0-is in
     let dropped : reading.window ≡ drop (format_start format) near = c.skip.ensures.octets ∙ ap (λ n. drop n near) c.start.ensures in
-    served_from rules first (filter_start c.args.tick.nanoseconds c.args.interface) world g.I.Input g.O.Output c.args.input.now c.follow_on.new.input c.args.output.now c.follow_on.new.output
+    served_from rules first (filter_start c.args.tick.nanoseconds c.args.link) world g.I.Input g.O.Output c.args.input.now c.follow_on.new.input c.args.output.now c.follow_on.new.output
     c.follow_on.result c.new-filter.ensures
     (record {
       text = λ ki ko.

@@ -1,4 +1,5 @@
 use Rattle.std.proofs.Common.{◌<◌, None, Some, Ok, arith, refl, ◌∙◌, sym, ap, option_map}
+use Rattle.captures.specs.inner.Lent.{framed_of}
 use Rattle.captures.proofs.First.{takes_frame, head_some}
 use Rattle.captures.proofs.reader.Reader.next.Goals as goal
 
@@ -18,15 +19,15 @@ returns-in_default-framed c =
     some
     (omega arith)
     (c.in-Ok-held_in.ensures.held
-    ∙ ap (λ framed. Ok (c.in-Ok-held_in.held.after, option_map (λ octets. octets.now) framed)) c.in_default-framed.is)
+    ∙ ap (λ framed. Ok (c.in-Ok-held_in.held.after, option_map framed_of framed)) c.in_default-framed.is)
     (omega arith)
     tt
     refl
     refl
     (omega arith)
 
-pub returns-in-Ok-place_of : goal.returns-in-Ok-place_of
-returns-in-Ok-place_of c =
+pub returns : goal.returns
+returns c =
     let some : 0 < c.in-Ok.size = omega (arith, c.in-Ok.ensures.least, head_some c.args.self.now.format) in
     takes_frame
     c.args.self.now
@@ -34,39 +35,16 @@ returns-in-Ok-place_of c =
     c.args.octets.now
     c.in-Ok.size
     c.in-Ok-held_in.held.after
-    (Some c.in-Some-framed.framed.now)
-    (Some c.record_of.result)
+    (Some (framed_of c.in-Some-framed.framed))
+    (Some c.record_in.result)
     (omega arith)
     (sym c.size_of.ensures.size ∙ c.in-Ok.is)
     some
     (omega arith)
     (c.in-Ok-held_in.ensures.held
-    ∙ ap (λ framed. Ok (c.in-Ok-held_in.held.after, option_map (λ octets. octets.now) framed)) c.in-Some-framed.is)
+    ∙ ap (λ framed. Ok (c.in-Ok-held_in.held.after, option_map framed_of framed)) c.in-Some-framed.is)
     (omega (arith, c.in-Some.ensures))
-    c.record_of.ensures
+    c.record_in.ensures
     refl
     refl
     (omega (arith, c.in-Some.ensures))
-
-pub returns-in-Err-place_of : goal.returns-in-Err-place_of
-returns-in-Err-place_of c =
-    let some : 0 < c.in-Ok.size = omega (arith, c.in-Ok.ensures.least, head_some c.args.self.now.format) in
-    takes_frame
-    c.args.self.now
-    _
-    c.args.octets.now
-    c.in-Ok.size
-    c.in-Ok-held_in.held.after
-    (Some c.in-Some-framed.framed.now)
-    (Some c.record_of-in-Err-place_of.result)
-    (omega arith)
-    (sym c.size_of.ensures.size ∙ c.in-Ok.is)
-    some
-    (omega arith)
-    (c.in-Ok-held_in.ensures.held
-    ∙ ap (λ framed. Ok (c.in-Ok-held_in.held.after, option_map (λ octets. octets.now) framed)) c.in-Some-framed.is)
-    (omega arith)
-    c.record_of-in-Err-place_of.ensures
-    refl
-    refl
-    (omega arith)
