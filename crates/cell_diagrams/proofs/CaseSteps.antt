@@ -1,12 +1,10 @@
 -- Meetings of the diagrams of rules are the cases of the rules.
-use Rattle.std.proofs.Common.{◌≡◌, ℕ, zero, suc, ◌+◌, ◌≤◌, ◌<◌, ◌==◌, ◌&&◌, ◌||◌, ◌↔◌, Bool, true, false, IsTrue, List, [], ◌∷◌, map, length, get_or, ◌⊎◌, inl, inr, Option, Some, None, IfSome, refl, sym, ap, subst, ◌∙◌, arith}
-use Rattle.std.proofs.lemmas.Bool.{eqb-true, eq-eqb}
+use Rattle.std.proofs.Common.{◌≡◌, ℕ, zero, suc, ◌<◌, ◌==◌, ◌&&◌, ◌||◌, ◌↔◌, Bool, true, false, IsTrue, List, [], ◌∷◌, map, length, get_or, ◌⊎◌, inl, inr, Option, Some, None, IfSome, refl, sym, ap, subst, ◌∙◌, arith}
+use Rattle.std.proofs.lemmas.Bool.{eq-eqb}
 use Rattle.std.proofs.lemmas.Bool.Decides.{nat_tests}
 use Rattle.std.proofs.lemmas.List.Elements.{All-map, All-weaker, All-head, All-tail, All-contains}
 use Rattle.std.specs.List.{All, Contains}
 use Rattle.cell_rules.specs.Decisions.{decision_of, IsTried, IsFirstDecision, TheFirstRuleDecides}
-use Rattle.cell_rules.specs.Fields.{IsCell}
-use Rattle.cell_rules.specs.Rules.{value_of_rules}
 use Rattle.cell_rules.specs.Tests.{is_met}
 use Rattle.cell_rules.specs.declared.deciding.Decision.{Decision}
 use Rattle.cell_rules.specs.declared.rules.RuleLine.{RuleLine}
@@ -14,11 +12,11 @@ use Rattle.cell_rules.specs.declared.rules.RuleLine.TheVariants.{Rule, Block, En
 use Rattle.cell_rules.specs.declared.rules.Rules.{Rules}
 use Rattle.cell_rules.specs.declared.test.Test.{Test}
 use Rattle.cell_diagrams.specs.CellNumbers.{octets_number}
-use Rattle.cell_diagrams.specs.Cases.{IsCase, HasCase, AreCasesApart, AreCases, GiveSame}
-use Rattle.cell_diagrams.specs.Lines.{line_number, deciding_line}
-use Rattle.cell_diagrams.specs.Meetings.{has_pair, IsLeast, ArePairsApart, AreMeetings}
-use Rattle.cell_diagrams.specs.Tells.{GivesNumber}
-use Rattle.cell_diagrams.specs.Values.{diagram_value}
+use Rattle.cell_diagrams.specs.Cases.{IsCase, AreCasesApart, AreInOrder, AreCases, GiveSame}
+use Rattle.cell_diagrams.specs.inner.Lines.{line_number, deciding_line}
+use Rattle.cell_diagrams.specs.inner.Meetings.{has_pair, IsLeast, ArePairsApart, AreMeetingsInOrder, AreMeetings}
+use Rattle.cell_diagrams.specs.inner.Tells.{GivesNumber}
+use Rattle.cell_diagrams.specs.inner.Values.{diagram_value}
 use Rattle.cell_diagrams.specs.inner.CaseLists.{case_of, have_one_value}
 use Rattle.cell_diagrams.specs.declared.case.Case.{Case}
 use Rattle.cell_diagrams.specs.declared.diagram.Node.{Node}
@@ -123,6 +121,11 @@ mapped_from f (first ∷ more) y there =
 
 -- ---- cases
 
+cases_ordered : (old new : Rules) (meetings : List Meeting) → AreMeetingsInOrder meetings → AreInOrder (map (case_of old new) meetings)
+cases_ordered old new [] are = tt
+cases_ordered old new (m ∷ more) are =
+    (All-map (λ (later : Case). octets_number m.cell < octets_number later.cell) (case_of old new) more are.0, cases_ordered old new more are.1)
+
 module _ (law : TheFirstRuleDecides) (old new : Rules) (one other : List Node) (both : Both) (one_gives : GivesNumber one (deciding_line old) both.one) (other_gives : GivesNumber other (deciding_line new) both.other) where
   abbrev IsOne : Meeting → Type 0
   IsOne m = IsLeast (diagram_value one both.one) (diagram_value other both.other) m
@@ -174,6 +177,7 @@ module _ (law : TheFirstRuleDecides) (old new : Rules) (one other : List Node) (
           new_is = decided_same law new found.0.cell cell (new_line found.0 is ∙ (found.3 ∙ other_gives.value cell there));
         };
     apart = cases_apart meetings are.least are.apart;
+    ordered = cases_ordered old new meetings are.ordered;
   })
 
 -- ---- one value

@@ -1,5 +1,5 @@
 -- Bits of cells that are set one after another.
-use Rattle.std.proofs.Common.{◌≡◌, ◌≢◌, ℕ, zero, suc, ◌+◌, ◌-◌, ◌*◌, ◌/◌, ◌%◌, ◌^◌, ◌≤◌, ◌<◌, ◌==◌, Bool, true, false, List, [], ◌∷◌, replicate, length, drop, get_or, slice_index, slice_set, refl, sym, ap, subst, ◌∙◌, ◌⊎◌, inl, inr, arith}
+use Rattle.std.proofs.Common.{◌≡◌, ◌≢◌, ℕ, zero, suc, ◌+◌, ◌-◌, ◌*◌, ◌/◌, ◌%◌, ◌^◌, ◌≤◌, ◌<◌, ◌==◌, true, false, List, [], ◌∷◌, replicate, length, drop, get_or, slice_index, slice_set, refl, sym, ap, subst, ◌∙◌, ◌⊎◌, inl, inr, arith}
 use Rattle.std.proofs.lemmas.Bool.{cases_eq}
 use Rattle.std.proofs.lemmas.Bool.Decides.{nat_tests}
 use Rattle.std.proofs.lemmas.Nat.{pow_pos, pow-add, shr-shr, div-mul-add, mod-mul-add, mod-pow-add, mod_below, mul-le, one_shl, div-add-mod'}
@@ -7,7 +7,8 @@ use Rattle.std.proofs.Math.Nat.{mod-eq_of_lt}
 use Rattle.std.proofs.lemmas.List.{length-set, length-replicate, get_or-set_same, get_or-set_other, get_or-drop}
 use Rattle.byteorder.specs.Endian.{big_number}
 use Rattle.cell_rules.specs.Fields.{IsCell}
-use Rattle.cell_diagrams.specs.CellNumbers.{octets_number, is_set}
+use Rattle.cell_diagrams.specs.CellNumbers.{octets_number}
+use Rattle.cell_diagrams.specs.inner.CellBits.{is_set}
 use Rattle.cell_diagrams.specs.inner.Walks.{IsClearFrom}
 use Rattle.cell_diagrams.proofs.FieldBits.{octets_in, power_is}
 

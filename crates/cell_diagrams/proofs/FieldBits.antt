@@ -1,12 +1,12 @@
 -- The fields of a cell are bits of its number.
-use Rattle.std.proofs.Common.{◌≡◌, ℕ, zero, suc, ◌+◌, ◌-◌, ◌*◌, ◌/◌, ◌%◌, ◌^◌, ◌≤◌, ◌<◌, List, [], ◌∷◌, ◌++◌, length, take, drop, slice_index, refl, sym, ap, subst, ◌∙◌, arith}
-use Rattle.std.proofs.lemmas.Nat.{pow_pos, pow-add, shr-shr, div-mul-add, mod-mul-add, mul-add-lt}
-use Rattle.std.proofs.lemmas.List.{take-append-drop, length-take, length-drop}
+use Rattle.std.proofs.Common.{◌≡◌, ℕ, zero, suc, ◌+◌, ◌-◌, ◌*◌, ◌/◌, ◌%◌, ◌^◌, ◌≤◌, ◌<◌, List, [], ◌∷◌, length, take, drop, slice_index, refl, sym, ap, subst, ◌∙◌, arith}
+use Rattle.std.proofs.lemmas.Nat.{pow-add, shr-shr, div-mul-add, mod-mul-add, mul-add-lt}
+use Rattle.std.proofs.lemmas.List.{length-take, length-drop}
 use Rattle.byteorder.specs.Endian.{big_from, big_number}
 use Rattle.upc_cell.specs.Header.{header_number}
 use Rattle.upc_cell.specs.declared.side.Side.{Side}
 use Rattle.upc_cell.specs.declared.side.Side.TheVariants.{Uni, Nni}
-use Rattle.cell_rules.specs.Fields.{IsCell, number_in}
+use Rattle.cell_rules.specs.Fields.{IsCell}
 use Rattle.cell_rules.specs.declared.field.Field.{Field}
 use Rattle.cell_rules.specs.declared.field.Field.TheVariants.{Vpi}
 use Rattle.cell_rules.specs.declared.field.Field.TheVariants as field
@@ -14,8 +14,7 @@ use Rattle.cell_rules.specs.declared.field.Octets.{Octets}
 use Rattle.bpf_interp.specs.Packet.{octets_loaded}
 use Rattle.cell_rules.proofs.Bits.{IsInHeader}
 use Rattle.cell_diagrams.specs.CellNumbers.{octets_number}
-use Rattle.cell_diagrams.specs.Spans.{bits_number}
-use Rattle.cell_diagrams.specs.declared.span.Bits.{Bits}
+use Rattle.cell_diagrams.specs.inner.Spans.{bits_number}
 use Rattle.cell_diagrams.specs.inner.Fields.{AreBitsOf}
 
 -- A power of 256 is one of 2.

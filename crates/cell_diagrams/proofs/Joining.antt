@@ -1,8 +1,8 @@
 -- Choices are made of the choices at their parts.
-use Rattle.std.proofs.Common.{◌≡◌, ℕ, ◌≤◌, ◌<◌, ◌==◌, min, Bool, true, false, if◌then◌else◌, List, Result, Ok, Err, IfOk, refl, sym, ap, subst, ◌∙◌, arith}
-use Rattle.cell_diagrams.specs.CellNumbers.{is_set}
-use Rattle.cell_diagrams.specs.Values.{diagram_value, top_of, IsWithin, IsSame, Keeps}
-use Rattle.cell_diagrams.specs.Choices.{chosen, IsChoice}
+use Rattle.std.proofs.Common.{◌≡◌, ℕ, min, Bool, true, false, if◌then◌else◌, List, refl, sym, ap, ◌∙◌, arith}
+use Rattle.cell_diagrams.specs.inner.CellBits.{is_set}
+use Rattle.cell_diagrams.specs.inner.Values.{diagram_value, top_of, IsWithin, Keeps}
+use Rattle.cell_diagrams.specs.inner.Choices.{chosen, IsChoice}
 use Rattle.cell_diagrams.specs.inner.Asking.{asked_top, chosen_value, AreWithin, IsAnswer}
 use Rattle.cell_diagrams.specs.inner.Store.{DecidesByBit}
 use Rattle.cell_diagrams.specs.inner.Steps.{AreSides, AreChoiceParts}

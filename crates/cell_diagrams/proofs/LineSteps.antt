@@ -1,24 +1,23 @@
 -- Diagrams of lines, one line after another from the last.
-use Rattle.std.proofs.Common.{◌≡◌, ℕ, zero, suc, ◌+◌, ◌-◌, ◌==◌, Bool, true, false, if◌then◌else◌, ◌≤◌, ◌<◌, List, [], ◌∷◌, length, drop, get_or, Option, Some, None, Result, Ok, Err, IfOk, refl, sym, ap, subst, ◌∙◌, arith}
+use Rattle.std.proofs.Common.{◌≡◌, ℕ, zero, suc, ◌+◌, ◌-◌, Bool, true, false, if◌then◌else◌, ◌≤◌, ◌<◌, List, [], ◌∷◌, length, drop, get_or, Some, None, Result, Ok, Err, IfOk, refl, sym, ap, subst, ◌∙◌, arith}
 use Rattle.std.proofs.lemmas.List.{drop_more, drop_all}
 use Rattle.upc_cell.specs.declared.side.Side.{Side}
-use Rattle.cell_rules.specs.Decisions.{decision_from, decision_by, value_given, passed_after}
+use Rattle.cell_rules.specs.Decisions.{decision_from, decision_by}
 use Rattle.cell_rules.specs.Tests.{is_met}
 use Rattle.cell_rules.specs.declared.deciding.Decision.{Decision}
 use Rattle.cell_rules.specs.declared.rules.RuleLine.{RuleLine}
 use Rattle.cell_rules.specs.declared.rules.RuleLine.TheVariants.{Rule, Block, End}
 use Rattle.cell_rules.specs.declared.test.Test.{Test}
-use Rattle.cell_diagrams.specs.Choices.{chosen, IsChoice}
+use Rattle.cell_diagrams.specs.inner.Choices.{chosen, IsChoice}
 use Rattle.cell_rules.specs.declared.rules.Rules.{Rules}
-use Rattle.cell_diagrams.specs.Lines.{line_number, deciding_line}
-use Rattle.cell_diagrams.specs.Spans.{truth}
-use Rattle.cell_diagrams.specs.Tells.{GivesNumber, Tells}
-use Rattle.cell_diagrams.specs.Values.{IsWithin, Keeps}
+use Rattle.cell_diagrams.specs.inner.Lines.{line_number, deciding_line}
+use Rattle.cell_diagrams.specs.inner.Spans.{truth}
+use Rattle.cell_diagrams.specs.inner.Tells.{GivesNumber, Tells}
+use Rattle.cell_diagrams.specs.inner.Values.{IsWithin, Keeps}
 use Rattle.cell_diagrams.specs.inner.Lined.{lined_at, first_outer, later_outer, AreLined, AreAllWithin}
 use Rattle.cell_diagrams.specs.declared.diagram.Diagram.{Diagram}
 use Rattle.cell_diagrams.specs.declared.diagram.Diagram.TheVariants.{Leaf}
 use Rattle.cell_diagrams.specs.declared.diagram.Node.{Node}
-use Rattle.cell_diagrams.proofs.Nodes.{keeps_both}
 use Rattle.cell_diagrams.proofs.Telling.{gives_kept, gives_same, choice_gives}
 
 rule_decides : (b : Bool) (value place : ℕ) (later : Decision) → chosen (truth b) (place + 1) (line_number later.line) ≡ line_number (decision_by (if b then Some value else None) place later).line

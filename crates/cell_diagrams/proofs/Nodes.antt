@@ -1,13 +1,13 @@
 -- Nodes keep the meaning of diagrams.
-use Rattle.std.proofs.Common.{◌≡◌, ℕ, suc, ◌+◌, ◌-◌, ◌≤◌, ◌<◌, ◌==◌, min, Bool, true, false, if◌then◌else◌, List, [], ◌∷◌, ◌++◌, reverse, length, get_or, slice_set, refl, sym, ap, subst, ◌∙◌, arith}
-use Rattle.std.proofs.lemmas.Bool.{eqb-true, eqb-false}
+use Rattle.std.proofs.Common.{◌≡◌, ℕ, suc, ◌-◌, ◌<◌, ◌==◌, min, Bool, true, false, if◌then◌else◌, List, [], ◌∷◌, ◌++◌, reverse, length, get_or, slice_set, refl, sym, ap, subst, ◌∙◌, arith}
+use Rattle.std.proofs.lemmas.Bool.{eqb-true}
 use Rattle.std.proofs.lemmas.Bool.Decides.{nat_tests}
 use Rattle.std.proofs.lemmas.List.{reverse-append, length-reverse, get_or-reverse, length-set}
 use Rattle.std.proofs.lemmas.List.Elements.{All-weaker, All-set}
-use Rattle.cell_diagrams.specs.CellNumbers.{is_set}
-use Rattle.cell_diagrams.specs.Values.{diagram_value, value_by, node_value, node_top, top_of, taken_side, IsWithin, IsSame, Keeps}
-use Rattle.cell_diagrams.specs.Choices.{chosen}
-use Rattle.cell_diagrams.specs.inner.Asking.{asked_top, chosen_value, AreWithin, IsAnswer}
+use Rattle.cell_diagrams.specs.inner.CellBits.{is_set}
+use Rattle.cell_diagrams.specs.inner.Values.{diagram_value, value_by, node_value, node_top, top_of, taken_side, IsWithin, IsSame, Keeps}
+use Rattle.cell_diagrams.specs.inner.Choices.{chosen}
+use Rattle.cell_diagrams.specs.inner.Asking.{asked_top, chosen_value, IsAnswer}
 use Rattle.cell_diagrams.specs.inner.Store.{AreNodes, IsNode, HasNode, DecidesByBit, IsStore}
 use Rattle.cell_diagrams.specs.declared.diagram.Diagram.{Diagram}
 use Rattle.cell_diagrams.specs.declared.diagram.Diagram.TheVariants.{Leaf, Inner}

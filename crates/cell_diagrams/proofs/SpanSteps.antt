@@ -1,12 +1,12 @@
 -- A span of numbers, bit by bit.
-use Rattle.std.proofs.Common.{◌≡◌, ℕ, ◌+◌, ◌-◌, ◌*◌, ◌/◌, ◌%◌, ◌^◌, ◌≤◌, ◌<◌, ◌==◌, ◌&&◌, nat_le, nat_lt, Bool, true, false, if◌then◌else◌, List, bit_and, refl, sym, ap, subst, ◌∙◌, arith}
-use Rattle.std.proofs.lemmas.Bool.{eqb-true, eqb-false}
+use Rattle.std.proofs.Common.{◌≡◌, ℕ, ◌+◌, ◌-◌, ◌*◌, ◌/◌, ◌%◌, ◌^◌, ◌≤◌, ◌<◌, ◌==◌, Bool, true, false, if◌then◌else◌, List, bit_and, refl, sym, ap, subst, ◌∙◌, arith}
+use Rattle.std.proofs.lemmas.Bool.{eqb-true}
 use Rattle.std.proofs.lemmas.Bool.Decides.{nat_tests}
 use Rattle.std.proofs.lemmas.Nat.{pow_pos, shr-shr, shr_split, mod-pow-add, mod_below, and_le_l, and_comm, and_mask, and_mod, and_block}
 use Rattle.std.proofs.Math.Nat.{mod-eq_of_lt}
-use Rattle.cell_diagrams.specs.CellNumbers.{is_set}
-use Rattle.cell_diagrams.specs.Values.{diagram_value, top_of, Keeps}
-use Rattle.cell_diagrams.specs.Spans.{bits_number, is_between, truth, IsSpan}
+use Rattle.cell_diagrams.specs.inner.CellBits.{is_set}
+use Rattle.cell_diagrams.specs.inner.Values.{diagram_value, Keeps}
+use Rattle.cell_diagrams.specs.inner.Spans.{bits_number, is_between, truth, IsSpan}
 use Rattle.cell_diagrams.specs.inner.Store.{DecidesByBit}
 use Rattle.cell_diagrams.specs.declared.diagram.Diagram.{Diagram}
 use Rattle.cell_diagrams.specs.declared.diagram.Diagram.TheVariants.{Leaf}

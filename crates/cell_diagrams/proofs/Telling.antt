@@ -1,5 +1,5 @@
 -- What choices and spans tell of cells.
-use Rattle.std.proofs.Common.{◌≡◌, ℕ, zero, suc, ◌+◌, ◌-◌, ◌*◌, ◌/◌, ◌%◌, ◌^◌, ◌≤◌, ◌<◌, ◌==◌, ◌&&◌, ◌||◌, nat_le, nat_lt, Bool, true, false, not, if◌then◌else◌, List, [], ◌∷◌, ◌++◌, length, take, get_or, Option, Some, None, Result, Ok, Err, IfOk, bit_and, refl, sym, ap, subst, ◌∙◌, arith}
+use Rattle.std.proofs.Common.{◌≡◌, ℕ, ◌+◌, ◌-◌, ◌/◌, ◌^◌, ◌≤◌, ◌<◌, ◌==◌, ◌&&◌, ◌||◌, nat_le, nat_lt, Bool, true, false, not, List, [], ◌∷◌, ◌++◌, length, take, get_or, Option, Some, None, Result, Ok, Err, IfOk, bit_and, refl, sym, ap, subst, ◌∙◌, arith}
 use Rattle.std.proofs.lemmas.Bool.Decides.{nat_tests}
 use Rattle.std.proofs.lemmas.Nat.{and_mask, pow_pos, mod_below}
 use Rattle.std.proofs.lemmas.List.{take_more}
@@ -15,10 +15,10 @@ use Rattle.cell_rules.specs.declared.relation.Relation.{Relation}
 use Rattle.cell_rules.specs.declared.relation.Relation.TheVariants.{Unequal, Greater, AtLeast}
 use Rattle.cell_rules.specs.declared.test.Test.{Test}
 use Rattle.cell_diagrams.specs.CellNumbers.{octets_number}
-use Rattle.cell_diagrams.specs.Values.{diagram_value, IsWithin, Keeps}
-use Rattle.cell_diagrams.specs.Choices.{chosen, IsChoice}
-use Rattle.cell_diagrams.specs.Spans.{bits_number, is_between, truth, IsSpan}
-use Rattle.cell_diagrams.specs.Tells.{GivesNumber, Tells}
+use Rattle.cell_diagrams.specs.inner.Values.{diagram_value, Keeps}
+use Rattle.cell_diagrams.specs.inner.Choices.{chosen, IsChoice}
+use Rattle.cell_diagrams.specs.inner.Spans.{bits_number, is_between, truth, IsSpan}
+use Rattle.cell_diagrams.specs.inner.Tells.{GivesNumber, Tells}
 use Rattle.cell_diagrams.specs.inner.Fields.{AreBitsOf}
 use Rattle.cell_diagrams.specs.declared.diagram.Diagram.{Diagram}
 use Rattle.cell_diagrams.specs.declared.diagram.Diagram.TheVariants.{Leaf}

@@ -1,16 +1,18 @@
 -- A walk through two diagrams finds each pair of numbers with its least cell.
-use Rattle.std.proofs.Common.{◌≡◌, ℕ, suc, ◌+◌, ◌-◌, ◌/◌, ◌%◌, ◌^◌, ◌≤◌, ◌<◌, ◌==◌, ◌&&◌, ◌||◌, min, Bool, true, false, if◌then◌else◌, List, [], ◌∷◌, ◌++◌, length, slice_set, Option, Some, None, IfSome, refl, sym, ap, subst, ◌∙◌, ◌⊎◌, inl, inr, arith}
-use Rattle.std.proofs.lemmas.Bool.{cases_lt, eqb-true, eq-eqb}
+use Rattle.std.proofs.Common.{◌≡◌, ℕ, ◌+◌, ◌-◌, ◌*◌, ◌/◌, ◌%◌, ◌^◌, ◌≤◌, ◌<◌, ◌==◌, ◌&&◌, ◌||◌, Bool, true, false, if◌then◌else◌, List, [], ◌∷◌, ◌++◌, length, slice_set, Option, Some, None, IfSome, refl, sym, ap, subst, ◌∙◌, ◌⊎◌, inl, inr, arith}
+use Rattle.std.proofs.lemmas.Bool.{cases_lt, eq-eqb}
 use Rattle.std.proofs.lemmas.Bool.Decides.{nat_tests}
 use Rattle.std.proofs.lemmas.List.{length-set}
-use Rattle.std.proofs.lemmas.List.Elements.{All-weaker, All-set, All-push, All-nil, All-contains}
+use Rattle.std.proofs.lemmas.Nat.{pow_pos, pow-add}
+use Rattle.std.proofs.Math.Pow.{pow_mono}
+use Rattle.std.proofs.lemmas.List.Elements.{All-weaker, All-set, All-push, All-nil, All-head, All-tail, All-contains}
 use Rattle.std.specs.List.{All, Contains}
-use Rattle.cell_diagrams.specs.CellNumbers.{octets_number, is_set}
-use Rattle.cell_diagrams.specs.Values.{diagram_value, top_of}
-use Rattle.cell_diagrams.specs.Meetings.{has_pair, IsLeast, ArePairsApart, AreMeetings}
+use Rattle.cell_diagrams.specs.CellNumbers.{octets_number}
+use Rattle.cell_diagrams.specs.inner.CellBits.{is_set}
+use Rattle.cell_diagrams.specs.inner.Values.{diagram_value}
+use Rattle.cell_diagrams.specs.inner.Meetings.{has_pair, IsLeast, ArePairsApart, AreMeetingsInOrder, AreMeetings}
 use Rattle.cell_diagrams.specs.inner.Steps.{AreSides}
-use Rattle.cell_diagrams.specs.inner.Walks.{both_top, Covers, AreSeen, IsClearFrom, LeadsToBoth, IsDone, IsWalked, with_meeting}
-use Rattle.cell_diagrams.specs.declared.diagram.Diagram.{Diagram}
+use Rattle.cell_diagrams.specs.inner.Walks.{both_top, Covers, AreSeen, IsClearFrom, LeadsToBoth, IsDone, AreBelow, IsWalked, with_meeting}
 use Rattle.cell_diagrams.specs.declared.diagram.Diagram.TheVariants.{Leaf}
 use Rattle.cell_diagrams.specs.declared.diagram.Node.{Node}
 use Rattle.cell_diagrams.specs.declared.meeting.Both.{Both}
@@ -69,6 +71,31 @@ apart_added (first ∷ more) meeting are e =
     ] in
     cases ((first.one == meeting.one) && (first.other == meeting.other)) refl
 
+-- ---- the order of cells
+
+below_more : (meetings : List Meeting) (end further : ℕ) → end ≤ further → AreBelow end meetings → AreBelow further meetings
+below_more meetings end further le are =
+    All-weaker (λ (m : Meeting). octets_number m.cell < end) (λ (m : Meeting). octets_number m.cell < further) (λ m lt. omega arith) meetings are
+
+order_added : (meetings : List Meeting) (meeting : Meeting) → AreMeetingsInOrder meetings → AreBelow (octets_number meeting.cell) meetings → AreMeetingsInOrder (meetings ++ meeting ∷ [])
+order_added [] meeting are below = (All-nil (λ (later : Meeting). octets_number meeting.cell < octets_number later.cell), tt)
+order_added (first ∷ more) meeting are below =
+    let here : octets_number first.cell < octets_number meeting.cell = All-head (λ (m : Meeting). octets_number m.cell < octets_number meeting.cell) first more below in
+    let rest : AreBelow (octets_number meeting.cell) more = All-tail (λ (m : Meeting). octets_number m.cell < octets_number meeting.cell) first more below in
+    (All-push (λ (later : Meeting). octets_number first.cell < octets_number later.cell) more meeting are.0 here, order_added more meeting are.1 rest)
+
+abbrev Ordered : ℕ → ℕ → List Meeting → List Meeting → Type 0
+Ordered at end before after = AreBelow at before → AreMeetingsInOrder before → AreBelow end after × AreMeetingsInOrder after
+
+ordered_kept : (meetings : List Meeting) (at end : ℕ) → at ≤ end → Ordered at end meetings meetings
+ordered_kept meetings at end le below are = (below_more meetings at end le below, are)
+
+ordered_added : (meetings : List Meeting) (meeting : Meeting) (end : ℕ) → octets_number meeting.cell < end → Ordered (octets_number meeting.cell) end meetings (meetings ++ meeting ∷ [])
+ordered_added meetings meeting end lt below are = (
+  All-push (λ (m : Meeting). octets_number m.cell < end) meetings meeting (below_more meetings (octets_number meeting.cell) end (omega arith) below) lt,
+  order_added meetings meeting are below,
+)
+
 -- ---- what was seen
 
 module _ (one other : List Node) where
@@ -99,6 +126,7 @@ module _ (one other : List Node) where
     covers = All-contains (λ (place : Option Both). IfSome place (Covers one other meetings)) seen (Some both) are.covered has;
     apart = λ is. is;
     least = λ first second leads done is. is;
+    ordered = ordered_kept meetings at (at + 2 ^ (416 - both_top one other both)) (omega arith);
   }
 
   -- Two leaves have one pair of numbers.
@@ -114,6 +142,7 @@ module _ (one other : List Node) where
         covers = covers;
         apart = λ is. is;
         least = λ first second leads done is. is;
+        ordered = ordered_kept before (octets_number meeting.cell) (octets_number meeting.cell + 2 ^ (416 - both_top one other both)) (omega arith);
       })
   leaf_by false before after seen meeting both place lacks is leaves clear are =
       let more = before ++ meeting ∷ [] in
@@ -145,6 +174,9 @@ module _ (one other : List Node) where
                   cases (cases_lt cell number);
             } in
             All-push (IsLeast first second) before meeting all here;
+        ordered =
+            let some = pow_pos (416 - both_top one other both) in
+            ordered_added before meeting (number + 2 ^ (416 - both_top one other both)) (omega (arith, some));
       })
 
   pub walked_leaf : (before after : List Meeting) (seen : List (Option Both)) (meeting : Meeting) (both : Both) (place : ℕ) → after ≡ with_meeting before meeting
@@ -199,6 +231,21 @@ module _ (one other : List Node) where
         ] in
         cases (cases_lt cell at)
 
+    low_before_next : at + 2 ^ (416 - both_top one other low) ≤ next
+    low_before_next =
+        let later : bit < both_top one other low = omega (arith, one_sides.low_later, other_sides.low_later) in
+        let power : 2 ^ (416 - both_top one other low) ≤ 2 ^ (415 - bit) = pow_mono (omega (arith, later)) in
+        omega (arith, power, next_is)
+
+    high_within : next + 2 ^ (416 - both_top one other high) ≤ at + 2 ^ (416 - both_top one other both)
+    high_within =
+        let later : bit < both_top one other high = omega (arith, one_sides.high_later, other_sides.high_later) in
+        let power : 2 ^ (416 - both_top one other high) ≤ 2 ^ (415 - bit) = pow_mono (omega (arith, later)) in
+        let e : 416 - bit ≡ 1 + (415 - bit) = omega (arith, lt) in
+        let twice : 2 ^ (416 - bit) ≡ 2 * 2 ^ (415 - bit) = ap (λ n. 2 ^ n) e ∙ pow-add 2 1 (415 - bit) in
+        let whole : 2 ^ (416 - both_top one other both) ≡ 2 * 2 ^ (415 - bit) = ap (λ n. 2 ^ (416 - n)) (sym bit_is) ∙ twice in
+        omega (arith, power, whole, next_is)
+
     pub walked_sides : (before middle after : List Meeting) (seen between : List (Option Both)) (place : ℕ) → IsWalked one other before middle between low at
         → IsWalked one other middle after seen high next → IsWalked one other before after (slice_set seen place (Some both)) both at
     walked_sides before middle after seen between place low_walked high_walked =
@@ -219,6 +266,11 @@ module _ (one other : List Node) where
           least = λ first second leads done all.
               high_walked.least first second (to_high first second leads) (done_next before middle first second low_walked.grows low_walked.covers leads done)
               (low_walked.least first second (to_low first second leads) done all);
+          ordered = λ below are.
+              let low_is = low_walked.ordered below are in
+              let low_end : at + 2 ^ (416 - both_top one other low) ≤ next = low_before_next in
+              let high_is = high_walked.ordered (below_more middle (at + 2 ^ (416 - both_top one other low)) next low_end low_is.0) low_is.1 in
+              (below_more after (next + 2 ^ (416 - both_top one other high)) (at + 2 ^ (416 - both_top one other both)) high_within high_is.0, high_is.1);
         }
 
 -- The same walk, by what it leaves.
@@ -246,4 +298,5 @@ walked_whole one other meetings seen both at before none zero given =
           (All-nil (IsLeast (diagram_value one both.one) (diagram_value other both.other)));
       each = walked.covers;
       apart = walked.apart tt;
+      ordered = (walked.ordered (All-nil (λ (m : Meeting). octets_number m.cell < at)) tt).1;
     }

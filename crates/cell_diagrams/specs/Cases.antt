@@ -1,5 +1,5 @@
 -- What two rules decide for the cells.
-use Rattle.std.specs.Prelude.{◌≡◌, ◌≤◌, ℕ, List, [], ◌∷◌}
+use Rattle.std.specs.Prelude.{◌≡◌, ◌≤◌, ◌<◌, ℕ, List, [], ◌∷◌}
 use Rattle.std.specs.List.{All, Contains}
 use Rattle.cell_rules.specs.Decisions.{decision_of}
 use Rattle.cell_rules.specs.Fields.{IsCell}
@@ -28,11 +28,18 @@ abbrev pub AreCasesApart : List Case → Type 0
 AreCasesApart [] = Unit {0}
 AreCasesApart (case ∷ more) = ((other : Case) → Contains more other → other.old ≡ case.old → other.new ≡ case.new → ⊥) × AreCasesApart more
 
--- The cases of old and new rules: each is a case of them, each cell has one, and no two say the same.
+-- Each case has a lesser cell than those after it.
+abbrev pub AreInOrder : List Case → Type 0
+AreInOrder [] = Unit {0}
+AreInOrder (case ∷ more) = All (λ (later : Case). octets_number case.cell < octets_number later.cell) more × AreInOrder more
+
+-- The cases of old and new rules: each is a case of them, each cell has one, no two say the same, and they are in the order of their
+-- cells.
 pub record AreCases (old new : Rules) (cases : List Case) : Type 0 where
   pub all : All (IsCase old new) cases
   pub each : (cell : List ℕ) → IsCell cell → HasCase old new cases cell
   pub apart : AreCasesApart cases
+  pub ordered : AreInOrder cases
 
 -- Old and new rules give each cell the same value.
 abbrev pub GiveSame : Rules → Rules → Type 0

@@ -1,9 +1,3 @@
 pub mod CellNumbers
-pub mod Values
-pub mod Choices
-pub mod Spans
-pub mod Tells
-pub mod Lines
-pub mod Meetings
 pub mod Cases
 pub mod inner

@@ -1,3 +1,10 @@
+pub mod CellBits
+pub mod Values
+pub mod Choices
+pub mod Spans
+pub mod Tells
+pub mod Lines
+pub mod Meetings
 pub mod Asking
 pub mod Store
 pub mod Steps

@@ -1,8 +1,8 @@
 //! Choices between diagrams.
 
 ghost use Rattle.std.specs.Prelude.{◌≡◌, ◌≤◌, ◌<◌, List, IfOk, IfSome, None};
-ghost use Rattle.cell_diagrams.specs.Values.{IsWithin, Keeps};
-ghost use Rattle.cell_diagrams.specs.Choices.{IsChoice};
+ghost use Rattle.cell_diagrams.specs.inner.Values.{IsWithin, Keeps};
+ghost use Rattle.cell_diagrams.specs.inner.Choices.{IsChoice};
 ghost use Rattle.cell_diagrams.specs.inner.Asking.{AreWithin, IsAnswer, asked_top};
 ghost use Rattle.cell_diagrams.specs.inner.Steps.{AreChoiceParts};
 ghost use Rattle.cell_diagrams.specs.inner.Store.{above};
@@ -96,7 +96,7 @@ impl Diagrams {
     ///
     /// `TooLarge` if the store had to have more than [`MOST_NODES`](crate::MOST_NODES) nodes; `NoMemory` if an allocation
     /// failed. The nodes made so far stay.
-    pub fn choose(
+    pub(crate) fn choose(
         &mut self,
         test: Diagram,
         one: Diagram,

@@ -2,7 +2,7 @@
 
 /// A diagram: its number, or the node at which it begins.
 #[derive(Clone, Copy, Debug, PartialEq, Eq)]
-pub enum Diagram {
+pub(crate) enum Diagram {
     /// Every cell has this number.
     Leaf(u32),
     /// The node of this number decides. Nodes are counted from 0, the oldest first.
@@ -11,7 +11,7 @@ pub enum Diagram {
 
 /// A node: a bit, and the diagrams of the cells in which it isn't set and in which it is.
 #[derive(Clone, Copy, Debug, PartialEq, Eq)]
-pub struct Node {
+pub(crate) struct Node {
     /// The bit. Bit 0 is the highest bit of the first octet, bit 415 the lowest bit of the last.
     pub bit: u16,
     /// The diagram of the cells in which the bit isn't set.

@@ -16,11 +16,6 @@ mod walk;
 
 pub use case::Case;
 pub use comparing::{compare, give_same};
-pub use diagram::{Diagram, Node};
 pub use fault::Undecided;
-pub use lines::deciding_lines;
-pub use meeting::{Both, Meeting};
-pub use met_tests::met;
-pub use span::{Bits, Reach};
-pub use store::{Diagrams, MOST_NODES};
-pub use walk::{MOST_MEETINGS, MOST_STEPS, meetings};
+pub use store::MOST_NODES;
+pub use walk::{MOST_MEETINGS, MOST_STEPS};

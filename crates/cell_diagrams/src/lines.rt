@@ -1,9 +1,9 @@
 //! Diagrams of the lines that decide.
 
 ghost use Rattle.std.specs.Prelude.{◌≡◌, ◌+◌, ◌<◌, ◌^◌, ℕ, [], ◌∷◌, List, IfOk, OnOk};
-ghost use Rattle.cell_diagrams.specs.Values.{Keeps};
-ghost use Rattle.cell_diagrams.specs.Tells.{GivesNumber};
-ghost use Rattle.cell_diagrams.specs.Lines.{deciding_line};
+ghost use Rattle.cell_diagrams.specs.inner.Values.{Keeps};
+ghost use Rattle.cell_diagrams.specs.inner.Tells.{GivesNumber};
+ghost use Rattle.cell_diagrams.specs.inner.Lines.{deciding_line};
 ghost use Rattle.cell_diagrams.specs.inner.Lined.{AreAllWithin, AreLined, first_outer, later_outer};
 ghost use Rattle.cell_rules.specs.declared.rules.RuleLine.{RuleLine as Written};
 
@@ -101,7 +101,7 @@ fn with_line(
 /// # Errors
 ///
 /// As [`Diagrams::choose`] has them; also `TooLarge` for 4,294,967,295 lines or more.
-pub fn deciding_lines(
+pub(crate) fn deciding_lines(
     alloc: Global,
     diagrams: &mut Diagrams,
     rules: &Rules,

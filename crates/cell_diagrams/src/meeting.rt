@@ -5,7 +5,7 @@ use upc_cell::Cell;
 
 /// The numbers that two diagrams give a cell, and the cell.
 #[derive(Clone, Copy, Debug)]
-pub struct Meeting {
+pub(crate) struct Meeting {
     /// The number that the first diagram gives.
     pub one: u32,
     /// The number that the other gives.
@@ -25,7 +25,7 @@ pub(crate) struct Pair {
 
 /// Two diagrams, which may be of two stores.
 #[derive(Clone, Copy, Debug, PartialEq, Eq)]
-pub struct Both {
+pub(crate) struct Both {
     /// The first.
     pub one: Diagram,
     /// The other.

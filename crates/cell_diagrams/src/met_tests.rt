@@ -1,9 +1,9 @@
 //! Diagrams of tests of cells.
 
 ghost use Rattle.std.specs.Prelude.{◌≡◌, ◌+◌, ◌<◌, ℕ, Bool, not, ◌&&◌, ◌||◌, List, ◌∷◌, length, slice_index_or, IfOk};
-ghost use Rattle.cell_diagrams.specs.Values.{IsWithin, Keeps};
-ghost use Rattle.cell_diagrams.specs.Spans.{is_between};
-ghost use Rattle.cell_diagrams.specs.Tells.{Tells};
+ghost use Rattle.cell_diagrams.specs.inner.Values.{IsWithin, Keeps};
+ghost use Rattle.cell_diagrams.specs.inner.Spans.{is_between};
+ghost use Rattle.cell_diagrams.specs.inner.Tells.{Tells};
 ghost use Rattle.cell_diagrams.specs.inner.Fields.{AreBitsOf};
 ghost use Rattle.cell_rules.specs.Fields.{is_so, number_in};
 ghost use Rattle.cell_rules.specs.Tests.{is_met};
@@ -218,7 +218,7 @@ fn compared(
 /// As [`Diagrams::choose`] has them.
 #[cycle(met)]
 #[tactic(auto, using(crate::proofs::Nodes::keeps_both, crate::proofs::Nodes::keeps_itself))]
-pub fn met(diagrams: &mut Diagrams, side: Side, test: &Test) -> Result<Diagram, Undecided>
+pub(crate) fn met(diagrams: &mut Diagrams, side: Side, test: &Test) -> Result<Diagram, Undecided>
     ensures keeps { Keeps diagrams.old diagrams.new }
     ensures tells { IfOk result (Tells diagrams.new (is_met side test.now)) }
 {

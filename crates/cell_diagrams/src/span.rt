@@ -1,8 +1,8 @@
 //! Diagrams of the numbers that are written in some bits of a cell.
 
 ghost use Rattle.std.specs.Prelude.{◌≡◌, ◌+◌, ◌-◌, ◌/◌, ◌%◌, ◌^◌, ◌==◌, ◌≤◌, ◌<◌, IfOk};
-ghost use Rattle.cell_diagrams.specs.Values.{Keeps};
-ghost use Rattle.cell_diagrams.specs.Spans.{IsSpan};
+ghost use Rattle.cell_diagrams.specs.inner.Values.{Keeps};
+ghost use Rattle.cell_diagrams.specs.inner.Spans.{IsSpan};
 
 use crate::diagram::Diagram;
 use crate::fault::Undecided;
@@ -10,7 +10,7 @@ use crate::store::Diagrams;
 
 /// Some bits of a cell that are one number, the first highest.
 #[derive(Clone, Copy, Debug)]
-pub struct Bits {
+pub(crate) struct Bits {
     /// The first bit. Bit 0 is the highest bit of the first octet.
     pub bit: u16,
     /// How many bits.
@@ -19,7 +19,7 @@ pub struct Bits {
 
 /// Numbers from one on, up to another, which isn't among them.
 #[derive(Clone, Copy, Debug)]
-pub struct Reach {
+pub(crate) struct Reach {
     /// The first number.
     pub low: u64,
     /// The number after the last.
@@ -61,7 +61,7 @@ impl Diagrams {
     ///
     /// As [`choose`](Self::choose) has them.
     #[tactic(auto, using(crate::proofs::Nodes::keeps_both, crate::proofs::Nodes::keeps_itself))]
-    pub fn span(&mut self, bits: Bits, mask: u32, reach: Reach) -> Result<Diagram, Undecided>
+    pub(crate) fn span(&mut self, bits: Bits, mask: u32, reach: Reach) -> Result<Diagram, Undecided>
         requires width { bits.width ≤ 32 }
         requires inside { bits.bit + bits.width ≤ 416 }
         ensures keeps { Keeps self.old self.new }

@@ -4,7 +4,7 @@ use crate::diagram::Diagram;
 
 /// A choice that is asked for.
 #[derive(Clone, Copy, Debug, PartialEq, Eq)]
-pub struct Asked {
+pub(crate) struct Asked {
     /// What decides.
     pub test: Diagram,
     /// The diagram of the cells to which `test` gives any number but 0.
@@ -15,7 +15,7 @@ pub struct Asked {
 
 /// A choice that was made.
 #[derive(Clone, Copy, Debug)]
-pub struct Step {
+pub(crate) struct Step {
     /// What was asked for.
     pub asked: Asked,
     /// The diagram that is the choice.

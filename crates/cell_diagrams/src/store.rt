@@ -2,7 +2,7 @@
 
 ghost use Rattle.std.specs.Prelude.{◌≡◌, ◌≤◌, ◌<◌, ◌==◌, [], length, IfOk, IfSome, IsTrue};
 ghost use Rattle.std.specs.List.{All};
-ghost use Rattle.cell_diagrams.specs.Values.{top_of, IsWithin, Keeps};
+ghost use Rattle.cell_diagrams.specs.inner.Values.{top_of, IsWithin, Keeps};
 ghost use Rattle.cell_diagrams.specs.inner.Asking.{IsAnswer};
 ghost use Rattle.cell_diagrams.specs.inner.Store.{IsNode, HasNode, DecidesByBit, above};
 ghost use Rattle.cell_diagrams.specs.inner.Steps.{AreSides};
@@ -26,7 +26,7 @@ pub(crate) const NO_BIT: u16 = 416;
 ///
 /// Contracts see the list of the nodes, the newest first.
 #[derive(Debug, Drop)]
-pub struct Diagrams {
+pub(crate) struct Diagrams {
     /// The nodes, the oldest first.
     nodes: Vec<Node>,
     /// Numbers of nodes, by what their nodes have. A number may be out of date: the node is compared.
@@ -135,8 +135,7 @@ impl Diagrams {
     /// # Errors
     ///
     /// `NoMemory` if an allocation failed.
-    // no edit: a store that is made has no node that could be another
-    pub fn new(alloc: Global) -> Result<Diagrams, Undecided>
+    pub(crate) fn new(alloc: Global) -> Result<Diagrams, Undecided>
         ensures { IfOk result (λ diagrams. diagrams ≡ []) }
     {
         Ok(Diagrams {
@@ -144,20 +143,6 @@ impl Diagrams {
             places: places(alloc, TABLE)?,
             steps: steps(alloc, first_step(), TABLE)?,
         })
-    }
-
-    /// The number of nodes.
-    pub fn len(&self) -> usize
-        ensures { result ≡ length self.now }
-    {
-        self.nodes.len()
-    }
-
-    /// Whether there are no nodes.
-    pub fn is_empty(&self) -> bool
-        ensures { result ≡ (length self.now == 0) }
-    {
-        self.nodes.is_empty()
     }
 
     /// The node of a number.

@@ -3,8 +3,8 @@
 ghost use Rattle.std.specs.Prelude.{◌≡◌, ◌+◌, ◌-◌, ◌^◌, ◌≤◌, ◌<◌, ◌==◌, ◌&&◌, min, ℕ, length, slice_set, IfOk, OnOk, IfSome, IsTrue};
 ghost use Rattle.std.specs.List.{All, Contains};
 ghost use Rattle.cell_diagrams.specs.CellNumbers.{octets_number};
-ghost use Rattle.cell_diagrams.specs.Values.{IsWithin};
-ghost use Rattle.cell_diagrams.specs.Meetings.{AreMeetings, has_pair};
+ghost use Rattle.cell_diagrams.specs.inner.Values.{IsWithin};
+ghost use Rattle.cell_diagrams.specs.inner.Meetings.{AreMeetings, has_pair};
 ghost use Rattle.cell_diagrams.specs.inner.Store.{above};
 ghost use Rattle.cell_diagrams.specs.inner.Walks.{AreSeen, IsClearFrom, IsWalked, both_top, with_meeting};
 ghost use Rattle.cell_diagrams.specs.declared.diagram.Diagram.{Diagram as Kind};
@@ -209,7 +209,7 @@ fn zero_cell() -> Cell
 /// # Errors
 ///
 /// `TooLarge` if more than [`MOST_STEPS`] steps or [`MOST_MEETINGS`] pairs were needed; `NoMemory` if an allocation failed.
-pub fn meetings(
+pub(crate) fn meetings(
     alloc: Global,
     one: &Diagrams,
     other: &Diagrams,

@@ -1,7 +1,7 @@
 -- A choice that is asked for, and its answer.
 use Rattle.std.specs.Prelude.{◌≡◌, ◌≤◌, ℕ, min, List}
-use Rattle.cell_diagrams.specs.Choices.{chosen}
-use Rattle.cell_diagrams.specs.Values.{diagram_value, top_of, IsWithin}
+use Rattle.cell_diagrams.specs.inner.Choices.{chosen}
+use Rattle.cell_diagrams.specs.inner.Values.{diagram_value, top_of, IsWithin}
 use Rattle.cell_diagrams.specs.declared.diagram.Diagram.{Diagram}
 use Rattle.cell_diagrams.specs.declared.diagram.Node.{Node}
 use Rattle.cell_diagrams.specs.declared.step.Asked.{Asked}

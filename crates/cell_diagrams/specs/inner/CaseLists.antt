@@ -1,5 +1,5 @@
 -- Cases by lists.
-use Rattle.std.specs.Prelude.{ℕ, Bool, true, ◌==◌, ◌&&◌, List, [], ◌∷◌}
+use Rattle.std.specs.Prelude.{Bool, true, ◌==◌, ◌&&◌, List, [], ◌∷◌}
 use Rattle.cell_rules.specs.Decisions.{decision_of}
 use Rattle.cell_rules.specs.declared.rules.Rules.{Rules}
 use Rattle.cell_diagrams.specs.declared.case.Case.{Case}

@@ -4,7 +4,7 @@ use Rattle.cell_rules.specs.Fields.{IsCell, number_in}
 use Rattle.cell_rules.specs.declared.field.Field.{Field}
 use Rattle.upc_cell.specs.declared.side.Side.{Side}
 use Rattle.cell_diagrams.specs.CellNumbers.{octets_number}
-use Rattle.cell_diagrams.specs.Spans.{bits_number}
+use Rattle.cell_diagrams.specs.inner.Spans.{bits_number}
 use Rattle.cell_diagrams.specs.declared.span.Bits.{Bits}
 
 -- The number of the field is that of these bits.

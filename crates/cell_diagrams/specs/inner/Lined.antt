@@ -3,9 +3,9 @@ use Rattle.std.specs.Prelude.{ℕ, zero, suc, List, [], ◌∷◌}
 use Rattle.upc_cell.specs.declared.side.Side.{Side}
 use Rattle.cell_rules.specs.Decisions.{decision_from}
 use Rattle.cell_rules.specs.declared.rules.RuleLine.{RuleLine}
-use Rattle.cell_diagrams.specs.Lines.{line_number}
-use Rattle.cell_diagrams.specs.Tells.{GivesNumber}
-use Rattle.cell_diagrams.specs.Values.{IsWithin}
+use Rattle.cell_diagrams.specs.inner.Lines.{line_number}
+use Rattle.cell_diagrams.specs.inner.Tells.{GivesNumber}
+use Rattle.cell_diagrams.specs.inner.Values.{IsWithin}
 use Rattle.cell_diagrams.specs.declared.diagram.Diagram.{Diagram}
 use Rattle.cell_diagrams.specs.declared.diagram.Diagram.TheVariants.{Leaf}
 use Rattle.cell_diagrams.specs.declared.diagram.Node.{Node}

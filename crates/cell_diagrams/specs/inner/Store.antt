@@ -1,8 +1,8 @@
 -- What is true of the nodes of a store and of its tables.
 use Rattle.std.specs.Prelude.{◌≡◌, ◌≤◌, ◌<◌, ℕ, if◌then◌else◌, List, [], ◌∷◌, length}
 use Rattle.std.specs.List.{All}
-use Rattle.cell_diagrams.specs.CellNumbers.{is_set}
-use Rattle.cell_diagrams.specs.Values.{diagram_value, node_value, node_top, top_of, taken_side, IsWithin}
+use Rattle.cell_diagrams.specs.inner.CellBits.{is_set}
+use Rattle.cell_diagrams.specs.inner.Values.{diagram_value, node_value, node_top, top_of, taken_side, IsWithin}
 use Rattle.cell_diagrams.specs.inner.Asking.{IsAnswer}
 use Rattle.cell_diagrams.specs.declared.diagram.Diagram.{Diagram}
 use Rattle.cell_diagrams.specs.declared.diagram.Diagram.TheVariants.{Leaf, Inner}

@@ -1,11 +1,10 @@
 -- What is true while two diagrams are walked through, with the cells in order.
-use Rattle.std.specs.Prelude.{◌≡◌, ◌<◌, ℕ, ◌-◌, ◌/◌, ◌%◌, ◌^◌, min, Bool, true, false, if◌then◌else◌, List, [], ◌∷◌, ◌++◌, length, Option, Some, None, IfSome}
+use Rattle.std.specs.Prelude.{◌≡◌, ◌<◌, ℕ, ◌+◌, ◌-◌, ◌/◌, ◌%◌, ◌^◌, min, true, if◌then◌else◌, List, [], ◌∷◌, ◌++◌, length, Option, IfSome}
 use Rattle.std.specs.List.{All}
 use Rattle.cell_rules.specs.Fields.{IsCell}
 use Rattle.cell_diagrams.specs.CellNumbers.{octets_number}
-use Rattle.cell_diagrams.specs.Values.{diagram_value, top_of}
-use Rattle.cell_diagrams.specs.Meetings.{has_pair, IsLeast, ArePairsApart}
-use Rattle.cell_diagrams.specs.declared.diagram.Diagram.{Diagram}
+use Rattle.cell_diagrams.specs.inner.Values.{diagram_value, top_of}
+use Rattle.cell_diagrams.specs.inner.Meetings.{has_pair, IsLeast, ArePairsApart, AreMeetingsInOrder}
 use Rattle.cell_diagrams.specs.declared.diagram.Node.{Node}
 use Rattle.cell_diagrams.specs.declared.meeting.Both.{Both}
 use Rattle.cell_diagrams.specs.declared.meeting.Meeting.{Meeting}
@@ -37,6 +36,10 @@ LeadsToBoth one other first second both at = (cell : ℕ) → cell / 2 ^ (416 - 
 abbrev pub IsDone : (ℕ → ℕ) → (ℕ → ℕ) → List Meeting → ℕ → Type 0
 IsDone first second meetings at = (cell : ℕ) → cell < at → has_pair meetings (first cell) (second cell) ≡ true
 
+-- The cell of each meeting is less than this number.
+abbrev pub AreBelow : ℕ → List Meeting → Type 0
+AreBelow end meetings = All (λ (meeting : Meeting). octets_number meeting.cell < end) meetings
+
 -- The meetings after two diagrams were walked through, from a cell on.
 pub record IsWalked (one other : List Node) (before after : List Meeting) (seen : List (Option Both)) (both : Both) (at : ℕ) : Type 0 where
   pub seen_are : AreSeen one other after seen
@@ -45,6 +48,7 @@ pub record IsWalked (one other : List Node) (before after : List Meeting) (seen 
   pub apart : ArePairsApart before → ArePairsApart after
   pub least : (first second : ℕ → ℕ) → LeadsToBoth one other first second both at → IsDone first second before at → All (IsLeast first second) before
       → All (IsLeast first second) after
+  pub ordered : AreBelow at before → AreMeetingsInOrder before → AreBelow (at + 2 ^ (416 - both_top one other both)) after × AreMeetingsInOrder after
 
 -- The meetings with one more, if its numbers aren't among them.
 abbrev pub with_meeting : List Meeting → Meeting → List Meeting

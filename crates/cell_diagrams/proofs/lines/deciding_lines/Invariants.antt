@@ -1,5 +1,5 @@
 use Rattle.std.proofs.Common.{◌≤◌, drop, length}
-use Rattle.cell_diagrams.specs.Values.{Keeps}
+use Rattle.cell_diagrams.specs.inner.Values.{Keeps}
 use Rattle.cell_diagrams.specs.inner.Lined.{AreLined}
 use Rattle.cell_diagrams.proofs.lines.deciding_lines.Given as goal
 

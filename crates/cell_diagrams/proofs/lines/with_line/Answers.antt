@@ -1,7 +1,7 @@
 use Rattle.std.proofs.Common.{◌∷◌, sym, subst}
 use Rattle.cell_rules.specs.declared.rules.RuleLine.{RuleLine}
 use Rattle.cell_diagrams.specs.inner.Lined.{AreLined}
-use Rattle.cell_rules.specs.declared.rules.RuleLine.TheVariants.{Rule, Block, End}
+use Rattle.cell_rules.specs.declared.rules.RuleLine.TheVariants.{Rule, Block}
 use Rattle.cell_diagrams.proofs.LineSteps.{rule_lined, block_lined, end_lined, lined_as, taken_within}
 use Rattle.cell_diagrams.proofs.lines.with_line.Goals as goal
 

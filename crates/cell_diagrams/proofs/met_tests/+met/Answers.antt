@@ -1,4 +1,4 @@
-use Rattle.std.proofs.Common.{List, Bool, not, ◌∙◌, sym, ap}
+use Rattle.std.proofs.Common.{List, not, ◌∙◌, sym, ap}
 use Rattle.cell_rules.specs.Tests.{is_met}
 use Rattle.cell_rules.specs.inner.MetTests.{each_is_met, some_is_met}
 use Rattle.cell_rules.specs.declared.test.Test.{Test}

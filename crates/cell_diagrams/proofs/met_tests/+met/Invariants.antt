@@ -1,7 +1,7 @@
 use Rattle.std.proofs.Common.{take}
 use Rattle.cell_rules.specs.inner.MetTests.{each_is_met, some_is_met}
-use Rattle.cell_diagrams.specs.Tells.{Tells}
-use Rattle.cell_diagrams.specs.Values.{Keeps}
+use Rattle.cell_diagrams.specs.inner.Tells.{Tells}
+use Rattle.cell_diagrams.specs.inner.Values.{Keeps}
 use Rattle.cell_diagrams.proofs.met_tests.+met.Given as goal
 
 abbrev pub invariant-all_met-loop-test : goal.invariant-all_met-loop-test

@@ -1,8 +1,8 @@
 use Rattle.std.proofs.Common.{◌∷◌, take}
 use Rattle.match_code.specs.PlainTests.{is_among, kept_bits}
 use Rattle.cell_rules.specs.Fields.{number_in}
-use Rattle.cell_diagrams.specs.Tells.{Tells}
-use Rattle.cell_diagrams.specs.Values.{Keeps}
+use Rattle.cell_diagrams.specs.inner.Tells.{Tells}
+use Rattle.cell_diagrams.specs.inner.Values.{Keeps}
 use Rattle.cell_diagrams.proofs.met_tests.among.Given as goal
 
 abbrev pub invariant-loop-place : goal.invariant-loop-place

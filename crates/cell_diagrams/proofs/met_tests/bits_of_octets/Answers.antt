@@ -1,5 +1,4 @@
 use Rattle.std.proofs.Common.{ap, sym, refl, arith}
-use Rattle.bpf_code.specs.declared.instr.Size.{Size}
 use Rattle.bpf_interp.specs.Packet.{octets_loaded}
 use Rattle.cell_diagrams.proofs.FieldBits.{octets_place}
 use Rattle.cell_diagrams.proofs.met_tests.bits_of_octets.Goals as goal

@@ -1,6 +1,6 @@
 use Rattle.cell_rules.specs.Fields.{is_so, number_in}
 use Rattle.match_code.specs.PlainTests.{kept_bits}
-use Rattle.cell_diagrams.specs.Spans.{is_between}
+use Rattle.cell_diagrams.specs.inner.Spans.{is_between}
 use Rattle.cell_diagrams.proofs.Telling.{denied_by, unequal_so, above_so, at_least_so}
 use Rattle.cell_diagrams.proofs.met_tests.compared.Goals as goal
 

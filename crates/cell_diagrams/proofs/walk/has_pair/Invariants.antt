@@ -1,5 +1,5 @@
 use Rattle.std.proofs.Common.{◌≡◌, drop}
-use Rattle.cell_diagrams.specs.Meetings.{has_pair}
+use Rattle.cell_diagrams.specs.inner.Meetings.{has_pair}
 use Rattle.cell_diagrams.proofs.walk.has_pair.Given as goal
 
 abbrev pub invariant-loop-meeting : goal.invariant-loop-meeting

@@ -1,4 +1,4 @@
-use Rattle.std.proofs.Common.{List, ◌+◌, ◌∙◌, ap, sym, subst, arith}
+use Rattle.std.proofs.Common.{◌+◌, ◌∙◌, ap, sym, subst, arith}
 use Rattle.cell_diagrams.specs.CellNumbers.{octets_number}
 use Rattle.cell_diagrams.specs.inner.Walks.{IsClearFrom}
 use Rattle.cell_diagrams.proofs.CellBits.{room, octet_after, octets_after, bit_added, bit_clear}

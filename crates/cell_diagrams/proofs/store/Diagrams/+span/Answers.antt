@@ -1,5 +1,5 @@
 use Rattle.std.proofs.Common.{◌+◌, ◌-◌, refl, sym, ap, ◌∙◌, arith}
-use Rattle.cell_diagrams.specs.Spans.{IsSpan}
+use Rattle.cell_diagrams.specs.inner.Spans.{IsSpan}
 use Rattle.cell_diagrams.specs.inner.Store.{DecidesByBit}
 use Rattle.cell_diagrams.specs.declared.span.Bits.{Bits}
 use Rattle.cell_diagrams.proofs.Results.{if_ok}

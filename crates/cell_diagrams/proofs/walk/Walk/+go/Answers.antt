@@ -1,4 +1,4 @@
-use Rattle.std.proofs.Common.{◌≡◌, ◌+◌, ◌-◌, ◌%◌, ◌^◌, ◌≤◌, ◌<◌, ℕ, List, Vec, Global, Option, Some, slice_set, ap, ◌∙◌, sym, subst, refl, arith}
+use Rattle.std.proofs.Common.{◌≡◌, ◌+◌, ◌-◌, ◌%◌, ◌^◌, ◌<◌, Vec, Global, Option, Some, slice_set, ap, ◌∙◌, sym, subst, arith}
 use Rattle.cell_diagrams.specs.CellNumbers.{octets_number}
 use Rattle.cell_diagrams.specs.inner.Walks.{both_top, IsClearFrom}
 use Rattle.cell_diagrams.specs.declared.meeting.Both.{Both}

@@ -1,5 +1,5 @@
 -- The line that decides a cell, as a number.
-use Rattle.std.specs.Prelude.{◌≡◌, ℕ, zero, suc, ◌+◌, List, [], ◌∷◌, Option, Some, None}
+use Rattle.std.specs.Prelude.{ℕ, ◌+◌, List, Option, Some, None}
 use Rattle.cell_rules.specs.Decisions.{decision_of}
 use Rattle.cell_rules.specs.declared.rules.Rules.{Rules}
 

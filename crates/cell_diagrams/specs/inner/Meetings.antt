@@ -1,9 +1,9 @@
 -- The pairs of numbers that two diagrams give a cell.
-use Rattle.std.specs.Prelude.{◌≡◌, ◌≤◌, ℕ, ◌==◌, Bool, true, false, ◌&&◌, ◌||◌, List, [], ◌∷◌}
+use Rattle.std.specs.Prelude.{◌≡◌, ◌≤◌, ◌<◌, ℕ, ◌==◌, Bool, true, false, ◌&&◌, ◌||◌, List, [], ◌∷◌}
 use Rattle.std.specs.List.{All}
 use Rattle.cell_rules.specs.Fields.{IsCell}
 use Rattle.cell_diagrams.specs.CellNumbers.{octets_number}
-use Rattle.cell_diagrams.specs.Values.{diagram_value}
+use Rattle.cell_diagrams.specs.inner.Values.{diagram_value}
 use Rattle.cell_diagrams.specs.declared.diagram.Node.{Node}
 use Rattle.cell_diagrams.specs.declared.meeting.Both.{Both}
 use Rattle.cell_diagrams.specs.declared.meeting.Meeting.{Meeting}
@@ -25,9 +25,15 @@ abbrev pub ArePairsApart : List Meeting → Type 0
 ArePairsApart [] = Unit {0}
 ArePairsApart (meeting ∷ more) = (has_pair more meeting.one meeting.other ≡ false) × ArePairsApart more
 
+-- Each meeting has a lesser cell than those after it.
+abbrev pub AreMeetingsInOrder : List Meeting → Type 0
+AreMeetingsInOrder [] = Unit {0}
+AreMeetingsInOrder (meeting ∷ more) = All (λ (later : Meeting). octets_number meeting.cell < octets_number later.cell) more × AreMeetingsInOrder more
+
 -- The meetings of two diagrams: each has the least cell to which they give its numbers; each two numbers that a cell has are among
--- them, once.
+-- them, once; they are in the order of their cells.
 pub record AreMeetings (one other : List Node) (both : Both) (meetings : List Meeting) : Type 0 where
   pub least : All (IsLeast (diagram_value one both.one) (diagram_value other both.other)) meetings
   pub each : (cell : ℕ) → has_pair meetings (diagram_value one both.one cell) (diagram_value other both.other cell) ≡ true
   pub apart : ArePairsApart meetings
+  pub ordered : AreMeetingsInOrder meetings

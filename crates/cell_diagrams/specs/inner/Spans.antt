@@ -1,6 +1,6 @@
 -- The number that some bits of a cell are.
 use Rattle.std.specs.Prelude.{◌≡◌, ◌≤◌, ℕ, ◌+◌, ◌-◌, ◌/◌, ◌%◌, ◌^◌, ◌&&◌, nat_le, nat_lt, bit_and, Bool, if◌then◌else◌, List}
-use Rattle.cell_diagrams.specs.Values.{diagram_value, top_of, IsWithin}
+use Rattle.cell_diagrams.specs.inner.Values.{diagram_value, top_of, IsWithin}
 use Rattle.cell_diagrams.specs.declared.diagram.Diagram.{Diagram}
 use Rattle.cell_diagrams.specs.declared.diagram.Node.{Node}
 use Rattle.cell_diagrams.specs.declared.span.Bits.{Bits}

@@ -1,7 +1,7 @@
 -- The number that a diagram gives a cell. Nodes are listed with the newest first, so the number of a node is how many nodes are
 -- older. A cell is the number that its octets spell.
-use Rattle.std.specs.Prelude.{◌≡◌, ◌<◌, ℕ, ◌==◌, Bool, if◌then◌else◌, List, [], ◌∷◌, length}
-use Rattle.cell_diagrams.specs.CellNumbers.{is_set}
+use Rattle.std.specs.Prelude.{◌≡◌, ◌<◌, ℕ, ◌==◌, if◌then◌else◌, List, [], ◌∷◌, length}
+use Rattle.cell_diagrams.specs.inner.CellBits.{is_set}
 use Rattle.cell_diagrams.specs.declared.diagram.Diagram.{Diagram}
 use Rattle.cell_diagrams.specs.declared.diagram.Diagram.TheVariants.{Leaf, Inner}
 use Rattle.cell_diagrams.specs.declared.diagram.Node.{Node}

@@ -1,6 +1,6 @@
 -- What a choice between two diagrams is.
 use Rattle.std.specs.Prelude.{◌≡◌, ℕ, ◌==◌, if◌then◌else◌, List}
-use Rattle.cell_diagrams.specs.Values.{diagram_value, IsWithin}
+use Rattle.cell_diagrams.specs.inner.Values.{diagram_value, IsWithin}
 use Rattle.cell_diagrams.specs.declared.diagram.Diagram.{Diagram}
 use Rattle.cell_diagrams.specs.declared.diagram.Node.{Node}
 

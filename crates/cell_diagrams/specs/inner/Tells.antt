@@ -2,8 +2,8 @@
 use Rattle.std.specs.Prelude.{◌≡◌, ℕ, Bool, List}
 use Rattle.cell_rules.specs.Fields.{IsCell}
 use Rattle.cell_diagrams.specs.CellNumbers.{octets_number}
-use Rattle.cell_diagrams.specs.Spans.{truth}
-use Rattle.cell_diagrams.specs.Values.{diagram_value, IsWithin}
+use Rattle.cell_diagrams.specs.inner.Spans.{truth}
+use Rattle.cell_diagrams.specs.inner.Values.{diagram_value, IsWithin}
 use Rattle.cell_diagrams.specs.declared.diagram.Diagram.{Diagram}
 use Rattle.cell_diagrams.specs.declared.diagram.Node.{Node}
 
