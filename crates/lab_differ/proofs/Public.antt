@@ -1,0 +1,9 @@
+-- Lemmas for other crates.
+use Rattle.std.proofs.Common.{ℕ, Bool, List}
+use Rattle.text_io.specs.declared.ending.Done.{Done}
+use Rattle.lab_differ.specs.DifferText.{IsDifferAnswer}
+use Rattle.lab_differ.proofs.WholeAnswers as answers
+
+-- Every old text and every input have an answer of `differ`.
+pub some-differ_text : (lines : Bool) (old octets : List ℕ) → (answer : List ℕ) × (done : Done) × IsDifferAnswer lines old octets answer done
+some-differ_text = answers.some_answer

@@ -1,0 +1,208 @@
+//! The lines of cases.
+
+ghost use Rattle.std.specs.Prelude.{◌≡◌, ◌++◌, codes, slice_index, OnOk};
+ghost use Rattle.hex.specs.Hex.{encode_lower};
+ghost use Rattle.lab_rules.specs.WhyText.{decider_text};
+ghost use Rattle.rules_text.specs.NumberedText.{numbered_read};
+ghost use Rattle.upc_cell.specs.Header.{clp_of};
+ghost use Rattle.upc_words.specs.FaultLines.{line};
+ghost use Rattle.lab_differ.specs.ChangeLines.{both_text, case_text, cases_text, change_text, field_text, fields_text, given_text, is_listed, path_text, cell_with_fields, source_number};
+
+use cell_diagrams::Case;
+use cell_rules::Decision;
+use rules_text::NumberedRules;
+use std::alloc::AllocError;
+use upc_cell::{CELL_OCTETS, Cell, Side};
+use upc_words::{add_number, add_text};
+
+/// The number of the source line of the line of rules at a place.
+fn number_at(numbers: &[usize], place: usize) -> usize
+    ensures { result ≡ slice_index numbers.now place }
+{
+    match numbers.get(place) {
+        Some(number) => *number,
+        None => 0,
+    }
+}
+
+/// The number of the source line that decides, 0 for `otherwise`.
+fn source_number(numbers: &[usize], line: Option<usize>) -> usize
+    ensures { result ≡ source_number numbers.now line }
+{
+    match line {
+        None => 0,
+        Some(place) => number_at(numbers, place),
+    }
+}
+
+/// Appends the name of a field and its number.
+#[tactic(auto, using(std::proofs::lemmas::List::append_assoc))]
+fn add_field(answers: &mut Vec<u8>, name: &[u8], number: u64) -> Result<(), AllocError>
+    ensures { OnOk result (answers.new.items ≡ answers.old.items ++ field_text name.now number) }
+{
+    add_text(answers, name)?;
+    add_number(answers, number)
+}
+
+/// The cell loss priority of a cell as a number.
+fn priority(cell: &Cell) -> u64
+    ensures { result ≡ clp_of cell.now }
+{
+    u64::from(cell.clp())
+}
+
+/// Appends the fields before the channel.
+#[tactic(auto, using(std::proofs::lemmas::List::append_assoc))]
+fn add_path(answers: &mut Vec<u8>, side: Side, cell: &Cell) -> Result<(), AllocError>
+    ensures { OnOk result (answers.new.items ≡ answers.old.items ++ path_text side cell.now) }
+{
+    match side {
+        Side::Uni => {
+            add_field(answers, b"gfc ", u64::from(cell.gfc()))?;
+            add_field(answers, b" vpi ", u64::from(cell.vpi_at(Side::Uni)))
+        }
+        Side::Nni => add_field(answers, b"vpi ", u64::from(cell.vpi_at(Side::Nni))),
+    }
+}
+
+/// Appends the fields of the header of a cell.
+#[tactic(auto, using(std::proofs::lemmas::List::append_assoc))]
+fn add_fields(answers: &mut Vec<u8>, side: Side, cell: &Cell) -> Result<(), AllocError>
+    ensures { OnOk result (answers.new.items ≡ answers.old.items ++ fields_text side cell.now) }
+{
+    add_path(answers, side, cell)?;
+    add_field(answers, b" vci ", u64::from(cell.vci()))?;
+    add_field(answers, b" pti ", u64::from(cell.pti()))?;
+    add_field(answers, b" clp ", priority(cell))
+}
+
+/// Appends the line of rules that decides, or `otherwise`.
+#[tactic(auto, using(std::proofs::lemmas::List::append_assoc))]
+fn add_decider(
+    answers: &mut Vec<u8>,
+    numbers: &[usize],
+    line: Option<usize>,
+) -> Result<(), AllocError>
+    ensures { OnOk result (answers.new.items ≡ answers.old.items ++ decider_text numbers.now line) }
+{
+    match line {
+        None => add_text(answers, b"otherwise"),
+        Some(place) => {
+            add_text(answers, b"line ")?;
+            add_number(answers, number_at(numbers, place) as u64)
+        }
+    }
+}
+
+/// Appends what a text of rules gives a cell.
+#[tactic(auto, using(std::proofs::lemmas::List::append_assoc))]
+fn add_given(answers: &mut Vec<u8>, numbers: &[usize], decision: Decision) -> Result<(), AllocError>
+    ensures { OnOk result (answers.new.items ≡ answers.old.items ++ given_text numbers.now decision) }
+{
+    add_decider(answers, numbers, decision.line)?;
+    add_field(answers, b" value ", u64::from(decision.value))
+}
+
+/// Appends what both texts give a cell.
+#[tactic(auto, using(std::proofs::lemmas::List::append_assoc))]
+fn add_both(
+    answers: &mut Vec<u8>,
+    old: &NumberedRules,
+    new: &NumberedRules,
+    case: &Case,
+) -> Result<(), AllocError>
+    ensures { OnOk result (answers.new.items ≡ answers.old.items ++ both_text (numbered_read old.now) (numbered_read new.now) case.now.old case.now.new) }
+{
+    add_text(answers, b"old ")?;
+    add_given(answers, &old.numbers, case.old)?;
+    add_text(answers, b", new ")?;
+    add_given(answers, &new.numbers, case.new)
+}
+
+/// Appends the octets of a cell in hexadecimal digits.
+fn add_octets(answers: &mut Vec<u8>, cell: &Cell) -> Result<(), AllocError>
+    ensures { OnOk result (answers.new.items ≡ answers.old.items ++ encode_lower cell.now) }
+{
+    let mut digits = [0; 104];
+    if hex::encode_to_slice(&cell.bytes()[..CELL_OCTETS], &mut digits).is_err() {
+        unreachable!();
+    }
+    add_text(answers, &digits)
+}
+
+/// Appends the octets of a cell, and ends the line.
+#[tactic(auto, using(std::proofs::lemmas::List::append_assoc))]
+fn add_octets_line(answers: &mut Vec<u8>, cell: &Cell) -> Result<(), AllocError>
+    ensures { OnOk result (answers.new.items ≡ answers.old.items ++ line (codes ": " ++ encode_lower cell.now)) }
+{
+    add_text(answers, b": ")?;
+    add_octets(answers, cell)?;
+    answers.push(b'\n')?;
+    Ok(())
+}
+
+/// Appends a cell: its fields and its octets.
+#[tactic(auto, using(std::proofs::lemmas::List::append_assoc))]
+fn add_cell(answers: &mut Vec<u8>, side: Side, cell: &Cell) -> Result<(), AllocError>
+    ensures { OnOk result (answers.new.items ≡ answers.old.items ++ cell_with_fields side cell.now) }
+{
+    add_text(answers, b": ")?;
+    add_fields(answers, side, cell)?;
+    add_octets_line(answers, cell)
+}
+
+/// Appends the line of a case.
+#[tactic(auto, using(std::proofs::lemmas::List::append_assoc))]
+fn add_change(
+    answers: &mut Vec<u8>,
+    old: &NumberedRules,
+    new: &NumberedRules,
+    case: &Case,
+) -> Result<(), AllocError>
+    ensures { OnOk result (answers.new.items ≡ answers.old.items
+        ++ change_text (numbered_read old.now) (numbered_read new.now) case.now.old case.now.new case.now.cell) }
+{
+    add_both(answers, old, new, case)?;
+    add_cell(answers, new.rules.side, &case.cell)
+}
+
+/// Whether a case has a line.
+fn is_listed(lines: bool, old: &NumberedRules, new: &NumberedRules, case: &Case) -> bool
+    ensures { result ≡ is_listed lines (numbered_read old.now) (numbered_read new.now) case.now }
+{
+    let was = source_number(&old.numbers, case.old.line);
+    let is = source_number(&new.numbers, case.new.line);
+    case.old.value != case.new.value || (lines && was != is)
+}
+
+/// Appends the line of a case, if it has one.
+fn add_case(
+    answers: &mut Vec<u8>,
+    lines: bool,
+    old: &NumberedRules,
+    new: &NumberedRules,
+    case: &Case,
+) -> Result<(), AllocError>
+    ensures { OnOk result (answers.new.items ≡ answers.old.items ++ case_text lines (numbered_read old.now) (numbered_read new.now) case.now) }
+{
+    if is_listed(lines, old, new, case) {
+        add_change(answers, old, new, case)?;
+    }
+    Ok(())
+}
+
+/// Appends the lines of cases.
+pub(crate) fn add_cases(
+    answers: &mut Vec<u8>,
+    lines: bool,
+    old: &NumberedRules,
+    new: &NumberedRules,
+    cases: &[Case],
+) -> Result<(), AllocError>
+    ensures { OnOk result (answers.new.items ≡ answers.old.items ++ cases_text lines (numbered_read old.now) (numbered_read new.now) cases.now) }
+{
+    for case in cases {
+        add_case(answers, lines, old, new, case)?;
+    }
+    Ok(())
+}
