@@ -4,6 +4,7 @@ use Rattle.clap.specs.Faults.{is_simple_and_free}
 use Rattle.clap.proofs.OnLiterals.{clap_on_literals}
 use Rattle.command_line.specs.Arguments.{app_with_rules}
 use Rattle.lab_options.specs.CellsOptions.{cells_app}
+use Rattle.lab_options.specs.DifferOptions.{differ_app}
 use Rattle.lab_options.specs.FitOptions.{fit_app}
 use Rattle.lab_options.specs.PoliceOptions.{police_app}
 
@@ -18,3 +19,7 @@ fit_is_free = refl
 pub police_is_free : is_simple_and_free police_app ≡ true
 unfolding police_app app_with_rules clap_on_literals
 police_is_free = refl
+
+pub differ_is_free : is_simple_and_free differ_app ≡ true
+unfolding differ_app app_with_rules clap_on_literals
+differ_is_free = refl

@@ -1,8 +1,9 @@
--- The options of the subcommands over captures. Read the modules in this order:
+-- The options of the subcommands that have them. Read the modules in this order:
 pub mod OptionAnswers
 pub mod OptionValues
 pub mod LinkOption
 pub mod CellsOptions
 pub mod FitOptions
 pub mod PoliceOptions
+pub mod DifferOptions
 pub mod inner

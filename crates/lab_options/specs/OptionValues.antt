@@ -1,5 +1,5 @@
 -- What the value of an option spells.
-use Rattle.std.specs.Prelude.{◌==◌, ◌^◌, if◌then◌else◌, ℕ, Option, Some, None, codes, length, option_and_then}
+use Rattle.std.specs.Prelude.{◌==◌, ◌^◌, if◌then◌else◌, ℕ, Bool, false, true, Option, Some, None, codes, length, option_and_then}
 use Rattle.std.specs.Str.{bytes_eq}
 use Rattle.clap.specs.Walk.{Text}
 use Rattle.lab_captures.specs.declared.cell_lines.CellLines.{CellLines}
@@ -32,9 +32,13 @@ side_named word =
 abbrev pub fit_side_of : Option Text → Option Side
 fit_side_of text = option_and_then side_named text
 
--- The name of a file, which isn't empty.
-abbrev pub setup_name_of : Option Text → Option Text
-setup_name_of text = option_and_then (λ name. if length name == 0 then None else Some name) text
+-- The name of a file that a word is, unless it is empty.
+abbrev pub file_named : Text → Option Text
+file_named word = if length word == 0 then None else Some word
+
+-- The name of a file.
+abbrev pub file_name_of : Option Text → Option Text
+file_name_of text = option_and_then file_named text
 
 -- Which cells a word gives lines.
 abbrev pub cell_lines_named : Text → Option CellLines
@@ -47,6 +51,17 @@ cell_lines_named word =
 -- Which cells have lines.
 abbrev pub cell_lines_of : Option Text → Option CellLines
 cell_lines_of text = option_and_then cell_lines_named text
+
+-- Whether a word asks for all pairs of lines.
+abbrev pub pairs_named : Text → Option Bool
+pairs_named word =
+    if bytes_eq word (codes "changed") then Some false
+    else if bytes_eq word (codes "all") then Some true
+    else None
+
+-- Whether all pairs of lines are asked for.
+abbrev pub pairs_of : Option Text → Option Bool
+pairs_of text = option_and_then pairs_named text
 
 -- The number of threads: 1 to 64.
 abbrev pub threads_of : Option Text → Option ℕ

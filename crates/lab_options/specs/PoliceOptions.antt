@@ -11,7 +11,7 @@ use Rattle.lab_captures.specs.declared.cell_lines.CellLines.{CellLines}
 use Rattle.lab_options.specs.CellsOptions.{link_rule, tick_rule}
 use Rattle.lab_options.specs.OptionAnswers.{Asks, IsOptionStop}
 use Rattle.lab_options.specs.LinkOption.{link_of}
-use Rattle.lab_options.specs.OptionValues.{cell_lines_of, setup_name_of, threads_of, tick_of}
+use Rattle.lab_options.specs.OptionValues.{cell_lines_of, file_name_of, threads_of, tick_of}
 use Rattle.lab_options.specs.declared.police.PoliceOptions.{PoliceOptions}
 
 -- The argument SETUP, which must be given.
@@ -58,7 +58,7 @@ police_values setup tick link lines threads =
       link = asked;
       lines = which;
       threads = number;
-    }) (threads_of threads)) (cell_lines_of lines)) (link_of link)) (tick_of tick)) (setup_name_of setup)
+    }) (threads_of threads)) (cell_lines_of lines)) (link_of link)) (tick_of tick)) (file_name_of setup)
 
 -- What the values of the argument and the options in the words spell.
 abbrev pub police_asked : List Text → Option PoliceAsked

@@ -1,7 +1,8 @@
-//! The options of `upc-lab`'s subcommands over captures.
+//! The options of `upc-lab`'s subcommands.
 #![tactic(auto)]
 
 mod cells;
+mod differ;
 mod fit;
 pub mod laws;
 mod link;
@@ -9,5 +10,6 @@ mod police;
 mod values;
 
 pub use cells::{CellsOptions, cells_options};
+pub use differ::{DifferOptions, differ_options};
 pub use fit::{FitOptions, fit_options};
 pub use police::{PoliceOptions, police_options};

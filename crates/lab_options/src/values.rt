@@ -2,7 +2,7 @@
 
 ghost use Rattle.std.specs.Prelude.{◌≡◌, codes, option_map};
 ghost use Rattle.command_line.specs.Arguments.{text_named, texts_of};
-ghost use Rattle.lab_options.specs.OptionValues.{cell_lines_of, fit_increment_of, fit_side_of, setup_name_of, threads_of, tick_of};
+ghost use Rattle.lab_options.specs.OptionValues.{cell_lines_of, fit_increment_of, fit_side_of, file_name_of, file_named, pairs_of, threads_of, tick_of};
 ghost use Rattle.lab_options.specs.inner.Answered.{IsWrongValue};
 
 use captures::Tick;
@@ -68,12 +68,36 @@ pub(crate) fn fit_side_of(values: &[Value]) -> Option<Side>
     }
 }
 
+/// Returns the name of a file that a word is, unless it is empty.
+fn file_named(word: &str) -> Option<&str>
+    ensures { option_map (λ name. name.now) result ≡ file_named word.now }
+{
+    if word.is_empty() { None } else { Some(word) }
+}
+
 /// Returns the name of the setup file, unless it is empty.
 pub(crate) fn setup_name_of(values: &[Value]) -> Option<&str>
-    ensures { option_map (λ name. name.now) result ≡ setup_name_of (text_named (texts_of values.now) (codes "SETUP")) }
+    ensures { option_map (λ name. name.now) result ≡ file_name_of (text_named (texts_of values.now) (codes "SETUP")) }
 {
-    let name = text_of(values, "SETUP")?;
-    if name.is_empty() { None } else { Some(name) }
+    file_named(text_of(values, "SETUP")?)
+}
+
+/// Returns the name of the file with the old rules, unless it is empty.
+pub(crate) fn old_name_of(values: &[Value]) -> Option<&str>
+    ensures { option_map (λ name. name.now) result ≡ file_name_of (text_named (texts_of values.now) (codes "OLD")) }
+{
+    file_named(text_of(values, "OLD")?)
+}
+
+/// Returns whether the value of `--lines` asks for all pairs of lines.
+pub(crate) fn pairs_of(values: &[Value]) -> Option<bool>
+    ensures { result ≡ pairs_of (text_named (texts_of values.now) (codes "lines")) }
+{
+    match text_of(values, "lines")? {
+        "changed" => Some(false),
+        "all" => Some(true),
+        _ => None,
+    }
 }
 
 /// Returns which cells the value of `--lines` gives lines.

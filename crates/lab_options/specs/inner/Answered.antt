@@ -5,6 +5,7 @@ use Rattle.command_line.specs.Arguments.{text_named}
 use Rattle.command_line.specs.declared.stop.Stop.{Stop}
 use Rattle.command_line.specs.declared.stop.Stop.TheVariants.{Help, Words, NoMemory}
 use Rattle.lab_options.specs.CellsOptions.{CellsAsked, cells_values}
+use Rattle.lab_options.specs.DifferOptions.{DifferAsked, differ_values}
 use Rattle.lab_options.specs.FitOptions.{FitAsked, fit_values}
 use Rattle.lab_options.specs.PoliceOptions.{PoliceAsked, police_values}
 
@@ -33,3 +34,7 @@ fit_spelled texts = fit_values (text_named texts (codes "increment")) (text_name
 abbrev pub police_spelled : List (Text × Option Text) → Option PoliceAsked
 police_spelled texts = police_values (text_named texts (codes "SETUP")) (text_named texts (codes "tick")) (text_named texts (codes "link"))
     (text_named texts (codes "lines")) (text_named texts (codes "threads"))
+
+-- What named values of `differ` spell.
+abbrev pub differ_spelled : List (Text × Option Text) → Option DifferAsked
+differ_spelled texts = differ_values (text_named texts (codes "OLD")) (text_named texts (codes "lines"))

@@ -1,0 +1,81 @@
+//! The argument and the options of `upc-lab differ`.
+
+ghost use Rattle.std.specs.Prelude.{◌≡◌, Err, IfErr, IfOk, map};
+ghost use Rattle.std.specs.String.{string_bytes};
+ghost use Rattle.command_line.specs.Arguments.{texts_of};
+ghost use Rattle.lab_options.specs.DifferOptions.{AsksDiffer, DifferAsked, IsDifferStop, differ_asked_by};
+ghost use Rattle.lab_options.specs.inner.Answered.{AnswersValues, differ_spelled};
+
+use crate::values::{old_name_of, pairs_of, wrong_value};
+use command_line::{Argument, Options, Stop, Value, values_of_words};
+use std::alloc::Global;
+
+/// What `upc-lab differ` should do.
+#[derive(Debug, PartialEq, Eq, Drop)]
+pub struct DifferOptions {
+    /// The name of the file with the old text of rules.
+    pub old: String,
+    /// Whether pairs of lines whose values agree are listed too.
+    pub all: bool,
+}
+
+const OLD: Argument = Argument {
+    name: "OLD",
+    value_name: None,
+    default: None,
+    required: true,
+    help: "A file with the rules before the change",
+};
+
+const PAIRS: Argument = Argument {
+    name: "lines",
+    value_name: Some("LINES"),
+    default: Some("changed"),
+    required: false,
+    help: "The pairs of lines that are listed: changed, whose values differ, or all that aren't the same line",
+};
+
+const DIFFER: Options = Options {
+    name: "upc-lab differ",
+    about: "Compare two texts of rules, and print for which cells their values differ",
+    after_help: "Standard input is the rules after the change.\nExample: upc-lab differ examples/customer.rules < examples/customer-changed.rules",
+    arguments: &[OLD, PAIRS],
+};
+
+/// Reads the words after `upc-lab differ`: the name of a file, and `--lines LINES`, which is changed if it isn't given. The forms of help
+/// that `clap` has request help. Any other word is an error, and so are a wrong value, an empty name and words without a name.
+pub fn differ_options(alloc: Global, words: Vec<String>) -> Result<DifferOptions, Stop>
+    ensures asked { IfOk result (λ options. AsksDiffer (map string_bytes words.items) (differ_asked_by options)) }
+    ensures stopped { IfErr result (IsDifferStop (map string_bytes words.items)) }
+    ensures granted { (asked : DifferAsked) → AsksDiffer (map string_bytes words.items) asked
+        → IfErr result (λ stop. stop ≡ Stop.NoMemory) }
+{
+    let found = values_of_words(alloc, &DIFFER, words);
+    answer_to(alloc, found)
+}
+
+/// Returns the options that these values spell.
+fn read(alloc: Global, values: &[Value]) -> Result<DifferOptions, Stop>
+    ensures { AnswersValues differ_asked_by (differ_spelled (texts_of values.now)) result }
+{
+    let Some(old) = old_name_of(values) else {
+        return Err(wrong_value(alloc, "error: OLD is the name of a file\n"));
+    };
+    let Some(all) = pairs_of(values) else {
+        return Err(wrong_value(alloc, "error: the value of '--lines' is changed or all\n"));
+    };
+    let Ok(old) = String::from_str(alloc, old) else {
+        return Err(Stop::NoMemory);
+    };
+    Ok(DifferOptions { old, all })
+}
+
+fn answer_to(alloc: Global, found: Result<Vec<Value>, Stop>) -> Result<DifferOptions, Stop>
+    ensures values { IfOk found (λ values. AnswersValues differ_asked_by (differ_spelled (texts_of values.items)) result) }
+    ensures stopped { IfErr found (λ stop. result ≡ Err stop) }
+{
+    match found {
+        Ok(values) => read(alloc, &values),
+        Err(stop) => Err(stop),
+    }
+}
