@@ -6,6 +6,8 @@ WORDS = (
     "any", "user", "oam", "oamf4", "oamf4s", "oamf4e", "oamf5", "oamf5s", "oamf5e", "rm", "metasig", "bcast", "signal", "ilmi", "idle",
     "oamf4sc", "oamf4ec", "metac", "bcc", "sc", "ilmic",
 )
+# Names that texts give tests, lists and contracts, some of which are nearly words.
+TEST_NAMES, LIST_NAMES, CONTRACT_NAMES = ("voice", "oam_f4", "Any", "_t"), ("customers", "vpi2", "l"), ("gold", "cells", "refuse_")
 AND, OR, NOT, REFUSE = ("and", "and", "&&"), ("or", "or", "||"), ("not", "not", "!", "! "), ("refuse", "refuse", "drop", "0")
 
 
@@ -48,6 +50,8 @@ def compared(source):
 
 def listed(source, most):
     """Returns a list."""
+    if most == 255 and source.lists and source.random() < 0.2:
+        return source.choice(source.lists)
     ranges = []
     for _ in range(source.choice([1, 1, 2, 4])):
         low, high = sorted([number(source, most), number(source, most)])
@@ -64,6 +68,8 @@ def channels(source):
 def test(source, depth):
     """Returns a test."""
     kind = source.random()
+    if source.tests and kind < 0.1:
+        return source.choice(source.tests)
     if depth == 0 or kind < 0.45:
         return source.choice([compared, compared, compared, compared, channels, lambda source: source.choice(WORDS)])(source)
     if kind < 0.7:
@@ -75,6 +81,26 @@ def test(source, depth):
     return f"{source.choice(NOT)}({test(source, depth - 1)})" if kind < 0.95 else f"({test(source, depth - 1)})"
 
 
+def definitions(source):
+    """Returns lines that give names, and lets the tests after them have these names."""
+    made = []
+    for _ in range(source.choice([1, 2, 4, 7])):
+        kind = source.choice(["define", "define", "contract"])
+        if kind == "contract":
+            name, here, meant = source.choice(CONTRACT_NAMES), source.contracts, source.choice(["1", "5", "0x10", "refuse", "0", *source.contracts])
+        elif source.random() < 0.4:
+            name, here, meant = source.choice(LIST_NAMES), source.lists, listed(source, 255)
+        else:
+            name, here, meant = source.choice(TEST_NAMES), source.tests, test(source, source.choice([0, 1, 2]))
+        # Mostly no name is given twice, and what a name means is of its own kind.
+        if name not in here or source.random() < 0.03:
+            made.append(f"{kind} {name} {source.choice(['=', '=', '=='])} {meant}")
+            here.append(name)
+        if source.random() < 0.01:
+            here.append(source.choice(["nobody", *source.tests, *source.lists, *source.contracts]))
+    return made
+
+
 def lines(source, count, depth):
     """Returns lines."""
     made = []
@@ -84,7 +110,7 @@ def lines(source, count, depth):
             made += lines(source, source.randint(0, 4), depth - 1)
             made.append("}")
         else:
-            made.append(f"{test(source, source.choice([0, 1, 2, 3]))} -> {source.choice([*REFUSE, '1', '2', '3', '4294967295'])}")
+            made.append(f"{test(source, source.choice([0, 1, 2, 3]))} -> {source.choice([*REFUSE, '1', '2', '3', '4294967295', *source.contracts])}")
         if source.random() < 0.1:
             made.append(source.choice(["", "# remark", "   \t"]))
     return made
@@ -101,6 +127,14 @@ def deep(source):
     """Returns lines about as deep as blocks and parentheses may be."""
     blocks, parentheses = source.choice([0, 1, 31, 32, 63, 64, 65]), source.choice([0, 1, 31, 32, 33, 64, 65])
     return ["vpi 1 {"] * blocks + ["(" * parentheses + "clp 1" + ")" * parentheses + " -> 1"] + ["}"] * blocks
+
+
+def doubled(source):
+    """Returns lines with names, each of which means the one before it twice, and a test of about as many comparisons as it may have."""
+    count = source.choice([1, 2, 11, 12, 13])
+    start = source.choice(["define n0 = any", "define n0 = vci 7", "define n0 = 7", "define n0 = not (clp 1)"])
+    joint, end = (", ", "vci ") if start.endswith("= 7") else (source.choice([" and ", " or "]), "")
+    return [start, *(f"define n{it + 1} = n{it}{joint}n{it}" for it in range(count)), f"{end}n{source.randint(0, count)} -> 1", f"{end}n{count} -> 2"]
 
 
 def long(source):
@@ -124,14 +158,22 @@ AT_LIMITS = (
     "1/32 -> 1", "1/* -> 1", "1/32..127, 5 -> 1", "256/1 -> 1", "4096/* -> 1", "1/65536 -> 1", "1/5..4 -> 1", "1/ -> 1", "1/*, 2 -> 1", "1 -> 1",
     "1-2 -> 1", "vci != 1, 2..4 -> 1", "vci = 1..2 -> 1", "vci < 1, 2 -> 1", "!vci 1 -> drop", "vci ! = 1 -> 1", "any & any -> 1", "any | any -> 1",
     "1/32/3 -> 1", "*/32 -> 1", "0x/1 -> 1", "not 1/32 || !1/33..34 and rm -> 3", "idle -> 0", "metac or lane -> 1", "vci 5 == 5 -> 1",
+    "define", "define a", "define a =", "define a = vci", "define any = 1", "define && = 1", "define 1 = 1", "define = 1", "define a, b = 1", "define a -> 1",
+    "define a b = 1", "define a = 1 and vpi 1", "define a = 1, 2..1", "define a = 1,", "define a = 4294967296", "define a = 4294967295..0xffffffff", "define a = 0x/1",
+    "define a = 1 / 2, 3", "define a = 256/1", "define a = (any", "define a = any)", "define a = any -> 1", "define a = (any {", "define a = (any and", "define a = b",
+    "define a = }", "define a = refuse", "define a = vci 5..4", "contract", "contract a", "contract a =", "contract a = 1 2", "contract a = any", "contract a = 4294967296",
+    "contract a = 1x", "contract user = 1", "contract a = a", "contract a == drop", "voice", "vci customers, 5 -> 1", "customers/7 -> 1", "not voice or (voice) -> gold",
 )
 
 
 def text_of(source):
     """Returns a text: a third of the time with a small change, and sometimes with a line at a limit."""
+    source.tests, source.lists, source.contracts = [], [], []
     made = []
     if source.random() < 0.1:
         made.append(source.choice(["side nni", "side uni"]))
+    if source.random() < 0.4:
+        made += definitions(source)
     made += lines(source, source.choice([1, 2, 5, 12, 60]), 3)
     kind = source.random()
     if kind < 0.2:
@@ -140,6 +182,8 @@ def text_of(source):
         made += deep(source)
     elif kind < 0.24:
         made += long(source)
+    elif kind < 0.25:
+        made = doubled(source)
     if source.random() < 0.5:
         made.append(f"otherwise -> {source.choice(['refuse', '7'])}")
     text = source.choice(["\n", "\n", "\r\n"]).join(made) + source.choice(["", "\n"])

@@ -2,7 +2,9 @@
 import re
 
 TOKEN = re.compile(rb"[A-Za-z0-9_]+|->|\.\.|&&|\|\||==|!=|<=|>=|.", re.DOTALL)
-NAMES = ("BadLine", "BadNumber", "TooLarge", "OutsideCell", "AfterOtherwise", "Unbalanced", "TooDeep", "TooLong", "NoMemory")
+NAMES = (
+    "BadLine", "BadNumber", "TooLarge", "OutsideCell", "AfterOtherwise", "Unbalanced", "TooDeep", "TooLong", "NoMemory", "UnknownName", "NameTaken",
+)
 # Other spellings of words and signs.
 SYNONYMS = {
     b"==": b"=", b"&&": b"and", b"||": b"or", b"!": b"not", b"drop": b"refuse",
@@ -12,8 +14,18 @@ SYNONYMS = {
 CHANNELS = {"oamf4": (3, 4), "oamf4s": (3,), "oamf4e": (4,), "metasig": (1,), "bcast": (2,), "signal": (5,), "ilmi": (16,)}
 TYPES = {"user": (0, 1, 2, 3), "oamf5": (4, 5), "oamf5s": (4,), "oamf5e": (5,), "rm": (6,)}
 SIZES = {b"octet": 1, b"half": 2, b"word": 4}
+# Words that are neither tests nor other spellings.
+WORDS = {
+    b"any", b"oam", b"idle", b"not", b"and", b"or", b"otherwise", b"refuse", b"side", b"uni", b"nni", b"define", b"contract", b"gfc", b"vpi", b"vci", b"pti",
+    b"clp", b"octet", b"half", b"word",
+}
+WORDS |= {it.encode() for it in (*CHANNELS, *TYPES)} | {it for it in SYNONYMS if it.isalnum()}
+# What no token is: the number of a contract begins with this, and a definition ends with that.
+NUMBER, END = b"=>", b""
 MOST_DEEP = 64
 MOST_COMPARISONS = 4096
+MOST_NAMES = 4096
+MOST_TOKENS = 4096
 
 
 class Fault(Exception):
@@ -42,6 +54,11 @@ def tokens_of(line):
         at += len(token)
     after = found[-1][1] + len(found[-1][0]) if found else 1
     return found, after
+
+
+def is_word(token):
+    """Returns whether a token begins as a word does."""
+    return re.match(rb"[A-Za-z_]", token) is not None
 
 
 def test_of_word(word):
@@ -75,6 +92,8 @@ class Line:
         self.reader, self.number = reader, number
         self.tokens, self.after = tokens_of(line)
         self.at = 0
+        # What ends a test.
+        self.ends = (b"->", b"{")
         self.comparisons = 0
         self.open = []
 
@@ -89,7 +108,14 @@ class Line:
         if self.at >= len(self.tokens):
             return None
         token = self.tokens[self.at][0]
+        if is_word(token) and token not in WORDS:
+            self.fault("UnknownName")
         return SYNONYMS.get(token, token)
+
+    def expand(self):
+        """Puts in place of names, from the present token on, what they mean."""
+        rest = self.tokens[self.at:]
+        self.tokens[self.at:] = [(it, column) for token, column in rest for it in self.reader.names.get(token, [token])]
 
     def take(self):
         """Returns the present token and goes on."""
@@ -148,7 +174,7 @@ class Line:
             self.open.append(self.tokens[self.at][1])
             self.at += 1
             inner = self.test()
-            if self.peek() in (b"->", b"{"):
+            if self.peek() in self.ends:
                 self.fault("Unbalanced", self.open[0])
             if self.peek() != b")":
                 self.fault("BadLine")
@@ -243,9 +269,13 @@ class Line:
 
     def value(self):
         """Reads the value of a rule."""
-        if self.peek() == b"refuse":
+        token = self.peek()
+        if token == b"refuse":
             self.at += 1
             return 0
+        if token and token.startswith(NUMBER):
+            self.at += 1
+            return int(token[len(NUMBER):])
         return self.read_number(2**32)
 
     def end(self):
@@ -254,12 +284,29 @@ class Line:
             self.fault("BadLine")
 
 
+def read_definition(line, tokens):
+    """Reads what a name means, the rest of the line with these tokens. Returns them: a list as it stands, a test in parentheses."""
+    line.ends = (END,)
+    line.tokens.append((END, line.after))
+    if tokens and tokens[0][:1].isdigit() and tokens[1:2] != [b"/"]:
+        line.list(2**32 - 1)
+        if line.peek() != END:
+            line.fault("BadLine")
+        return tokens
+    line.test()
+    if line.peek() != END:
+        line.fault("Unbalanced" if line.peek() == b")" else "BadLine")
+    return [b"(", *tokens, b")"]
+
+
 class Reader:
     """Reads lines. `heads` has the places of the open blocks."""
 
     def __init__(self):
         self.nni, self.begun, self.closed = False, False, False
         self.rules, self.otherwise, self.heads = [], 0, []
+        # The tokens that each name means.
+        self.names = {}
 
     def depth(self):
         """Returns how many blocks are open."""
@@ -268,12 +315,17 @@ class Reader:
     def read_line(self, octets, number):
         """Reads a line of this number."""
         line = Line(self, octets, number)
-        token = line.peek()
-        if token is None:
+        if not line.tokens:
             return
         if self.closed:
             line.fault("AfterOtherwise")
         first = line.tokens[0][1]
+        if line.tokens[0][0] in (b"define", b"contract"):
+            self.read_name(line)
+            self.begun = True
+            return
+        line.expand()
+        token = line.peek()
         if token == b"otherwise":
             if self.heads:
                 line.fault("BadLine")
@@ -303,6 +355,35 @@ class Reader:
         else:
             self.read_rule(line, first)
         self.begun = True
+
+    def read_name(self, line):
+        """Reads a line that gives a name."""
+        if self.rules:
+            line.fault("BadLine")
+        kind = line.take()
+        if line.at >= len(line.tokens):
+            line.fault("BadLine")
+        name, column = line.tokens[line.at]
+        if not is_word(name):
+            line.fault("BadLine")
+        if name in WORDS or name in self.names:
+            line.fault("NameTaken")
+        if len(self.names) >= MOST_NAMES:
+            line.fault("TooLong")
+        line.at += 1
+        if line.tokens[line.at:line.at + 1] == [] or line.tokens[line.at][0] not in (b"=", b"=="):
+            line.fault("BadLine")
+        line.at += 1
+        line.expand()
+        if kind == b"contract":
+            value = line.value()
+            line.end()
+            self.names[name] = [NUMBER + str(value).encode()]
+            return
+        tokens = [token for token, _ in line.tokens[line.at:]]
+        if len(tokens) > MOST_TOKENS:
+            line.fault("TooLong", column)
+        self.names[name] = read_definition(line, tokens)
 
     def read_rule(self, line, first):
         """Reads a rule or the head of a block."""

@@ -16,6 +16,8 @@ rule_name kind.Unbalanced = codes "6 Unbalanced"
 rule_name kind.TooDeep = codes "7 TooDeep"
 rule_name kind.TooLong = codes "8 TooLong"
 rule_name kind.NoMemory = codes "9 NoMemory"
+rule_name kind.UnknownName = codes "10 UnknownName"
+rule_name kind.NameTaken = codes "11 NameTaken"
 
 -- A blank, a line and a column, which end the answer's line.
 abbrev pub place_text : ℕ → ℕ → List ℕ

@@ -21,6 +21,8 @@ fn name_of(kind: RuleKind) -> &'static [u8]
         RuleKind::TooDeep => b"7 TooDeep",
         RuleKind::TooLong => b"8 TooLong",
         RuleKind::NoMemory => b"9 NoMemory",
+        RuleKind::UnknownName => b"10 UnknownName",
+        RuleKind::NameTaken => b"11 NameTaken",
     }
 }
 

@@ -1,5 +1,7 @@
 pub mod TokenSteps
 pub mod ReadingSteps
+pub mod NameSteps
+pub mod NamePlaces
 pub mod Values
 pub mod GrammarReads
 pub mod Chains

@@ -1,5 +1,5 @@
 -- Each text has one code: what the lines of its rules become differs only in places of memory.
-use Rattle.std.proofs.Common.{◌≡◌, ℕ, ◌+◌, ◌≤◌, ◌<◌, Bool, true, false, ◌&&◌, ◌||◌, nat_le, nat_lt, List, [], ◌∷◌, ◌++◌, map, Option, Some, None, Result, Ok, refl, sym, ap, subst, ◌∙◌, arith}
+use Rattle.std.proofs.Common.{◌≡◌, ℕ, ◌+◌, ◌≤◌, ◌<◌, Bool, true, false, ◌||◌, nat_lt, List, [], ◌∷◌, map, Option, Some, None, Result, Ok, refl, sym, ap, subst, ◌∙◌, arith}
 use Rattle.std.proofs.lemmas.Bool.{ltb-true, ltb-false}
 use Rattle.std.proofs.lemmas.Bool.Decides.{nat_tests}
 use Rattle.bpf_code.specs.declared.instr.Instr.{Instr}
@@ -24,11 +24,11 @@ use Rattle.match_code.specs.declared.part.Part.{Part}
 use Rattle.match_code.specs.declared.part.Span.{Span}
 use Rattle.match_code.specs.declared.plain_test.PlainTest.{PlainTest}
 use Rattle.match_code.specs.declared.plain_test.PlainTest as plain
-use Rattle.match_code.proofs.Bare.{Bare, BareLine, Bares, all_of_bare, any_bare, bare, bare_all_of, bare_always, bare_any, bare_block, bare_comparison, bare_end, bare_not, bare_rule, bares, comparison_bare, line_bare, part_same, same_code}
+use Rattle.match_code.proofs.Bare.{Bare, BareLine, all_of_bare, any_bare, bare, bare_all_of, bare_always, bare_any, bare_block, bare_comparison, bare_end, bare_not, bare_rule, bares, comparison_bare, line_bare, part_same, same_code}
 use Rattle.upc_cell.specs.Side.{last_vpi}
 use Rattle.upc_cell.specs.declared.side.Side.{Side}
 use Rattle.rules_text.specs.CodeOfText.{IsCodeOfText}
-use Rattle.rules_text.specs.RulesRead.{FieldRead, gfc_field, vpi_field, vci_field, pti_field, clp_field, octets_field, SignRead, equal_sign, unequal_sign, less_sign, at_most_sign, greater_sign, at_least_sign, RelationRead, compared, listed, TestRead, TestsRead, any_cell, f5_cell, user_cell, comparing, negation, conjunction, disjunction, no_tests, more_tests, LineRead, rule_line, block_line, end_line, RulesRead, field_read, line_read, relation_read, rules_read, test_read, tests_read}
+use Rattle.rules_text.specs.RulesRead.{FieldRead, gfc_field, vpi_field, vci_field, pti_field, clp_field, octets_field, equal_sign, unequal_sign, less_sign, at_most_sign, greater_sign, at_least_sign, RelationRead, compared, listed, TestRead, TestsRead, any_cell, f5_cell, user_cell, comparing, negation, conjunction, disjunction, no_tests, more_tests, LineRead, rule_line, block_line, end_line, RulesRead, field_read, line_read, relation_read, rules_read, test_read, tests_read}
 use Rattle.rules_text.specs.TextOfRules.{rules_in}
 use Rattle.rules_text.specs.declared.fault.RuleFault.{RuleFault}
 use Rattle.rules_text.proofs.Values.{among_last}

@@ -1,14 +1,15 @@
 -- A line read token by token, and a text line by line.
 use Rattle.std.proofs.Common.{◌≡◌, ◌≢◌, inl, inr, IsErrAnd, IfErr, IfOk, ℕ, ◌+◌, true, false, List, [], ◌∷◌, Result, Ok, Err, refl, sym, ap, ◌∙◌, subst}
 use Rattle.bpf_asm.specs.SourceLines.{source_lines}
-use Rattle.rules_text.specs.LineGrammar.{LineContext, Reading, StatementRead, nothing_read, read_token, statement_at_end}
+use Rattle.rules_text.specs.LineGrammar.{LineContext, Reading, StatementRead, read_token, statement_at_end}
+use Rattle.rules_text.specs.Names.{NameRead, rule_form}
 use Rattle.rules_text.specs.NumberedText.{numbered_read}
 use Rattle.rules_text.specs.RuleTokens.{RuleFound, rule_tokens}
 use Rattle.rules_text.specs.TextFaults.{IsFaultOf}
-use Rattle.rules_text.specs.TextOfRules.{NumberedRead, TextReading, context_of, fault_column, no_text_read, placed_fault, numbered_at_end, numbered_from, numbered_in, rules_in, statement_from, text_with, text_with_line}
+use Rattle.rules_text.specs.TextOfRules.{NumberedRead, TextReading, context_of, fault_column, formed_statement, gives_name, name_given, no_text_read, placed_fault, numbered_at_end, numbered_from, numbered_in, rules_in, statement_from, text_with, text_with_line, text_with_name}
 use Rattle.rules_text.specs.declared.fault.RuleFault.{RuleFault}
 use Rattle.rules_text.specs.declared.fault.RuleKind.{RuleKind}
-use Rattle.rules_text.specs.declared.fault.RuleKind.TheVariants.{BadLine, BadNumber, TooLarge, OutsideCell, AfterOtherwise, Unbalanced, TooDeep, TooLong, NoMemory}
+use Rattle.rules_text.specs.declared.fault.RuleKind.TheVariants.{BadLine, BadNumber, TooLarge, OutsideCell, AfterOtherwise, Unbalanced, TooDeep, TooLong, NoMemory, UnknownName, NameTaken}
 use Rattle.rules_text.specs.declared.reader.NumberedRules.{NumberedRules}
 use Rattle.rules_text.specs.inner.SeenFaults.{fault_seen}
 
@@ -68,21 +69,39 @@ line_closed text number line first rest e closed = rw (e, closed) refl
 
 -- A line with a statement.
 pub line_with_statement : (text : TextReading) (number : ℕ) (line : List ℕ) (first : RuleFound) (rest : List RuleFound) (statement : StatementRead)
-    → rule_tokens line ≡ first ∷ rest → text.closed ≡ false → statement_from (context_of text) number nothing_read 1 (rule_tokens line) ≡ Ok statement
+    → rule_tokens line ≡ first ∷ rest → text.closed ≡ false → gives_name first.token ≡ false
+    → formed_statement (context_of text) text.names rule_form number line 1 (rule_tokens line) ≡ Ok statement
     → text_with_line text number line ≡ Ok (text_with text number first.column statement)
 unfolding text_with_line
-line_with_statement text number line first rest statement e closed s =
-    let t : statement_from (context_of text) number nothing_read 1 (first ∷ rest) ≡ Ok statement = ap (statement_from (context_of text) number nothing_read 1) (sym e) ∙ s in
-    rw (e, closed, t) refl
+line_with_statement text number line first rest statement e closed gives s =
+    let t : formed_statement (context_of text) text.names rule_form number line 1 (first ∷ rest) ≡ Ok statement =
+    ap (formed_statement (context_of text) text.names rule_form number line 1) (sym e) ∙ s in
+    rw (e, closed, gives, t) refl
 
 -- A line with a fault.
 pub line_fault : (text : TextReading) (number : ℕ) (line : List ℕ) (first : RuleFound) (rest : List RuleFound) (fault : RuleFault)
-    → rule_tokens line ≡ first ∷ rest → text.closed ≡ false → statement_from (context_of text) number nothing_read 1 (rule_tokens line) ≡ Err fault
+    → rule_tokens line ≡ first ∷ rest → text.closed ≡ false → gives_name first.token ≡ false
+    → formed_statement (context_of text) text.names rule_form number line 1 (rule_tokens line) ≡ Err fault
     → text_with_line text number line ≡ Err fault
 unfolding text_with_line
-line_fault text number line first rest fault e closed s =
-    let t : statement_from (context_of text) number nothing_read 1 (first ∷ rest) ≡ Err fault = ap (statement_from (context_of text) number nothing_read 1) (sym e) ∙ s in
-    rw (e, closed, t) refl
+line_fault text number line first rest fault e closed gives s =
+    let t : formed_statement (context_of text) text.names rule_form number line 1 (first ∷ rest) ≡ Err fault =
+    ap (formed_statement (context_of text) text.names rule_form number line 1) (sym e) ∙ s in
+    rw (e, closed, gives, t) refl
+
+-- A line that gives a name.
+pub line_with_name : (text : TextReading) (number : ℕ) (line : List ℕ) (first : RuleFound) (rest : List RuleFound) (name : NameRead)
+    → rule_tokens line ≡ first ∷ rest → text.closed ≡ false → gives_name first.token ≡ true → name_given text number line first rest ≡ Ok name
+    → text_with_line text number line ≡ Ok (text_with_name text name)
+unfolding text_with_line
+line_with_name text number line first rest name e closed gives s = rw (e, closed, gives, s) refl
+
+-- A line that gives a name with a fault.
+pub line_name_fault : (text : TextReading) (number : ℕ) (line : List ℕ) (first : RuleFound) (rest : List RuleFound) (fault : RuleFault)
+    → rule_tokens line ≡ first ∷ rest → text.closed ≡ false → gives_name first.token ≡ true → name_given text number line first rest ≡ Err fault
+    → text_with_line text number line ≡ Err fault
+unfolding text_with_line
+line_name_fault text number line first rest fault e closed gives s = rw (e, closed, gives, s) refl
 
 -- A fault that has no place but its token's.
 pub other_fault : {A : Type 0} (read : Result A RuleFault) (reading : Reading) (number column : ℕ) (fault : RuleFault) (kind : RuleKind)
@@ -96,6 +115,8 @@ other_fault read reading number column fault AfterOtherwise n f g = inr (g (λ e
 other_fault read reading number column fault Unbalanced n f g = absurd (n refl)
 other_fault read reading number column fault TooDeep n f g = inr (g (λ e. cc) ∙ ap (λ (x : RuleFault). Err x) (sym f))
 other_fault read reading number column fault TooLong n f g = inr (g (λ e. cc) ∙ ap (λ (x : RuleFault). Err x) (sym f))
+other_fault read reading number column fault UnknownName n f g = inr (g (λ e. cc) ∙ ap (λ (x : RuleFault). Err x) (sym f))
+other_fault read reading number column fault NameTaken n f g = inr (g (λ e. cc) ∙ ap (λ (x : RuleFault). Err x) (sym f))
 other_fault read reading number column fault NoMemory n f g = inl f
 
 -- A fault of a part is one of the whole.

@@ -3,10 +3,11 @@ use Rattle.std.proofs.Common.{◌≡◌, ℕ, ◌+◌, Bool, true, false, if◌t
 use Rattle.std.proofs.lemmas.List.{length_push}
 use Rattle.bpf_asm.specs.SourceLines.{source_lines}
 use Rattle.rules_text.specs.Laws.{AreLinesReadAt, IsLineReadAt, NumbersAreThoseOfTheLines}
-use Rattle.rules_text.specs.LineGrammar.{LineContext, StatementRead, blank_statement, side_statement, line_statement, otherwise_statement, nothing_read}
+use Rattle.rules_text.specs.LineGrammar.{LineContext, StatementRead, blank_statement, side_statement, line_statement, otherwise_statement}
+use Rattle.rules_text.specs.Names.{NameRead, rule_form}
 use Rattle.rules_text.specs.RulesRead.{LineRead, rule_line, block_line, end_line}
 use Rattle.rules_text.specs.RuleTokens.{RuleFound, rule_tokens}
-use Rattle.rules_text.specs.TextOfRules.{NumberedRead, TextReading, context_of, no_text_read, numbered_from, placed_fault, read_then, statement_from, text_with, text_with_line, text_with_tokens}
+use Rattle.rules_text.specs.TextOfRules.{NumberedRead, TextReading, context_of, formed_statement, gives_name, name_given, no_text_read, numbered_from, placed_fault, read_then, text_with, text_with_line, text_with_tokens, text_with_name}
 use Rattle.rules_text.specs.declared.fault.RuleFault.{RuleFault}
 use Rattle.rules_text.specs.declared.fault.RuleKind.TheVariants.{AfterOtherwise, Unbalanced}
 use Rattle.rules_text.proofs.ReadingSteps.{rules_begun, without_numbers}
@@ -42,23 +43,34 @@ module _ (octets : List ℕ) where
       by_statement text next number column statement same held (λ l f. is l (ap (λ (s : StatementRead). Ok s) f))
   by_found text next number column (Err fault) e held is = cc
 
-  by_closed : (closed : Bool) (text next : TextReading) (number : ℕ) (first : RuleFound) (rest : List RuleFound)
+  by_name : (text next : TextReading) (given : Result NameRead RuleFault) → read_then given (λ fault. fault) (λ name. Ok (text_with_name text name)) ≡ Ok next → Holds text → Holds next
+  by_name text next (Ok name) e held = let same : text_with_name text name ≡ next = cc in subst Holds same held
+  by_name text next (Err fault) e held = cc
+
+  -- Each line of rules that is read of these tokens is the one that is read of the source line of this number.
+  abbrev Reads : ℕ → List ℕ → List RuleFound → Type 0
+  Reads number line tokens =
+      (context : LineContext) (names : List NameRead) (l : LineRead) → formed_statement context names rule_form number line 1 tokens ≡ Ok (line_statement l) → IsLineReadAt octets number l
+
+  by_first : (closed gives : Bool) (text next : TextReading) (number : ℕ) (line : List ℕ) (first : RuleFound) (rest : List RuleFound)
       → (if closed then Err (placed_fault number first.column AfterOtherwise) else (
-      read_then (statement_from (context_of text) number nothing_read 1 (first ∷ rest)) (λ fault. fault) (λ statement. Ok (text_with text number first.column statement)))) ≡ Ok next
-      → Holds text → ((context : LineContext) (l : LineRead) → statement_from context number nothing_read 1 (first ∷ rest) ≡ Ok (line_statement l) → IsLineReadAt octets number l) → Holds next
-  by_closed true text next number first rest e held is = cc
-  by_closed false text next number first rest e held is =
-      by_found text next number first.column (statement_from (context_of text) number nothing_read 1 (first ∷ rest)) e held (is (context_of text))
+      if gives
+      then read_then (name_given text number line first rest) (λ fault. fault) (λ name. Ok (text_with_name text name))
+      else read_then (formed_statement (context_of text) text.names rule_form number line 1 (first ∷ rest)) (λ fault. fault)
+      (λ statement. Ok (text_with text number first.column statement)))) ≡ Ok next
+      → Holds text → Reads number line (first ∷ rest) → Holds next
+  by_first true gives text next number line first rest e held is = cc
+  by_first false true text next number line first rest e held is = by_name text next (name_given text number line first rest) e held
+  by_first false false text next number line first rest e held is =
+      by_found text next number first.column (formed_statement (context_of text) text.names rule_form number line 1 (first ∷ rest)) e held (is (context_of text) text.names)
 
-  by_tokens : (text next : TextReading) (number : ℕ) (tokens : List RuleFound) → text_with_tokens text number tokens ≡ Ok next → Holds text
-      → ((context : LineContext) (l : LineRead) → statement_from context number nothing_read 1 tokens ≡ Ok (line_statement l) → IsLineReadAt octets number l) → Holds next
-  by_tokens text next number [] e held is = let same : text ≡ next = cc in subst Holds same held
-  by_tokens text next number (first ∷ rest) e held is = by_closed text.closed text next number first rest e held is
+  by_tokens : (text next : TextReading) (number : ℕ) (line : List ℕ) (tokens : List RuleFound) → text_with_tokens text number line tokens ≡ Ok next → Holds text → Reads number line tokens → Holds next
+  by_tokens text next number line [] e held is = let same : text ≡ next = cc in subst Holds same held
+  by_tokens text next number line (first ∷ rest) e held is = by_first text.closed (gives_name first.token) text next number line first rest e held is
 
-  by_line : (text next : TextReading) (number : ℕ) (line : List ℕ) → text_with_line text number line ≡ Ok next → Holds text
-      → ((context : LineContext) (l : LineRead) → statement_from context number nothing_read 1 (rule_tokens line) ≡ Ok (line_statement l) → IsLineReadAt octets number l) → Holds next
+  by_line : (text next : TextReading) (number : ℕ) (line : List ℕ) → text_with_line text number line ≡ Ok next → Holds text → Reads number line (rule_tokens line) → Holds next
   unfolding text_with_line
-  by_line text next number line e held is = by_tokens text next number (rule_tokens line) e held is
+  by_line text next number line e held is = by_tokens text next number line (rule_tokens line) e held is
 
   at_end : (closed : Bool) (text : TextReading) (numbered : NumberedRead)
       → (if closed then Err (placed_fault text.head_line text.head_column Unbalanced) else
@@ -84,7 +96,7 @@ module _ (octets : List ℕ) where
           → ((next : TextReading) → Holds next → numbered_from next (number + 1) rest ≡ Ok numbered → AreLinesReadAt octets numbered.numbers numbered.rules.lines)
           → AreLinesReadAt octets numbered.numbers numbered.rules.lines
       onward (Ok next) is read deep =
-          deep next (by_line text next number line is held (λ context l statement. (before, line, rest, context, parts, counted, statement))) read
+          deep next (by_line text next number line is held (λ context names l statement. (before, line, rest, context, names, parts, counted, statement))) read
       onward (Err fault) is read deep = cc
 
 -- For every text.

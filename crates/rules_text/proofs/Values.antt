@@ -17,7 +17,7 @@ use Rattle.cell_rules.specs.declared.test.Test as asked
 use Rattle.match_code.specs.PlainTests.{is_among, is_in, kept_bits}
 use Rattle.match_code.specs.declared.part.Span.{Span}
 use Rattle.upc_cell.specs.declared.side.Side.{Side}
-use Rattle.rules_text.specs.RulesRead.{TestRead, field_read, line_read, relation_read, rules_read, test_read, tests_read}
+use Rattle.rules_text.specs.RulesRead.{field_read, line_read, relation_read, rules_read, test_read, tests_read}
 use Rattle.rules_text.specs.NumberedText.{HasRules}
 use Rattle.rules_text.specs.ValuesRead.{FollowsText, field_number, lines_give, one_test_holds, relation_holds, rules_give, test_holds, tests_all_hold}
 

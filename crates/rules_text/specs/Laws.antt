@@ -8,11 +8,12 @@ use Rattle.cell_rules.specs.declared.deciding.Decision.{Decision}
 use Rattle.rules_text.specs.CodeOfText.{IsCodeOfText}
 use Rattle.rules_text.specs.DecisionsRead.{rules_decide}
 use Rattle.rules_text.specs.LineGrammar.{LineContext, nothing_read, line_statement}
+use Rattle.rules_text.specs.Names.{NameRead, rule_form}
 use Rattle.rules_text.specs.RuleGrammar.{TestFits, TestForm, test_count, test_tokens, test_written}
 use Rattle.rules_text.specs.RulesRead.{LineRead, block_line, rule_line}
 use Rattle.rules_text.specs.RuleTokens.{RuleFound, RuleToken, arrow_mark, open_brace, rule_tokens}
 use Rattle.rules_text.specs.Subjects.{value_read}
-use Rattle.rules_text.specs.TextOfRules.{NumberedRead, numbered_in, rules_in, statement_from}
+use Rattle.rules_text.specs.TextOfRules.{NumberedRead, formed_statement, numbered_in, rules_in, statement_from}
 use Rattle.rules_text.specs.ValuesRead.{FollowsText}
 
 -- A line that has the tokens of a test of the grammar, `->` and a token that is a value is the rule with this test and value, wherever
@@ -36,9 +37,9 @@ HeadsAreReadAsTheyAreWritten =
 -- The source line of this number, counted from 1, is read as this line of rules.
 abbrev pub IsLineReadAt : List ℕ → ℕ → LineRead → Type 0
 IsLineReadAt octets number read =
-    (before : List (List ℕ)) × (line : List ℕ) × (after : List (List ℕ)) × (context : LineContext)
+    (before : List (List ℕ)) × (line : List ℕ) × (after : List (List ℕ)) × (context : LineContext) × (names : List NameRead)
     × (source_lines octets ≡ before ++ line ∷ after) × (number ≡ length before + 1)
-    × (statement_from context number nothing_read 1 (rule_tokens line) ≡ Ok (line_statement read))
+    × (formed_statement context names rule_form number line 1 (rule_tokens line) ≡ Ok (line_statement read))
 
 -- The source lines of these numbers are read as these lines of rules: as many, in order.
 abbrev pub AreLinesReadAt : List ℕ → List ℕ → List LineRead → Type 0

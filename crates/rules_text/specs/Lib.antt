@@ -3,6 +3,7 @@ pub mod TestWords
 pub mod RuleTokens
 pub mod Subjects
 pub mod LineGrammar
+pub mod Names
 pub mod TextOfRules
 pub mod NumberedText
 pub mod CodeOfText

@@ -9,7 +9,8 @@ use Rattle.text_io.specs.Words.{is_blank, is_digit}
 use Rattle.rules_text.specs.RulesRead.{FieldRead, gfc_field, vpi_field, vci_field, pti_field, clp_field, SignRead, equal_sign, unequal_sign, less_sign, at_most_sign, greater_sign, at_least_sign, TestRead, any_cell, f5_cell, user_cell}
 use Rattle.rules_text.specs.TestWords.{f4_cell, f4_segment_cell, f4_end_cell, f5_segment_cell, f5_end_cell, oam_cell, rm_cell, meta_signalling_cell, broadcast_cell, signalling_cell, ilmi_cell, idle_cell}
 
--- A token: a word of the language (of those that are tests, the test), a number, a word that begins with a digit and is no number, a mark, or anything else.
+-- A token: a word of the language (of those that are tests, the test), a number, a word that begins with a digit and is no number, any other
+-- word, which may be a name, a mark, or anything else. The value of a contract comes from its name alone.
 pub data RuleToken : Type 0 where
   test_word : TestRead → RuleToken
   not_word : RuleToken
@@ -20,6 +21,10 @@ pub data RuleToken : Type 0 where
   side_word : RuleToken
   uni_word : RuleToken
   nni_word : RuleToken
+  define_word : RuleToken
+  contract_word : RuleToken
+  name_word : RuleToken
+  contract_value : ℕ → RuleToken
   field_word : FieldRead → RuleToken
   size_word : Size → RuleToken
   number_word : ℕ → RuleToken
@@ -70,6 +75,8 @@ rule_words =
     ∷ (codes "side", side_word)
     ∷ (codes "uni", uni_word)
     ∷ (codes "nni", nni_word)
+    ∷ (codes "define", define_word)
+    ∷ (codes "contract", contract_word)
     ∷ (codes "gfc", field_word gfc_field)
     ∷ (codes "vpi", field_word vpi_field)
     ∷ (codes "vci", field_word vci_field)
@@ -120,7 +127,7 @@ number_read None = bad_number
 -- The token of a longest sequence of letters, digits and `_`.
 unfoldable pub token_of_letters : List ℕ → RuleToken
 token_of_letters letters =
-    if is_digit (slice_index letters 0) then number_read (number_of_word letters) else unwrap_or (row_token letters rule_words) no_token
+    if is_digit (slice_index letters 0) then number_read (number_of_word letters) else unwrap_or (row_token letters rule_words) name_word
 
 -- How many letters, digits and `_` octets begin with.
 unfoldable pub letters_len : List ℕ → ℕ

@@ -6,7 +6,7 @@ use Rattle.upc_cell.specs.Side.{last_vpi}
 use Rattle.upc_cell.specs.declared.side.Side.{Side}
 use Rattle.upc_cell.specs.declared.side.Side.TheVariants.{Nni}
 use Rattle.rules_text.specs.RulesRead.{FieldRead, gfc_field, vpi_field, vci_field, pti_field, clp_field, octets_field}
-use Rattle.rules_text.specs.RuleTokens.{RuleToken, number_word, bad_number, refuse_word}
+use Rattle.rules_text.specs.RuleTokens.{RuleToken, number_word, bad_number, refuse_word, contract_value}
 use Rattle.rules_text.specs.declared.fault.RuleKind.{RuleKind}
 use Rattle.rules_text.specs.declared.fault.RuleKind.TheVariants.{BadLine, BadNumber, TooLarge, OutsideCell}
 
@@ -52,9 +52,10 @@ number_within most (number_word k) = if nat_lt most k then Err TooLarge else Ok 
 number_within most bad_number = Err BadNumber
 number_within most _ = Err BadLine
 
--- The value of a rule that a token is. `refuse` is 0.
+-- The value of a rule that a token is. `refuse` is 0, and the name of a contract its number.
 abbrev pub value_read : RuleToken → Result ℕ RuleKind
 value_read refuse_word = Ok 0
 value_read (number_word k) = Ok k
+value_read (contract_value k) = Ok k
 value_read bad_number = Err BadNumber
 value_read _ = Err BadLine

@@ -1,14 +1,17 @@
 -- The rules of a text, or its first fault.
-use Rattle.std.specs.Prelude.{ℕ, ◌+◌, ◌-◌, Bool, true, false, nat_lt, if◌then◌else◌, List, [], ◌∷◌, ◌++◌, length, Result, Ok, Err}
+use Rattle.std.specs.Prelude.{ℕ, ◌+◌, ◌-◌, ◌&&◌, Bool, true, false, not, nat_le, nat_lt, if◌then◌else◌, slice_index, map, List, [], ◌∷◌, ◌++◌, length, Result, Ok, Err}
+use Rattle.bpf_asm.specs.Tokens.{is_word}
 use Rattle.bpf_asm.specs.SourceLines.{source_lines}
+use Rattle.text_io.specs.Words.{is_digit}
 use Rattle.upc_cell.specs.declared.side.Side.{Side}
 use Rattle.upc_cell.specs.declared.side.Side.TheVariants.{Uni}
-use Rattle.rules_text.specs.RulesRead.{LineRead, RulesRead, rule_line, block_line, end_line}
-use Rattle.rules_text.specs.RuleTokens.{RuleFound, rule_tokens}
-use Rattle.rules_text.specs.LineGrammar.{LineContext, Reading, StatementRead, blank_statement, side_statement, line_statement, otherwise_statement, nothing_read, read_token, statement_at_end}
+use Rattle.rules_text.specs.RulesRead.{LineRead, RulesRead, equal_sign, rule_line, block_line, end_line}
+use Rattle.rules_text.specs.RuleTokens.{RuleFound, RuleToken, contract_value, contract_word, define_word, rule_tokens, sign_mark}
+use Rattle.rules_text.specs.LineGrammar.{LineContext, Reading, StatementRead, blank_statement, side_statement, line_statement, otherwise_statement, may_be_name, read_token, statement_at_end}
+use Rattle.rules_text.specs.Names.{FormRead, rule_form, value_form, NameRead, defined_as, expanded, definition_form, form_start, letters_of, name_tokens}
 use Rattle.rules_text.specs.declared.fault.RuleFault.{RuleFault}
 use Rattle.rules_text.specs.declared.fault.RuleKind.{RuleKind}
-use Rattle.rules_text.specs.declared.fault.RuleKind.TheVariants.{AfterOtherwise, Unbalanced}
+use Rattle.rules_text.specs.declared.fault.RuleKind.TheVariants.{AfterOtherwise, BadLine, NameTaken, TooLong, Unbalanced}
 
 -- Goes on with what was read, or changes the fault.
 abbrev pub read_then : {A B E F : Type 0} → Result A E → (E → F) → (A → Result B F) → Result B F
@@ -33,6 +36,11 @@ statement_from context number reading column (found ∷ rest) =
     (λ kind. placed_fault number (fault_column reading kind found.column) kind)
     (λ next. statement_from context number next found.after rest)
 
+-- The statement of the tokens of a line from this column on, or what is read there in this form, where names mean this.
+abbrev pub formed_statement : LineContext → List NameRead → FormRead → ℕ → List ℕ → ℕ → List RuleFound → Result StatementRead RuleFault
+formed_statement context names form number line column tokens =
+    statement_from context number (form_start form) column (expanded names form line column tokens)
+
 -- What was read of a text.
 pub record TextReading : Type 0 where
   -- the side at which headers are read
@@ -41,6 +49,8 @@ pub record TextReading : Type 0 where
   pub lines : List LineRead
   -- the numbers of these lines in the text, counted from 1
   pub numbers : List ℕ
+  -- the names, in the order in which they were given
+  pub names : List NameRead
   -- the value where no rule gives one
   pub otherwise : ℕ
   -- how many blocks are open
@@ -59,6 +69,7 @@ no_text_read = record {
   side = Uni;
   lines = [];
   numbers = [];
+  names = [];
   otherwise = 0;
   blocks = 0;
   head_line = 0;
@@ -97,17 +108,101 @@ text_with text line column (line_statement statement) = with_line text statement
 abbrev pub context_of : TextReading → LineContext
 context_of text = record { side = text.side; blocks = text.blocks; begun = text.begun }
 
+-- Whether a word begins with this octet.
+abbrev pub starts_word : ℕ → Bool
+starts_word octet = is_word octet && not (is_digit octet)
+
+-- The letters of a new name: a word that is none of the language, and no name that was given. A text has at most 4096.
+abbrev pub new_name : List NameRead → List ℕ → RuleToken → Result (List ℕ) RuleKind
+new_name names letters token =
+    if may_be_name token
+    then (if nat_lt 0 (length (name_tokens names letters)) then Err NameTaken else (if nat_le 4096 (length names) then Err TooLong else Ok letters))
+    else (if starts_word (slice_index letters 0) then Err NameTaken else Err BadLine)
+
+-- A name where it is given: its letters and its column, and what comes after its `=`.
+pub record NameFound : Type 0 where
+  pub letters : List ℕ
+  pub column : ℕ
+  pub after : ℕ
+  pub tokens : List RuleFound
+
+-- Whether a token is `=`.
+abbrev pub is_equal : RuleToken → Bool
+is_equal (sign_mark equal_sign) = true
+is_equal _ = false
+
+-- The `=` after a name.
+abbrev pub name_with_sign : ℕ → List ℕ → ℕ → ℕ → List RuleFound → Result NameFound RuleFault
+name_with_sign number letters column after [] = Err (placed_fault number after BadLine)
+name_with_sign number letters column after (sign ∷ rest) =
+    if is_equal sign.token
+    then Ok (record { letters = letters; column = column; after = sign.after; tokens = rest })
+    else Err (placed_fault number sign.column BadLine)
+
+-- The name that these tokens give, which come after `define` or `contract`.
+abbrev pub name_found : List NameRead → ℕ → List ℕ → ℕ → List RuleFound → Result NameFound RuleFault
+name_found names number line after [] = Err (placed_fault number after BadLine)
+name_found names number line after (name ∷ rest) =
+    read_then (new_name names (letters_of line name) name.token) (λ kind. placed_fault number name.column kind)
+    (λ letters. name_with_sign number letters name.column name.after rest)
+
+-- The value of a contract.
+abbrev pub contract_number : StatementRead → ℕ
+contract_number (otherwise_statement value) = value
+contract_number _ = 0
+
+-- The name of a contract, whose number is read as the value of `otherwise` is.
+abbrev pub contract_given : LineContext → List NameRead → ℕ → List ℕ → NameFound → Result NameRead RuleFault
+contract_given context names number line name =
+    read_then (formed_statement context names value_form number line name.after name.tokens) (λ fault. fault)
+    (λ statement. Ok (record { letters = name.letters; tokens = contract_value (contract_number statement) ∷ [] }))
+
+-- The tokens of a definition, with those that names in it mean.
+abbrev pub definition_tokens : List NameRead → List ℕ → NameFound → List RuleToken
+definition_tokens names line name = map (λ found. found.token) (expanded names rule_form line name.after name.tokens)
+
+-- The name of a test or of a list of these tokens, of which there are at most 4096.
+abbrev pub definition_given : LineContext → List NameRead → ℕ → List ℕ → NameFound → List RuleToken → Result NameRead RuleFault
+definition_given context names number line name tokens =
+    if nat_lt 4096 (length tokens) then Err (placed_fault number name.column TooLong) else (
+    read_then (formed_statement context names (definition_form tokens) number line name.after name.tokens) (λ fault. fault)
+    (λ statement. Ok (record { letters = name.letters; tokens = defined_as tokens })))
+
+-- What a line that begins with this word gives a name.
+abbrev pub given_by : RuleToken → LineContext → List NameRead → ℕ → List ℕ → NameFound → Result NameRead RuleFault
+given_by contract_word context names number line name = contract_given context names number line name
+given_by _ context names number line name = definition_given context names number line name (definition_tokens names line name)
+
+-- Whether lines that begin with the token give names.
+abbrev pub gives_name : RuleToken → Bool
+gives_name define_word = true
+gives_name contract_word = true
+gives_name _ = false
+
+-- The name that a line of these tokens gives. Names are given before the rules.
+abbrev pub name_given : TextReading → ℕ → List ℕ → RuleFound → List RuleFound → Result NameRead RuleFault
+name_given text number line first rest =
+    if nat_lt 0 (length text.lines) then Err (placed_fault number first.column BadLine) else (
+    read_then (name_found text.names number line first.after rest) (λ fault. fault)
+    (λ name. given_by first.token (context_of text) text.names number line name))
+
+-- What was read, with one more name.
+abbrev pub text_with_name : TextReading → NameRead → TextReading
+text_with_name text name = record text { names = text.names ++ name ∷ []; begun = true }
+
 -- What was read, with a line of these tokens.
-abbrev pub text_with_tokens : TextReading → ℕ → List RuleFound → Result TextReading RuleFault
-text_with_tokens text number [] = Ok text
-text_with_tokens text number (first ∷ rest) =
+abbrev pub text_with_tokens : TextReading → ℕ → List ℕ → List RuleFound → Result TextReading RuleFault
+text_with_tokens text number line [] = Ok text
+text_with_tokens text number line (first ∷ rest) =
     if text.closed then Err (placed_fault number first.column AfterOtherwise) else (
-    read_then (statement_from (context_of text) number nothing_read 1 (first ∷ rest)) (λ fault. fault)
+    if gives_name first.token
+    then read_then (name_given text number line first rest) (λ fault. fault) (λ name. Ok (text_with_name text name))
+    else read_then (formed_statement (context_of text) text.names rule_form number line 1 (first ∷ rest)) (λ fault. fault)
     (λ statement. Ok (text_with text number first.column statement)))
 
 -- What was read, with a line.
 unfoldable pub text_with_line : TextReading → ℕ → List ℕ → Result TextReading RuleFault
-text_with_line text number line = text_with_tokens text number (rule_tokens line)
+text_with_line text number line = text_with_tokens text number line (rule_tokens line)
 
 -- Rules, and for each of their lines the number of the source line that it is written in, counted from 1.
 pub record NumberedRead : Type 0 where

@@ -1,3 +1,5 @@
 pub mod Seen
 pub mod SeenReading
 pub mod SeenFaults
+pub mod TokensRead
+pub mod SeenNames

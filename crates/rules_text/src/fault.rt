@@ -36,6 +36,12 @@ pub enum RuleKind {
     /// An allocation failed.
     #[error("9 NoMemory")]
     NoMemory,
+    /// A word is no word of the language, and no name that was given before.
+    #[error("10 UnknownName")]
+    UnknownName,
+    /// A name was given before, or is a word of the language.
+    #[error("11 NameTaken")]
+    NameTaken,
 }
 
 impl From<AllocError> for RuleKind {
@@ -72,6 +78,32 @@ pub struct RuleFault {
     pub column: usize,
     /// The kind of the fault.
     pub kind: RuleKind,
+}
+
+impl From<AllocError> for RuleFault {
+    ghost use Rattle.std.specs.Prelude.{◌≡◌};
+    ghost use Rattle.rules_text.specs.TextOfRules.{placed_fault};
+    ghost use Rattle.rules_text.specs.declared.fault.RuleKind.TheVariants.{NoMemory};
+
+    ghost from_gives = { λ e fault. fault ≡ placed_fault 0 0 NoMemory };
+
+    /// Returns the fault of a failed allocation.
+    fn from(_: AllocError) -> RuleFault {
+        fault_at(RuleKind::NoMemory, 0, 0)
+    }
+}
+
+impl<T: Drop> From<AllocFailed<T>> for RuleFault {
+    ghost use Rattle.std.specs.Prelude.{◌≡◌};
+    ghost use Rattle.rules_text.specs.TextOfRules.{placed_fault};
+    ghost use Rattle.rules_text.specs.declared.fault.RuleKind.TheVariants.{NoMemory};
+
+    ghost from_gives = { λ e fault. fault ≡ placed_fault 0 0 NoMemory };
+
+    /// Returns the fault of a failed allocation.
+    fn from(_: AllocFailed<T>) -> RuleFault {
+        fault_at(RuleKind::NoMemory, 0, 0)
+    }
 }
 
 /// The fault of this kind at a place. NoMemory has none.

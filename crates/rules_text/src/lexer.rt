@@ -3,6 +3,8 @@
 ghost use Rattle.std.specs.Prelude.{◌≡◌, ◌+◌, ◌≤◌, ◌<◌, ◌∷◌, ◌==◌, [], false, length, slice_index, take, drop, map, MatchOption, IfSome};
 ghost use Rattle.bpf_asm.specs.Tokens.{is_word};
 ghost use Rattle.text_io.specs.Words.{is_blank, is_digit};
+ghost use Rattle.rules_text.specs.LineGrammar.{may_be_name};
+ghost use Rattle.rules_text.specs.TextOfRules.{starts_word};
 ghost use Rattle.rules_text.specs.RuleTokens.{first_cut, letters_len, long_marks, longest_mark, row_token, rule_words, short_marks, token_of_letters, tokens_from};
 ghost use Rattle.rules_text.specs.inner.Seen.{cut_seen, found_seen, rule_token_seen, some_token};
 
@@ -41,6 +43,12 @@ pub(crate) enum Token {
     Side,
     Uni,
     Nni,
+    Define,
+    Contract,
+    /// Any other word, which may be a name.
+    Name,
+    /// The value of a contract, which comes from its name alone.
+    Value(u32),
     /// The name of a field of the header.
     Field(Field),
     /// `octet`, `half` or `word`.
@@ -75,6 +83,15 @@ pub(crate) enum Token {
     Unknown,
 }
 
+impl Token {
+    /// Whether this is a word that may be a name.
+    pub(crate) fn is_name(self) -> bool
+        ensures { result ≡ may_be_name (rule_token_seen self) }
+    {
+        matches!(self, Token::Name)
+    }
+}
+
 /// A token in its line.
 #[derive(Clone, Copy)]
 pub(crate) struct Found {
@@ -94,7 +111,7 @@ struct Cut {
 }
 
 /// The words of the language.
-const WORDS: [(&[u8], Token); 38] = [
+const WORDS: [(&[u8], Token); 40] = [
     (b"any", Token::Test(Class::Any)),
     (b"user", Token::Test(Class::User)),
     (b"oam", Token::Test(Class::Oam)),
@@ -125,6 +142,8 @@ const WORDS: [(&[u8], Token); 38] = [
     (b"side", Token::Side),
     (b"uni", Token::Uni),
     (b"nni", Token::Nni),
+    (b"define", Token::Define),
+    (b"contract", Token::Contract),
     (b"gfc", Token::Field(Field::Gfc)),
     (b"vpi", Token::Field(Field::Vpi)),
     (b"vci", Token::Field(Field::Vci)),
@@ -229,6 +248,13 @@ fn letter(octet: u8) -> bool
         || octet == b'_'
 }
 
+/// Whether a word begins with an octet.
+pub(crate) fn begins_word(octet: u8) -> bool
+    ensures { result ≡ starts_word octet }
+{
+    letter(octet) && !digit(octet)
+}
+
 /// The column after blanks.
 fn after_blanks(line: &[u8], from: usize) -> usize
     requires { from ≤ length line.now }
@@ -272,7 +298,7 @@ fn word_token(word: &[u8]) -> Token
     } else {
         match known_word(word) {
             Some(token) => token,
-            None => Token::Unknown,
+            None => Token::Name,
         }
     }
 }

@@ -4,13 +4,16 @@
 mod class;
 mod comparison_reader;
 mod compiler;
+mod definition;
 mod fault;
 mod group;
 pub mod laws;
 mod lexer;
 mod line_reader;
 mod list;
+mod names;
 mod reader;
+mod statement_reader;
 mod subject;
 mod test_reader;
 

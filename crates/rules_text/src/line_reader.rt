@@ -1,19 +1,21 @@
 //! The reader of a line, token by token.
 
 ghost use Rattle.std.specs.Prelude.{◌≡◌, ◌≢◌, Ok, Err, IfOk, IfErr};
-ghost use Rattle.rules_text.specs.LineGrammar.{nothing_read, read_arrow, read_rest, read_side, read_start, read_token, read_value, statement_at_end};
+ghost use Rattle.rules_text.specs.LineGrammar.{read_arrow, read_awaited, read_rest, read_side, read_start, read_token, read_value, statement_at_end};
+ghost use Rattle.rules_text.specs.Names.{first_awaited, form_start};
 ghost use Rattle.rules_text.specs.TextOfRules.{fault_column};
 ghost use Rattle.rules_text.specs.declared.fault.RuleKind.TheVariants.{BadLine, NoMemory, Unbalanced};
 ghost use Rattle.rules_text.specs.inner.Seen.{rule_token_seen};
-ghost use Rattle.rules_text.specs.inner.SeenReading.{context_seen, reading_seen, statement_found, line_statement_seen, wants_seen};
+ghost use Rattle.rules_text.specs.inner.SeenReading.{context_seen, form_seen, reading_seen, statement_found, line_statement_seen, wants_seen};
 
 use crate::fault::RuleKind;
 use crate::group::Group;
 use crate::lexer::{Sign, Token};
 use crate::list::ListOf;
+use crate::names::Form;
 use crate::subject::{Subject, value_of};
 use bpf_code::Size;
-use cell_rules::{RuleLine, Span, Test};
+use cell_rules::{Field, Octets, RuleLine, Span, Test};
 use std::alloc::Global;
 use upc_cell::Side;
 
@@ -105,13 +107,31 @@ pub(crate) struct LineReader {
     pub statement: Statement,
 }
 
+/// What comes first.
+fn first_wants(form: Form) -> Wants
+    ensures { wants_seen result ≡ first_awaited (form_seen form) }
+{
+    match form {
+        Form::Rule => Wants::Start,
+        Form::Value => Wants::Rest,
+        Form::Test => Wants::Unit,
+        Form::List => Wants::Low(ListOf::Field(Subject {
+            field: Field::Octets(Octets {
+                size: Size::Word,
+                at: 0,
+            }),
+            mask: None,
+        })),
+    }
+}
+
 impl LineReader {
-    /// Returns the reader of a line.
-    pub(crate) fn new(alloc: Global) -> LineReader
-        ensures { reading_seen result ≡ nothing_read }
+    /// Returns the reader of a line, or of what a line gives a name.
+    pub(crate) fn new(alloc: Global, form: Form) -> LineReader
+        ensures { reading_seen result ≡ form_start (form_seen form) }
     {
         LineReader {
-            wants: Wants::Start,
+            wants: first_wants(form),
             group: Group::new(),
             around: Vec::new(alloc),
             outermost: 0,
@@ -123,7 +143,6 @@ impl LineReader {
     }
 
     /// Reads a token at a column, counted from 1.
-    #[tactic(auto, unfolding(crate::specs::LineGrammar::read_awaited))]
     pub(crate) fn read(
         &mut self,
         alloc: Global,
@@ -133,6 +152,24 @@ impl LineReader {
     ) -> Result<(), RuleKind>
         ensures ok { IfOk result (λ _. read_token (context_seen context) column (reading_seen self.old) (rule_token_seen token) ≡ Ok (reading_seen self.new)) }
         ensures err { IfErr result (λ kind. kind ≢ NoMemory → read_token (context_seen context) column (reading_seen self.old) (rule_token_seen token) ≡ Err kind) }
+    {
+        if token.is_name() {
+            return Err(RuleKind::UnknownName);
+        }
+        self.read_known(alloc, context, column, token)
+    }
+
+    /// Reads a token that is no unknown name.
+    #[tactic(auto, unfolding(crate::specs::LineGrammar::read_awaited))]
+    fn read_known(
+        &mut self,
+        alloc: Global,
+        context: Context,
+        column: usize,
+        token: Token,
+    ) -> Result<(), RuleKind>
+        ensures ok { IfOk result (λ _. read_awaited (wants_seen self.old.wants) (context_seen context) column (reading_seen self.old) (rule_token_seen token) ≡ Ok (reading_seen self.new)) }
+        ensures err { IfErr result (λ kind. kind ≢ NoMemory → read_awaited (wants_seen self.old.wants) (context_seen context) column (reading_seen self.old) (rule_token_seen token) ≡ Err kind) }
     {
         match self.wants {
             Wants::Start => self.start(alloc, context, column, token),

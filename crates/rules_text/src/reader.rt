@@ -1,18 +1,22 @@
 //! The reader of a text, line by line.
 
-ghost use Rattle.std.specs.Prelude.{◌≡◌, ◌+◌, ◌≤◌, ◌<◌, ◌^◌, Ok, Err, IfOk, IfErr};
-ghost use Rattle.rules_text.specs.LineGrammar.{nothing_read};
+ghost use Rattle.std.specs.Prelude.{◌≡◌, ◌+◌, ◌≤◌, ◌<◌, ◌^◌, Ok, Err, IfOk, IfErr, drop, length};
 ghost use Rattle.rules_text.specs.RulesRead.{line_read};
-ghost use Rattle.rules_text.specs.RuleTokens.{rule_tokens};
+ghost use Rattle.rules_text.specs.Names.{rule_form};
+ghost use Rattle.rules_text.specs.RuleTokens.{rule_tokens, tokens_from};
 ghost use Rattle.rules_text.specs.NumberedText.{HasNumbered, HasRules, numbered_read};
 ghost use Rattle.rules_text.specs.TextFaults.{IsFaultOf};
-ghost use Rattle.rules_text.specs.TextOfRules.{numbered_at_end, numbered_in, placed_fault, rules_in, statement_from, text_with, text_with_line, with_line};
+ghost use Rattle.rules_text.specs.TextOfRules.{context_of, formed_statement, name_given, numbered_at_end, numbered_in, placed_fault, rules_in, text_with, text_with_line, with_line, text_with_name};
 ghost use Rattle.rules_text.specs.declared.fault.RuleKind.TheVariants.{NoMemory};
-ghost use Rattle.rules_text.specs.inner.SeenReading.{context_seen, line_statement_seen, text_seen};
+ghost use Rattle.rules_text.specs.inner.Seen.{found_seen};
+ghost use Rattle.rules_text.specs.inner.SeenReading.{context_seen, line_statement_seen, name_seen, text_seen};
 
+use crate::definition::{is_giving, name_at, name_place};
 use crate::fault::{RuleFault, RuleKind, fault_at};
-use crate::lexer::next_token;
-use crate::line_reader::{Context, LineReader, Statement};
+use crate::lexer::{Found, next_token};
+use crate::line_reader::{Context, Statement};
+use crate::names::{Form, Name};
+use crate::statement_reader::statement_in;
 use bpf_asm::next_line;
 use cell_rules::{RuleLine, Rules};
 use std::alloc::Global;
@@ -41,6 +45,8 @@ struct TextReader {
     rules: Rules,
     /// The numbers of the source lines of their lines.
     numbers: Vec<usize>,
+    /// The names.
+    names: Vec<Name>,
     /// How many blocks are open.
     blocks: usize,
     /// The head of the outermost of them.
@@ -49,35 +55,6 @@ struct TextReader {
     begun: bool,
     /// Whether `otherwise` was read.
     closed: bool,
-}
-
-/// Reads the statement of a line.
-fn statement_in(
-    alloc: Global,
-    context: Context,
-    number: usize,
-    line: &[u8],
-) -> Result<Statement, RuleFault>
-    ensures ok { IfOk result (λ statement. statement_from (context_seen context) number nothing_read 1 (rule_tokens line.now) ≡ Ok (line_statement_seen statement)) }
-    ensures err { IfErr result (IsFaultOf (statement_from (context_seen context) number nothing_read 1 (rule_tokens line.now))) }
-{
-    let mut reader = LineReader::new(alloc);
-    let mut from = 0;
-    while let Some(found) = next_token(line, from) {
-        let column = found.start + 1;
-        let unbalanced = reader.unbalanced_at(column);
-        match reader.read(alloc, context, column, found.token) {
-            Ok(()) => from = found.end,
-            Err(RuleKind::Unbalanced) => {
-                return Err(fault_at(RuleKind::Unbalanced, number, unbalanced));
-            }
-            Err(kind) => return Err(fault_at(kind, number, column)),
-        }
-    }
-    match reader.finish() {
-        Ok(statement) => Ok(statement),
-        Err(kind) => Err(fault_at(kind, number, from + 1)),
-    }
 }
 
 impl TextReader {
@@ -128,6 +105,66 @@ impl TextReader {
         }
     }
 
+    /// What a line must know of the text before it.
+    fn context(&self) -> Context
+        ensures { context_seen result ≡ context_of (text_seen self.now) }
+    {
+        Context {
+            side: self.rules.side,
+            blocks: self.blocks,
+            begun: self.begun,
+        }
+    }
+
+    /// The name that a line gives which begins with this token.
+    fn name_in(
+        &self,
+        alloc: Global,
+        number: usize,
+        line: &[u8],
+        first: Found,
+    ) -> Result<Name, RuleFault>
+        requires start { first.start < first.end }
+        requires end { first.end ≤ length line.now }
+        ensures ok { IfOk result (λ name. name_given (text_seen self.now) number line.now (found_seen first) (tokens_from (first.end + 1) 0 (drop first.end line.now)) ≡ Ok (name_seen name)) }
+        ensures err { IfErr result (IsFaultOf (name_given (text_seen self.now) number line.now (found_seen first) (tokens_from (first.end + 1) 0 (drop first.end line.now)))) }
+    {
+        if !self.rules.lines.is_empty() {
+            return Err(fault_at(RuleKind::BadLine, number, first.start + 1));
+        }
+        let names = self.names.as_slice();
+        let place = name_place(names, number, line, first.end)?;
+        name_at(
+            alloc,
+            self.context(),
+            names,
+            number,
+            line,
+            first.token,
+            place,
+        )
+    }
+
+    /// The statement of a line.
+    fn statement(&self, alloc: Global, number: usize, line: &[u8]) -> Result<Statement, RuleFault>
+        ensures ok { IfOk result (λ statement. formed_statement (context_of (text_seen self.now)) (text_seen self.now).names rule_form number line.now 1 (rule_tokens line.now) ≡ Ok (line_statement_seen statement)) }
+        ensures err { IfErr result (IsFaultOf (formed_statement (context_of (text_seen self.now)) (text_seen self.now).names rule_form number line.now 1 (rule_tokens line.now))) }
+    {
+        let names = self.names.as_slice();
+        statement_in(alloc, self.context(), names, Form::Rule, number, line, 0)
+    }
+
+    /// Takes a name.
+    fn take_name(&mut self, name: Name) -> Result<(), RuleFault>
+        ensures ok { IfOk result (λ _. text_with_name (text_seen self.old) (name_seen name) ≡ text_seen self.new) }
+        ensures blocks { self.new.blocks ≡ self.old.blocks }
+        ensures err { IfErr result (λ fault. fault ≡ placed_fault 0 0 NoMemory) }
+    {
+        self.begun = true;
+        self.names.push(name)?;
+        Ok(())
+    }
+
     /// Reads a line of this number, counted from 1.
     fn read_line(&mut self, alloc: Global, number: usize, line: &[u8]) -> Result<(), RuleFault>
         requires { self.old.blocks < 2 ^ 63 }
@@ -142,12 +179,11 @@ impl TextReader {
         if self.closed {
             return Err(fault_at(RuleKind::AfterOtherwise, number, column));
         }
-        let context = Context {
-            side: self.rules.side,
-            blocks: self.blocks,
-            begun: self.begun,
-        };
-        let statement = statement_in(alloc, context, number, line)?;
+        if is_giving(first.token) {
+            let name = self.name_in(alloc, number, line, first)?;
+            return self.take_name(name);
+        }
+        let statement = self.statement(alloc, number, line)?;
         let place = Place {
             line: number,
             column,
@@ -192,6 +228,7 @@ pub fn read_numbered(alloc: Global, text: &[u8]) -> Result<NumberedRules, RuleFa
             otherwise: 0,
         },
         numbers: Vec::new(alloc),
+        names: Vec::new(alloc),
         blocks: 0,
         head: Place { line: 0, column: 0 },
         begun: false,

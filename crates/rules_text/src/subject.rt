@@ -112,7 +112,7 @@ pub(crate) fn value_of(token: Token) -> Result<u32, RuleKind>
 {
     match token {
         Token::Refuse => Ok(0),
-        Token::Number(value) => Ok(value),
+        Token::Number(value) | Token::Value(value) => Ok(value),
         Token::BadNumber => Err(RuleKind::BadNumber),
         _ => Err(RuleKind::BadLine),
     }

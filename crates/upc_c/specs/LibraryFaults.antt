@@ -67,6 +67,8 @@ rule_fault_at rules.Unbalanced line column = fault_in_rules 6 line column
 rule_fault_at rules.TooDeep line column = fault_in_rules 7 line column
 rule_fault_at rules.TooLong line column = fault_in_rules 8 line column
 rule_fault_at rules.NoMemory line column = out_of_memory
+rule_fault_at rules.UnknownName line column = fault_in_rules 10 line column
+rule_fault_at rules.NameTaken line column = fault_in_rules 11 line column
 
 -- An error of a text of rules.
 abbrev pub rule_fault_for_c : RuleFault → UpcFault

@@ -99,6 +99,8 @@ pub(crate) fn rule_fault_for_c(found: RuleFault) -> UpcFault
         RuleKind::TooDeep => 7,
         RuleKind::TooLong => 8,
         RuleKind::NoMemory => return out_of_memory(),
+        RuleKind::UnknownName => 10,
+        RuleKind::NameTaken => 11,
     };
     UpcFault {
         column: found.column,

@@ -5,6 +5,7 @@ use Rattle.cell_rules.specs.declared.test.Test.{Test}
 use Rattle.rules_text.specs.LineGrammar.{Awaited, GroupRead, LineContext, ListRead, field_list, denied_list, path_list, Reading, StatementRead, SubjectRead, awaits_start, awaits_unit, awaits_operator, awaits_offset, awaits_relation, awaits_mask, awaits_sign, awaits_constant, awaits_dots, awaits_high, awaits_comma, awaits_low, awaits_slash, awaits_channel, awaits_arrow, awaits_value, awaits_rest, awaits_side, awaits_end, blank_statement, side_statement, line_statement, otherwise_statement}
 use Rattle.rules_text.specs.RulesRead.{FieldRead, TestRead, field_read, line_read, test_read}
 use Rattle.rules_text.specs.TextOfRules.{TextReading}
+use Rattle.rules_text.specs.Names.{FormRead, rule_form, value_form, test_form, list_form, NameRead}
 use Rattle.rules_text.specs.declared.fault.RuleKind.{RuleKind}
 use Rattle.rules_text.specs.declared.group.Group.{Group}
 use Rattle.rules_text.specs.declared.line_reader.Context.{Context}
@@ -17,7 +18,10 @@ use Rattle.rules_text.specs.declared.reader.TextReader.{TextReader}
 use Rattle.rules_text.specs.declared.list.ListOf.{ListOf}
 use Rattle.rules_text.specs.declared.list.ListOf.TheVariants as list
 use Rattle.rules_text.specs.declared.subject.Subject.{Subject}
-use Rattle.rules_text.specs.inner.Seen.{sign_seen}
+use Rattle.rules_text.specs.declared.names.Form.{Form}
+use Rattle.rules_text.specs.declared.names.Form.TheVariants as form
+use Rattle.rules_text.specs.declared.names.Name.{Name}
+use Rattle.rules_text.specs.inner.Seen.{rule_token_seen, sign_seen}
 
 -- A field with a mask.
 abbrev pub subject_seen : Subject → SubjectRead
@@ -84,12 +88,24 @@ reading_seen reader = record {
   statement = line_statement_seen reader.statement;
 }
 
+-- A name.
+abbrev pub name_seen : Name → NameRead
+name_seen name = record { letters = name.letters.items; tokens = map rule_token_seen name.tokens.items }
+
+-- What is read of a line.
+abbrev pub form_seen : Form → FormRead
+form_seen form.Rule = rule_form
+form_seen form.Value = value_form
+form_seen form.Test = test_form
+form_seen form.List = list_form
+
 -- What was read of a text.
 abbrev pub text_seen : TextReader → TextReading
 text_seen reader = record {
   side = reader.rules.side;
   lines = map line_read reader.rules.lines.items;
   numbers = reader.numbers.items;
+  names = map name_seen reader.names.items;
   otherwise = reader.rules.otherwise;
   blocks = reader.blocks;
   head_line = reader.head.line;

@@ -1,0 +1,98 @@
+-- The names of a text, and how a line with names is read: as if what a name means stood there in its place.
+use Rattle.std.specs.Prelude.{ℕ, ◌-◌, Bool, true, false, if◌then◌else◌, slice_range, map, List, [], ◌∷◌, ◌++◌}
+use Rattle.std.specs.Str.{bytes_eq}
+use Rattle.bpf_code.specs.declared.instr.Size.TheVariants.{Word}
+use Rattle.rules_text.specs.LineGrammar.{Awaited, Reading, awaits_start, awaits_low, awaits_rest, awaits_unit, field_list, may_be_name, nothing_read, subject_of}
+use Rattle.rules_text.specs.RulesRead.{octets_field}
+use Rattle.rules_text.specs.RuleTokens.{RuleFound, RuleToken, name_word, refuse_word, number_word, bad_number, arrow_mark, open_brace, open_parenthesis, close_parenthesis, comma_mark, dots_mark, slash_mark, no_token}
+
+-- A name: its letters, and the tokens that it means.
+pub record NameRead : Type 0 where
+  pub letters : List ℕ
+  pub tokens : List RuleToken
+
+-- The tokens of a name. A name that wasn't given has none.
+abbrev pub name_tokens : List NameRead → List ℕ → List RuleToken
+name_tokens [] letters = []
+name_tokens (name ∷ names) letters = if bytes_eq letters name.letters then name.tokens else name_tokens names letters
+
+-- The letters of a token of a line.
+abbrev pub letters_of : List ℕ → RuleFound → List ℕ
+letters_of line found = slice_range line (found.column - 1) (found.after - 1)
+
+-- What is read: a line of rules, the value of a contract, or what a definition means, a test or a list.
+pub data FormRead : Type 0 where
+  rule_form : FormRead
+  value_form : FormRead
+  test_form : FormRead
+  list_form : FormRead
+
+-- What comes first. The numbers of a list are those that four octets can have.
+abbrev pub first_awaited : FormRead → Awaited
+first_awaited rule_form = awaits_start
+first_awaited value_form = awaits_rest
+first_awaited test_form = awaits_unit
+first_awaited list_form = awaits_low (field_list (subject_of (octets_field Word 0)))
+
+-- Nothing of it was read.
+abbrev pub form_start : FormRead → Reading
+form_start form = record nothing_read { awaited = first_awaited form }
+
+-- The token, where this is read. `->` and `{` end no definition, and a list has numbers, `,` and `..` alone.
+abbrev pub admitted : FormRead → RuleToken → RuleToken
+admitted rule_form token = token
+admitted value_form token = token
+admitted test_form arrow_mark = no_token
+admitted test_form open_brace = no_token
+admitted test_form token = token
+admitted list_form (number_word k) = number_word k
+admitted list_form bad_number = bad_number
+admitted list_form name_word = name_word
+admitted list_form comma_mark = comma_mark
+admitted list_form dots_mark = dots_mark
+admitted list_form _ = no_token
+
+-- What is read at the end of a line: where a definition ends, its test ends as the test of a rule does.
+abbrev pub ending : FormRead → List RuleToken
+ending rule_form = []
+ending value_form = []
+ending test_form = arrow_mark ∷ refuse_word ∷ []
+ending list_form = arrow_mark ∷ refuse_word ∷ []
+
+-- Tokens at the place of a token.
+abbrev pub all_at : ℕ → ℕ → List RuleToken → List RuleFound
+all_at column after tokens = map (λ token. record { token = token; column = column; after = after }) tokens
+
+-- The tokens that a token means, if it is a name that was given.
+abbrev pub meant : List NameRead → List ℕ → RuleFound → List RuleToken
+meant names line found = if may_be_name found.token then name_tokens names (letters_of line found) else []
+
+-- What is read in place of a token: what it means, or itself.
+abbrev pub read_for : FormRead → RuleToken → List RuleToken → List RuleToken
+read_for form token [] = admitted form token ∷ []
+read_for form token (first ∷ more) = first ∷ more
+
+-- What is read of the tokens of a line, up to its end. The column is the one after the token before them.
+unfoldable pub expanded : List NameRead → FormRead → List ℕ → ℕ → List RuleFound → List RuleFound
+expanded names form line column [] = all_at column column (ending form)
+expanded names form line column (found ∷ rest) =
+    all_at found.column found.after (read_for form found.token (meant names line found)) ++ expanded names form line found.after rest
+
+-- Whether tokens after a number don't make a path of it.
+abbrev pub is_no_path : List RuleToken → Bool
+is_no_path (slash_mark ∷ rest) = false
+is_no_path _ = true
+
+-- Whether a definition is a list: it begins with a number that is no path.
+abbrev pub is_list : List RuleToken → Bool
+is_list (number_word k ∷ rest) = is_no_path rest
+is_list (bad_number ∷ rest) = is_no_path rest
+is_list _ = false
+
+-- How what a definition means is read.
+abbrev pub definition_form : List RuleToken → FormRead
+definition_form tokens = if is_list tokens then list_form else test_form
+
+-- What a name means in place of which these tokens are defined: a list as it stands, a test in parentheses.
+abbrev pub defined_as : List RuleToken → List RuleToken
+defined_as tokens = if is_list tokens then tokens else open_parenthesis ∷ (tokens ++ close_parenthesis ∷ [])

@@ -1,0 +1,228 @@
+//! The lines that give names.
+
+ghost use Rattle.std.specs.Prelude.{◌≡◌, ◌≢◌, ◌+◌, ◌≤◌, ◌<◌, ◌++◌, IsTrue, false, Ok, Err, IfOk, IfErr, drop, length, map, MatchOption};
+ghost use Rattle.rules_text.specs.Names.{expanded, read_for, rule_form};
+ghost use Rattle.rules_text.specs.RuleTokens.{tokens_from};
+ghost use Rattle.rules_text.specs.TextFaults.{IsFaultOf};
+ghost use Rattle.rules_text.specs.TextOfRules.{contract_given, contract_number, definition_given, definition_tokens, given_by, gives_name, is_equal, name_found, new_name};
+ghost use Rattle.rules_text.specs.inner.Seen.{found_seen, rule_token_seen};
+ghost use Rattle.rules_text.specs.inner.SeenReading.{context_seen, line_statement_seen, name_seen};
+ghost use Rattle.rules_text.specs.inner.SeenNames.{letters_found, place_seen};
+ghost use Rattle.rules_text.specs.declared.fault.RuleKind.TheVariants.{NoMemory};
+
+use crate::fault::{RuleFault, RuleKind, fault_at};
+use crate::lexer::{Found, Sign, Token, begins_word, next_token};
+use crate::line_reader::{Context, Statement};
+use crate::names::{Form, Name, are_list, meaning, tokens_named};
+use crate::statement_reader::{meant_by, statement_in};
+use std::alloc::{AllocError, Global};
+
+/// The most names of a text, and the most tokens of a definition.
+const MOST: usize = 4096;
+
+/// Where a line gives a name: the columns of its letters, counted from 0, and the column after its `=`.
+#[derive(Clone, Copy)]
+pub(crate) struct NamePlace {
+    pub start: usize,
+    pub end: usize,
+    pub after: usize,
+}
+
+/// Whether the letters of a token are a new name.
+fn test_name(names: &[Name], letters: &[u8], token: Token) -> Result<(), RuleKind>
+    requires { 0 < length letters.now }
+    ensures found { letters_found letters.now result ≡ new_name (map name_seen names.now) letters.now (rule_token_seen token) }
+    ensures placed { IfErr result (λ kind. kind ≢ NoMemory) }
+{
+    if !token.is_name() {
+        return Err(if begins_word(letters[0]) {
+            RuleKind::NameTaken
+        } else {
+            RuleKind::BadLine
+        });
+    }
+    if !tokens_named(names, letters).is_empty() {
+        return Err(RuleKind::NameTaken);
+    }
+    if names.len() >= MOST {
+        return Err(RuleKind::TooLong);
+    }
+    Ok(())
+}
+
+/// Whether a token is `=`.
+fn equal(token: Token) -> bool
+    ensures { result ≡ is_equal (rule_token_seen token) }
+{
+    matches!(token, Token::Sign(Sign::Equal))
+}
+
+/// The place of the name that a line gives, from a column on.
+pub(crate) fn name_place(
+    names: &[Name],
+    number: usize,
+    line: &[u8],
+    from: usize,
+) -> Result<NamePlace, RuleFault>
+    requires { from ≤ length line.now }
+    ensures ok { IfOk result (λ place. name_found (map name_seen names.now) number line.now (from + 1) (tokens_from (from + 1) 0 (drop from line.now)) ≡ Ok (place_seen line.now place)) }
+    ensures letters { IfOk result (λ place. (place.start < place.end) × (place.end ≤ length line.now)) }
+    ensures after { IfOk result (λ place. place.after ≤ length line.now) }
+    ensures err { IfErr result (λ fault. name_found (map name_seen names.now) number line.now (from + 1) (tokens_from (from + 1) 0 (drop from line.now)) ≡ Err fault) }
+{
+    let Some(name) = next_token(line, from) else {
+        return Err(fault_at(RuleKind::BadLine, number, from + 1));
+    };
+    if let Err(kind) = test_name(names, &line[name.start..name.end], name.token) {
+        return Err(fault_at(kind, number, name.start + 1));
+    }
+    let Some(sign) = next_token(line, name.end) else {
+        return Err(fault_at(RuleKind::BadLine, number, name.end + 1));
+    };
+    if !equal(sign.token) {
+        return Err(fault_at(RuleKind::BadLine, number, sign.start + 1));
+    }
+    Ok(NamePlace {
+        start: name.start,
+        end: name.end,
+        after: sign.end,
+    })
+}
+
+/// Adds a token of a definition, or in its place what it means: returns whether there are at most 4096 then.
+fn add_token(tokens: &mut Vec<Token>, found: Found, meant: &[Token]) -> Result<bool, AllocError>
+    requires { length tokens.old.items ≤ 4096 }
+    ensures added { IfOk result (λ added. IsTrue added → map rule_token_seen tokens.new.items ≡ map rule_token_seen tokens.old.items ++ read_for rule_form (rule_token_seen found.token) (map rule_token_seen meant.now)) }
+    ensures few { IfOk result (λ added. IsTrue added → length tokens.new.items ≤ 4096) }
+    ensures many { IfOk result (λ added. added ≡ false → 4096 < length tokens.old.items + length (read_for rule_form (rule_token_seen found.token) (map rule_token_seen meant.now))) }
+{
+    let more = meant.len().max(1);
+    if more > MOST - tokens.len() {
+        return Ok(false);
+    }
+    if meant.is_empty() {
+        tokens.push(found.token)?;
+    } else {
+        tokens.extend_from_slice(meant)?;
+    }
+    Ok(true)
+}
+
+/// The tokens of a definition from a column on, with those that names in it mean; none if there are more than 4096.
+fn body(
+    alloc: Global,
+    names: &[Name],
+    line: &[u8],
+    after: usize,
+) -> Result<Option<Vec<Token>>, AllocError>
+    requires { after ≤ length line.now }
+    ensures { IfOk result (λ found. let wanted = map (λ it. it.token) (expanded (map name_seen names.now) rule_form line.now (after + 1) (tokens_from (after + 1) 0 (drop after line.now)))
+        in MatchOption found (4096 < length wanted) (λ tokens. (map rule_token_seen tokens.items ≡ wanted) × (length tokens.items ≤ 4096))) }
+{
+    let mut tokens = Vec::new(alloc);
+    let mut from = after;
+    while let Some(found) = next_token(line, from) {
+        let meant = meant_by(names, line, found);
+        if !add_token(&mut tokens, found, meant)? {
+            return Ok(None);
+        }
+        from = found.end;
+    }
+    Ok(Some(tokens))
+}
+
+/// What the name at a place means, as a line that begins with `define` has it.
+pub(crate) fn definition(
+    alloc: Global,
+    context: Context,
+    names: &[Name],
+    number: usize,
+    line: &[u8],
+    place: NamePlace,
+) -> Result<Vec<Token>, RuleFault>
+    requires letters { (place.start < place.end) × (place.end ≤ length line.now) }
+    requires after { place.after ≤ length line.now }
+    ensures ok { IfOk result (λ tokens. let seen = place_seen line.now place
+        in definition_given (context_seen context) (map name_seen names.now) number line.now seen (definition_tokens (map name_seen names.now) line.now seen) ≡ Ok (record { letters = seen.letters; tokens = map rule_token_seen tokens.items })) }
+    ensures err { IfErr result (let seen = place_seen line.now place
+        in IsFaultOf (definition_given (context_seen context) (map name_seen names.now) number line.now seen (definition_tokens (map name_seen names.now) line.now seen))) }
+{
+    let Some(tokens) = body(alloc, names, line, place.after)? else {
+        return Err(fault_at(RuleKind::TooLong, number, place.start + 1));
+    };
+    let form = if are_list(tokens.as_slice()) {
+        Form::List
+    } else {
+        Form::Test
+    };
+    let _read = statement_in(alloc, context, names, form, number, line, place.after)?;
+    Ok(meaning(alloc, tokens)?)
+}
+
+/// What the name at a place means, as a line that begins with `contract` has it.
+pub(crate) fn contract(
+    alloc: Global,
+    context: Context,
+    names: &[Name],
+    number: usize,
+    line: &[u8],
+    place: NamePlace,
+) -> Result<Vec<Token>, RuleFault>
+    requires { place.after ≤ length line.now }
+    ensures ok { IfOk result (λ tokens. let seen = place_seen line.now place
+        in contract_given (context_seen context) (map name_seen names.now) number line.now seen ≡ Ok (record { letters = seen.letters; tokens = map rule_token_seen tokens.items })) }
+    ensures err { IfErr result (IsFaultOf (contract_given (context_seen context) (map name_seen names.now) number line.now (place_seen line.now place))) }
+{
+    let statement = statement_in(
+        alloc,
+        context,
+        names,
+        Form::Value,
+        number,
+        line,
+        place.after,
+    )?;
+    let mut tokens = Vec::new(alloc);
+    tokens.push(Token::Value(number_of(&statement)))?;
+    Ok(tokens)
+}
+
+/// The number of a contract.
+fn number_of(statement: &Statement) -> u32
+    ensures { result ≡ contract_number (line_statement_seen statement.now) }
+{
+    match statement {
+        Statement::Otherwise(value) => *value,
+        _ => 0,
+    }
+}
+
+/// Whether lines that begin with a token give names.
+pub(crate) fn is_giving(token: Token) -> bool
+    ensures { result ≡ gives_name (rule_token_seen token) }
+{
+    matches!(token, Token::Define | Token::Contract)
+}
+
+/// The name that a line gives which begins with this token, at its place.
+pub(crate) fn name_at(
+    alloc: Global,
+    context: Context,
+    names: &[Name],
+    number: usize,
+    line: &[u8],
+    first: Token,
+    place: NamePlace,
+) -> Result<Name, RuleFault>
+    requires letters { (place.start < place.end) × (place.end ≤ length line.now) }
+    requires after { place.after ≤ length line.now }
+    ensures ok { IfOk result (λ name. given_by (rule_token_seen first) (context_seen context) (map name_seen names.now) number line.now (place_seen line.now place) ≡ Ok (name_seen name)) }
+    ensures err { IfErr result (IsFaultOf (given_by (rule_token_seen first) (context_seen context) (map name_seen names.now) number line.now (place_seen line.now place))) }
+{
+    let tokens = match first {
+        Token::Contract => contract(alloc, context, names, number, line, place)?,
+        _ => definition(alloc, context, names, number, line, place)?,
+    };
+    let letters = line[place.start..place.end].to_vec(alloc)?;
+    Ok(Name { letters, tokens })
+}

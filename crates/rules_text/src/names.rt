@@ -1,0 +1,87 @@
+//! The names of a text.
+
+ghost use Rattle.std.specs.Prelude.{◌≡◌, ◌++◌, ◌∷◌, [], map, IfOk};
+ghost use Rattle.rules_text.specs.Names.{admitted, defined_as, is_list, name_tokens};
+ghost use Rattle.rules_text.specs.inner.Seen.{rule_token_seen};
+ghost use Rattle.rules_text.specs.inner.SeenReading.{form_seen, name_seen};
+
+use crate::lexer::Token;
+use std::alloc::{AllocError, Global};
+
+/// What is read of a line.
+#[derive(Clone, Copy)]
+pub(crate) enum Form {
+    /// A line of rules.
+    Rule,
+    /// The value of a contract.
+    Value,
+    /// The test that a name means.
+    Test,
+    /// The list that a name means.
+    List,
+}
+
+/// A name.
+#[derive(Drop)]
+pub(crate) struct Name {
+    /// Its letters.
+    pub letters: Vec<u8>,
+    /// The tokens that it means.
+    pub tokens: Vec<Token>,
+}
+
+/// The tokens of the name with these letters, none if it wasn't given.
+pub(crate) fn tokens_named<'a>(names: &'a [Name], letters: &[u8]) -> &'a [Token]
+    ensures { map rule_token_seen result.now ≡ name_tokens (map name_seen names.now) letters.now }
+{
+    let mut left = names;
+    while let [name, rest @ ..] = left {
+        if letters == name.letters.as_slice() {
+            return name.tokens.as_slice();
+        }
+        left = rest;
+    }
+    &[]
+}
+
+/// The token, where this is read.
+pub(crate) fn admit(form: Form, token: Token) -> Token
+    ensures { rule_token_seen result ≡ admitted (form_seen form) (rule_token_seen token) }
+{
+    match form {
+        Form::Rule | Form::Value => token,
+        Form::Test => match token {
+            Token::Arrow | Token::Open => Token::Unknown,
+            _ => token,
+        },
+        Form::List => match token {
+            Token::Number(_) | Token::BadNumber | Token::Name | Token::Comma | Token::Dots => token,
+            _ => Token::Unknown,
+        },
+    }
+}
+
+/// Whether the tokens of a definition are a list.
+pub(crate) fn are_list(tokens: &[Token]) -> bool
+    ensures { result ≡ is_list (map rule_token_seen tokens.now) }
+{
+    match tokens {
+        [Token::Number(_) | Token::BadNumber, Token::Slash, ..] => false,
+        [Token::Number(_) | Token::BadNumber, ..] => true,
+        _ => false,
+    }
+}
+
+/// The tokens that a name means in place of which these are defined.
+pub(crate) fn meaning(alloc: Global, tokens: Vec<Token>) -> Result<Vec<Token>, AllocError>
+    ensures { IfOk result (λ meant. map rule_token_seen meant.items ≡ defined_as (map rule_token_seen tokens.items)) }
+{
+    if are_list(tokens.as_slice()) {
+        return Ok(tokens);
+    }
+    let mut enclosed = Vec::new(alloc);
+    enclosed.push(Token::Left)?;
+    enclosed.extend_from_slice(tokens.as_slice())?;
+    enclosed.push(Token::Right)?;
+    Ok(enclosed)
+}
