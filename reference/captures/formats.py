@@ -1,11 +1,17 @@
 """The records in a capture: ERF as it is, in pcap, and in pcapng."""
 import struct
+from collections import namedtuple
 
 LINK = 197
 MOST_FRAME = 65535
 MOST_BLOCK = 131072
 SECTION = 0x0A0D0D0A
 PCAP_ORDERS = {0xA1B2C3D4: ">", 0xA1B23C4D: ">", 0xD4C3B2A1: "<", 0x4D3CB2A1: "<"}
+
+
+# A block or a packet that has no record: what it is, and its place. Types that have no packet are none.
+Block = namedtuple("Block", "what place")
+NO_PACKET = (4, 5, 9, 10, 0xBAD, 0x40000BAD)
 
 
 class Refused(Exception):
@@ -77,19 +83,20 @@ def block_order(head, order, place):
 
 
 def packet_of(block, order, interfaces, place):
+    """Returns the interface of a packet, and its octets. The links of the interfaces are given."""
     if len(block) < 32:
         raise Broken(f"10 ShortBlock {len(block)}", place)
     interface, length = number(block, 8, order), number(block, 20, order)
-    if interface >= interfaces:
+    if interface >= len(interfaces):
         raise Broken(f"12 NoInterface {interface}", place)
     if len(block) < 32 + length:
         raise Broken(f"13 LongPacket {length}", place)
-    return interface, record_in(block[28:28 + length], place)
+    return interface, block[28:28 + length]
 
 
 def pcapng_records(octets):
-    # The interfaces of the sections so far, and those of the present section.
-    place, order, before, interfaces = 0, "<", 0, 0
+    # How many interfaces the sections so far have, and the link types of those of the present section.
+    place, order, before, interfaces = 0, "<", 0, []
     while place < len(octets):
         head = frame_at(octets, place, 12)
         own = block_order(head, order, place)
@@ -107,22 +114,28 @@ def pcapng_records(octets):
             version = number(block, 12, own, "H")
             if version != 1:
                 raise Broken(f"9 OtherVersion {version}", place)
-            order, before, interfaces = own, before + interfaces, 0
+            order, before, interfaces = own, before + len(interfaces), []
         elif kind == 1:
             if size < 20:
                 raise Broken(f"10 ShortBlock {size}", place)
             link = number(block, 8, own, "H")
-            if link != LINK:
+            if link != LINK and len(interfaces) >= 64:
                 raise Broken(f"11 OtherLink {link}", place)
-            interfaces += 1
+            interfaces.append(link)
         elif kind == 6:
-            interface, record = packet_of(block, own, interfaces, place)
-            yield before + interface, record
+            interface, packet = packet_of(block, own, interfaces, place)
+            if interfaces[interface] == LINK:
+                yield before + interface, record_in(packet, place)
+            else:
+                yield Block("other link", place)
+        elif kind not in NO_PACKET:
+            yield Block(kind, place)
         place += size
 
 
 def records_of(octets):
-    """Returns an iterator of the records in a file: the interface of the packet of each in a pcapng file, or None, and its octets."""
+    """Returns an iterator of the records in a file: the interface of the packet of each in a pcapng file, or None, and its octets. Between them
+    are the kinds and places of blocks that are passed over, as `Block`."""
     if len(octets) < 16:
         return short_file(octets)
     magic = number(octets, 0, ">")

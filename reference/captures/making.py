@@ -19,16 +19,19 @@ def record(draw, time, by=PLAIN):
     """Returns a record at this time, and mostly a cell of this link."""
     kind, bits, channel = by if draw.random() < 0.97 else link(draw)
     kind = kind if draw.random() < 0.88 else draw.choice([2, 1])
-    flags = draw.choice([0] * 10 + [4, 0x14, 0x24]) | bits
+    flags = draw.choice([0] * 10 + [4, 0x14, 0x24]) | bits | 8 * (draw.random() < 0.03)
+    channel = bytes([draw.choice([0] * 12 + [1, 2, 4, 7, 0xF8])]) + channel[1:]
     octets = channel * (kind == 7) + bytes([0, 0x10, 6, draw.choice([0x40, 0x50])]) + draw.randbytes(48)
     if draw.random() < 0.05:
         octets = octets[:draw.randrange(len(octets))]
     extensions = b""
     for left in range(draw.choice([0] * 8 + [1, 2])):
         extensions = bytes([0x80 if extensions else 5]) + draw.randbytes(7) + extensions
+    came = draw.choice([len(octets)] * 30 + [51, 52, 53, 0, 65535])
     kind |= 0x80 * bool(extensions)
     octets = extensions + octets + bytes(draw.choice([0] * 5 + [4]))
-    return struct.pack("<QBBHHH", time % 2**64, kind, flags, 0, 0, len(octets))[:10] + struct.pack(">HHH", 16 + len(octets), 0, len(octets)) + octets
+    losses = draw.choice([0] * 30 + [1, 256])
+    return struct.pack("<QBB", time % 2**64, kind, flags) + struct.pack(">HHH", 16 + len(octets), losses, came) + octets
 
 
 def records(draw):
@@ -61,9 +64,10 @@ def in_pcapng(draw, made):
             order, interfaces = draw.choice("<>"), draw.choice([1, 1, 2])
             usual = draw.randrange(interfaces)
             blocks.append(block(order, SECTION_TYPE, struct.pack(order + "IHHq", 0x1A2B3C4D, 1, 0, -1)))
-            blocks += [block(order, 1, struct.pack(order + "HHI", 197, 0, 0))] * interfaces
+            links = [draw.choice([197] * 15 + [1]) for _ in range(interfaces)]
+            blocks += [block(order, 1, struct.pack(order + "HHI", link_type, 0, 0)) for link_type in links]
         if draw.random() < 0.1:
-            blocks.append(block(order, draw.choice([2, 3, 5, 0x80000001]), draw.randbytes(8)))
+            blocks.append(block(order, draw.choice([2, 3, 4, 5, 0xBAD, 0x40000BAD, 0x80000001]), draw.randbytes(8)))
         if it is not None:
             interface = usual if draw.random() < 0.9 else draw.randrange(interfaces)
             blocks.append(block(order, 6, struct.pack(order + "IIIII", interface, 1, 2, len(it), len(it)) + it))

@@ -10,13 +10,15 @@ CELL = 52
 ATM, MC_ATM = 3, 7
 # The octets of a multi-channel header, by the types of record that hold cells.
 CHANNEL = {ATM: 0, MC_ATM: 4}
+# The marks in a multi-channel header, from bit 24 on.
+CHANNEL_MARKS = ["lost octet", "corrected header", "wrong CRC-10"]
 # The bit of a type that says that another extension header follows.
 MORE = 0x80
 # The flags of a record that was received or stored with an error.
 ERRORS = 0x30
 
-# A record: its number from 1, the word of its link, its time in units of 2^-32 seconds, its cell or None, and why it holds none or None.
-Record = namedtuple("Record", "number link time cell reason")
+# A record: its number from 1, the word of its link, its time in units of 2^-32 seconds, its cell or None, why it holds none or None, and its marks.
+Record = namedtuple("Record", "number link time cell reason marks")
 # The reason that a record is of a type that holds no cell.
 OtherType = namedtuple("OtherType", "kind")
 
@@ -34,7 +36,8 @@ def content_of(octets):
         place += EXTENSION
     channel = octets[place : place + CHANNEL[kind]]
     place += CHANNEL[kind]
-    cell = octets[place : place + CELL]
+    came = struct.unpack_from(">H", octets, 14)[0]
+    cell = octets[place : place + min(came, CELL)]
     return (cell, None, channel) if len(cell) == CELL else (None, "cut short", b"")
 
 
@@ -48,16 +51,31 @@ def link_of(packet, flags, channel):
     return word
 
 
+def marks_of(octets, channel):
+    """Returns the marks of a record, from its first header and its multi-channel header."""
+    if octets[8] & ~MORE not in CHANNEL:
+        return set()
+    marks = {"losses"} if octets[12:14] != bytes(2) else set()
+    marks |= {"truncated"} if octets[9] & 8 else set()
+    return marks | {name for bit, name in enumerate(CHANNEL_MARKS) if channel and channel[0] >> bit & 1}
+
+
 def record_of(number, packet, octets):
     """Returns the record that these octets encode."""
     cell, reason, channel = content_of(octets)
-    return Record(number, link_of(packet, octets[9], channel), struct.unpack_from("<Q", octets)[0], cell, reason)
+    time = struct.unpack_from("<Q", octets)[0]
+    return Record(number, link_of(packet, octets[9], channel), time, cell, reason, marks_of(octets, channel))
 
 
 def records_of(octets):
-    """Yields the records of a capture. Raises what formats.py raises where it is no capture."""
-    for number, (packet, record) in enumerate(formats.records_of(octets), 1):
-        yield record_of(number, packet, record)
+    """Yields the records of a capture, and the blocks between them that are passed over. Raises what formats.py raises where it is no capture."""
+    number = 0
+    for it in formats.records_of(octets):
+        if isinstance(it, formats.Block):
+            yield it
+        else:
+            number += 1
+            yield record_of(number, *it)
 
 
 def links_in(octets):
@@ -65,7 +83,7 @@ def links_in(octets):
     words = []
     try:
         for record in records_of(octets):
-            words += [] if record.cell is None else [record.link]
+            words += [] if isinstance(record, formats.Block) or record.cell is None else [record.link]
     except (formats.Broken, formats.Refused):
         pass
     return list(dict.fromkeys(words))

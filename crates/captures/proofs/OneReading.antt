@@ -1,13 +1,15 @@
 -- A capture has at most one reading.
-use Rattle.std.proofs.Common.{◌≡◌, ◌+◌, ◌-◌, inl, inr, ℕ, List, [], ◌∷◌, length, take, drop, Option, Some, None, Result, Ok, Err, arith, refl, ◌∙◌, sym, ap, subst}
+use Rattle.std.proofs.Common.{◌≡◌, ◌+◌, inl, inr, ℕ, List, [], ◌∷◌, length, take, drop, Option, Some, None, Result, Ok, Err, arith, refl, ◌∙◌, sym, ap, subst}
 use Rattle.std.proofs.lemmas.Bool.{cases_lt}
 use Rattle.captures.specs.Frames.{Frame, first_frame}
 use Rattle.captures.specs.Framing.{Framed}
 use Rattle.captures.specs.Links.{IsChannelOf, channel_before}
-use Rattle.captures.specs.Reading.{EndsReading, HasOneReading, IsFraming, IsGiven, IsRecordFault, count_after, records_in}
+use Rattle.captures.specs.Marks.{AreMarksOf, marks_before}
+use Rattle.captures.specs.Reading.{EndsReading, HasOneReading, IsReading, IsGiven, IsRecordFault, count_after}
 use Rattle.captures.specs.Record.{HasExtensions}
-use Rattle.captures.specs.RecordContent.{IsContent, cell_place}
+use Rattle.captures.specs.RecordContent.{IsContent, cell_place, octets_of_cell}
 use Rattle.captures.specs.RecordReading.{IsRecordOf}
+use Rattle.captures.specs.declared.block.Unread.{Unread}
 use Rattle.captures.specs.declared.content.NoCell.{NoCell}
 use Rattle.captures.specs.declared.content.NoCell.TheVariants.{OtherType, Errored, CutShort}
 use Rattle.captures.specs.declared.fault.Fault.{Fault}
@@ -16,6 +18,8 @@ use Rattle.captures.specs.declared.format.Format.{Format}
 use Rattle.captures.specs.declared.format.Format.TheVariants.{Erf, Pcap, PcapNg}
 use Rattle.captures.specs.declared.link.Channel.{Channel}
 use Rattle.captures.specs.declared.link.Link.{Link}
+use Rattle.captures.specs.declared.marks.Marks.{Marks}
+use Rattle.captures.specs.declared.reader.Passage.{Passage}
 use Rattle.captures.specs.declared.reader.Record.{Record}
 
 -- A record has one number of extension headers.
@@ -43,15 +47,17 @@ one_content octets (Err (CutShort n)) (Err (OtherType m)) one other = absurd (ot
 one_content octets (Err (CutShort n)) (Err Errored) one other = absurd (one.0.1 other.1)
 one_content octets (Err (CutShort n)) (Err (CutShort m)) one other =
     let same : one.1.0 ≡ other.1.0 = one_extensions octets one.1.0 other.1.0 one.1.1 other.1.1 in
-    ap (λ k. Err (CutShort k)) (one.1.2.1 ∙ ap (λ k. length octets - cell_place octets k) same ∙ sym other.1.2.1)
+    ap (λ k. Err (CutShort k)) (one.1.2.1 ∙ ap (λ k. octets_of_cell octets (cell_place octets k)) same ∙ sym other.1.2.1)
 one_content octets (Err (CutShort n)) (Ok cell) one other =
     let same : one.1.0 ≡ other.1.0 = one_extensions octets one.1.0 other.1.0 one.1.1 other.1.1 in
-    absurd (omega (arith, same, one.1.2.0, other.1.2.0))
+    let left : octets_of_cell octets (cell_place octets one.1.0) ≡ octets_of_cell octets (cell_place octets other.1.0) = ap (λ k. octets_of_cell octets (cell_place octets k)) same in
+    absurd (omega (arith, left, one.1.2.0, other.1.2.0))
 one_content octets (Ok cell) (Err (OtherType m)) one other = absurd (other.0 one.0.0)
 one_content octets (Ok cell) (Err Errored) one other = absurd (one.0.1 other.1)
 one_content octets (Ok cell) (Err (CutShort n)) one other =
     let same : one.1.0 ≡ other.1.0 = one_extensions octets one.1.0 other.1.0 one.1.1 other.1.1 in
-    absurd (omega (arith, same, one.1.2.0, other.1.2.0))
+    let left : octets_of_cell octets (cell_place octets one.1.0) ≡ octets_of_cell octets (cell_place octets other.1.0) = ap (λ k. octets_of_cell octets (cell_place octets k)) same in
+    absurd (omega (arith, left, one.1.2.0, other.1.2.0))
 one_content octets (Ok cell) (Ok second) one other =
     let same : one.1.0 ≡ other.1.0 = one_extensions octets one.1.0 other.1.0 one.1.1 other.1.1 in
     ap Ok (one.1.2.1 ∙ ap (λ k. take 52 (drop (cell_place octets k) octets)) same ∙ sym other.1.2.1)
@@ -70,10 +76,18 @@ same_parts a b packets interfaces channels =
     ∙ ap (λ n. record a { packet = b.packet; interface = n }) interfaces
     ∙ ap (λ n. record b { channel = n }) channels
 
-same_record : (a b : Record) → a.number ≡ b.number → a.link ≡ b.link → a.time ≡ b.time → a.content ≡ b.content → a ≡ b
-same_record a b numbers links times contents =
+-- A record has one set of marks.
+same_marks : (octets : List ℕ) (content : Result (List ℕ) NoCell) (a b : Marks) → AreMarksOf octets content a → AreMarksOf octets content b → a ≡ b
+same_marks octets (Err why) a b one other = one ∙ sym other
+same_marks octets (Ok cell) a b one other =
+    let same : one.0 ≡ other.0 = one_extensions octets one.0 other.0 one.1 other.1 in
+    one.2 ∙ ap (λ k. marks_before octets (cell_place octets k)) same ∙ sym other.2
+
+same_record : (a b : Record) → a.number ≡ b.number → a.link ≡ b.link → a.marks ≡ b.marks → a.time ≡ b.time → a.content ≡ b.content → a ≡ b
+same_record a b numbers links marks times contents =
     ap (λ n. record a { number = n }) numbers
     ∙ ap (λ n. record a { number = b.number; link = n }) links
+    ∙ ap (λ n. record b { marks = n; time = a.time; content = a.content }) marks
     ∙ ap (λ n. record b { time = n; content = a.content }) times
     ∙ ap (λ n. record b { content = n }) contents
 
@@ -84,12 +98,16 @@ one_record_of number framed a b one other =
     let moved : IsChannelOf framed.octets b.content a.link.channel =
     subst (λ (content : Result (List ℕ) NoCell). IsChannelOf framed.octets content a.link.channel) contents one.channel
     in
+    let marked : AreMarksOf framed.octets b.content a.marks =
+    subst (λ (content : Result (List ℕ) NoCell). AreMarksOf framed.octets content a.marks) contents one.marks
+    in
     same_record
     a
     b
     (one.numbered ∙ sym other.numbered)
     (same_parts a.link b.link (one.packet ∙ sym other.packet) (one.interface ∙ sym other.interface)
     (one_channel framed.octets b.content a.link.channel b.link.channel moved other.channel))
+    (same_marks framed.octets b.content a.marks b.marks marked other.marks)
     (one.time ∙ sym other.time)
     contents
 
@@ -135,39 +153,37 @@ ends_apart format at octets (Some fault) frame begins (same, inr ends) =
     let bad : Some (Err fault.reason) ≡ Some (Ok frame) = sym ends ∙ begins in cc
 
 -- One thing is given of a frame.
-one_given : (count : ℕ) (held : Option Framed) (a b : Option Record) → IsGiven count held a → IsGiven count held b → a ≡ b
-one_given count None None None one other = refl
-one_given count None None (Some record_read) one other = absurd other
-one_given count None (Some record_read) b one other = absurd one
-one_given count (Some framed) None b one other = absurd one
-one_given count (Some framed) (Some record_read) None one other = absurd other
-one_given count (Some framed) (Some record_read) (Some second) one other = ap Some (one_record_of (count + 1) framed record_read second one other)
+one_given : (count at : ℕ) (held : Result Framed Unread) (a b : Result Record Passage) → IsGiven count at held a → IsGiven count at held b → a ≡ b
+one_given count at (Err unread) (Err passage) (Err second) one other = ap Err (one ∙ sym other)
+one_given count at (Err unread) (Err passage) (Ok record_read) one other = absurd other
+one_given count at (Err unread) (Ok record_read) b one other = absurd one
+one_given count at (Ok framed) (Err passage) b one other = absurd one
+one_given count at (Ok framed) (Ok record_read) (Err passage) one other = absurd other
+one_given count at (Ok framed) (Ok record_read) (Ok second) one other = ap Ok (one_record_of (count + 1) framed record_read second one other)
 
--- Octets are one list of frames.
-one_framing : (format : Format) (count at : ℕ) (octets : List ℕ) (frames others : List (Option Record)) (ending other : Option Fault)
-    → IsFraming format count at octets frames ending → IsFraming format count at octets others other
+-- Octets have one reading.
+reading_only : (format : Format) (count at : ℕ) (octets : List ℕ) (frames others : List (Result Record Passage)) (ending other : Option Fault)
+    → IsReading format count at octets frames ending → IsReading format count at octets others other
     → (frames ≡ others) × (ending ≡ other)
-one_framing format count at octets [] [] ending other one second = (refl, one_ending format at octets ending other one second)
-one_framing format count at octets [] (given ∷ others) ending other one second =
+reading_only format count at octets [] [] ending other one second = (refl, one_ending format at octets ending other one second)
+reading_only format count at octets [] (given ∷ others) ending other one second =
     absurd (ends_apart format at octets ending second.0 second.1 one)
-one_framing format count at octets (given ∷ frames) [] ending other one second =
+reading_only format count at octets (given ∷ frames) [] ending other one second =
     absurd (ends_apart format at octets other one.0 one.1 second)
-one_framing format count at octets (given ∷ frames) (rival ∷ others) ending other one second =
+reading_only format count at octets (given ∷ frames) (rival ∷ others) ending other one second =
     let whole : Some (Ok second.0) ≡ Some (Ok one.0) = sym second.1 ∙ one.1 in
     let frame : second.0 ≡ one.0 = cc in
-    let P : Frame → Type 0 = λ f. IsGiven count f.held rival
-    × IsFraming f.after (count_after count rival) (at + f.size) (drop f.size octets) others other in
+    let P : Frame → Type 0 = λ f. IsGiven count at f.held rival
+    × IsReading f.after (count_after count rival) (at + f.size) (drop f.size octets) others other in
     let moved : P one.0 = subst P frame (second.2, second.3) in
-    let same : rival ≡ given = one_given count one.0.held rival given moved.0 one.2 in
-    let Goes : Option Record → Type 0 = λ g.
-    IsFraming one.0.after (count_after count g) (at + one.0.size) (drop one.0.size octets) others other in
+    let same : rival ≡ given = one_given count at one.0.held rival given moved.0 one.2 in
+    let Goes : Result Record Passage → Type 0 = λ g.
+    IsReading one.0.after (count_after count g) (at + one.0.size) (drop one.0.size octets) others other in
     let later : (frames ≡ others) × (ending ≡ other) =
-    one_framing one.0.after (count_after count given) (at + one.0.size) (drop one.0.size octets) frames others ending other one.3
+    reading_only one.0.after (count_after count given) (at + one.0.size) (drop one.0.size octets) frames others ending other one.3
     (subst Goes same moved.1)
     in
     (ap (λ g. g ∷ frames) (sym same) ∙ ap (λ rest. rival ∷ rest) later.0, later.1)
 
 pub one_reading : HasOneReading
-one_reading format count at octets records others ending other one second =
-    let both : (one.0 ≡ second.0) × (ending ≡ other) = one_framing format count at octets one.0 second.0 ending other one.1 second.1 in
-    (one.2 ∙ ap records_in both.0 ∙ sym second.2, both.1)
+one_reading format count at octets frames others ending other one second = reading_only format count at octets frames others ending other one second

@@ -1,16 +1,18 @@
 -- Any octets have a reading.
-use Rattle.std.proofs.Common.{◌≡◌, ◌≤◌, ◌<◌, ◌+◌, ◌-◌, ◌*◌, ◌/◌, ◌%◌, ◌^◌, inl, inr, ℕ, zero, suc, List, [], ◌∷◌, length, take, drop, slice_index, Option, Some, None, Result, Ok, Err, arith, refl, ◌∙◌, sym, ap, subst, length-drop}
+use Rattle.std.proofs.Common.{◌≡◌, ◌≤◌, ◌<◌, ◌+◌, ◌*◌, ◌/◌, ◌%◌, ◌^◌, inl, inr, ℕ, zero, suc, List, [], ◌∷◌, length, take, drop, slice_index, Option, Some, None, Result, Ok, Err, arith, refl, ◌∙◌, sym, ap, subst, length-drop}
 use Rattle.std.proofs.lemmas.Bool.{cases_eq, cases_lt}
 use Rattle.std.proofs.lemmas.Bool.Decides.{nat_tests}
 use Rattle.std.proofs.lemmas.List.{get_or_past}
 use Rattle.captures.specs.Blocks.{block_order, even_block, most_block}
 use Rattle.captures.specs.Frames.{Frame, first_frame, frame_held, frame_of_size, frame_size, head_length, held_frame}
 use Rattle.captures.specs.Framing.{Framed, number_in_order, or_fault, sized}
-use Rattle.captures.specs.Reading.{HasSomeReading, IsFraming, IsGiven, count_after, records_in}
+use Rattle.captures.specs.Marks.{AreMarksOf, header_marks, marks_before}
+use Rattle.captures.specs.Reading.{HasSomeReading, IsReading, IsGiven, count_after}
 use Rattle.captures.specs.Record.{HasExtensions, record_flags, record_interface, record_length, record_time, record_type}
 use Rattle.captures.specs.Links.{IsChannelOf, channel_before}
-use Rattle.captures.specs.RecordContent.{IsContent, IsErrored, IsOfCell, cell_place}
+use Rattle.captures.specs.RecordContent.{IsContent, IsErrored, IsOfCell, cell_place, octets_of_cell}
 use Rattle.captures.specs.RecordReading.{IsRecordOf}
+use Rattle.captures.specs.declared.block.Unread.{Unread}
 use Rattle.captures.specs.declared.content.NoCell.{NoCell}
 use Rattle.captures.specs.declared.content.NoCell.TheVariants.{OtherType, Errored, CutShort}
 use Rattle.captures.specs.declared.fault.Fault.{Fault}
@@ -20,6 +22,8 @@ use Rattle.captures.specs.declared.format.Format.{Format}
 use Rattle.captures.specs.declared.format.Format.TheVariants.{Erf, Pcap, PcapNg}
 use Rattle.captures.specs.declared.format.Order.{Order}
 use Rattle.captures.specs.declared.link.Channel.{Channel}
+use Rattle.captures.specs.declared.marks.Marks.{Marks}
+use Rattle.captures.specs.declared.reader.Passage.{Passage}
 use Rattle.captures.specs.declared.reader.Record.{Record}
 use Rattle.captures.proofs.First.{has_head, lacks_head, when_above, when_below}
 
@@ -51,8 +55,8 @@ good_content : (octets : List ℕ) → IsOfCell octets → ¬ IsErrored octets �
 good_content octets kind good =
     let found = some_extensions octets in
     let place : ℕ = cell_place octets found.0 in
-    elim (cases_lt (length octets) (place + 52)) [
-      | inl short ↦ (Err (CutShort (length octets - place)), ((kind, good), (found.0, found.1, (short, refl))))
+    elim (cases_lt (octets_of_cell octets place) 52) [
+      | inl short ↦ (Err (CutShort (octets_of_cell octets place)), ((kind, good), (found.0, found.1, (short, refl))))
       | inr long ↦ (Ok (take 52 (drop place octets)), ((kind, good), (found.0, found.1, (long, refl))))
     ]
 
@@ -80,22 +84,28 @@ some_channel : (octets : List ℕ) (content : Result (List ℕ) NoCell) → IsCo
 some_channel octets (Err why) holds = (None, refl)
 some_channel octets (Ok cell) holds = (channel_before octets (cell_place octets holds.1.0), (holds.1.0, holds.1.1, refl))
 
+some_marks : (octets : List ℕ) (content : Result (List ℕ) NoCell) → IsContent octets content → (marks : Marks) × AreMarksOf octets content marks
+some_marks octets (Err why) holds = (header_marks octets, refl)
+some_marks octets (Ok cell) holds = (marks_before octets (cell_place octets holds.1.0), (holds.1.0, holds.1.1, refl))
+
 some_record_of : (number : ℕ) (framed : Framed) → (record_read : Record) × IsRecordOf number framed record_read
 some_record_of number framed =
     let content = some_content framed.octets in
-    let channel = some_channel framed.octets content.0 content.1 in (
+    let channel = some_channel framed.octets content.0 content.1 in
+    let marks = some_marks framed.octets content.0 content.1 in (
       record {
         number = number;
         link = record { packet = framed.packet; interface = record_interface framed.octets; channel = channel.0 };
+        marks = marks.0;
         time = record_time framed.octets;
         content = content.0;
       },
-      record { numbered = refl; packet = refl; interface = refl; channel = channel.1; time = refl; content = content.1 },
+      record { numbered = refl; packet = refl; interface = refl; channel = channel.1; marks = marks.1; time = refl; content = content.1 },
     )
 
-some_given : (count : ℕ) (held : Option Framed) → (given : Option Record) × IsGiven count held given
-some_given count None = (None, tt)
-some_given count (Some framed) = let record_read = some_record_of (count + 1) framed in (Some record_read.0, record_read.1)
+some_given : (count at : ℕ) (held : Result Framed Unread) → (given : Result Record Passage) × IsGiven count at held given
+some_given count at (Err unread) = (Err (record { what = unread; at = at }), refl)
+some_given count at (Ok framed) = let record_read = some_record_of (count + 1) framed in (Ok record_read.0, record_read.1)
 
 -- A frame has octets, and no more than there are.
 sized_some : (before least most stated size : ℕ) → 0 < before + least → sized before least most stated ≡ Ok size → 0 < size
@@ -126,7 +136,7 @@ block_some (Ok order) octets size is =
     (λ n one. sized_some 0 12 most_block (number_in_order order (drop 4 octets)) n (omega arith) one) is
 
 -- The size of a frame is that of its length field.
-size_of_held : (at size : ℕ) (held : Result (Format × Option Framed) RecordFault) (frame : Frame) → held_frame at size held ≡ Ok frame → frame.size ≡ size
+size_of_held : (at size : ℕ) (held : Result (Format × Result Framed Unread) RecordFault) (frame : Frame) → held_frame at size held ≡ Ok frame → frame.size ≡ size
 size_of_held at size (Err reason) frame is = cc
 size_of_held at size (Ok held) frame is =
     elim (cases_lt (at + size) (2 ^ 64)) [
@@ -166,10 +176,10 @@ frame_some format at octets frame is =
       | inr long ↦ of_size_some format at octets (frame_size format octets) frame (size_some format octets) (sym (has_head format at octets long) ∙ is)
     ]
 
--- ---- the framing of any octets
+-- ---- the reading of any octets
 
-abbrev SomeFraming : Format → ℕ → ℕ → List ℕ → Type 0
-SomeFraming format count at octets = (frames : List (Option Record)) × (ending : Option Fault) × IsFraming format count at octets frames ending
+abbrev SomeReadings : Format → ℕ → ℕ → List ℕ → Type 0
+SomeReadings format count at octets = (frames : List (Result Record Passage)) × (ending : Option Fault) × IsReading format count at octets frames ending
 
 nothing_left : (octets : List ℕ) → length octets ≡ 0 → octets ≡ []
 nothing_left [] none = refl
@@ -177,7 +187,7 @@ nothing_left (x ∷ xs) none = absurd (omega (arith, none))
 
 -- Where no frame begins, the reading ends.
 ended : (format : Format) (count at : ℕ) (octets : List ℕ) (answer : Option (Result Frame RecordFault)) → first_frame format at octets ≡ answer
-    → ((frame : Frame) → answer ≡ Some (Ok frame) → SomeFraming format count at octets) → SomeFraming format count at octets
+    → ((frame : Frame) → answer ≡ Some (Ok frame) → SomeReadings format count at octets) → SomeReadings format count at octets
 ended format count at octets None is goes =
     elim (cases_eq (length octets) 0) [
       | inl none ↦ ([], None, nothing_left octets none)
@@ -186,19 +196,17 @@ ended format count at octets None is goes =
 ended format count at octets (Some (Err reason)) is goes = ([], Some (record { at = at; reason = reason }), (refl, inr is))
 ended format count at octets (Some (Ok frame)) is goes = goes frame refl
 
-some_framing : (fuel : ℕ) (format : Format) (count at : ℕ) (octets : List ℕ) → length octets ≤ fuel → SomeFraming format count at octets
-some_framing zero format count at octets short = ([], None, nothing_left octets (omega arith))
-some_framing (suc fuel) format count at octets short =
+some_readings : (fuel : ℕ) (format : Format) (count at : ℕ) (octets : List ℕ) → length octets ≤ fuel → SomeReadings format count at octets
+some_readings zero format count at octets short = ([], None, nothing_left octets (omega arith))
+some_readings (suc fuel) format count at octets short =
     ended format count at octets (first_frame format at octets) refl
     (λ frame is.
     let size = frame_some format at octets frame is in
-    let given = some_given count frame.held in
-    let rest = some_framing fuel frame.after (count_after count given.0) (at + frame.size) (drop frame.size octets)
+    let given = some_given count at frame.held in
+    let rest = some_readings fuel frame.after (count_after count given.0) (at + frame.size) (drop frame.size octets)
     (omega (arith, length-drop frame.size octets, size.0))
     in
     (given.0 ∷ rest.0, rest.1, (frame, is, given.1, rest.2)))
 
 pub some_reading : HasSomeReading
-some_reading format count at octets =
-    let all = some_framing (length octets) format count at octets (omega arith) in
-    (records_in all.0, all.1, (all.0, all.2, refl))
+some_reading format count at octets = some_readings (length octets) format count at octets (omega arith)

@@ -1,8 +1,10 @@
 -- The blocks of a pcapng file. Each begins with its type and its length, of four octets each, and ends with its length.
-use Rattle.std.specs.Prelude.{◌+◌, ◌-◌, ◌%◌, ◌^◌, ◌==◌, nat_lt, nat_le, min, if◌then◌else◌, Bool, ℕ, List, length, take, drop, Option, Some, None, Result, Ok, Err}
+use Rattle.std.specs.Prelude.{◌+◌, ◌-◌, ◌/◌, ◌%◌, ◌^◌, ◌==◌, ◌&&◌, ◌||◌, bit_or, nat_lt, nat_le, min, if◌then◌else◌, Bool, ℕ, List, length, take, drop, Some, Result, Ok, Err}
 use Rattle.byteorder.specs.Endian.{big_number}
 use Rattle.captures.specs.Framing.{Framed, half_in_order, number_in_order, or_fault, record_in_packet, sized}
 use Rattle.captures.specs.declared.block.Section.{Section}
+use Rattle.captures.specs.declared.block.Unread.{Unread}
+use Rattle.captures.specs.declared.block.Unread.TheVariants.{NoPacket, SimplePacket, OldPacket, OtherBlock, OtherLinkPacket}
 use Rattle.captures.specs.declared.fault.RecordFault.{RecordFault}
 use Rattle.captures.specs.declared.fault.RecordFault.TheVariants.{OddLength, LengthsDiffer, OtherMagic, OtherVersion, ShortBlock, OtherLink, NoInterface, LongPacket}
 use Rattle.captures.specs.declared.format.Order.{Order}
@@ -40,7 +42,7 @@ block_size section octets =
 
 -- A section begins, with numbers in this order, after so many interfaces of earlier sections, and with no interface of its own.
 abbrev pub section_begun : Order → ℕ → Section
-section_begun order before = record { order = order; before = before; interfaces = 0 }
+section_begun order before = record { order = order; before = before; interfaces = 0; others = 0 }
 
 -- The number among the interfaces of the whole file of an interface that has this one in its section, both from 0.
 abbrev pub interface_in_file : Section → ℕ → ℕ
@@ -50,6 +52,15 @@ interface_in_file section interface = min (section.before + interface) (2 ^ 64 -
 abbrev pub with_interface : Section → Section
 with_interface section = record section { interfaces = min (section.interfaces + 1) (2 ^ 64 - 1) }
 
+-- The same, where the packets of the new interface are no records: its bit among the others is set. Only the first 64 have one.
+abbrev pub with_other_interface : Section → Section
+with_other_interface section =
+    record section { interfaces = min (section.interfaces + 1) (2 ^ 64 - 1); others = bit_or section.others (2 ^ section.interfaces) }
+
+-- Whether the packets of an interface are no records.
+abbrev pub is_other_interface : Section → ℕ → Bool
+is_other_interface section interface = nat_lt interface 64 && (section.others / 2 ^ interface) % 2 == 1
+
 -- The section that a section header of version 1 begins after another section.
 abbrev pub section_of_header : Section → Order → List ℕ → Result Section RecordFault
 section_of_header section order block =
@@ -57,32 +68,46 @@ section_of_header section order block =
     else if half_in_order order (drop 12 block) == 1 then Ok (section_begun order (interface_in_file section section.interfaces))
     else Err (OtherVersion (half_in_order order (drop 12 block)))
 
--- The section after the description of an interface, whose packets are records: its link type, in octets 8 and 9, is 197.
+-- The section after the description of an interface. Its packets are records if its link type, in octets 8 and 9, is 197.
 abbrev pub section_of_interface : Section → List ℕ → Result Section RecordFault
 section_of_interface section block =
     if nat_lt (length block) 20 then Err (ShortBlock (length block))
     else if half_in_order section.order (drop 8 block) == 197 then Ok (with_interface section)
+    else if nat_lt section.interfaces 64 then Ok (with_other_interface section)
     else Err (OtherLink (half_in_order section.order (drop 8 block)))
 
--- The record in an enhanced packet block: in octets 8 to 11 is the number of an interface, from 0, in octets 20 to 23 the length
+-- The record in an enhanced packet block, or that its interface has no records: in octets 8 to 11 is the number of an interface, from 0, in octets 20 to 23 the length
 -- of the packet, and the packet begins with octet 28. What comes after it is not read, nor are the block's own times.
-abbrev pub record_of_packet : Section → List ℕ → Result Framed RecordFault
+abbrev pub record_of_packet : Section → List ℕ → Result (Result Framed Unread) RecordFault
 record_of_packet section block =
     if nat_lt (length block) 32 then Err (ShortBlock (length block))
     else if nat_le section.interfaces (number_in_order section.order (drop 8 block))
     then Err (NoInterface (number_in_order section.order (drop 8 block)))
     else if nat_lt (length block) (32 + number_in_order section.order (drop 20 block))
     then Err (LongPacket (number_in_order section.order (drop 20 block)))
+    else if is_other_interface section (number_in_order section.order (drop 8 block)) then Ok (Err OtherLinkPacket)
     else or_fault (record_in_packet (take (number_in_order section.order (drop 20 block)) (drop 28 block))) (λ octets.
-    Ok (record { packet = Some (interface_in_file section (number_in_order section.order (drop 8 block))); octets = octets }))
+    Ok (Ok (record { packet = Some (interface_in_file section (number_in_order section.order (drop 8 block))); octets = octets })))
 
--- The section after a block of this type, and the record in it, if it is an enhanced packet block. Blocks of other types are passed over.
-abbrev pub held_of_type : Section → Order → ℕ → List ℕ → Result (Section × Option Framed) RecordFault
+-- A block of this type has no packet: names (4), statistics (5), a journal's entry (9), secrets (10), or custom data.
+abbrev pub lacks_packet : ℕ → Bool
+lacks_packet kind = kind == 4 || kind == 5 || kind == 9 || kind == 10 || kind == 0xbad || kind == 0x40000bad
+
+-- What a block of this type is that is not read: a simple packet (3), an obsolete packet (2), one without a packet, or one of an unknown type.
+abbrev pub unread_of_type : ℕ → Unread
+unread_of_type kind =
+    if kind == 3 then SimplePacket
+    else if kind == 2 then OldPacket
+    else if lacks_packet kind then NoPacket
+    else OtherBlock kind
+
+-- The section after a block of this type, and the record in it, or what it is that is passed over.
+abbrev pub held_of_type : Section → Order → ℕ → List ℕ → Result (Section × Result Framed Unread) RecordFault
 held_of_type section order kind block =
-    if kind == 0x0a0d0d0a then or_fault (section_of_header section order block) (λ begun. Ok (begun, None))
-    else if kind == 1 then or_fault (section_of_interface section block) (λ more. Ok (more, None))
-    else if kind == 6 then or_fault (record_of_packet section block) (λ framed. Ok (section, Some framed))
-    else Ok (section, None)
+    if kind == 0x0a0d0d0a then or_fault (section_of_header section order block) (λ begun. Ok (begun, Err NoPacket))
+    else if kind == 1 then or_fault (section_of_interface section block) (λ more. Ok (more, Err NoPacket))
+    else if kind == 6 then or_fault (record_of_packet section block) (λ held. Ok (section, held))
+    else Ok (section, Err (unread_of_type kind))
 
 -- The order of the numbers in a whole block, which ends with its length.
 abbrev pub whole_block_order : Section → List ℕ → Result Order RecordFault
@@ -91,7 +116,7 @@ whole_block_order section block =
     if number_in_order order (drop (length block - 4) block) == length block then Ok order
     else Err (LengthsDiffer (number_in_order order (drop (length block - 4) block))))
 
--- The section after a whole block, and the record in it.
-abbrev pub block_held : Section → List ℕ → Result (Section × Option Framed) RecordFault
+-- The section after a whole block, and the record in it, or what it is.
+abbrev pub block_held : Section → List ℕ → Result (Section × Result Framed Unread) RecordFault
 block_held section block =
     or_fault (whole_block_order section block) (λ order. held_of_type section order (number_in_order order block) block)

@@ -3,6 +3,7 @@ use Rattle.std.specs.Prelude.{◌+◌, ◌^◌, nat_lt, if◌then◌else◌, ℕ
 use Rattle.captures.specs.Blocks.{block_held, block_size}
 use Rattle.captures.specs.Framing.{Framed, number_in_order, or_fault, record_in_packet, sized}
 use Rattle.captures.specs.Record.{record_length}
+use Rattle.captures.specs.declared.block.Unread.{Unread}
 use Rattle.captures.specs.declared.fault.RecordFault.{RecordFault}
 use Rattle.captures.specs.declared.fault.RecordFault.TheVariants.{TooFar}
 use Rattle.captures.specs.declared.format.Format.{Format}
@@ -27,20 +28,20 @@ frame_size Erf octets = sized 0 16 65535 (record_length octets)
 frame_size (Pcap order) octets = sized 16 16 65535 (number_in_order order (drop 8 octets))
 frame_size (PcapNg section) octets = block_size section octets
 
--- How the file goes on after a whole frame, and the record in the frame, if there is one.
-unfoldable pub frame_held : Format → List ℕ → Result (Format × Option Framed) RecordFault
-frame_held Erf frame = Ok (Erf, Some (record { packet = None; octets = frame }))
-frame_held (Pcap order) frame = or_fault (record_in_packet (drop 16 frame)) (λ octets. Ok (Pcap order, Some (record { packet = None; octets = octets })))
+-- How the file goes on after a whole frame, and the record in the frame, or what it is that has none.
+unfoldable pub frame_held : Format → List ℕ → Result (Format × Result Framed Unread) RecordFault
+frame_held Erf frame = Ok (Erf, Ok (record { packet = None; octets = frame }))
+frame_held (Pcap order) frame = or_fault (record_in_packet (drop 16 frame)) (λ octets. Ok (Pcap order, Ok (record { packet = None; octets = octets })))
 frame_held (PcapNg section) frame = or_fault (block_held section frame) (λ held. Ok (PcapNg held.0, held.1))
 
 -- What the first frame of a file's octets is: how many octets it has, and what it holds.
 pub record Frame : Type 0 where
   pub size : ℕ
   pub after : Format
-  pub held : Option Framed
+  pub held : Result Framed Unread
 
 -- A whole frame, which ends before octet 2^64 of the file.
-abbrev pub held_frame : ℕ → ℕ → Result (Format × Option Framed) RecordFault → Result Frame RecordFault
+abbrev pub held_frame : ℕ → ℕ → Result (Format × Result Framed Unread) RecordFault → Result Frame RecordFault
 held_frame at size held =
     or_fault held (λ it. if nat_lt (at + size) (2 ^ 64) then Ok (record { size = size; after = it.0; held = it.1 }) else Err TooFar)
 

@@ -1,6 +1,7 @@
 pub mod Record
 pub mod RecordContent
 pub mod Links
+pub mod Marks
 pub mod RecordReading
 pub mod Framing
 pub mod Blocks

@@ -1,15 +1,17 @@
--- The reading of a capture: its records in order, and then its end or the first place at which it is no capture.
-use Rattle.std.specs.Prelude.{◌≡◌, ◌≤◌, ◌<◌, ◌+◌, ◌^◌, ◌⊎◌, ℕ, List, [], ◌∷◌, ◌++◌, length, drop, Option, Some, None, Ok, Err}
+-- The reading of a capture: its records and what was passed over between them, in order, and then its end or the first place at which it is no capture.
+use Rattle.std.specs.Prelude.{◌≡◌, ◌≤◌, ◌<◌, ◌+◌, ◌^◌, ◌⊎◌, ℕ, List, [], ◌∷◌, ◌++◌, length, drop, Option, Some, None, Result, Ok, Err}
 use Rattle.captures.specs.Blocks.{most_block}
 use Rattle.captures.specs.Frames.{Frame, first_frame}
 use Rattle.captures.specs.Framing.{Framed}
 use Rattle.captures.specs.RecordReading.{IsRecordOf}
+use Rattle.captures.specs.declared.block.Unread.{Unread}
 use Rattle.captures.specs.declared.fault.Fault.{Fault}
 use Rattle.captures.specs.declared.fault.RecordFault.{RecordFault}
 use Rattle.captures.specs.declared.fault.RecordFault.TheVariants.{CutOff}
 use Rattle.captures.specs.declared.format.Format.{Format}
 use Rattle.captures.specs.declared.reader.Next.{Next}
 use Rattle.captures.specs.declared.reader.Next.TheVariants.{Taken, Passed, Unfinished, Broken}
+use Rattle.captures.specs.declared.reader.Passage.{Passage}
 use Rattle.captures.specs.declared.reader.Reader.{Reader}
 use Rattle.captures.specs.declared.reader.Record.{Record}
 
@@ -26,42 +28,31 @@ abbrev pub EndsReading : Format → ℕ → List ℕ → Option Fault → Type 0
 EndsReading format at octets None = octets ≡ []
 EndsReading format at octets (Some fault) = (fault.at ≡ at) × IsRecordFault format at octets fault.reason
 
--- What is given of a frame after this many records: the record in it, or nothing if it holds none.
-abbrev pub IsGiven : ℕ → Option Framed → Option Record → Type 0
-IsGiven count None None = Unit {0}
-IsGiven count None (Some record_read) = ⊥
-IsGiven count (Some framed) None = ⊥
-IsGiven count (Some framed) (Some record_read) = IsRecordOf (count + 1) framed record_read
+-- What is given of a frame after this many records, at this place: the record in it, or what it is and where.
+abbrev pub IsGiven : ℕ → ℕ → Result Framed Unread → Result Record Passage → Type 0
+IsGiven count at (Err unread) (Err passage) = passage ≡ record { what = unread; at = at }
+IsGiven count at (Err unread) (Ok record_read) = ⊥
+IsGiven count at (Ok framed) (Err passage) = ⊥
+IsGiven count at (Ok framed) (Ok record_read) = IsRecordOf (count + 1) framed record_read
 
 -- How many records there are after a frame.
-abbrev pub count_after : ℕ → Option Record → ℕ
-count_after count None = count
-count_after count (Some record_read) = count + 1
+abbrev pub count_after : ℕ → Result Record Passage → ℕ
+count_after count (Err passage) = count
+count_after count (Ok record_read) = count + 1
 
--- The records that are given of frames.
-abbrev pub records_in : List (Option Record) → List Record
-records_in [] = []
-records_in (None ∷ frames) = records_in frames
-records_in (Some record_read ∷ frames) = record_read ∷ records_in frames
-
--- After this many records, at this place, the octets are frames of which this is given, in order, and then end: the whole capture was
+-- After this many records, at this place, the octets are read as frames of which this is given, in order, and then end: the whole capture was
 -- read, or this is its first fault.
-abbrev pub IsFraming : Format → ℕ → ℕ → List ℕ → List (Option Record) → Option Fault → Type 0
-IsFraming format count at octets [] ending = EndsReading format at octets ending
-IsFraming format count at octets (given ∷ frames) ending =
-    (frame : Frame) × (first_frame format at octets ≡ Some (Ok frame)) × IsGiven count frame.held given
-    × IsFraming frame.after (count_after count given) (at + frame.size) (drop frame.size octets) frames ending
-
--- After this many records, at this place, the octets are read as these records in order, and then end.
-abbrev pub IsReading : Format → ℕ → ℕ → List ℕ → List Record → Option Fault → Type 0
-IsReading format count at octets records ending =
-    (frames : List (Option Record)) × IsFraming format count at octets frames ending × (records ≡ records_in frames)
+abbrev pub IsReading : Format → ℕ → ℕ → List ℕ → List (Result Record Passage) → Option Fault → Type 0
+IsReading format count at octets [] ending = EndsReading format at octets ending
+IsReading format count at octets (given ∷ frames) ending =
+    (frame : Frame) × (first_frame format at octets ≡ Some (Ok frame)) × IsGiven count at frame.held given
+    × IsReading frame.after (count_after count given) (at + frame.size) (drop frame.size octets) frames ending
 
 -- A reader goes on by one frame of this many octets, of which this is given. A frame has one octet at least.
-pub record TakesFrame (before : Reader) (octets : List ℕ) (given : Option Record) (consumed : ℕ) (after : Reader) : Type 0 where
+pub record TakesFrame (before : Reader) (octets : List ℕ) (given : Result Record Passage) (consumed : ℕ) (after : Reader) : Type 0 where
   pub frame : Frame
   pub first : first_frame before.format before.at octets ≡ Some (Ok frame)
-  pub given_of : IsGiven before.count frame.held given
+  pub given_of : IsGiven before.count before.at frame.held given
   pub size : consumed ≡ frame.size
   pub some : 0 < consumed
   pub within : consumed ≤ length octets
@@ -79,8 +70,8 @@ pub record IsSamePlace (before after : Reader) : Type 0 where
 -- What comes next for a reader at octets, of which more may follow, and the reader after it: the frame with which they
 -- begin, what is given of it, and how many octets it has; or more octets are wanted; or a fault, whatever follows.
 abbrev pub ComesNext : Reader → List ℕ → Next → Reader → Type 0
-ComesNext before octets (Taken record_read consumed) after = TakesFrame before octets (Some record_read) consumed after
-ComesNext before octets (Passed consumed) after = TakesFrame before octets None consumed after
+ComesNext before octets (Taken record_read consumed) after = TakesFrame before octets (Ok record_read) consumed after
+ComesNext before octets (Passed passage consumed) after = TakesFrame before octets (Err passage) consumed after
 ComesNext before octets Unfinished after =
     (first_frame before.format before.at octets ≡ None) × (length octets < most_block) × IsSamePlace before after
 ComesNext before octets (Broken fault) after =
@@ -88,24 +79,24 @@ ComesNext before octets (Broken fault) after =
 
 -- A reading begins with the frame that comes next, and goes on as the reading of what follows it.
 abbrev pub FramesAreReadInOrder : Type 0
-FramesAreReadInOrder = (before after : Reader) (octets more : List ℕ) (given : Option Record) (consumed : ℕ) (frames : List (Option Record)) (ending : Option Fault)
+FramesAreReadInOrder = (before after : Reader) (octets more : List ℕ) (given : Result Record Passage) (consumed : ℕ) (frames : List (Result Record Passage)) (ending : Option Fault)
     → TakesFrame before octets given consumed after
-    → IsFraming after.format after.count after.at (drop consumed octets ++ more) frames ending
-    → IsFraming before.format before.count before.at (octets ++ more) (given ∷ frames) ending
+    → IsReading after.format after.count after.at (drop consumed octets ++ more) frames ending
+    → IsReading before.format before.count before.at (octets ++ more) (given ∷ frames) ending
 
 -- A reading ends with the fault that comes next, whatever follows.
 abbrev pub FaultsEndReadings : Type 0
 FaultsEndReadings = (before after : Reader) (octets more : List ℕ) (fault : Fault)
     → ComesNext before octets (Broken fault) after
-    → IsFraming before.format before.count before.at (octets ++ more) [] (Some fault)
+    → IsReading before.format before.count before.at (octets ++ more) [] (Some fault)
 
 -- A capture has at most one reading.
 abbrev pub HasOneReading : Type 0
-HasOneReading = (format : Format) (count at : ℕ) (octets : List ℕ) (records others : List Record) (ending other : Option Fault)
-    → IsReading format count at octets records ending → IsReading format count at octets others other
-    → (records ≡ others) × (ending ≡ other)
+HasOneReading = (format : Format) (count at : ℕ) (octets : List ℕ) (frames others : List (Result Record Passage)) (ending other : Option Fault)
+    → IsReading format count at octets frames ending → IsReading format count at octets others other
+    → (frames ≡ others) × (ending ≡ other)
 
 -- Any octets have a reading.
 abbrev pub HasSomeReading : Type 0
 HasSomeReading = (format : Format) (count at : ℕ) (octets : List ℕ)
-    → (records : List Record) × (ending : Option Fault) × IsReading format count at octets records ending
+    → (frames : List (Result Record Passage)) × (ending : Option Fault) × IsReading format count at octets frames ending

@@ -20,6 +20,14 @@ record_flags octets = slice_index octets 9
 abbrev pub record_interface : List ℕ → ℕ
 record_interface octets = record_flags octets % 4 + 4 * (record_flags octets / 64 % 2)
 
+-- How many records were lost before this one: the number in octets 12 and 13, the highest first. Records of cells have this loss counter.
+unfoldable pub record_losses : List ℕ → ℕ
+record_losses octets = big_number 2 (drop 12 octets)
+
+-- How many octets came by the link: the number in octets 14 and 15, the highest first.
+unfoldable pub record_wire_length : List ℕ → ℕ
+record_wire_length octets = big_number 2 (drop 14 octets)
+
 -- The length of a record with all of its headers, in octets: the number in octets 10 and 11, the highest first.
 unfoldable pub record_length : List ℕ → ℕ
 record_length octets = big_number 2 (drop 10 octets)

@@ -1,6 +1,6 @@
 -- The cell in a record, or why there is none.
-use Rattle.std.specs.Prelude.{◌≡◌, ◌≢◌, ◌≤◌, ◌<◌, ◌*◌, ◌+◌, ◌-◌, ◌/◌, ◌%◌, ◌⊎◌, ◌==◌, ℕ, List, length, take, drop, if◌then◌else◌, Result, Ok, Err}
-use Rattle.captures.specs.Record.{record_type, record_flags, HasExtensions}
+use Rattle.std.specs.Prelude.{◌≡◌, ◌≢◌, ◌≤◌, ◌<◌, ◌*◌, ◌+◌, ◌-◌, ◌/◌, ◌%◌, ◌⊎◌, ◌==◌, ℕ, List, length, take, drop, min, if◌then◌else◌, Result, Ok, Err}
+use Rattle.captures.specs.Record.{record_type, record_flags, record_wire_length, HasExtensions}
 use Rattle.captures.specs.declared.content.NoCell.{NoCell}
 use Rattle.captures.specs.declared.content.NoCell.TheVariants.{OtherType, Errored, CutShort}
 
@@ -29,12 +29,17 @@ IsGoodCell octets = IsOfCell octets × (¬ IsErrored octets)
 abbrev pub FromCellPlace : List ℕ → (ℕ → Type 0) → Type 0
 FromCellPlace octets P = (extensions : ℕ) × HasExtensions octets extensions × P (cell_place octets extensions)
 
+-- How many octets of a cell a record has from this place on: as many as came by the link, and no more than there are. What comes after
+-- them is padding.
+abbrev pub octets_of_cell : List ℕ → ℕ → ℕ
+octets_of_cell octets place = min (length octets - place) (record_wire_length octets)
+
 -- What a record holds: no cell if it is of another type or was received with an error. Otherwise the 52 octets from the place
--- of the cell, or no cell if it has fewer from there on.
+-- of the cell, or no cell if it has fewer of it.
 abbrev pub IsContent : List ℕ → Result (List ℕ) NoCell → Type 0
 IsContent octets (Err (OtherType number)) = (¬ IsOfCell octets) × (number ≡ record_type octets)
 IsContent octets (Err Errored) = IsOfCell octets × IsErrored octets
 IsContent octets (Err (CutShort number)) =
-    IsGoodCell octets × FromCellPlace octets (λ place. (length octets < place + 52) × (number ≡ length octets - place))
+    IsGoodCell octets × FromCellPlace octets (λ place. (octets_of_cell octets place < 52) × (number ≡ octets_of_cell octets place))
 IsContent octets (Ok cell) =
-    IsGoodCell octets × FromCellPlace octets (λ place. (place + 52 ≤ length octets) × (cell ≡ take 52 (drop place octets)))
+    IsGoodCell octets × FromCellPlace octets (λ place. (52 ≤ octets_of_cell octets place) × (cell ≡ take 52 (drop place octets)))

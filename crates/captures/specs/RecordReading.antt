@@ -2,6 +2,7 @@
 use Rattle.std.specs.Prelude.{◌≡◌, ℕ}
 use Rattle.captures.specs.Framing.{Framed}
 use Rattle.captures.specs.Links.{IsChannelOf}
+use Rattle.captures.specs.Marks.{AreMarksOf}
 use Rattle.captures.specs.Record.{record_interface, record_time}
 use Rattle.captures.specs.RecordContent.{IsContent}
 use Rattle.captures.specs.declared.reader.Record.{Record}
@@ -12,5 +13,6 @@ pub record IsRecordOf (number : ℕ) (framed : Framed) (record_read : Record) : 
   pub packet : record_read.link.packet ≡ framed.packet
   pub interface : record_read.link.interface ≡ record_interface framed.octets
   pub channel : IsChannelOf framed.octets record_read.content record_read.link.channel
+  pub marks : AreMarksOf framed.octets record_read.content record_read.marks
   pub time : record_read.time ≡ record_time framed.octets
   pub content : IsContent framed.octets record_read.content

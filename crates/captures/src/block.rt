@@ -1,8 +1,8 @@
 //! The blocks of a pcapng file.
 
-ghost use Rattle.std.specs.Prelude.{◌≡◌, ◌≤◌, ◌+◌, length, IfErr, IfOk, IfSome, Ok, Err, option_map};
-ghost use Rattle.captures.specs.Blocks.{block_order, block_size, block_held, even_block, held_of_type, interface_in_file, is_section_header as begins_section, order_of_magic, record_of_packet, section_of_header, section_of_interface, whole_block_order};
-ghost use Rattle.captures.specs.inner.Lent.{framed_of};
+ghost use Rattle.std.specs.Prelude.{◌≡◌, ◌≤◌, ◌+◌, length, IfErr, IfOk, Ok, Err};
+ghost use Rattle.captures.specs.Blocks.{block_order, block_size, block_held, even_block, held_of_type, interface_in_file, is_other_interface, lacks_packet, is_section_header as begins_section, order_of_magic, record_of_packet, section_of_header, section_of_interface, unread_of_type, whole_block_order};
+ghost use Rattle.captures.specs.inner.Lent.{held_of};
 ghost use Rattle.captures.specs.Framing.{record_in_packet as record_of, sized as size_stated};
 
 use crate::fault::RecordFault;
@@ -14,6 +14,10 @@ use byteorder::{BigEndian, ByteOrder};
 const SECTION_HEADER: u32 = 0x0a0d_0d0a;
 /// The type of the description of an interface.
 const INTERFACE: u32 = 1;
+/// The type of an obsolete packet.
+const OLD_PACKET: u32 = 2;
+/// The type of a simple packet.
+const SIMPLE_PACKET: u32 = 3;
 /// The type of an enhanced packet.
 const ENHANCED_PACKET: u32 = 6;
 /// The link type of packets that are records.
@@ -40,15 +44,33 @@ pub struct Section {
     pub before: u64,
     /// How many interfaces it has.
     pub interfaces: u64,
+    /// Which of its first 64 interfaces have packets that are no records: bit N is set for interface N.
+    pub others: u64,
 }
 
-/// The section after a block, and the record in it, if it has one.
+/// A block or a packet that has no record for this reader.
+#[derive(Clone, Copy, PartialEq, Eq, Debug)]
+pub enum Unread {
+    /// A block without a packet: a section header, the description of an interface, names, statistics, an entry of a journal, secrets or
+    /// custom data.
+    NoPacket,
+    /// A simple packet block (type 3).
+    SimplePacket,
+    /// An obsolete packet block (type 2).
+    OldPacket,
+    /// A block of a type that isn't known: this one.
+    OtherBlock(u32),
+    /// A packet of an interface of another link type than ERF.
+    OtherLinkPacket,
+}
+
+/// The section after a block, and the record in it, or what it is that has none.
 #[derive(Clone, Copy)]
 pub(crate) struct BlockHeld<'a> {
     /// The section after the block.
     pub(crate) section: Section,
-    /// The record in the block.
-    pub(crate) framed: Option<LentRecord<'a>>,
+    /// The record in the block, or what it is.
+    pub(crate) framed: Result<LentRecord<'a>, Unread>,
 }
 
 /// Returns whether octets begin with a section header.
@@ -82,6 +104,25 @@ fn even(size: usize) -> Result<usize, RecordFault>
     }
 }
 
+/// Returns whether a block of this type has no packet.
+fn has_no_packet(kind: u32) -> bool
+    ensures { result ≡ lacks_packet kind }
+{
+    matches!(kind, 4 | 5 | 9 | 10 | 0xbad | 0x4000_0bad)
+}
+
+/// Returns what a block of this type is that is not read.
+fn unread_by_type(kind: u32) -> Unread
+    ensures { result ≡ unread_of_type kind }
+{
+    match kind {
+        SIMPLE_PACKET => Unread::SimplePacket,
+        OLD_PACKET => Unread::OldPacket,
+        _ if has_no_packet(kind) => Unread::NoPacket,
+        _ => Unread::OtherBlock(kind),
+    }
+}
+
 /// Returns the section that a header begins after another section, with numbers in this order.
 fn begun_by(section: Section, order: Order, block: &[u8]) -> Result<Section, RecordFault>
     requires { length block.now ≤ 131072 }
@@ -95,6 +136,7 @@ fn begun_by(section: Section, order: Order, block: &[u8]) -> Result<Section, Rec
             order,
             before: section.in_file(section.interfaces),
             interfaces: 0,
+            others: 0,
         }),
         version => Err(RecordFault::OtherVersion(version)),
     }
@@ -139,22 +181,31 @@ impl Section {
         if block.len() < INTERFACE_OCTETS {
             return Err(RecordFault::ShortBlock(block.len() as u32));
         }
+        let interfaces = self.interfaces.saturating_add(1);
         match self.order.half_in(from_place(block, 8)) {
-            LINK_ERF => Ok(Section {
-                order: self.order,
-                before: self.before,
-                interfaces: self.interfaces.saturating_add(1),
+            LINK_ERF => Ok(Section { interfaces, ..self }),
+            _ if self.interfaces < 64 => Ok(Section {
+                interfaces,
+                others: self.others | (1 << self.interfaces),
+                ..self
             }),
             link => Err(RecordFault::OtherLink(link)),
         }
     }
 
-    /// Returns the record in an enhanced packet block.
-    fn record_in(self, block: &[u8]) -> Result<LentRecord<'_>, RecordFault>
+    /// Returns whether the packets of an interface are no records.
+    fn is_other(self, interface: u32) -> bool
+        ensures { result ≡ is_other_interface self interface }
+    {
+        interface < 64 && (self.others >> interface) % 2 == 1
+    }
+
+    /// Returns the record in an enhanced packet block, or that its interface has none.
+    fn record_in(self, block: &[u8]) -> Result<Result<LentRecord<'_>, Unread>, RecordFault>
         requires { length block.now ≤ 131072 }
-        ensures record { IfOk result (λ framed. record_of_packet self block.now ≡ Ok (framed_of framed)) }
+        ensures record { IfOk result (λ held. record_of_packet self block.now ≡ Ok (held_of held)) }
         ensures fault { IfErr result (λ reason. record_of_packet self block.now ≡ Err reason) }
-        ensures headed { IfOk result (λ framed. 16 ≤ length framed.octets.now) }
+        ensures headed { IfOk result (λ held. IfOk held (λ framed. 16 ≤ length framed.octets.now)) }
     {
         if block.len() < ENHANCED_PACKET_OCTETS {
             return Err(RecordFault::ShortBlock(block.len() as u32));
@@ -167,11 +218,14 @@ impl Section {
         if block.len() < ENHANCED_PACKET_OCTETS + captured as usize {
             return Err(RecordFault::LongPacket(captured));
         }
+        if self.is_other(interface) {
+            return Ok(Err(Unread::OtherLinkPacket));
+        }
         let packet = &from_place(block, PACKET_PLACE)[..captured as usize];
-        Ok(LentRecord {
+        Ok(Ok(LentRecord {
             packet: Some(self.in_file(u64::from(interface))),
             octets: record_in_packet(packet)?,
-        })
+        }))
     }
 
     /// Returns what a block of this type holds.
@@ -183,26 +237,26 @@ impl Section {
     ) -> Result<BlockHeld<'_>, RecordFault>
         requires { length block.now ≤ 131072 }
         ensures held { IfOk result (λ held. held_of_type self order kind block.now
-            ≡ Ok (held.section, option_map framed_of held.framed)) }
+            ≡ Ok (held.section, held_of held.framed)) }
         ensures fault { IfErr result (λ reason. held_of_type self order kind block.now ≡ Err reason) }
-        ensures headed { IfOk result (λ held. IfSome held.framed (λ framed. 16 ≤ length framed.octets.now)) }
+        ensures headed { IfOk result (λ held. IfOk held.framed (λ framed. 16 ≤ length framed.octets.now)) }
     {
         match kind {
             SECTION_HEADER => Ok(BlockHeld {
                 section: begun_by(self, order, block)?,
-                framed: None,
+                framed: Err(Unread::NoPacket),
             }),
             INTERFACE => Ok(BlockHeld {
                 section: self.with_interface(block)?,
-                framed: None,
+                framed: Err(Unread::NoPacket),
             }),
             ENHANCED_PACKET => Ok(BlockHeld {
                 section: self,
-                framed: Some(self.record_in(block)?),
+                framed: self.record_in(block)?,
             }),
             _ => Ok(BlockHeld {
                 section: self,
-                framed: None,
+                framed: Err(unread_by_type(kind)),
             }),
         }
     }
@@ -227,9 +281,9 @@ impl Section {
         requires whole { 12 ≤ length block.now }
         requires bounded { length block.now ≤ 131072 }
         ensures held { IfOk result (λ held. block_held self block.now
-            ≡ Ok (held.section, option_map framed_of held.framed)) }
+            ≡ Ok (held.section, held_of held.framed)) }
         ensures fault { IfErr result (λ reason. block_held self block.now ≡ Err reason) }
-        ensures headed { IfOk result (λ held. IfSome held.framed (λ framed. 16 ≤ length framed.octets.now)) }
+        ensures headed { IfOk result (λ held. IfOk held.framed (λ framed. 16 ≤ length framed.octets.now)) }
     {
         let order = self.order_of_whole(block)?;
         self.held_by_type(order, order.number_in(block), block)

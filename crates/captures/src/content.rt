@@ -7,14 +7,15 @@ ghost use Rattle.captures.specs.inner.Received.{ComesAfterHeaders, IsCellFrom, I
 
 use crate::lent_cell::LentCell;
 use crate::link::CHANNEL_OCTETS;
-use crate::packet::HEADER_OCTETS;
+use crate::packet::{HEADER_OCTETS, from_place};
+use byteorder::{BigEndian, ByteOrder};
 use thiserror::Error;
 use upc_cell::CELL_OCTETS;
 
 /// The octets of an extension header.
 const EXTENSION_OCTETS: usize = 8;
 /// The type of a record that holds a cell.
-const ATM: u8 = 3;
+pub(crate) const ATM: u8 = 3;
 /// The type of a record that holds a cell after a multi-channel header.
 pub(crate) const MC_ATM: u8 = 7;
 
@@ -27,7 +28,7 @@ pub enum NoCell {
     /// The cell was received or stored with an error.
     #[error("2 Errored")]
     Errored,
-    /// The record ends before the 52nd octet of its cell: how many octets it has of it.
+    /// Fewer than 52 octets of the cell are in the record or came by the link: how many it has.
     #[error("3 CutShort {0}")]
     CutShort(usize),
 }
@@ -48,15 +49,15 @@ fn extensions_in(octets: &[u8]) -> usize
 }
 
 /// Returns the place, if a cell begins there, or how much of it there is.
+#[tactic(auto, unfolding(crate::specs::Record::record_wire_length))]
 #[inline(always)]
 fn place_from(octets: &[u8], place: usize) -> Result<usize, NoCell>
+    requires { 16 ≤ length octets.now }
     ensures placed { IsPlaced (IsCellFrom octets.now place) octets.now result }
     ensures same { IfOk result (λ found. found ≡ place) }
 {
-    if octets.len() < place {
-        return Err(NoCell::CutShort(0));
-    }
-    let left = octets.len() - place;
+    let came = usize::from(BigEndian::read_u16(from_place(octets, 14)));
+    let left = octets.len().saturating_sub(place).min(came);
     if left < CELL_OCTETS {
         return Err(NoCell::CutShort(left));
     }

@@ -35,7 +35,7 @@ pub enum RecordFault {
     /// The length of the block, which is too short for what its type has.
     #[error("10 ShortBlock {0}")]
     ShortBlock(u32),
-    /// The link type of the interface, which is not that of ERF (197).
+    /// The link type of an interface that comes after 64 others of its section, which is not that of ERF (197).
     #[error("11 OtherLink {0}")]
     OtherLink(u16),
     /// The interface of the packet, from 0, which the section doesn't describe.

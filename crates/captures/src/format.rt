@@ -1,8 +1,8 @@
 //! How records follow one another in a file.
 
-ghost use Rattle.std.specs.Prelude.{◌≡◌, ◌≤◌, ◌+◌, length, IfErr, IfOk, IfSome, Ok, Err, option_map};
+ghost use Rattle.std.specs.Prelude.{◌≡◌, ◌≤◌, ◌+◌, length, IfErr, IfOk, Ok, Err};
 
-use crate::block::{LEAST_BLOCK, Section};
+use crate::block::{LEAST_BLOCK, Section, Unread};
 use crate::fault::RecordFault;
 use crate::packet::{HEADER_OCTETS, from_place, length_of, record_in_packet, sized};
 use byteorder::{BigEndian, ByteOrder, LittleEndian};
@@ -43,13 +43,13 @@ pub(crate) struct LentRecord<'a> {
     pub(crate) octets: &'a [u8],
 }
 
-/// How a file goes on after a frame, and the record in the frame, if it has one.
+/// How a file goes on after a frame, and the record in the frame, or what it is that has none.
 #[derive(Clone, Copy)]
 pub(crate) struct Held<'a> {
     /// What the file has of records after the frame.
     pub(crate) after: Format,
-    /// The record in the frame.
-    pub(crate) framed: Option<LentRecord<'a>>,
+    /// The record in the frame, or what it is.
+    pub(crate) framed: Result<LentRecord<'a>, Unread>,
 }
 
 impl Order {
@@ -79,7 +79,7 @@ impl Order {
 }
 
 impl Format {
-    ghost use Rattle.captures.specs.inner.Lent.{framed_of};
+    ghost use Rattle.captures.specs.inner.Lent.{held_of};
     ghost use Rattle.captures.specs.Frames.{format_start, frame_held, frame_size, head_length};
 
     /// Returns how many octets of the file come before its first record, packet or block.
@@ -132,21 +132,21 @@ impl Format {
         requires whole { head_length self ≤ length frame.now }
         requires bounded { length frame.now ≤ 131072 }
         ensures held { IfOk result (λ held. frame_held self frame.now
-            ≡ Ok (held.after, option_map framed_of held.framed)) }
+            ≡ Ok (held.after, held_of held.framed)) }
         ensures fault { IfErr result (λ reason. frame_held self frame.now ≡ Err reason) }
-        ensures headed { IfOk result (λ held. IfSome held.framed (λ framed. 16 ≤ length framed.octets.now)) }
+        ensures headed { IfOk result (λ held. IfOk held.framed (λ framed. 16 ≤ length framed.octets.now)) }
     {
         match self {
             Format::Erf => Ok(Held {
                 after: self,
-                framed: Some(LentRecord {
+                framed: Ok(LentRecord {
                     packet: None,
                     octets: frame,
                 }),
             }),
             Format::Pcap(_) => Ok(Held {
                 after: self,
-                framed: Some(LentRecord {
+                framed: Ok(LentRecord {
                     packet: None,
                     octets: record_in_packet(from_place(frame, PACKET_HEADER_OCTETS))?,
                 }),

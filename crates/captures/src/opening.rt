@@ -79,6 +79,7 @@ fn open_by(magic: u32, octets: &[u8]) -> Opening
             order: Order::LowestFirst,
             before: 0,
             interfaces: 0,
+            others: 0,
         })),
         _ if magic / 0x100 == 0x001f_8b08 => Opening::Refused(FileFault::Gzip),
         _ if begins_as_text(octets) => Opening::Refused(FileFault::Text),

@@ -2,15 +2,18 @@
 
 ghost use Rattle.std.specs.Prelude.{◌≡◌, ◌≤◌, length};
 ghost use Rattle.captures.specs.Links.{IsChannelOf};
+ghost use Rattle.captures.specs.Marks.{AreMarksOf};
 ghost use Rattle.captures.specs.inner.Lent.{framed_of};
 ghost use Rattle.captures.specs.RecordContent.{IsContent};
 ghost use Rattle.captures.specs.RecordReading.{IsRecordOf};
 
+use crate::block::Unread;
 use crate::content::{NoCell, cell_at, place_of};
 use crate::fault::{Fault, RecordFault};
 use crate::format::{Format, LentRecord};
 use crate::lent_cell::LentCell;
 use crate::link::{Channel, Link, channel_before};
+use crate::marks::{Marks, first_marks, marks_before};
 use byteorder::{ByteOrder, LittleEndian};
 
 /// A record of a capture. It borrows its cell from the octets that it was read from.
@@ -20,10 +23,21 @@ pub struct Record<'a> {
     pub number: u64,
     /// The link by which it was received. Only a record with a cell has its channel.
     pub link: Link,
+    /// What it says of losses before it, and of doubts about its cell.
+    pub marks: Marks,
     /// When it was received, in units of 2^-32 seconds since 1970.
     pub time: u64,
     /// Its cell, which the octets lend, or why it holds none.
     pub content: Result<LentCell<'a>, NoCell>,
+}
+
+/// A block or a packet that was passed over.
+#[derive(Clone, Copy, PartialEq, Eq, Debug)]
+pub struct Passage {
+    /// What it is.
+    pub what: Unread,
+    /// The place at which it begins, in octets from 0.
+    pub at: u64,
 }
 
 /// What comes next in a capture.
@@ -32,7 +46,7 @@ pub enum Next<'a> {
     /// A record, and how many octets are of it and its packet or block.
     Taken(Record<'a>, usize),
     /// A block without a record, and how many octets it has.
-    Passed(usize),
+    Passed(Passage, usize),
     /// The beginning of a record, packet or block, or nothing: more octets are wanted.
     Unfinished,
     /// No record.
@@ -51,16 +65,18 @@ pub struct Reader {
     ghost counted: { count ≤ at },
 }
 
-/// Returns the record with this number, channel and content, in this frame.
+/// Returns the record with this number, channel, marks and content, in this frame.
 #[inline(always)]
 fn record_of<'a>(
     number: u64,
     framed: LentRecord<'a>,
     channel: Option<Channel>,
+    marks: Marks,
     content: Result<LentCell<'a>, NoCell>,
 ) -> Record<'a>
     requires headed { 16 ≤ length framed.octets.now }
     requires channel { IsChannelOf framed.octets.now content channel }
+    requires marks { AreMarksOf framed.octets.now content marks }
     requires held { IsContent framed.octets.now content }
     ensures { IsRecordOf number (framed_of framed.entry) result }
 {
@@ -72,6 +88,7 @@ fn record_of<'a>(
             interface: flags % 4 + 4 * (flags / 0x40 % 2),
             channel,
         },
+        marks,
         time: LittleEndian::read_u64(framed.octets),
         content,
     }
@@ -86,10 +103,14 @@ fn record_in(number: u64, framed: LentRecord<'_>) -> Record<'_>
     match place_of(framed.octets) {
         Ok(place) => {
             let channel = channel_before(framed.octets, place);
+            let marks = marks_before(framed.octets, place);
             let content = Ok(cell_at(framed.octets, place));
-            record_of(number, framed, channel, content)
+            record_of(number, framed, channel, marks, content)
         }
-        Err(why) => record_of(number, framed, None, Err(why)),
+        Err(why) => {
+            let marks = first_marks(framed.octets);
+            record_of(number, framed, None, marks, Err(why))
+        }
     }
 }
 
@@ -134,16 +155,19 @@ impl Reader {
             Ok(held) => held,
             Err(reason) => return self.broken(reason),
         };
-        let Some(at) = self.at.checked_add(size as u64) else {
+        let at = self.at;
+        let Some(end) = at.checked_add(size as u64) else {
             return self.broken(RecordFault::TooFar);
         };
-        self.at = at;
+        self.at = end;
         self.format = held.after;
-        let Some(framed) = held.framed else {
-            return Next::Passed(size);
-        };
-        self.count += 1;
-        Next::Taken(record_in(self.count, framed), size)
+        match held.framed {
+            Err(what) => Next::Passed(Passage { what, at }, size),
+            Ok(framed) => {
+                self.count += 1;
+                Next::Taken(record_in(self.count, framed), size)
+            }
+        }
     }
 
     /// `Broken` at the current place.

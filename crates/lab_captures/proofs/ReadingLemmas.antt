@@ -1,5 +1,5 @@
 -- Records that are read ahead: each frame keeps what the reading so far has.
-use Rattle.std.proofs.Common.{◌≡◌, ◌⊎◌, inl, inr, ◌+◌, ◌^◌, ◌<◌, ◌≤◌, ℕ, List, [], ◌∷◌, ◌++◌, length, take, drop, Some, None, refl, ap, sym, ◌∙◌, subst, arith, append_assoc, append-nil}
+use Rattle.std.proofs.Common.{◌≡◌, ◌⊎◌, inl, inr, ◌+◌, ◌^◌, ◌<◌, ◌≤◌, ℕ, List, [], ◌∷◌, ◌++◌, length, take, drop, Some, None, Ok, Err, refl, ap, sym, ◌∙◌, subst, arith, append_assoc, append-nil}
 use Rattle.std.proofs.lemmas.List.{length-append, length-drop, take-append-drop}
 use Rattle.captures.specs.Frames.{first_frame}
 use Rattle.captures.specs.Reading.{ComesNext, TakesFrame}
@@ -7,9 +7,10 @@ use Rattle.captures.specs.declared.fault.Fault.{Fault}
 use Rattle.captures.specs.declared.format.Format.{Format}
 use Rattle.captures.specs.declared.link.Link.{Link}
 use Rattle.captures.specs.declared.reader.Next.TheVariants.{Broken as BrokenNext, Unfinished}
+use Rattle.captures.specs.declared.reader.Passage.{Passage}
 use Rattle.captures.specs.declared.reader.Reader.{Reader}
 use Rattle.captures.specs.declared.reader.Record.{Record}
-use Rattle.lab_captures.specs.CellFilter.{CellsEnd, Closes, Crosses, FilterState, HasCells, filter_record, filter_state}
+use Rattle.lab_captures.specs.CellFilter.{CellsEnd, Closes, Crosses, FilterState, HasCells, filter_passage, filter_record, filter_state}
 use Rattle.lab_captures.specs.declared.counted.CountedCell.{CountedCell}
 use Rattle.lab_captures.specs.declared.filter.CellFilter.{CellFilter}
 use Rattle.lab_captures.specs.declared.filter.Filtered.TheVariants.{Counts, Passed, Several}
@@ -71,17 +72,19 @@ reads_more before between reader filter own last old new newer reads grew some w
     }
 
 -- A frame without a record.
-pub reads_passed : (before between after : ReadingAhead) (own : ℕ) (old new : List CountedCell)
-    → ReadsSoFar before between old new → TakesFrame between.reader between.window None own after.reader
-    → after ≡ after_frame between after.reader between.filter own → ReadsSoFar before after old new
-reads_passed before between after own old new reads takes is =
+pub reads_passed : (before between after : ReadingAhead) (passage : Passage) (own : ℕ) (old new : List CountedCell)
+    → ReadsSoFar before between old new → TakesFrame between.reader between.window (Err passage) own after.reader
+    → filter_state after.filter ≡ filter_passage (filter_state between.filter) passage
+    → after ≡ after_frame between after.reader after.filter own → ReadsSoFar before after old new
+reads_passed before between after passage own old new reads takes passes is =
     subst (λ (reading : ReadingAhead). ReadsSoFar before reading old new) (sym is)
-    (reads_more before between after.reader between.filter own [] old new new reads (sym (append-nil new)) takes.some takes.within takes.at takes.near
-    (λ more later end has. passed_cells (filter_state between.filter) between.reader after.reader between.window more own later end takes has))
+    (reads_more before between after.reader after.filter own [] old new new reads (sym (append-nil new)) takes.some takes.within takes.at takes.near
+    (λ more later end has. passed_cells (filter_state between.filter) between.reader after.reader passage between.window more own later end takes
+    (subst (λ (state : FilterState). HasCells state after.reader.format after.reader.count after.reader.at (drop own between.window ++ more) later end) passes has)))
 
 -- A record that is passed over.
 pub reads_uncounted : (before between after : ReadingAhead) (record_read : Record) (own : ℕ) (old new : List CountedCell)
-    → ReadsSoFar before between old new → TakesFrame between.reader between.window (Some record_read) own after.reader
+    → ReadsSoFar before between old new → TakesFrame between.reader between.window (Ok record_read) own after.reader
     → filter_record (filter_state between.filter) record_read ≡ (Passed, filter_state after.filter)
     → after ≡ after_frame between after.reader after.filter own → ReadsSoFar before after old new
 reads_uncounted before between after record_read own old new reads takes read is =
@@ -93,7 +96,7 @@ reads_uncounted before between after record_read own old new reads takes read is
 -- A record with a cell that counts.
 pub reads_counted : (before between after : ReadingAhead) (record_read : Record) (moment : ℕ) (cell : List ℕ) (own : ℕ)
     (old new newer : List CountedCell) (counted : CountedCell)
-    → ReadsSoFar before between old new → TakesFrame between.reader between.window (Some record_read) own after.reader
+    → ReadsSoFar before between old new → TakesFrame between.reader between.window (Ok record_read) own after.reader
     → filter_record (filter_state between.filter) record_read ≡ (Counts moment cell, filter_state after.filter)
     → counted ≡ record { number = record_read.number; moment = moment; cell = cell } → newer ≡ new ++ counted ∷ []
     → after ≡ after_frame between after.reader after.filter own → ReadsSoFar before after old newer
@@ -108,7 +111,7 @@ reads_counted before between after record_read moment cell own old new newer cou
 
 -- After a record the reading is farther than at first.
 pub reads_moved : (before between : ReadingAhead) (reader : Reader) (record_read : Record) (own : ℕ) (old new : List CountedCell)
-    → ReadsSoFar before between old new → TakesFrame between.reader between.window (Some record_read) own reader → before.reader.at < reader.at
+    → ReadsSoFar before between old new → TakesFrame between.reader between.window (Ok record_read) own reader → before.reader.at < reader.at
 reads_moved before between reader record_read own old new reads takes =
     let cut = ap (λ (xs : List ℕ). length xs) reads.went.cut in
     omega (arith, reads.went.place, takes.some, takes.at, cut, length-append reads.went.own between.window)
@@ -155,7 +158,7 @@ ends_here before between old new end0 more later end reads has none =
 
 -- At a cell of a second link.
 pub reads_several : (before between after : ReadingAhead) (record_read : Record) (one other : Link) (own : ℕ) (old new : List CountedCell)
-    → ReadsSoFar before between old new → TakesFrame between.reader between.window (Some record_read) own after.reader
+    → ReadsSoFar before between old new → TakesFrame between.reader between.window (Ok record_read) own after.reader
     → filter_record (filter_state between.filter) record_read ≡ (Several one other, filter_state after.filter)
     → ReadsCells before (coming.Several one other) after old new
 reads_several before between after record_read one other own old new reads takes read = record {

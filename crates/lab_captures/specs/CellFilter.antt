@@ -7,8 +7,10 @@ use Rattle.captures.specs.declared.content.NoCell.{NoCell}
 use Rattle.captures.specs.declared.fault.Fault.{Fault}
 use Rattle.captures.specs.declared.format.Format.{Format}
 use Rattle.captures.specs.declared.link.Link.{Link}
+use Rattle.captures.specs.declared.reader.Passage.{Passage}
 use Rattle.captures.specs.declared.reader.Record.{Record}
-use Rattle.lab_captures.specs.PassedRecords.{none_passed, one_more_record, without_cell}
+use Rattle.lab_captures.specs.PassedRecords.{none_passed, with_marked, with_passage, without_cell}
+use Rattle.lab_captures.specs.Tallies.{one_more_record}
 use Rattle.lab_captures.specs.declared.counted.CountedCell.{CountedCell}
 use Rattle.lab_captures.specs.declared.filter.CellFilter.{CellFilter}
 use Rattle.lab_captures.specs.declared.filter.Filtered.{Filtered}
@@ -69,9 +71,17 @@ filter_content state record_read (Err why) = (Passed, record state { passed = wi
 filter_content state record_read (Ok cell) =
     filter_cell state (unwrap_or state.clock (record_read.time, record_read.time)) record_read cell
 
+-- The state after the marks of a record are counted.
+abbrev pub filter_marked : FilterState → Record → FilterState
+filter_marked state record_read = record state { passed = with_marked state.passed record_read.marks record_read.number }
+
 -- What a record is in this state, and the next state.
 abbrev pub filter_record : FilterState → Record → Filtered × FilterState
-filter_record state record_read = filter_content state record_read record_read.content
+filter_record state record_read = filter_content (filter_marked state record_read) record_read record_read.content
+
+-- The state after a block or a packet without a record.
+abbrev pub filter_passage : FilterState → Passage → FilterState
+filter_passage state passage = record state { passed = with_passage state.passed passage }
 
 -- The cells that count among a record with this number and those after it.
 abbrev pub counted_then : Filtered → ℕ → List CountedCell → List CountedCell
@@ -79,15 +89,16 @@ counted_then (Counts moment cell) number later = record { number = number; momen
 counted_then Passed number later = later
 counted_then (Several one other) number later = []
 
--- The cells that count among these records, in order, from this state on.
-abbrev pub counted_cells : FilterState → List Record → List CountedCell
+-- The cells that count in what frames give, in order, from this state on.
+abbrev pub counted_cells : FilterState → List (Result Record Passage) → List CountedCell
 counted_cells state [] = []
-counted_cells state (record_read ∷ records) =
-    counted_then (filter_record state record_read).0 record_read.number (counted_cells (filter_record state record_read).1 records)
+counted_cells state (Err passage ∷ frames) = counted_cells (filter_passage state passage) frames
+counted_cells state (Ok record_read ∷ frames) =
+    counted_then (filter_record state record_read).0 record_read.number (counted_cells (filter_record state record_read).1 frames)
 
 -- How the cells of a capture end.
 pub data CellsEnd : Type 0 where
-  -- With the capture, or at its fault, after these records were passed over.
+  -- With the capture, or at its fault, after this was passed over.
   Closes : PassedOver → Option Fault → CellsEnd
   -- At a cell of a second link, where none was asked for: the first link, and this one.
   Crosses : Link → Link → CellsEnd
@@ -98,16 +109,17 @@ ends_then (Counts moment cell) later = later
 ends_then Passed later = later
 ends_then (Several one other) later = Crosses one other
 
--- How the cells among these records end, from this state on.
-abbrev pub cells_end : FilterState → List Record → Option Fault → CellsEnd
+-- How the cells in what frames give end, from this state on.
+abbrev pub cells_end : FilterState → List (Result Record Passage) → Option Fault → CellsEnd
 cells_end state [] ending = Closes state.passed ending
-cells_end state (record_read ∷ records) ending =
-    ends_then (filter_record state record_read).0 (cells_end (filter_record state record_read).1 records ending)
+cells_end state (Err passage ∷ frames) ending = cells_end (filter_passage state passage) frames ending
+cells_end state (Ok record_read ∷ frames) ending =
+    ends_then (filter_record state record_read).0 (cells_end (filter_record state record_read).1 frames ending)
 
--- From this state on, after this many records, at this place, the octets are read as records among which these cells count, in order, and end so.
+-- From this state on, after this many records, at this place, the octets are read as frames in which these cells count, in order, and end so.
 pub record HasCells (state : FilterState) (format : Format) (count at : ℕ) (octets : List ℕ) (cells : List CountedCell) (end : CellsEnd) : Type 0 where
-  pub records : List Record
+  pub frames : List (Result Record Passage)
   pub ending : Option Fault
-  pub reading : IsReading format count at octets records ending
-  pub counted : cells ≡ counted_cells state records
-  pub ended : end ≡ cells_end state records ending
+  pub reading : IsReading format count at octets frames ending
+  pub counted : cells ≡ counted_cells state frames
+  pub ended : end ≡ cells_end state frames ending

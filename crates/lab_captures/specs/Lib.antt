@@ -1,4 +1,7 @@
 pub mod CaptureFaults
+pub mod Tallies
+pub mod PassedBlocks
+pub mod MarkedRecords
 pub mod PassedRecords
 pub mod CellFilter
 pub mod LinkWords

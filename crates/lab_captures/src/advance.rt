@@ -1,7 +1,8 @@
 //! One step of a run on one thread: waiting octets are read, and their cells are answered.
 
-ghost use Rattle.std.specs.Prelude.{◌≡◌, ◌≢◌, IfOk, OnOk, []};
-ghost use Rattle.lab_captures.specs.CellFollowing.{OfEachWorld};
+ghost use Rattle.std.specs.Prelude.{◌≡◌, ◌≢◌, IfOk, OnOk, Some, []};
+ghost use Rattle.lab_captures.specs.CellFilter.{filter_state};
+ghost use Rattle.lab_captures.specs.CellFollowing.{ClosesCells, OfEachWorld};
 ghost use Rattle.lab_captures.specs.inner.Answered.{AnswersCells};
 ghost use Rattle.lab_captures.specs.inner.Ahead.{Advances, AdvancesToEnd, CameSoFar, EndsAfter, GoesBy, ReadsCells};
 
@@ -10,6 +11,7 @@ use crate::follower::{CellFollower, answer_cells};
 use crate::queue::Queue;
 use crate::reading_ahead::{Coming, ReadingAhead};
 use crate::run_lines::add_several;
+use captures::Fault;
 use std::alloc::AllocError;
 use text_io::Turn;
 
@@ -25,6 +27,19 @@ pub(crate) enum Going {
     Wants,
     /// The run ended.
     Ended,
+}
+
+/// Answers a fault of the capture.
+fn close_at<F: CellFollower>(
+    follower: &F,
+    reading: &ReadingAhead,
+    fault: Fault,
+    answers: &mut Vec<u8>,
+) -> Result<(), AllocError>
+    ensures { OnOk result (ClosesCells F.rules (F.shows follower.now) (filter_state reading.now.filter).passed (Some fault)
+        answers.old.items answers.new.items) }
+{
+    follower.close(&reading.filter.passed(), Some(fault), answers)
 }
 
 /// Answers the cells that were read and forgets them, and then answers what comes after them, if that ends the run.
@@ -55,7 +70,7 @@ pub(crate) fn answer_read<F: CellFollower>(
             Ok(Going::Ended)
         }
         Coming::Broken(fault) => {
-            follower.close(&reading.filter.passed(), Some(fault), answers)?;
+            close_at(follower, reading, fault, answers)?;
             Ok(Going::Ended)
         }
     }

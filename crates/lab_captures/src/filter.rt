@@ -1,10 +1,10 @@
 //! Which cells of a capture count, and at which moments.
 
 ghost use Rattle.std.specs.Prelude.{◌≡◌};
-ghost use Rattle.lab_captures.specs.CellFilter.{filter_at_link, filter_at_time, filter_record, filter_start, filter_state};
+ghost use Rattle.lab_captures.specs.CellFilter.{filter_at_link, filter_at_time, filter_content, filter_passage, filter_record, filter_start, filter_state};
 
 use crate::passed::PassedOver;
-use captures::{Clock, LentCell, Link, Record, Tick};
+use captures::{Clock, LentCell, Link, Passage, Record, Tick};
 
 /// What a record is to a run that reads the cells of one link.
 #[derive(PartialEq, Eq, Drop, Debug)]
@@ -101,10 +101,26 @@ impl CellFilter {
         self.read_at(clock, record_read, cell)
     }
 
-    /// Reads the next record. After `Several` the filter is as before. It is inlined, as `Reader::next` is.
+    /// Counts a block or a packet without a record.
+    pub fn pass(&mut self, passage: Passage)
+        ensures { filter_state self.new ≡ filter_passage (filter_state self.old) passage }
+    {
+        self.passed.pass(passage);
+    }
+
+    /// Reads the next record. It is inlined, as `Reader::next` is.
     #[inline(always)]
     pub fn read<'a>(&mut self, record_read: &Record<'a>) -> Filtered<'a>
         ensures { filter_record (filter_state self.old) record_read.now ≡ (result, filter_state self.new) }
+    {
+        self.passed.mark(record_read.marks, record_read.number);
+        self.read_content(record_read)
+    }
+
+    /// Reads what a record holds.
+    #[inline(always)]
+    fn read_content<'a>(&mut self, record_read: &Record<'a>) -> Filtered<'a>
+        ensures { filter_content (filter_state self.old) record_read.now record_read.now.content ≡ (result, filter_state self.new) }
     {
         match &record_read.content {
             Err(why) => {

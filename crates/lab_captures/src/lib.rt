@@ -3,6 +3,7 @@
 
 mod advance;
 mod ahead;
+mod blocks;
 mod capture;
 mod cell_lines;
 mod cells;
@@ -13,12 +14,15 @@ mod filter;
 mod follower;
 pub mod laws;
 mod link_words;
+mod marked;
 mod passed;
 mod queue;
 mod reading_ahead;
 mod run_lines;
+mod tally;
 mod window;
 
+pub use blocks::BlockTallies;
 pub use capture::follow_cells;
 pub use cell_lines::CellLines;
 pub use cells::cells_of_capture;
@@ -26,5 +30,7 @@ pub use counted::CountedCell;
 pub use filter::{CellFilter, Filtered};
 pub use follower::CellFollower;
 pub use link_words::add_link;
-pub use passed::{PassedOver, PassedTally};
+pub use marked::MarkTallies;
+pub use passed::PassedOver;
 pub use run_lines::{add_closing, add_several};
+pub use tally::PassedTally;

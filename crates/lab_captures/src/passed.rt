@@ -1,44 +1,19 @@
-//! Records that were passed over.
+//! What the comments at the end of a text are about.
 
 ghost use Rattle.std.specs.Prelude.{◌≡◌, ◌++◌, OnOk};
-ghost use Rattle.lab_captures.specs.PassedRecords.{first_passed, no_tally, none_passed, one_more_record, other_type_line, other_type_lines, passed_count, passed_lines, tally_line, with_other_type, without_cell};
+ghost use Rattle.lab_captures.specs.PassedRecords.{none_passed, other_type_line, other_type_lines, passed_lines, reason_lines, with_marked, with_other_type, with_passage, without_cell};
 
-use captures::NoCell;
+use crate::blocks::{BlockTallies, add_blocks};
+use crate::marked::{MarkTallies, add_marks};
+use crate::tally::{PassedTally, add_count, add_first, add_tally};
+use captures::{Marks, NoCell, Passage};
 use std::alloc::AllocError;
-use upc_words::{add_number, add_numbered, add_text};
+use upc_words::{add_number, add_text};
 
 /// The number of types of records.
 const TYPES: usize = 128;
 
-/// How many records were passed over for a reason.
-#[derive(Clone, Copy, PartialEq, Eq, Debug)]
-pub struct PassedTally {
-    /// How many.
-    pub count: u64,
-    /// The number of the first of them, from 1, or 0 if there is none.
-    pub first: u64,
-}
-
-impl PassedTally {
-    /// Returns the tally of no record.
-    pub fn none() -> PassedTally
-        ensures { result ≡ no_tally }
-    {
-        PassedTally { count: 0, first: 0 }
-    }
-
-    /// Returns the tally with one record more, which has this number.
-    pub fn with(self, number: u64) -> PassedTally
-        ensures { result ≡ one_more_record self number }
-    {
-        PassedTally {
-            count: self.count.saturating_add(1),
-            first: if self.count == 0 { number } else { self.first },
-        }
-    }
-}
-
-/// The records that were passed over, by reason.
+/// The records that were passed over, by reason; blocks and packets without a record; and records with marks.
 #[derive(Clone, Copy, PartialEq, Eq, Debug)]
 pub struct PassedOver {
     /// They are of a type that holds no cell: those of each type, at the place of its number.
@@ -51,6 +26,10 @@ pub struct PassedOver {
     pub back: PassedTally,
     /// They are of another link than the one that was asked for.
     pub other_link: PassedTally,
+    /// Blocks and packets of a pcapng file that have no record for this reader.
+    pub blocks: BlockTallies,
+    /// Records with marks, whether or not they were passed over.
+    pub marks: MarkTallies,
 }
 
 impl PassedOver {
@@ -65,7 +44,24 @@ impl PassedOver {
             cut_short: none,
             back: none,
             other_link: none,
+            blocks: BlockTallies::none(),
+            marks: MarkTallies::none(),
         }
+    }
+
+    /// Counts a block or a packet more without a record.
+    pub(crate) fn pass(&mut self, passage: Passage)
+        ensures { self.new ≡ with_passage self.old passage }
+    {
+        self.blocks.count(passage.what, passage.at);
+    }
+
+    /// Counts the marks of a record with this number.
+    #[inline(always)]
+    pub(crate) fn mark(&mut self, marks: Marks, number: u64)
+        ensures { self.new ≡ with_marked self.old marks number }
+    {
+        self.marks.count(marks, number);
     }
 
     /// Counts one record more of this type, with this number.
@@ -88,36 +84,6 @@ impl PassedOver {
             NoCell::CutShort(_) => self.cut_short = self.cut_short.with(number),
         }
     }
-}
-
-/// Appends how many records were passed over.
-#[tactic(auto, using(std::proofs::lemmas::List::append_assoc))]
-fn add_count(answers: &mut Vec<u8>, tally: PassedTally) -> Result<(), AllocError>
-    ensures { OnOk result (answers.new.items ≡ answers.old.items ++ passed_count tally) }
-{
-    add_text(answers, b"# ")?;
-    add_number(answers, tally.count)?;
-    add_text(answers, b" passed over: ")
-}
-
-/// Appends which record is the first of those that were passed over.
-fn add_first(answers: &mut Vec<u8>, tally: PassedTally) -> Result<(), AllocError>
-    ensures { OnOk result (answers.new.items ≡ answers.old.items ++ first_passed tally) }
-{
-    add_numbered(answers, b"; first record ", tally.first as usize)
-}
-
-/// Appends a comment about records that were passed over, if there are any.
-#[tactic(auto, using(std::proofs::lemmas::List::append_assoc))]
-fn add_tally(answers: &mut Vec<u8>, tally: PassedTally, why: &[u8]) -> Result<(), AllocError>
-    ensures { OnOk result (answers.new.items ≡ answers.old.items ++ tally_line tally why.now) }
-{
-    if tally.count == 0 {
-        return Ok(());
-    }
-    add_count(answers, tally)?;
-    add_text(answers, why)?;
-    add_first(answers, tally)
 }
 
 /// Appends a comment about records of this type, if they were passed over.
@@ -147,8 +113,8 @@ fn add_other_types(answers: &mut Vec<u8>, tallies: &[PassedTally]) -> Result<(),
 
 /// Appends a comment for each reason why records were passed over.
 #[tactic(auto, using(std::proofs::lemmas::List::append_assoc))]
-pub(crate) fn add_passed(answers: &mut Vec<u8>, passed: &PassedOver) -> Result<(), AllocError>
-    ensures { OnOk result (answers.new.items ≡ answers.old.items ++ passed_lines passed.now) }
+fn add_reasons(answers: &mut Vec<u8>, passed: &PassedOver) -> Result<(), AllocError>
+    ensures { OnOk result (answers.new.items ≡ answers.old.items ++ reason_lines passed.now) }
 {
     add_other_types(answers, &passed.other_types)?;
     add_tally(answers, passed.errored, b"received with an error")?;
@@ -159,4 +125,14 @@ pub(crate) fn add_passed(answers: &mut Vec<u8>, passed: &PassedOver) -> Result<(
         b"a time before that of an earlier cell",
     )?;
     add_tally(answers, passed.other_link, b"another link")
+}
+
+/// Appends the comments.
+#[tactic(auto, using(std::proofs::lemmas::List::append_assoc))]
+pub(crate) fn add_passed(answers: &mut Vec<u8>, passed: &PassedOver) -> Result<(), AllocError>
+    ensures { OnOk result (answers.new.items ≡ answers.old.items ++ passed_lines passed.now) }
+{
+    add_reasons(answers, passed)?;
+    add_blocks(answers, passed.blocks)?;
+    add_marks(answers, passed.marks)
 }

@@ -73,7 +73,10 @@ impl ReadingAhead {
             match self.reader.next(self.window.octets()) {
                 Next::Unfinished => return Ok(Coming::Wants),
                 Next::Broken(fault) => return Ok(Coming::Broken(fault)),
-                Next::Passed(own) => self.window.skip(own),
+                Next::Passed(passage, own) => {
+                    self.filter.pass(passage);
+                    self.window.skip(own);
+                }
                 Next::Taken(record_read, own) => match self.filter.read(&record_read) {
                     Filtered::Passed => self.window.skip(own),
                     Filtered::Several(one, other) => return Ok(Coming::Several(one, other)),

@@ -8,9 +8,10 @@ use Rattle.captures.specs.Links.{same_link}
 use Rattle.captures.specs.Moments.{whole_ticks}
 use Rattle.captures.specs.declared.content.NoCell.{NoCell}
 use Rattle.captures.specs.declared.link.Link.{Link}
+use Rattle.captures.specs.declared.reader.Passage.{Passage}
 use Rattle.captures.specs.declared.reader.Record.{Record}
-use Rattle.lab_captures.specs.CellFilter.{FilterState, counted_cells, counted_then, filter_at_link, filter_at_time, filter_cell, filter_content, filter_record, filter_start}
-use Rattle.lab_captures.specs.PassedRecords.{one_more_record}
+use Rattle.lab_captures.specs.CellFilter.{FilterState, counted_cells, counted_then, filter_at_link, filter_at_time, filter_cell, filter_content, filter_marked, filter_passage, filter_record, filter_start}
+use Rattle.lab_captures.specs.Tallies.{one_more_record}
 use Rattle.lab_captures.specs.declared.counted.CountedCell.{CountedCell}
 use Rattle.lab_captures.specs.declared.filter.Filtered.{Filtered}
 use Rattle.lab_captures.specs.declared.filter.Filtered.TheVariants.{Counts, Passed, Several}
@@ -98,7 +99,7 @@ at-content state record_read (Ok cell) earliest some on = at-clock state record_
 
 reads-on : (state : FilterState) (record_read : Record) (earliest : ℕ) → 0 < state.tick → IsOn state earliest
     → Reads state.tick earliest (filter_record state record_read)
-reads-on state record_read earliest some on = at-content state record_read record_read.content earliest some on
+reads-on state record_read earliest some on = at-content (filter_marked state record_read) record_read record_read.content earliest some on
 
 counted-on : (answer : Filtered) (after : FilterState) (tick earliest number : ℕ) (later : List CountedCell) → IsNext tick earliest answer after
     → ((from : ℕ) → IsOn after from → after.tick ≡ tick → GoesOn from (moments_counted later))
@@ -107,13 +108,14 @@ counted-on (Counts moment cell) after tick earliest number later next rest = (ne
 counted-on Passed after tick earliest number later next rest = rest earliest next.0 next.1
 counted-on (Several one other) after tick earliest number later next rest = tt
 
-cells-go-on : (state : FilterState) (records : List Record) (earliest : ℕ) → 0 < state.tick → IsOn state earliest
-    → GoesOn earliest (moments_counted (counted_cells state records))
+cells-go-on : (state : FilterState) (frames : List (Result Record Passage)) (earliest : ℕ) → 0 < state.tick → IsOn state earliest
+    → GoesOn earliest (moments_counted (counted_cells state frames))
 cells-go-on state [] earliest some on = tt
-cells-go-on state (record_read ∷ records) earliest some on =
+cells-go-on state (Err passage ∷ frames) earliest some on = cells-go-on (filter_passage state passage) frames earliest some on
+cells-go-on state (Ok record_read ∷ frames) earliest some on =
     let read = filter_record state record_read in
-    counted-on read.0 read.1 state.tick earliest record_read.number (counted_cells read.1 records) (reads-on state record_read earliest some on)
-    (λ from ahead same. cells-go-on read.1 records from (subst (λ n. 0 < n) (sym same) some) ahead)
+    counted-on read.0 read.1 state.tick earliest record_read.number (counted_cells read.1 frames) (reads-on state record_read earliest some on)
+    (λ from ahead same. cells-go-on read.1 frames from (subst (λ n. 0 < n) (sym same) some) ahead)
 
 -- So do those of some of the cells.
 GoesOn-from : (earlier later : ℕ) (moments : List ℕ) → earlier ≤ later → GoesOn later moments → GoesOn earlier moments
@@ -131,5 +133,5 @@ GoesOn-filter test earliest (cell ∷ cells) goes =
     choice (test cell)
 
 pub moments-go-on : MomentsGoOn
-moments-go-on tick link side records vc some =
-    GoesOn-filter (λ counted. is_same_vc vc (vc_of side counted.cell)) 0 (counted_cells (filter_start tick link) records) (cells-go-on (filter_start tick link) records 0 some refl)
+moments-go-on tick link side frames vc some =
+    GoesOn-filter (λ counted. is_same_vc vc (vc_of side counted.cell)) 0 (counted_cells (filter_start tick link) frames) (cells-go-on (filter_start tick link) frames 0 some refl)

@@ -1,9 +1,10 @@
 -- Laws of `fit`, in the words of the leaky bucket.
-use Rattle.std.specs.Prelude.{◌≡◌, ℕ, ◌+◌, ◌^◌, ◌<◌, ◌≤◌, ◌↔◌, Option, MatchOption, List, [], ◌∷◌, ◌++◌, map, filter, length}
+use Rattle.std.specs.Prelude.{◌≡◌, ℕ, ◌+◌, ◌^◌, ◌<◌, ◌≤◌, ◌↔◌, Option, MatchOption, List, [], ◌∷◌, ◌++◌, map, filter, length, Result}
 use Rattle.std.specs.BTreeMap.{is_at}
 use Rattle.std.specs.Map.{lookup}
 use Rattle.std.specs.Ordering.{nat_cmp}
 use Rattle.captures.specs.declared.link.Link.{Link}
+use Rattle.captures.specs.declared.reader.Passage.{Passage}
 use Rattle.captures.specs.declared.reader.Record.{Record}
 use Rattle.lab_captures.specs.CaptureText.{IsTextOfCells, RunsThrough, end_done, text_at_end}
 use Rattle.lab_captures.specs.CellFilter.{CellsEnd, counted_cells, filter_start}
@@ -52,8 +53,8 @@ FitsAreLeast = (increment : ℕ) (side : Side) (cells : List CountedCell) (last 
 
 -- The moments of a connection's cells never go back. A tick has at least one nanosecond.
 abbrev pub MomentsGoOn : Type 0
-MomentsGoOn = (tick : ℕ) (link : Option Link) (side : Side) (records : List Record) (vc : Vc) → 0 < tick
-    → GoesOn 0 (moments_counted (cells_of_vc side vc (counted_cells (filter_start tick link) records)))
+MomentsGoOn = (tick : ℕ) (link : Option Link) (side : Side) (frames : List (Result Record Passage)) (vc : Vc) → 0 < tick
+    → GoesOn 0 (moments_counted (cells_of_vc side vc (counted_cells (filter_start tick link) frames)))
 
 -- The text of such a run is the answer to the end of the cells, with the table of these states, and the run has no other text.
 abbrev pub FitsAreWritten : Type 0

@@ -2,8 +2,8 @@
 use Rattle.std.specs.Prelude.{ℕ, ◌==◌, if◌then◌else◌, List, [], ◌++◌, codes, decimal}
 use Rattle.card_core.specs.declared.answer.Answer.{Answer}
 use Rattle.card_core.specs.declared.answer.Answer.TheVariants as answer
-use Rattle.lab_captures.specs.PassedRecords.{no_tally, one_more_record}
-use Rattle.lab_captures.specs.declared.passed.PassedTally.{PassedTally}
+use Rattle.lab_captures.specs.Tallies.{no_tally, one_more_record}
+use Rattle.lab_captures.specs.declared.tally.PassedTally.{PassedTally}
 use Rattle.lab_police.specs.declared.not_judged.NotJudged.{NotJudged}
 
 -- Each cell was judged.

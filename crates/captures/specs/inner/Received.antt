@@ -1,14 +1,14 @@
 -- What a record holds, if its type holds cells.
-use Rattle.std.specs.Prelude.{◌≡◌, ◌≤◌, ◌<◌, ◌*◌, ◌+◌, ◌-◌, ℕ, List, length, take, drop, Result, Ok, Err}
+use Rattle.std.specs.Prelude.{◌≡◌, ◌≤◌, ◌<◌, ◌*◌, ◌+◌, ℕ, List, length, take, drop, Result, Ok, Err}
 use Rattle.captures.specs.Record.{HasExtensions}
-use Rattle.captures.specs.RecordContent.{IsErrored}
+use Rattle.captures.specs.RecordContent.{IsErrored, octets_of_cell}
 use Rattle.captures.specs.declared.content.NoCell.{NoCell}
 use Rattle.captures.specs.declared.content.NoCell.TheVariants.{OtherType, Errored, CutShort}
 
 -- From this place on, octets have a cell, or fewer octets.
 abbrev pub IsCellFrom : List ℕ → ℕ → Result (List ℕ) NoCell → Type 0
-IsCellFrom octets place (Ok cell) = (place + 52 ≤ length octets) × (cell ≡ take 52 (drop place octets))
-IsCellFrom octets place (Err (CutShort number)) = (length octets < place + 52) × (number ≡ length octets - place)
+IsCellFrom octets place (Ok cell) = (52 ≤ octets_of_cell octets place) × (cell ≡ take 52 (drop place octets))
+IsCellFrom octets place (Err (CutShort number)) = (octets_of_cell octets place < 52) × (number ≡ octets_of_cell octets place)
 IsCellFrom octets place (Err (OtherType number)) = ⊥
 IsCellFrom octets place (Err Errored) = ⊥
 

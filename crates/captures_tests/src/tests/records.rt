@@ -245,6 +245,7 @@ fn what_files_are(rt: HostRuntime) -> Result<(), Fail> {
                 order: Order::LowestFirst,
                 before: 0,
                 interfaces: 0,
+                others: 0,
             })),
         ),
         (

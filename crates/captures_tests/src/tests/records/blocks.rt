@@ -66,7 +66,7 @@ fn read_blocks(octets: &[u8]) -> (Reader, Next<'_>) {
     let mut left = octets;
     for _ in 0..3 {
         match reader.next(left) {
-            Next::Taken(_, own) | Next::Passed(own) => left = &left[own..],
+            Next::Taken(_, own) | Next::Passed(_, own) => left = &left[own..],
             next => return (reader, next),
         }
     }
@@ -94,6 +94,7 @@ fn records_in_pcapng_files(rt: HostRuntime) -> Result<(), Fail> {
             order,
             before: 4,
             interfaces: 1,
+            others: 0,
         }));
         let Next::Taken(record, own) = reader.next(&octets[48..]) else {
             return Err(Fail::new("no record"));
@@ -136,7 +137,6 @@ fn octets_that_are_no_block(rt: HostRuntime) -> Result<(), Fail> {
                 RecordFault::OtherVersion(2),
             ),
             ([(4, 24), (20, 24)], 0, RecordFault::ShortBlock(24)),
-            ([(36, 0x0001_0001), (44, 20)], 28, RecordFault::OtherLink(1)),
             ([(32, 16), (40, 16)], 28, RecordFault::ShortBlock(16)),
             ([(56, 1), (144, 100)], 48, RecordFault::NoInterface(1)),
             ([(28, 2), (44, 20)], 48, RecordFault::NoInterface(0)),

@@ -1,10 +1,10 @@
-use Rattle.std.proofs.Common.{◌<◌, None, Some, Ok, arith, refl, ◌∙◌, sym, ap, option_map}
-use Rattle.captures.specs.inner.Lent.{framed_of}
+use Rattle.std.proofs.Common.{◌<◌, Ok, Err, arith, refl, ◌∙◌, sym, ap}
+use Rattle.captures.specs.inner.Lent.{framed_of, held_of}
 use Rattle.captures.proofs.First.{takes_frame, head_some}
 use Rattle.captures.proofs.reader.Reader.next.Goals as goal
 
-pub returns-in_default-framed : goal.returns-in_default-framed
-returns-in_default-framed c =
+pub returns-in-Err-framed : goal.returns-in-Err-framed
+returns-in-Err-framed c =
     let some : 0 < c.in-Ok.size = omega (arith, c.in-Ok.ensures.least, head_some c.args.self.now.format) in
     takes_frame
     c.args.self.now
@@ -12,22 +12,22 @@ returns-in_default-framed c =
     c.args.octets.now
     c.in-Ok.size
     c.in-Ok-held_in.held.after
-    None
-    None
+    (Err c.in-Err-framed.what)
+    _
     (omega arith)
     (sym c.size_of.ensures.size ∙ c.in-Ok.is)
     some
     (omega arith)
     (c.in-Ok-held_in.ensures.held
-    ∙ ap (λ framed. Ok (c.in-Ok-held_in.held.after, option_map framed_of framed)) c.in_default-framed.is)
+    ∙ ap (λ framed. Ok (c.in-Ok-held_in.held.after, held_of framed)) c.in-Err-framed.is)
     (omega arith)
-    tt
+    (cc)
     refl
     refl
     (omega arith)
 
-pub returns : goal.returns
-returns c =
+pub returns-in-Ok-framed : goal.returns-in-Ok-framed
+returns-in-Ok-framed c =
     let some : 0 < c.in-Ok.size = omega (arith, c.in-Ok.ensures.least, head_some c.args.self.now.format) in
     takes_frame
     c.args.self.now
@@ -35,14 +35,14 @@ returns c =
     c.args.octets.now
     c.in-Ok.size
     c.in-Ok-held_in.held.after
-    (Some (framed_of c.in-Some-framed.framed))
-    (Some c.record_in.result)
+    (Ok (framed_of c.in-Ok-framed.framed))
+    (Ok c.record_in.result)
     (omega arith)
     (sym c.size_of.ensures.size ∙ c.in-Ok.is)
     some
     (omega arith)
     (c.in-Ok-held_in.ensures.held
-    ∙ ap (λ framed. Ok (c.in-Ok-held_in.held.after, option_map framed_of framed)) c.in-Some-framed.is)
+    ∙ ap (λ framed. Ok (c.in-Ok-held_in.held.after, held_of framed)) c.in-Ok-framed.is)
     (omega (arith, c.in-Some.ensures))
     c.record_in.ensures
     refl

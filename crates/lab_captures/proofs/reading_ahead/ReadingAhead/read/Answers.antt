@@ -27,10 +27,11 @@ returns-in-Broken c =
 pub loop-fault-preserved-in-Passed : goal.loop-fault-preserved-in-Passed
 loop-fault-preserved-in-Passed c =
     let between = c.loop-fault.self in
-    let after : ReadingAhead = record { window = c.skip.new.self; reader = c.next.new.self; filter = between.filter } in
-    reads_passed c.args.self.now between after c.in-Passed.own c.args.cells.now.items c.loop-fault.cells.items
+    let after : ReadingAhead = record { window = c.skip.new.self; reader = c.next.new.self; filter = c.pass.new.self } in
+    reads_passed c.args.self.now between after c.in-Passed.passage c.in-Passed.own c.args.cells.now.items c.loop-fault.cells.items
     c.loop-fault.invariant
-    (subst (λ (octets : List ℕ). ComesNext between.reader octets (Passed c.in-Passed.own) c.next.new.self) c.octets.ensures c.in-Passed.ensures)
+    (subst (λ (octets : List ℕ). ComesNext between.reader octets (Passed c.in-Passed.passage c.in-Passed.own) c.next.new.self) c.octets.ensures c.in-Passed.ensures)
+    c.pass.ensures
     (ap (λ (window : List ℕ). record after { window = window }) c.skip.ensures.octets)
 
 pub returns-in-Several : goal.returns-in-Several
