@@ -11,7 +11,7 @@ fn at(kind: RuleKind, line: usize, column: usize) -> RuleFault {
 fn the_first_fault_has_its_place(rt: HostRuntime) {
     let rows: [(&[u8], RuleFault); 26] = [
         (b"any any", at(RuleKind::BadLine, 1, 5)),
-        (b"Any -> 1", at(RuleKind::BadLine, 1, 1)),
+        (b"Any -> 1", at(RuleKind::UnknownName, 1, 1)),
         (b"7 -> 1", at(RuleKind::BadLine, 1, 3)),
         (b"1-2 -> 1", at(RuleKind::BadLine, 1, 2)),
         (b"1/*, 2 -> 1", at(RuleKind::BadLine, 1, 4)),
@@ -19,7 +19,7 @@ fn the_first_fault_has_its_place(rt: HostRuntime) {
         (b"vci ! = 1 -> 1", at(RuleKind::BadLine, 1, 5)),
         (b"any ->", at(RuleKind::BadLine, 1, 7)),
         (b"any -> # 1", at(RuleKind::BadLine, 1, 7)),
-        (b"any -> 1 x", at(RuleKind::BadLine, 1, 10)),
+        (b"any -> 1 x", at(RuleKind::UnknownName, 1, 10)),
         (b"any -> 1\r\nside uni x", at(RuleKind::BadLine, 2, 1)),
         (b"side nni\ngfc 1 -> 1", at(RuleKind::BadLine, 2, 1)),
         (b"any {\notherwise -> 3\n}", at(RuleKind::BadLine, 2, 1)),
