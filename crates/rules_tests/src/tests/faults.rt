@@ -48,6 +48,38 @@ fn the_first_fault_has_its_place(rt: HostRuntime) {
     }
 }
 
+#[test]
+fn faults_of_names_have_their_places(rt: HostRuntime) {
+    let rows: [(&[u8], RuleFault); 14] = [
+        (b"define any = 1", at(RuleKind::NameTaken, 1, 8)),
+        (
+            b"contract a = 1\ndefine a = 2",
+            at(RuleKind::NameTaken, 2, 8),
+        ),
+        (b"define 1 = 2", at(RuleKind::BadLine, 1, 8)),
+        (b"define a 1", at(RuleKind::BadLine, 1, 10)),
+        (b"define a = b", at(RuleKind::UnknownName, 1, 12)),
+        (b"define a = any -> 1", at(RuleKind::BadLine, 1, 16)),
+        (b"define a = 1, 2 and rm", at(RuleKind::BadLine, 1, 17)),
+        (b"define a = 5..4", at(RuleKind::TooLarge, 1, 15)),
+        (b"define a = (any", at(RuleKind::Unbalanced, 1, 12)),
+        (b"define a = any and", at(RuleKind::BadLine, 1, 19)),
+        (b"any -> 1\n contract a = 1", at(RuleKind::BadLine, 2, 2)),
+        (
+            b"define a = 7, 256\nvpi a -> 1",
+            at(RuleKind::TooLarge, 2, 5),
+        ),
+        (b"contract a = 7\nvpi a -> 1", at(RuleKind::BadLine, 2, 5)),
+        (b"define a = 7\nside nni", at(RuleKind::BadLine, 2, 1)),
+    ];
+    for (text, want) in rows {
+        match read_rules(rt.alloc(), text) {
+            Ok(_) => assert_eq!(rt; 0, want.column),
+            Err(fault) => assert_eq!(rt; fault, want),
+        }
+    }
+}
+
 /// A text of this many opening parentheses, and then a test that needs no more than that.
 fn opened(rt: &HostRuntime, count: usize) -> Result<RuleFault, std::test::Fail> {
     let mut text = Vec::new(rt.alloc());

@@ -81,3 +81,32 @@ fn two_nots_are_none_and_refuse_is_0(rt: HostRuntime) -> Result<(), Fail> {
     );
     Ok(())
 }
+
+/// Rules with names.
+const NAMED: &[u8] = b"contract gold = 2
+define customers = 1, 7, 20..30
+define voice = vci 32..39 or 7/5
+define care = oam or rm
+vpi customers and not care {
+  voice and clp 0 -> gold
+  voice -> 3
+}
+otherwise -> gold # of all others
+";
+
+#[test]
+fn names_mean_what_lines_give_them(rt: HostRuntime) -> Result<(), Fail> {
+    let rows = [
+        (0x0010_0200, 2),
+        (0x0010_0201, 3),
+        (0x0070_0051, 3),
+        (0x0010_0051, 2),
+        (0x01e0_0201, 3),
+        (0x01f0_0201, 2),
+        (0x0010_020d, 2),
+    ];
+    for (header, want) in rows {
+        assert_eq!(rt; value(rt.alloc(), NAMED, header, 0)?, want);
+    }
+    Ok(())
+}
