@@ -12,10 +12,11 @@ use Rattle.command_line.specs.declared.stop.Stop.{Stop}
 use Rattle.command_line.specs.declared.stop.Stop.TheVariants.{NoMemory}
 use Rattle.lab_options.specs.CellsOptions.{AsksCells, CellsAsked, cells_asked_by}
 use Rattle.lab_options.specs.FitOptions.{AsksFit, FitAsked, asked_by}
+use Rattle.lab_options.specs.DifferOptions.{AsksDiffer, DifferAsked, differ_asked_by}
 use Rattle.lab_options.specs.PoliceOptions.{AsksPolice, PoliceAsked, police_asked_by}
-use Rattle.upc_lab.specs.LabWords.{AsksLab, NamesLab, begins_cells, begins_fit, begins_police, lab_app, lab_faults_in, lab_subcommands, lab_table}
+use Rattle.upc_lab.specs.LabWords.{AsksLab, NamesLab, begins_cells, begins_differ, begins_fit, begins_police, lab_app, lab_faults_in, lab_subcommands, lab_table}
 use Rattle.upc_lab.specs.declared.choice.Asked.{Asked}
-use Rattle.upc_lab.specs.declared.choice.Asked.TheVariants.{Plain, Cells, Fit, Police}
+use Rattle.upc_lab.specs.declared.choice.Asked.TheVariants.{Plain, Cells, Fit, Police, Differ}
 use Rattle.upc_lab.specs.declared.choice.Subcommand.{Subcommand}
 
 pub lab_is_plain : is_plain_command lab_app lab_table ≡ true
@@ -43,7 +44,7 @@ abbrev lab_named : Text → Option Subcommand
 lab_named = meaning_in lab_subcommands
 
 abbrev own_rows : List (Text × Option Subcommand)
-own_rows = (codes "cells", None) ∷ (codes "fit", None) ∷ (codes "police", None) ∷ []
+own_rows = (codes "cells", None) ∷ (codes "fit", None) ∷ (codes "police", None) ∷ (codes "differ", None) ∷ []
 
 abbrev no_meaning : Option (Option Subcommand)
 no_meaning = None
@@ -81,44 +82,47 @@ turned name own other = go (bytes_eq own name) refl
         let bad : true ≡ false = sym is ∙ other in cc
     go false e = refl
 
--- A name that is none of the three is not one of their rows.
+-- A name that is none of the four is not one of their rows.
 no_own_row : (name : Text) → bytes_eq name (codes "cells") ≡ false → bytes_eq name (codes "fit") ≡ false → bytes_eq name (codes "police") ≡ false
-    → meaning_in own_rows name ≡ None
-no_own_row name one two three =
-    go (bytes_eq (codes "cells") name) (bytes_eq (codes "fit") name) (bytes_eq (codes "police") name)
-    (turned name (codes "cells") one) (turned name (codes "fit") two) (turned name (codes "police") three)
+    → bytes_eq name (codes "differ") ≡ false → meaning_in own_rows name ≡ None
+no_own_row name one two three four =
+    go (bytes_eq (codes "cells") name) (bytes_eq (codes "fit") name) (bytes_eq (codes "police") name) (bytes_eq (codes "differ") name)
+    (turned name (codes "cells") one) (turned name (codes "fit") two) (turned name (codes "police") three) (turned name (codes "differ") four)
   where
-    go : (cells fit police : Bool) → cells ≡ false → fit ≡ false → police ≡ false
-        → meaning_of (cond cells (Some (own_row (codes "cells"))) (cond fit (Some (own_row (codes "fit"))) (cond police (Some (own_row (codes "police"))) None))) ≡ no_meaning
-    go false false false one two three = refl
-    go true fit police one two three = cc
-    go false true police one two three = cc
-    go false false true one two three = cc
+    go : (cells fit police differ : Bool) → cells ≡ false → fit ≡ false → police ≡ false → differ ≡ false
+        → meaning_of (cond cells (Some (own_row (codes "cells"))) (cond fit (Some (own_row (codes "fit")))
+        (cond police (Some (own_row (codes "police"))) (cond differ (Some (own_row (codes "differ"))) None)))) ≡ no_meaning
+    go false false false false one two three four = refl
+    go true fit police differ one two three four = cc
+    go false true police differ one two three four = cc
+    go false false true differ one two three four = cc
+    go false false false true one two three four = cc
 
 plain_row : (found : Option Subcommand) (meaning : Option Subcommand) → or_other (option_map Some found) None ≡ Some meaning
     → (subcommand : Subcommand) × (meaning ≡ Some subcommand) × (found ≡ Some subcommand)
 plain_row None meaning e = cc
 plain_row (Some subcommand) meaning e = let same : Some subcommand ≡ meaning = cc in (subcommand, sym same, refl)
 
--- Words without an error that begin with none of the three name a subcommand without options.
+-- Words without an error that begin with none of the four name a subcommand without options.
 abbrev IsPlainRow : List Text → Option (Option Subcommand) → Type 0
 IsPlainRow words row = (subcommand : Subcommand) × (row ≡ Some (Some subcommand)) × NamesLab words subcommand
 
-plain_at : (words : List Text) (row : Option (Option Subcommand)) → begins_cells words ≡ false → begins_fit words ≡ false → begins_police words ≡ false
+plain_at : (words : List Text) (row : Option (Option Subcommand)) → begins_cells words ≡ false → begins_fit words ≡ false → begins_police words ≡ false → begins_differ words ≡ false
     → lab_faults_in words ≡ [] → NamesIn lab_table words row → IsPlainRow words row
-plain_at words None one two three none h = absurd (end_refused words h none)
-plain_at words (Some meaning) one two three none h =
-    let other = no_own_row h.0 (sym (ap begins_cells h.2) ∙ one) (sym (ap begins_fit h.2) ∙ two) (sym (ap begins_police h.2) ∙ three) in
+plain_at words None one two three four none h = absurd (end_refused words h none)
+plain_at words (Some meaning) one two three four none h =
+    let other = no_own_row h.0 (sym (ap begins_cells h.2) ∙ one) (sym (ap begins_fit h.2) ∙ two) (sym (ap begins_police h.2) ∙ three)
+    (sym (ap begins_differ h.2) ∙ four) in
     let row = plain_row (lab_named h.0) meaning (ap (or_other (option_map Some (lab_named h.0))) (sym other) ∙ sym (joined lab_subcommands own_rows h.0) ∙ h.3) in
     (row.0, ap Some row.1, (h.0, h.1, h.2, row.2, h.4))
 
 pub row_is_plain : (words : List Text) (row : Result (Option (Option Subcommand)) Stop) → begins_cells words ≡ false → begins_fit words ≡ false
-    → begins_police words ≡ false → IfOk row (λ _. lab_faults_in words ≡ []) → IfOk row (NamesIn lab_table words)
+    → begins_police words ≡ false → begins_differ words ≡ false → IfOk row (λ _. lab_faults_in words ≡ []) → IfOk row (NamesIn lab_table words)
     → IfOk row (λ row. IsSomeAnd row (λ meaning. IsSome meaning))
-row_is_plain words (Ok row) one two three none h =
-    let plain = plain_at words row one two three none h in
+row_is_plain words (Ok row) one two three four none h =
+    let plain = plain_at words row one two three four none h in
     subst (λ row. IsSomeAnd row (λ meaning. IsSome meaning)) (sym plain.1) refl
-row_is_plain words (Err stop) one two three none h = tt
+row_is_plain words (Err stop) one two three four none h = tt
 
 -- The name of a subcommand without options is that of its row.
 row_of : (words : List Text) (subcommand : Subcommand) → NamesLab words subcommand → NamesRow lab_table words (Some subcommand)
@@ -135,13 +139,13 @@ pub record LabAnswers (words : List Text) (answer : Result Subcommand Stop) : Ty
   pub granted : (subcommand : Subcommand) → NamesLab words subcommand → IfErr answer (λ stop. stop ≡ NoMemory)
 
 pub answers : (words : List Text) (row : Result (Option (Option Subcommand)) Stop) (answer : Result Subcommand Stop) → begins_cells words ≡ false
-    → begins_fit words ≡ false → begins_police words ≡ false → IfOk row (λ _. lab_faults_in words ≡ []) → IfOk row (NamesIn lab_table words)
+    → begins_fit words ≡ false → begins_police words ≡ false → begins_differ words ≡ false → IfOk row (λ _. lab_faults_in words ≡ []) → IfOk row (NamesIn lab_table words)
     → IfErr row (StopsAt (lab_faults_in words)) → (lab_faults_in words ≡ [] → IfErr row (λ stop. stop ≡ NoMemory))
     → ((meaning : Option Subcommand) → NamesRow lab_table words meaning → IfErr row (λ stop. stop ≡ NoMemory))
     → IfOk row (λ row. IsOkAnd answer (λ subcommand. row ≡ Some (Some subcommand))) → IfErr row (λ stop. answer ≡ Err stop)
     → LabAnswers words answer
-answers words (Ok row) (Ok subcommand) one two three none h stopped taken granted named ended =
-    let plain = plain_at words row one two three none h in
+answers words (Ok row) (Ok subcommand) one two three four none h stopped taken granted named ended =
+    let plain = plain_at words row one two three four none h in
     let same : Some (Some plain.0) ≡ Some (Some subcommand) = sym plain.1 ∙ named in
     let is : plain.0 ≡ subcommand = cc in
     record {
@@ -151,8 +155,8 @@ answers words (Ok row) (Ok subcommand) one two three none h stopped taken grante
       taken = λ _. tt;
       granted = λ _ _. tt;
     }
-answers words (Ok row) (Err stop) one two three none h stopped taken granted named ended = absurd named
-answers words (Err stop) answer one two three none h stopped taken granted named ended =
+answers words (Ok row) (Err stop) one two three four none h stopped taken granted named ended = absurd named
+answers words (Err stop) answer one two three four none h stopped taken granted named ended =
     subst (LabAnswers words) (sym ended) (record {
       asked = tt;
       faultless = tt;
@@ -163,15 +167,16 @@ answers words (Err stop) answer one two three none h stopped taken granted named
 
 -- ---- the contract of `choose`
 
--- What words that begin with none of `cells`, `fit` and `police` ask for is a subcommand without options.
+-- What words that begin with none of `cells`, `fit`, `police` and `differ` ask for is a subcommand without options.
 pub granted_plain : (words : List Text) (stop : Stop) (asked : Asked) → begins_cells words ≡ false → begins_fit words ≡ false → begins_police words ≡ false
-    → ((subcommand : Subcommand) → NamesLab words subcommand → stop ≡ NoMemory) → AsksLab words asked → stop ≡ NoMemory
-granted_plain words stop (Plain subcommand) one two three granted h = granted subcommand h.3
-granted_plain words stop (Cells options) one two three granted h = let bad : true ≡ false = sym h.0 ∙ one in cc
-granted_plain words stop (Fit options) one two three granted h = let bad : true ≡ false = sym h.1 ∙ two in cc
-granted_plain words stop (Police options) one two three granted h = let bad : true ≡ false = sym h.2 ∙ three in cc
+    → begins_differ words ≡ false → ((subcommand : Subcommand) → NamesLab words subcommand → stop ≡ NoMemory) → AsksLab words asked → stop ≡ NoMemory
+granted_plain words stop (Plain subcommand) one two three four granted h = granted subcommand h.4
+granted_plain words stop (Cells options) one two three four granted h = let bad : true ≡ false = sym h.0 ∙ one in cc
+granted_plain words stop (Fit options) one two three four granted h = let bad : true ≡ false = sym h.1 ∙ two in cc
+granted_plain words stop (Police options) one two three four granted h = let bad : true ≡ false = sym h.2 ∙ three in cc
+granted_plain words stop (Differ options) one two three four granted h = let bad : true ≡ false = sym h.3 ∙ four in cc
 
--- What words that begin with `cells` ask for is in their options, and so it is with `fit` and `police`.
+-- What words that begin with `cells` ask for is in their options, and so it is with `fit`, `police` and `differ`.
 pub granted_cells : (words after : List Text) (stop : Stop) (asked : Asked) → begins_cells words ≡ true → after ≡ drop 1 words
     → ((asked : CellsAsked) → AsksCells after asked → stop ≡ NoMemory) → AsksLab words asked → stop ≡ NoMemory
 granted_cells words after stop (Plain subcommand) one same granted h = let bad : true ≡ false = sym one ∙ h.0 in cc
@@ -179,6 +184,7 @@ granted_cells words after stop (Cells options) one same granted h =
     granted (cells_asked_by options) (subst (λ it. AsksCells it (cells_asked_by options)) (sym same) h.1)
 granted_cells words after stop (Fit options) one same granted h = let bad : true ≡ false = sym one ∙ h.0 in cc
 granted_cells words after stop (Police options) one same granted h = let bad : true ≡ false = sym one ∙ h.0 in cc
+granted_cells words after stop (Differ options) one same granted h = let bad : true ≡ false = sym one ∙ h.0 in cc
 
 pub granted_fit : (words after : List Text) (stop : Stop) (asked : Asked) → begins_cells words ≡ false → begins_fit words ≡ true → after ≡ drop 1 words
     → ((asked : FitAsked) → AsksFit after asked → stop ≡ NoMemory) → AsksLab words asked → stop ≡ NoMemory
@@ -187,6 +193,7 @@ granted_fit words after stop (Cells options) one two same granted h = let bad : 
 granted_fit words after stop (Fit options) one two same granted h =
     granted (asked_by options) (subst (λ it. AsksFit it (asked_by options)) (sym same) h.2)
 granted_fit words after stop (Police options) one two same granted h = let bad : true ≡ false = sym two ∙ h.1 in cc
+granted_fit words after stop (Differ options) one two same granted h = let bad : true ≡ false = sym two ∙ h.1 in cc
 
 pub granted_police : (words after : List Text) (stop : Stop) (asked : Asked) → begins_cells words ≡ false → begins_fit words ≡ false → begins_police words ≡ true
     → after ≡ drop 1 words
@@ -196,3 +203,14 @@ granted_police words after stop (Cells options) one two three same granted h = l
 granted_police words after stop (Fit options) one two three same granted h = let bad : true ≡ false = sym h.1 ∙ two in cc
 granted_police words after stop (Police options) one two three same granted h =
     granted (police_asked_by options) (subst (λ it. AsksPolice it (police_asked_by options)) (sym same) h.3)
+granted_police words after stop (Differ options) one two three same granted h = let bad : true ≡ false = sym three ∙ h.2 in cc
+
+pub granted_differ : (words after : List Text) (stop : Stop) (asked : Asked) → begins_cells words ≡ false → begins_fit words ≡ false → begins_police words ≡ false
+    → begins_differ words ≡ true → after ≡ drop 1 words
+    → ((asked : DifferAsked) → AsksDiffer after asked → stop ≡ NoMemory) → AsksLab words asked → stop ≡ NoMemory
+granted_differ words after stop (Plain subcommand) one two three four same granted h = let bad : true ≡ false = sym four ∙ h.3 in cc
+granted_differ words after stop (Cells options) one two three four same granted h = let bad : true ≡ false = sym h.0 ∙ one in cc
+granted_differ words after stop (Fit options) one two three four same granted h = let bad : true ≡ false = sym h.1 ∙ two in cc
+granted_differ words after stop (Police options) one two three four same granted h = let bad : true ≡ false = sym h.2 ∙ three in cc
+granted_differ words after stop (Differ options) one two three four same granted h =
+    granted (differ_asked_by options) (subst (λ it. AsksDiffer it (differ_asked_by options)) (sym same) h.4)

@@ -1,2 +1,3 @@
 pub mod LabChoosing
 pub mod Texts
+pub mod Differing

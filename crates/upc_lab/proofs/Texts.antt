@@ -3,6 +3,7 @@ use Rattle.std.proofs.Common.{ℕ, List}
 use Rattle.text_io.specs.declared.ending.Done.{Done}
 use Rattle.lab_captures.proofs.Public.{fixed_total, some_capture_text, some_cells_text}
 use Rattle.lab_captures.specs.CellFilter.{filter_start}
+use Rattle.lab_differ.proofs.Public.{some-differ_text}
 use Rattle.lab_faults.proofs.Public.{some-explain_text}
 use Rattle.lab_fit.specs.FitText.{fit_closes, fit_rules, fit_start, fit_steps}
 use Rattle.lab_programs.proofs.Public.{some-list_text, some-trace_text}
@@ -11,7 +12,7 @@ use Rattle.lab_setups.proofs.Public.{some_setup_text}
 use Rattle.lab_sizes.proofs.Public.{some-sizes_text}
 use Rattle.upc_lab.specs.LabText.{IsAskedText, IsLabText}
 use Rattle.upc_lab.specs.declared.choice.Asked.{Asked}
-use Rattle.upc_lab.specs.declared.choice.Asked.TheVariants.{Plain, Cells, Fit, Police}
+use Rattle.upc_lab.specs.declared.choice.Asked.TheVariants.{Plain, Cells, Fit, Police, Differ}
 use Rattle.upc_lab.specs.declared.choice.Subcommand.{Subcommand}
 use Rattle.upc_lab.specs.declared.choice.Subcommand.TheVariants as lab
 
@@ -24,12 +25,13 @@ some-lab_text lab.Trace octets = some-trace_text octets
 some-lab_text lab.Size octets = some-sizes_text octets
 some-lab_text lab.Explain octets = some-explain_text octets
 
-pub some-asked_text : (asked : Asked) (setup : List ℕ) (rules : List (List ℕ)) (octets : List ℕ)
-    → (answer : List ℕ) × (done : Done) × IsAskedText setup rules asked octets answer done
-some-asked_text (Plain subcommand) setup rules octets = some-lab_text subcommand octets
-some-asked_text (Cells options) setup rules octets = some_cells_text options.tick.nanoseconds options.link octets
-some-asked_text (Police options) setup rules octets =
+pub some-asked_text : (asked : Asked) (setup : List ℕ) (rules : List (List ℕ)) (old octets : List ℕ)
+    → (answer : List ℕ) × (done : Done) × IsAskedText setup rules old asked octets answer done
+some-asked_text (Plain subcommand) setup rules old octets = some-lab_text subcommand octets
+some-asked_text (Cells options) setup rules old octets = some_cells_text options.tick.nanoseconds options.link octets
+some-asked_text (Police options) setup rules old octets =
     some_setup_text options.lines options.tick.nanoseconds options.link setup rules octets
-some-asked_text (Fit options) setup rules octets =
+some-asked_text (Fit options) setup rules old octets =
     some_capture_text fit_rules (fixed_total fit_steps fit_closes) (filter_start options.tick.nanoseconds options.link)
     (fit_start options.increment options.side) octets tt
+some-asked_text (Differ options) setup rules old octets = some-differ_text options.all old octets

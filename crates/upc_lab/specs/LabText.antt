@@ -1,6 +1,7 @@
 -- The output of each subcommand of `upc-lab`.
 use Rattle.std.specs.Prelude.{ℕ, List}
 use Rattle.lab_captures.specs.CellsText.{IsCellsText}
+use Rattle.lab_differ.specs.DifferText.{IsDifferAnswer}
 use Rattle.lab_fit.specs.FitText.{IsFitText}
 use Rattle.lab_faults.specs.Explained.{IsExplainText}
 use Rattle.lab_programs.specs.ListedProgram.{IsListText}
@@ -12,7 +13,7 @@ use Rattle.lab_setups.specs.SetupText.{MayBeSetupPoliced}
 use Rattle.lab_sizes.specs.SizeText.{IsSizesText}
 use Rattle.text_io.specs.declared.ending.Done.{Done}
 use Rattle.upc_lab.specs.declared.choice.Asked.{Asked}
-use Rattle.upc_lab.specs.declared.choice.Asked.TheVariants.{Plain, Cells, Fit, Police}
+use Rattle.upc_lab.specs.declared.choice.Asked.TheVariants.{Plain, Cells, Fit, Police, Differ}
 use Rattle.upc_lab.specs.declared.choice.Subcommand.{Subcommand}
 use Rattle.upc_lab.specs.declared.choice.Subcommand.TheVariants as lab
 
@@ -26,10 +27,11 @@ IsLabText lab.Trace = IsTraceText
 IsLabText lab.Size = IsSizesText
 IsLabText lab.Explain = IsExplainText
 
--- The output for the octets of the files that the words name, which are a setup script and files of rules, and for a whole input, and
--- how the run ends. Only `police` has files.
-abbrev pub IsAskedText : List ℕ → List (List ℕ) → Asked → List ℕ → List ℕ → Done → Type 0
-IsAskedText setup rules (Plain subcommand) = IsLabText subcommand
-IsAskedText setup rules (Cells options) = IsCellsText options.tick.nanoseconds options.link
-IsAskedText setup rules (Police options) = MayBeSetupPoliced options.lines options.tick.nanoseconds options.link setup rules
-IsAskedText setup rules (Fit options) = IsFitText options.increment options.tick.nanoseconds options.link options.side
+-- The output for the octets of the files that the words name, which are a setup script, files of rules and an old text of rules, and for a
+-- whole input, and how the run ends. Only `police` has the first two, and only `differ` the last.
+abbrev pub IsAskedText : List ℕ → List (List ℕ) → List ℕ → Asked → List ℕ → List ℕ → Done → Type 0
+IsAskedText setup rules old (Plain subcommand) = IsLabText subcommand
+IsAskedText setup rules old (Cells options) = IsCellsText options.tick.nanoseconds options.link
+IsAskedText setup rules old (Police options) = MayBeSetupPoliced options.lines options.tick.nanoseconds options.link setup rules
+IsAskedText setup rules old (Fit options) = IsFitText options.increment options.tick.nanoseconds options.link options.side
+IsAskedText setup rules old (Differ options) = IsDifferAnswer options.all old

@@ -10,10 +10,11 @@ use Rattle.command_line.specs.Stopping.{StopsAt}
 use Rattle.command_line.specs.Subcommands.{NamesRow, app_with, row_names}
 use Rattle.command_line.specs.declared.stop.Stop.{Stop}
 use Rattle.lab_options.specs.CellsOptions.{AsksCells, IsCellsStop, cells_asked_by}
+use Rattle.lab_options.specs.DifferOptions.{AsksDiffer, IsDifferStop, differ_asked_by}
 use Rattle.lab_options.specs.FitOptions.{AsksFit, IsFitStop, asked_by}
 use Rattle.lab_options.specs.PoliceOptions.{AsksPolice, IsPoliceStop, police_asked_by}
 use Rattle.upc_lab.specs.declared.choice.Asked.{Asked}
-use Rattle.upc_lab.specs.declared.choice.Asked.TheVariants.{Plain, Cells, Fit, Police}
+use Rattle.upc_lab.specs.declared.choice.Asked.TheVariants.{Plain, Cells, Fit, Police, Differ}
 use Rattle.upc_lab.specs.declared.choice.Subcommand.{Subcommand}
 use Rattle.upc_lab.specs.declared.choice.Subcommand.TheVariants as lab
 
@@ -24,10 +25,10 @@ lab_subcommands =
     ∷ (codes "size", lab.Size) ∷ (codes "explain", lab.Explain) ∷ []
 
 -- Each subcommand of the command. Those with options, which mean nothing here, have a command of their own: words that begin with `cells`,
--- `fit` or `police` are read by it.
+-- `fit`, `police` or `differ` are read by it.
 abbrev pub lab_table : List (Text × Option Subcommand)
 lab_table =
-    map (λ row. (row.0, Some row.1)) lab_subcommands ++ (codes "cells", None) ∷ (codes "fit", None) ∷ (codes "police", None) ∷ []
+    map (λ row. (row.0, Some row.1)) lab_subcommands ++ (codes "cells", None) ∷ (codes "fit", None) ∷ (codes "police", None) ∷ (codes "differ", None) ∷ []
 
 -- The command `upc-lab`: these subcommands, of which it wants one, and no option except those for help and the version.
 unfoldable pub lab_app : App
@@ -58,10 +59,15 @@ begins_fit = begins_with (codes "fit")
 abbrev pub begins_police : List Text → Bool
 begins_police = begins_with (codes "police")
 
--- The words ask for this: after `cells`, `fit` and `police` there are their options, and other words name a subcommand without options.
+-- The first word is `differ`.
+abbrev pub begins_differ : List Text → Bool
+begins_differ = begins_with (codes "differ")
+
+-- The words ask for this: after `cells`, `fit`, `police` and `differ` there are their options, and other words name a subcommand without
+-- options.
 abbrev pub AsksLab : List Text → Asked → Type 0
 AsksLab words (Plain subcommand) =
-    (begins_cells words ≡ false) × (begins_fit words ≡ false) × (begins_police words ≡ false) × NamesLab words subcommand
+    (begins_cells words ≡ false) × (begins_fit words ≡ false) × (begins_police words ≡ false) × (begins_differ words ≡ false) × NamesLab words subcommand
 AsksLab words (Cells options) =
     (begins_cells words ≡ true) × AsksCells (drop 1 words) (cells_asked_by options)
 AsksLab words (Fit options) =
@@ -69,9 +75,13 @@ AsksLab words (Fit options) =
 AsksLab words (Police options) =
     (begins_cells words ≡ false) × (begins_fit words ≡ false) × (begins_police words ≡ true)
     × AsksPolice (drop 1 words) (police_asked_by options)
+AsksLab words (Differ options) =
+    (begins_cells words ≡ false) × (begins_fit words ≡ false) × (begins_police words ≡ false) × (begins_differ words ≡ true)
+    × AsksDiffer (drop 1 words) (differ_asked_by options)
 
 -- The Stops that words may give. NoMemory is always allowed.
 abbrev pub IsLabStop : List Text → Stop → Type 0
 IsLabStop words stop = MatchBool (begins_cells words) (IsCellsStop (drop 1 words) stop)
     (MatchBool (begins_fit words) (IsFitStop (drop 1 words) stop)
-    (MatchBool (begins_police words) (IsPoliceStop (drop 1 words) stop) (StopsAt (lab_faults_in words) stop)))
+    (MatchBool (begins_police words) (IsPoliceStop (drop 1 words) stop)
+    (MatchBool (begins_differ words) (IsDifferStop (drop 1 words) stop) (StopsAt (lab_faults_in words) stop))))

@@ -4,6 +4,7 @@ pub mod LabText
 pub mod LabMessages
 pub mod FailureLines
 pub mod ShownNames
+pub mod Comparison
 pub mod SetupFile
 pub mod Progress
 pub mod inner

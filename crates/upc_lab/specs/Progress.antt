@@ -4,7 +4,7 @@ use Rattle.text_io.specs.declared.device.Output.{Ghosts as OutputView}
 use Rattle.command_line.specs.declared.stop.Stop.{Stop}
 use Rattle.command_line.specs.Messages.{WritesMessage}
 use Rattle.upc_lab.specs.declared.choice.Asked.{Asked}
-use Rattle.upc_lab.specs.declared.choice.Asked.TheVariants.{Plain, Cells, Fit, Police}
+use Rattle.upc_lab.specs.declared.choice.Asked.TheVariants.{Plain, Cells, Fit, Police, Differ}
 
 -- The words ask for a subcommand that reads a capture.
 abbrev pub reads_capture : Result Asked Stop → Bool
@@ -12,6 +12,7 @@ reads_capture (Ok (Plain subcommand)) = false
 reads_capture (Ok (Cells options)) = true
 reads_capture (Ok (Fit options)) = true
 reads_capture (Ok (Police options)) = true
+reads_capture (Ok (Differ options)) = false
 reads_capture (Err stop) = false
 
 -- The device that shows the progress gets this text, or nothing if no allocation is left for it. Without a device nothing is shown.

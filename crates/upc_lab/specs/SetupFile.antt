@@ -1,5 +1,5 @@
--- What the program does with the files that the words name: a setup script, and the files of rules that it names.
-use Rattle.std.specs.Prelude.{◌≡◌, ◌⊎◌, ◌==◌, IsTrue, if◌then◌else◌, ℕ, List, [], ◌++◌, Option, Some, None, Result, Ok, Err, codes, length}
+-- What the program does with the files that the words name: a setup script and the files of rules that it names, or an old text of rules.
+use Rattle.std.specs.Prelude.{◌≡◌, ◌⊎◌, ◌==◌, IsTrue, if◌then◌else◌, ℕ, List, [], ◌++◌, Option, Some, None, MatchOption, Result, Ok, Err, codes, length, option_map}
 use Rattle.std.specs.Path.{path_with_file_name}
 use Rattle.std.specs.Str.{bytes_eq}
 use Rattle.std.specs.String.{string_bytes}
@@ -11,10 +11,12 @@ use Rattle.command_line.specs.ShownWords.{shown_word}
 use Rattle.command_line.specs.declared.stop.Stop.{Stop}
 use Rattle.command_line.specs.Invocation.{CarriesOut, IsStatusFor}
 use Rattle.command_line.specs.Messages.{IsIdle, WritesMessage}
+use Rattle.lab_options.specs.declared.differ.DifferOptions.{DifferOptions}
+use Rattle.upc_lab.specs.Comparison.{CarriesDiffer}
 use Rattle.upc_lab.specs.LabText.{IsAskedText}
 use Rattle.upc_lab.specs.ShownNames.{shown_name}
 use Rattle.upc_lab.specs.declared.choice.Asked.{Asked}
-use Rattle.upc_lab.specs.declared.choice.Asked.TheVariants.{Police}
+use Rattle.upc_lab.specs.declared.choice.Asked.TheVariants.{Plain, Cells, Fit, Police, Differ}
 use Rattle.upc_lab.specs.declared.setup_file.SetupFiles.{SetupFiles}
 use Rattle.upc_lab.specs.declared.setup_file.Unreadable.{Unreadable}
 
@@ -22,6 +24,19 @@ use Rattle.upc_lab.specs.declared.setup_file.Unreadable.{Unreadable}
 abbrev pub setup_name : Result Asked Stop → Option (List ℕ)
 setup_name (Ok (Police options)) = Some (string_bytes options.setup)
 setup_name _ = None
+
+-- What `differ` is asked for, if the words ask for it.
+abbrev pub differ_in : Result Asked Stop → Option DifferOptions
+differ_in (Ok (Plain subcommand)) = None
+differ_in (Ok (Cells options)) = None
+differ_in (Ok (Fit options)) = None
+differ_in (Ok (Police options)) = None
+differ_in (Ok (Differ options)) = Some options
+differ_in (Err stop) = None
+
+-- The name of the file with the old rules, if the words name one.
+abbrev pub old_name : Result Asked Stop → Option (List ℕ)
+old_name chosen = option_map (λ options. string_bytes options.old) (differ_in chosen)
 
 -- The name of a file that the command line gives by a word that is shown as this.
 abbrev pub IsGivenAs : List ℕ → List ℕ → Type 0
@@ -58,11 +73,19 @@ unreadable_message unreadable = if length unreadable.line.items == 0 then plain_
 abbrev pub rules_in_files : SetupFiles → List (List ℕ)
 rules_in_files files = octets_of_texts files.rules.items
 
--- The effect of the program for its words and for the octets of the files that they name, with these messages for failures. If a file
+-- The effect of the program for its words and for the octets of the files that they name, which were read, with these messages for
+-- failures.
+abbrev pub CarriesWith : {Source Sink Errors : Type 0} → (RunFault → List ℕ) → Result Asked Stop → SetupFiles
+    → InputView Source → Source → Source → OutputView Sink → Sink → Sink → OutputView Errors → Errors → Errors → ℕ → Type 0
+CarriesWith message chosen files I input input' O output output' E errors errors' status = MatchOption (differ_in chosen)
+    (CarriesOut message (IsAskedText files.script.items (rules_in_files files) files.old.items) chosen I input input' O output output' E errors errors' status)
+    (λ options. CarriesDiffer message options.all files.old.items I input input' O output output' E errors errors' status)
+
+-- The same, for files that may not have been read. If a file
 -- couldn't be read, nothing is read or written but the message about it.
 abbrev pub CarriesAllOut : {Source Sink Errors : Type 0} → (RunFault → List ℕ) → Result Asked Stop → Result SetupFiles Unreadable
     → InputView Source → Source → Source → OutputView Sink → Sink → Sink → OutputView Errors → Errors → Errors → ℕ → Type 0
-CarriesAllOut message chosen (Ok files) = CarriesOut message (IsAskedText files.script.items (rules_in_files files)) chosen
+CarriesAllOut message chosen (Ok files) = CarriesWith message chosen files
 CarriesAllOut message chosen (Err unreadable) = λ I input input' O output output' E errors errors' status.
     (status ≡ 3) × IsIdle I input input' O output output' × WritesMessage E errors errors' (unreadable_message unreadable)
 

@@ -3,12 +3,13 @@
 ghost use Rattle.std.specs.Prelude.{◌≡◌, [], false, Err, IfErr, IfOk, IsOkAnd, IsSome, IsSomeAnd, Some, drop, map};
 ghost use Rattle.std.specs.String.{string_bytes};
 ghost use Rattle.command_line.specs.Stopping.{StopsAt};
-ghost use Rattle.upc_lab.specs.LabWords.{AsksLab, IsLabStop, NamesLab, begins_cells, begins_fit, begins_police, begins_with, lab_faults_in};
+ghost use Rattle.upc_lab.specs.LabWords.{AsksLab, IsLabStop, NamesLab, begins_cells, begins_differ, begins_fit, begins_police, begins_with, lab_faults_in};
 ghost use Rattle.upc_lab.specs.declared.choice.Asked.{Asked as TheAsked};
 
 use command_line::{Program, Row, Stop, VERSION, row_of_words};
 use lab_options::{
-    CellsOptions, FitOptions, PoliceOptions, cells_options, fit_options, police_options,
+    CellsOptions, DifferOptions, FitOptions, PoliceOptions, cells_options, differ_options,
+    fit_options, police_options,
 };
 use std::alloc::Global;
 
@@ -42,6 +43,8 @@ pub enum Asked {
     Fit(FitOptions),
     /// Print the verdicts on the cells of a capture.
     Police(PoliceOptions),
+    /// Print for which cells two texts of rules differ.
+    Differ(DifferOptions),
 }
 
 /// The program, without its subcommands.
@@ -54,7 +57,7 @@ const LAB: Program = Program {
 };
 
 /// Its subcommands. None stands for one with options, which has a command of its own.
-const SUBCOMMANDS: [Row<Option<Subcommand>>; 10] = [
+const SUBCOMMANDS: [Row<Option<Subcommand>>; 11] = [
     Row {
         name: "rules",
         about: "Compile rules for cells and print the octets of their program",
@@ -117,19 +120,25 @@ const SUBCOMMANDS: [Row<Option<Subcommand>>; 10] = [
         example: Some("It has options: `upc-lab police --help` lists them"),
         means: None,
     },
+    Row {
+        name: "differ",
+        about: "Compare two texts of rules, and print for which cells their values differ",
+        example: Some("It has options: `upc-lab differ --help` lists them"),
+        means: None,
+    },
 ];
 
-/// Reads the words after the program's name: `cells`, `fit` or `police` and its options, or the name of another subcommand. The forms of
+/// Reads the words after the program's name: `cells`, `fit`, `police` or `differ` and its options, or the name of another subcommand. The forms of
 /// help that `clap` has request help. Any other word, any further word and no word is an error. As everywhere in `clap`, `--` ends the
 /// options and isn't a word itself, so it may be last.
 pub fn choose(alloc: Global, words: Vec<String>) -> Result<Asked, Stop>
     ensures asked { IfOk result (AsksLab (map string_bytes words.items)) }
-    // Words that begin with another word than `cells`, `fit` and `police` are read without an error if and only if clap finds none in them.
+    // Words that begin with another word than `cells`, `fit`, `police` and `differ` are read without an error if and only if clap finds none in them.
     ensures faultless { begins_cells (map string_bytes words.items) ≡ false → begins_fit (map string_bytes words.items) ≡ false
-        → begins_police (map string_bytes words.items) ≡ false → IfOk result (λ _. lab_faults_in (map string_bytes words.items) ≡ []) }
+        → begins_police (map string_bytes words.items) ≡ false → begins_differ (map string_bytes words.items) ≡ false → IfOk result (λ _. lab_faults_in (map string_bytes words.items) ≡ []) }
     ensures stopped { IfErr result (IsLabStop (map string_bytes words.items)) }
     ensures taken { begins_cells (map string_bytes words.items) ≡ false → begins_fit (map string_bytes words.items) ≡ false
-        → begins_police (map string_bytes words.items) ≡ false → lab_faults_in (map string_bytes words.items) ≡ [] → IfErr result (λ stop. stop ≡ Stop.NoMemory) }
+        → begins_police (map string_bytes words.items) ≡ false → begins_differ (map string_bytes words.items) ≡ false → lab_faults_in (map string_bytes words.items) ≡ [] → IfErr result (λ stop. stop ≡ Stop.NoMemory) }
     ensures granted { (asked : TheAsked) → AsksLab (map string_bytes words.items) asked
         → IfErr result (λ stop. stop ≡ Stop.NoMemory) }
 {
@@ -146,6 +155,11 @@ pub fn choose(alloc: Global, words: Vec<String>) -> Result<Asked, Stop>
     } else if begins_with(words.as_slice(), b"police") {
         match police_options(alloc, without_first(words)) {
             Ok(options) => Ok(Asked::Police(options)),
+            Err(stop) => Err(stop),
+        }
+    } else if begins_with(words.as_slice(), b"differ") {
+        match differ_options(alloc, without_first(words)) {
+            Ok(options) => Ok(Asked::Differ(options)),
             Err(stop) => Err(stop),
         }
     } else {
@@ -176,11 +190,12 @@ fn without_first(mut words: Vec<String>) -> Vec<String>
     words
 }
 
-/// Reads words that begin with none of `cells`, `fit` and `police`: the name of a subcommand without options.
+/// Reads words that begin with none of `cells`, `fit`, `police` and `differ`: the name of a subcommand without options.
 fn choose_plain(alloc: Global, words: Vec<String>) -> Result<Subcommand, Stop>
     requires cells { begins_cells (map string_bytes words.items) ≡ false }
     requires fit { begins_fit (map string_bytes words.items) ≡ false }
     requires police { begins_police (map string_bytes words.items) ≡ false }
+    requires differ { begins_differ (map string_bytes words.items) ≡ false }
     ensures asked { IfOk result (NamesLab (map string_bytes words.items)) }
     ensures faultless { IfOk result (λ _. lab_faults_in (map string_bytes words.items) ≡ []) }
     ensures stopped { IfErr result (StopsAt (lab_faults_in (map string_bytes words.items))) }

@@ -1,21 +1,27 @@
 //! Runs the program over three devices and returns its exit status.
 
-ghost use Rattle.std.specs.Prelude.{◌≡◌};
+ghost use Rattle.std.specs.Prelude.{◌≡◌, Result, option_map};
 ghost use Rattle.text_io.specs.Serving.{IsServed};
 ghost use Rattle.command_line.specs.ExitStatus.{status_of};
 ghost use Rattle.command_line.specs.Invocation.{CarriesOut, IsStatusFor};
 ghost use Rattle.command_line.specs.Messages.{Reports};
+ghost use Rattle.lab_differ.specs.DifferText.{ended_by};
+ghost use Rattle.lab_differ.specs.declared.finding.Finding.{Finding as Found};
+ghost use Rattle.text_io.specs.declared.ending.RunFault.{RunFault as Failed};
+ghost use Rattle.upc_lab.specs.Comparison.{CarriesDiffer, finding_status};
 ghost use Rattle.upc_lab.specs.LabMessages.{lab_failure_line, shell_status_of};
 ghost use Rattle.upc_lab.specs.LabText.{IsAskedText, IsLabText};
-ghost use Rattle.upc_lab.specs.SetupFile.{CarriesAllOut, IsStatusIn, rules_in_files};
+ghost use Rattle.upc_lab.specs.SetupFile.{CarriesAllOut, CarriesWith, IsStatusIn, differ_in, rules_in_files};
 
 use crate::choice::{Asked, Subcommand};
 use crate::reason::Reasoned;
 use crate::setup_file::{SetupFiles, Unreadable};
 use command_line::{Stop, status, write_message};
 use lab_captures::cells_of_capture;
+use lab_differ::{Finding, compare_texts, ended_by};
 use lab_faults::{Ahead, explain_faults};
 use lab_fit::fit_capture;
+use lab_options::DifferOptions;
 use lab_programs::{list_program, trace_cells};
 use lab_rules::{assemble_rules, compile_rules, decide_cells};
 use lab_setups::police_setup;
@@ -101,7 +107,7 @@ fn run<R: Threads, I: Ahead + Send, O: Output>(
     input: &mut I,
     output: &mut O,
 ) -> Result<Done, RunFault>
-    ensures { IsServed (IsAskedText files.now.script.items (rules_in_files files.now) asked.now) I.Input input.old input.new O.Output output.old output.new result }
+    ensures { IsServed (IsAskedText files.now.script.items (rules_in_files files.now) files.now.old.items asked.now) I.Input input.old input.new O.Output output.old output.new result }
 {
     match asked {
         Asked::Plain(subcommand) => run_plain(alloc, *subcommand, input, output),
@@ -137,7 +143,70 @@ fn run<R: Threads, I: Ahead + Send, O: Output>(
             input,
             output,
         ),
+        Asked::Differ(options) => {
+            ended_by(compare_texts(alloc, files.old.as_slice(), options.all, input, output))
+        }
     }
+}
+
+/// Returns what the words ask of `differ`, if they do.
+fn differ_in(chosen: &Result<Asked, Stop>) -> Option<&DifferOptions>
+    ensures { option_map (λ options. options.now) result ≡ differ_in chosen.now }
+{
+    match chosen {
+        Ok(Asked::Differ(options)) => Some(options),
+        _ => None,
+    }
+}
+
+/// Returns the exit status of a comparison.
+fn finding_status(ended: &Result<Finding, RunFault>) -> u8
+    ensures { result ≡ finding_status ended.now }
+{
+    match ended {
+        Ok(Finding::Same) => 0,
+        Ok(Finding::Differ | Finding::Faulty) => 1,
+        Ok(Finding::Undecided) | Err(_) => 3,
+    }
+}
+
+/// Writes the message for a failed comparison, and returns the exit status of any comparison.
+fn report_finding<I: Reasoned, O: Reasoned, E: Output>(
+    ended: Result<Finding, RunFault>,
+    input: &I,
+    output: &O,
+    errors: &mut E,
+) -> u8
+    ensures status { result ≡ finding_status ended }
+    ensures reported { E.is_known → Reports
+        (lab_failure_line (I.message input.now) (O.message output.now) (O.is_closed output.now))
+        E.Output errors.old errors.new (ended_by ended) }
+{
+    match ended {
+        Ok(_) => finding_status(&ended),
+        Err(fault) => {
+            write_message(errors, line_of(fault, input, output));
+            finding_status(&ended)
+        }
+    }
+}
+
+/// Compares an old text of rules with the whole input, and returns the exit status. A failure also gets a message.
+fn carry_out_differ<I: Ahead + Reasoned, O: Output + Reasoned, E: Output>(
+    alloc: Global,
+    all: bool,
+    old: &[u8],
+    input: &mut I,
+    output: &mut O,
+    errors: &mut E,
+) -> u8
+    ensures carried { I.is_known → O.is_known → E.is_known → CarriesDiffer
+        (lab_failure_line (I.message input.new) (O.message output.new) (O.is_closed output.new))
+        all old.now I.Input input.old input.new O.Output output.old output.new E.Output errors.old errors.new result }
+    ensures status { (ended : Result Found Failed) × (result ≡ finding_status ended) }
+{
+    let ended = compare_texts(alloc, old, all, input, output);
+    report_finding(ended, input, output, errors)
 }
 
 /// Does what the words ask for, with the files that they name, and returns the exit status: it runs the
@@ -153,7 +222,7 @@ fn carry_out_with<R: Threads, I: Ahead + Reasoned + Send, O: Output + Reasoned, 
 ) -> u8
     ensures carried { I.is_known → O.is_known → E.is_known → CarriesOut
         (lab_failure_line (I.message input.new) (O.message output.new) (O.is_closed output.new))
-        (IsAskedText files.now.script.items (rules_in_files files.now)) chosen.now I.Input input.old input.new O.Output output.old output.new E.Output errors.old errors.new result }
+        (IsAskedText files.now.script.items (rules_in_files files.now) files.now.old.items) chosen.now I.Input input.old input.new O.Output output.old output.new E.Output errors.old errors.new result }
     ensures status { IsStatusFor chosen.now result }
 {
     match chosen {
@@ -170,6 +239,34 @@ fn carry_out_with<R: Threads, I: Ahead + Reasoned + Send, O: Output + Reasoned, 
             2
         }
         Err(Stop::NoMemory) => report(Err(RunFault::NoMemory), input, output, errors),
+    }
+}
+
+/// Does what the words ask for, with the files that they name, and returns the exit status. A comparison has one of its own.
+fn carry_out_read<R: Threads, I: Ahead + Reasoned + Send, O: Output + Reasoned, E: Output>(
+    rt: &R,
+    alloc: Global,
+    chosen: &Result<Asked, Stop>,
+    files: &SetupFiles,
+    input: &mut I,
+    output: &mut O,
+    errors: &mut E,
+) -> u8
+    ensures carried { I.is_known → O.is_known → E.is_known → CarriesWith
+        (lab_failure_line (I.message input.new) (O.message output.new) (O.is_closed output.new))
+        chosen.now files.now I.Input input.old input.new O.Output output.old output.new E.Output errors.old errors.new result }
+    ensures status { IsStatusFor chosen.now result }
+{
+    match differ_in(chosen) {
+        Some(options) => carry_out_differ(
+            alloc,
+            options.all,
+            files.old.as_slice(),
+            input,
+            output,
+            errors,
+        ),
+        None => carry_out_with(rt, alloc, chosen, files, input, output, errors),
     }
 }
 
@@ -190,7 +287,7 @@ pub fn carry_out<R: Threads, I: Ahead + Reasoned + Send, O: Output + Reasoned, E
     ensures status { IsStatusIn chosen.now setup.now result }
 {
     match setup {
-        Ok(files) => carry_out_with(rt, alloc, chosen, files, input, output, errors),
+        Ok(files) => carry_out_read(rt, alloc, chosen, files, input, output, errors),
         Err(unreadable) => {
             write_message(errors, unreadable.message());
             3

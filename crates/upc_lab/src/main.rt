@@ -16,10 +16,12 @@ pub use choice::{Asked, Subcommand, choose};
 use command_line::{OfProcess, Stop, status, words_after_name};
 pub use invocation::{carry_out, shell_status};
 pub use lab_captures::cells_of_capture;
+pub use lab_differ::{Finding, compare_texts};
 pub use lab_faults::{LookedAt, explain_faults};
 pub use lab_fit::fit_capture;
 pub use lab_options::{
-    CellsOptions, FitOptions, PoliceOptions, cells_options, fit_options, police_options,
+    CellsOptions, DifferOptions, FitOptions, PoliceOptions, cells_options, differ_options,
+    fit_options, police_options,
 };
 pub use lab_programs::{list_program, trace_cells};
 pub use lab_rules::{assemble_rules, compile_rules, decide_cells};

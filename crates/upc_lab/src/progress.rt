@@ -20,7 +20,7 @@ pub fn reads_capture(chosen: &Result<Asked, Stop>) -> bool
 {
     match chosen {
         Ok(Asked::Cells(_) | Asked::Fit(_) | Asked::Police(_)) => true,
-        Ok(Asked::Plain(_)) | Err(_) => false,
+        Ok(Asked::Plain(_) | Asked::Differ(_)) | Err(_) => false,
     }
 }
 

@@ -1,10 +1,10 @@
-//! The files of `police`: the setup script, and the rules that it names.
+//! The files that the words name: the setup script of `police` and the rules that it names, and the old rules of `differ`.
 
 ghost use Rattle.std.specs.Prelude.{◌≡◌, ◌⊎◌, IfErr, IfOk, IfSome, IsOkAnd, None, []};
 ghost use Rattle.std.specs.Path.{path_with_file_name};
 ghost use Rattle.lab_setups.specs.FilesRead.{AreTextsForFiles, IsTextForFile, files_read, octets_of_name, octets_of_names};
 ghost use Rattle.lab_setups.specs.RulesFiles.{octets_of_text, octets_of_texts};
-ghost use Rattle.upc_lab.specs.SetupFile.{IsUnreadable, IsUnreadableSetup, IsUnreadableShown, setup_name, unreadable_line, unreadable_message};
+ghost use Rattle.upc_lab.specs.SetupFile.{IsUnreadable, IsUnreadableSetup, IsUnreadableShown, old_name, setup_name, unreadable_line, unreadable_message};
 
 use crate::choice::Asked;
 use crate::file_names::{add_shown_name, name_given};
@@ -31,13 +31,15 @@ const MOST_LINE_OCTETS: usize = 70000;
 /// How many octets of a script are read at a time.
 const PART: u64 = 65536;
 
-/// The octets of the files of `police`.
+/// The octets of the files that the words name.
 #[derive(Debug, Drop)]
 pub struct SetupFiles {
     /// The octets of the setup script, as far as they were read.
     pub script: Vec<u8>,
     /// The octets of the file of rules that each line `rules NAME` of the script names, in order. Lines that name the same file share them.
     pub rules: Vec<SharedText>,
+    /// The octets of the old text of rules, as far as they were read.
+    pub old: Vec<u8>,
 }
 
 impl SetupFiles {
@@ -45,10 +47,12 @@ impl SetupFiles {
     fn none(alloc: Global) -> SetupFiles
         ensures script { result.script.items ≡ [] }
         ensures rules { result.rules.items ≡ [] }
+        ensures old { result.old.items ≡ [] }
     {
         SetupFiles {
             script: Vec::new(alloc),
             rules: Vec::new(alloc),
+            old: Vec::new(alloc),
         }
     }
 }
@@ -312,7 +316,11 @@ fn read_files<R: Files + AllocGlobal>(rt: &R, name: &[u8]) -> Result<SetupFiles,
         return Err(Unreadable::without_reason(rt.alloc()));
     };
     let rules = read_all_rules(rt, setup, &files)?;
-    Ok(SetupFiles { script, rules })
+    Ok(SetupFiles {
+        script,
+        rules,
+        old: Vec::new(rt.alloc()),
+    })
 }
 
 /// Returns that a name is longer than the system takes.
@@ -341,8 +349,42 @@ fn read_shown<R: Files + AllocGlobal, C: CommandLine>(
     }
 }
 
-/// Reads the files that the words name: the setup script of `police`, and the files of rules that it names. Other words name none. `line` is
-/// the command line of these words.
+/// Reads the old text of rules in the file with this name.
+fn read_old_file<R: Files + AllocGlobal>(rt: &R, name: &[u8]) -> Result<SetupFiles, Unreadable>
+    ensures script { IfOk result (λ files. files.script.items ≡ []) }
+    ensures rules { IfOk result (λ files. files.rules.items ≡ []) }
+    ensures unreadable { IfErr result (IsUnreadable name.now) }
+{
+    let Ok(path) = str::from_utf8(name) else {
+        return Err(Unreadable::not_utf8(rt.alloc(), name));
+    };
+    let old = octets_or_message(rt.alloc(), name, read_text(rt, path))?;
+    Ok(SetupFiles {
+        script: Vec::new(rt.alloc()),
+        rules: Vec::new(rt.alloc()),
+        old,
+    })
+}
+
+/// Reads the old text of rules in the file that is shown by this name.
+fn read_old_shown<R: Files + AllocGlobal, C: CommandLine>(
+    rt: &R,
+    line: &C,
+    shown: &str,
+) -> Result<SetupFiles, Unreadable>
+    ensures script { IfOk result (λ files. files.script.items ≡ []) }
+    ensures rules { IfOk result (λ files. files.rules.items ≡ []) }
+    ensures unreadable { IfErr result (IsUnreadableShown shown.now) }
+{
+    match name_given(rt.alloc(), line, shown) {
+        Ok(Some(name)) => read_old_file(rt, &name),
+        Ok(None) => Err(too_long(rt.alloc(), shown)),
+        Err(_) => Err(Unreadable::without_reason(rt.alloc())),
+    }
+}
+
+/// Reads the files that the words name: the setup script of `police` and the files of rules that it names, or the old rules of `differ`.
+/// Other words name none. `line` is the command line of these words.
 ///
 /// No contract is about the octets of a file. A script is read up to a line over the limits, and a file of rules up to its limit and an
 /// octet more. A file of rules isn't read if no program of it could be loaded ([`files_read`]), and it is read once for all lines that name
@@ -352,12 +394,15 @@ pub fn read_setup<R: Files + AllocGlobal, C: CommandLine>(
     line: &C,
     chosen: &Result<Asked, Stop>,
 ) -> Result<SetupFiles, Unreadable>
-    ensures unnamed { setup_name chosen.now ≡ None → IsOkAnd result (λ files. (files.script.items ≡ []) × (files.rules.items ≡ [])) }
+    ensures unnamed { setup_name chosen.now ≡ None → old_name chosen.now ≡ None
+        → IsOkAnd result (λ files. (files.script.items ≡ []) × (files.rules.items ≡ []) × (files.old.items ≡ [])) }
     ensures texts { IfOk result (λ files. AreTextsForFiles (files_read files.script.items) (octets_of_texts files.rules.items)) }
     ensures unreadable { IfErr result (λ unreadable. IfSome (setup_name chosen.now) (λ shown. IsUnreadableShown shown unreadable)) }
+    ensures unreadable_old { IfErr result (λ unreadable. IfSome (old_name chosen.now) (λ shown. IsUnreadableShown shown unreadable)) }
 {
     match chosen {
         Ok(Asked::Police(options)) => read_shown(rt, line, options.setup.as_str()),
+        Ok(Asked::Differ(options)) => read_old_shown(rt, line, options.old.as_str()),
         _ => Ok(SetupFiles::none(rt.alloc())),
     }
 }

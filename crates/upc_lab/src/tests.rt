@@ -177,6 +177,10 @@ fn a_subcommand_is_chosen_by_its_name_alone(rt: HostRuntime) -> Result<(), Fail>
         ("police a.setup --lines none", true),
         ("police", false),
         ("police a b", false),
+        ("differ a.rules", true),
+        ("differ a.rules --lines all", true),
+        ("differ", false),
+        ("rules differ", false),
         ("rules police", false),
         ("", false),
         ("--", false),
@@ -251,6 +255,7 @@ fn help_is_written_and_nothing_is_read(rt: HostRuntime) -> Result<(), Fail> {
         ("help asm", "upc-lab asm"),
         ("--help", "\n  police "),
         ("police --help", "--lines"),
+        ("differ --help", "<OLD>"),
     ] {
         let left = run_words(&rt, rt.alloc(), line, b"any -> 7\n", 0, 10000)?;
         assert!(rt; left.status == 0 && left.messages.is_empty(), "{line}");
@@ -397,7 +402,14 @@ fn a_name_is_that_of_the_command_line(rt: HostRuntime) -> Result<(), Fail> {
 
 #[test]
 fn words_without_a_file_have_no_files(rt: HostRuntime) -> Result<(), Fail> {
-    for line in ["rules", "cells", "fit --increment 1", "police", "--help"] {
+    for line in [
+        "rules",
+        "cells",
+        "fit --increment 1",
+        "police",
+        "differ",
+        "--help",
+    ] {
         let chosen = chosen_by(rt.alloc(), line)?;
         let setup = read_setup(&rt, &InMemory(&[]), &chosen);
         assert!(rt;

@@ -6,5 +6,5 @@ use Rattle.upc_lab.proofs.choice.choose.Goals as goal
 
 pub returns-in-Err-choose_plain-clause-granted : goal.returns-in-Err-choose_plain-clause-granted
 returns-in-Err-choose_plain-clause-granted c = λ asked h.
-    granted_plain (map string_bytes c.args.words.items) c.in-Err-choose_plain.stop asked (search rules) (search rules) (search rules)
+    granted_plain (map string_bytes c.args.words.items) c.in-Err-choose_plain.stop asked (search rules) (search rules) (search rules) (search rules)
     c.in-Err-choose_plain.ensures.granted h
