@@ -20,10 +20,10 @@ from rules.reader import Fault, read_rules
 from rules.words import outcomes
 
 
-# A code has at most so many instructions, and far fewer than this for a comparison, a number of a list, or a rule.
+# A code has at most this many instructions, and far fewer than this for a comparison, a number of a list, or a rule.
 MOST_CODE = 4096
 MOST_OF_ONE = 8
-# A text has at most so many octets, and the line `cells` too.
+# A text has at most this many octets, and the line `cells` too.
 MOST_OCTETS = 1048576
 MOST_LINE_OCTETS = 70000
 OVER_LIMIT = "fault script 5 TooLong\n"
