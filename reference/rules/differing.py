@@ -13,7 +13,7 @@ import sys
 import tempfile
 
 from rules.__main__ import with_deep_stack
-from rules.making import cells_for, lines, mutated
+from rules.making import cells_for, definitions, lines, mutated
 from rules.meaning import decision_of
 from rules.reader import Fault, read_rules
 
@@ -121,10 +121,17 @@ def fault_of_answer(old, new, every, answer, cells):
     return None
 
 
+def text_of(source):
+    """Returns a text of rules, some of them with names."""
+    source.tests, source.lists, source.contracts = [], [], []
+    made = [source.choice(["side nni", "side uni"])] if source.random() < 0.1 else []
+    made += definitions(source) if source.random() < 0.2 else []
+    return "\n".join(made + lines(source, source.choice([1, 2, 5, 12]), 3)) + source.choice(["", "\notherwise -> 7"])
+
+
 def difference(program, source):
     """Returns what is wrong with the answer to a pair of texts, or None; and whether nothing was decided."""
-    text = "\n".join(([source.choice(["side nni", "side uni"])] if source.random() < 0.1 else []) + lines(source, source.choice([1, 2, 5, 12]), 3))
-    text += source.choice(["", "\notherwise -> 7"])
+    text = text_of(source)
     texts = [text, changed(source, text)]
     if source.random() < 0.05:
         at = source.randrange(2)

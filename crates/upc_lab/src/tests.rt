@@ -65,6 +65,7 @@ fn no_files(alloc: Global) -> SetupFiles {
     SetupFiles {
         script: Vec::new(alloc),
         rules: Vec::new(alloc),
+        old: Vec::new(alloc),
     }
 }
 
@@ -190,7 +191,7 @@ fn a_subcommand_is_chosen_by_its_name_alone(rt: HostRuntime) -> Result<(), Fail>
         ("cells rules", false),
         ("rules cells", false),
         ("rules fit", false),
-        ("--version", false),
+        ("rules --version", false),
     ] {
         let answer = chosen_by(rt.alloc(), line)?;
         let is_wrong = matches!(&answer, Err(Stop::Words(_)));

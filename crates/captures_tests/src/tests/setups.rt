@@ -137,7 +137,7 @@ fn a_faulty_file_by_hand(rt: HostRuntime) -> Result<(), Fail> {
     assert_eq!(rt; done, Done::Ended);
     assert_eq!(rt;
         text.as_slice(),
-        b"fault rules 1 BadLine 2 1\nline 3: in the rules of `second`\n".as_slice()
+        b"fault rules 10 UnknownName 2 1\nline 3: in the rules of `second`\n".as_slice()
     );
     Ok(())
 }

@@ -38,7 +38,7 @@ fn other_and_further_words_are_refused(rt: HostRuntime) -> Result<(), Fail> {
         "run run",
         "ports 4",
         "Check",
-        "--version",
+        "eval --version",
     ] {
         let answer = chosen_by(rt.alloc(), line)?;
         assert!(rt; matches!(&answer, Err(Stop::Words(_))), "{line}");
@@ -57,6 +57,18 @@ fn help_names_the_subcommands(rt: HostRuntime) -> Result<(), Fail> {
         assert!(rt; text.as_str().contains("\n  eval "), "{line}");
         assert!(rt; text.as_str().contains("\n  run "), "{line}");
         assert!(rt; text.as_str().contains("\n  ports "), "{line}");
+    }
+    Ok(())
+}
+
+#[test]
+fn the_version_comes_after_the_name(rt: HostRuntime) -> Result<(), Fail> {
+    for line in ["--version", "-V"] {
+        let answer = chosen_by(rt.alloc(), line)?;
+        let Err(Stop::Help(text)) = &answer else {
+            return Err(Fail::new("this is no version"));
+        };
+        assert!(rt; text.as_str() == "upc 2.0\n", "{line}");
     }
     Ok(())
 }

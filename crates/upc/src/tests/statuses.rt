@@ -88,7 +88,13 @@ fn a_device_that_fails_is_reported_and_ends_with_status_3(rt: HostRuntime) -> Re
 
 #[test]
 fn wrong_words_are_reported_and_nothing_is_read(rt: HostRuntime) -> Result<(), Fail> {
-    for line in ["bogus", "eval extra", "check eval", "--version", "\u{fffd}"] {
+    for line in [
+        "bogus",
+        "eval extra",
+        "check eval",
+        "run --version",
+        "\u{fffd}",
+    ] {
         let left = run_words(&rt, rt.alloc(), line, PROGRAM, 0, 0)?;
         assert!(rt;
             left.status == 2 && left.written.is_empty() && left.reported.starts_with(b"error: "),
