@@ -81,7 +81,7 @@ class Capture:
                 self.passed["back"].append(record.number)
             else:
                 latest = record.time
-                moment = (record.time - begun) * 10**9 // (2**32 * self.tick)
+                moment = ((record.time - begun) * 10**9 + 2**31 * self.tick) // (2**32 * self.tick)
                 self.cells.append(Counted(record.number, moment, record.cell))
 
     def pass_block(self, block):

@@ -4,4 +4,5 @@ pub mod Readings
 pub mod OneReading
 pub mod SomeReading
 pub mod Openings
+pub mod Stamps
 pub mod Public

@@ -1,7 +1,7 @@
 //! The times of records as moments.
 
 ghost use Rattle.std.specs.Prelude.{◌≡◌, ◌≤◌, ◌<◌, ◌-◌, ◌↔◌, max, IfSome, IsNone};
-ghost use Rattle.captures.specs.Moments.{whole_ticks};
+ghost use Rattle.captures.specs.Moments.{nearest_tick};
 
 /// How long a tick is.
 #[derive(Clone, Copy, PartialEq, Eq, Debug)]
@@ -23,14 +23,16 @@ impl Tick {
         Some(Tick { nanoseconds })
     }
 
-    /// Returns how many whole ticks a time has, in units of 2^-32 seconds.
+    /// Returns the number of ticks that is nearest to a time, in units of 2^-32 seconds. Cards round stamps down, and the nearest
+    /// number makes that good.
     #[inline(always)]
-    pub fn count(self, time: u64) -> u64
-        ensures { result ≡ whole_ticks time self.nanoseconds }
+    pub fn nearest(self, time: u64) -> u64
+        ensures { result ≡ nearest_tick time self.nanoseconds }
     {
-        let whole = u128::from(time) * 1_000_000_000;
+        let and_half = u128::from(time) * 1_000_000_000
+            + u128::from(self.nanoseconds) * 0x8000_0000;
         // Two divisions give the same as one by the product, and only the first is of a number of 128 bits.
-        (whole / 0x1_0000_0000) as u64 / self.nanoseconds
+        (and_half / 0x1_0000_0000) as u64 / self.nanoseconds
     }
 }
 
@@ -56,11 +58,11 @@ impl Clock {
         }
     }
 
-    /// Returns the moment of a time, in whole ticks, or nothing if the time is before one that was read earlier.
+    /// Returns the moment of a time, in ticks, or nothing if the time is before one that was read earlier.
     #[inline(always)]
     pub fn read(&mut self, time: u64, tick: Tick) -> Option<u64>
         ensures back { IsNone result ↔ (time < self.old.latest) }
-        ensures moment { IfSome result (λ moment. moment ≡ whole_ticks (time - self.old.first) tick.nanoseconds) }
+        ensures moment { IfSome result (λ moment. moment ≡ nearest_tick (time - self.old.first) tick.nanoseconds) }
         ensures first { self.new.first ≡ self.old.first }
         ensures latest { self.new.latest ≡ max self.old.latest time }
     {
@@ -68,6 +70,6 @@ impl Clock {
             return None;
         }
         self.latest = time;
-        Some(tick.count(time - self.first))
+        Some(tick.nearest(time - self.first))
     }
 }

@@ -1,5 +1,6 @@
 //! Laws of the definitions. Each function does nothing; its contract is the law.
 
+ghost use Rattle.captures.specs.Moments.{StampsLoseNoTick};
 ghost use Rattle.captures.specs.Opening.{OpeningsStay};
 ghost use Rattle.captures.specs.Reading.{FaultsEndReadings, FramesAreReadInOrder, HasOneReading, HasSomeReading};
 
@@ -21,6 +22,11 @@ pub fn captures_have_one_reading()
 /// Any octets have a reading.
 pub fn captures_have_a_reading()
     ensures { HasSomeReading }
+{}
+
+/// Cells that came so many ticks apart have stamps as many ticks apart, although stamps are rounded down.
+pub fn stamps_lose_no_tick()
+    ensures { StampsLoseNoTick }
 {}
 
 /// What a file is stays once its first octets decided it, whatever follows them.

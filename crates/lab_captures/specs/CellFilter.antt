@@ -1,7 +1,7 @@
 -- Which cells of a capture count, and at which moments: those of one link whose time is not before that of an earlier one.
 use Rattle.std.specs.Prelude.{◌≡◌, ◌-◌, nat_lt, max, if◌then◌else◌, Bool, ℕ, List, [], ◌∷◌, Option, Some, None, is_some, option_map, unwrap_or, Result, Ok, Err}
 use Rattle.captures.specs.Links.{same_link}
-use Rattle.captures.specs.Moments.{whole_ticks}
+use Rattle.captures.specs.Moments.{nearest_tick}
 use Rattle.captures.specs.Reading.{IsReading}
 use Rattle.captures.specs.declared.content.NoCell.{NoCell}
 use Rattle.captures.specs.declared.fault.Fault.{Fault}
@@ -47,7 +47,7 @@ filter_at_time state first latest record_read cell =
     if nat_lt record_read.time latest
     then (Passed, record state { clock = Some (first, latest); passed = record state.passed { back = one_more_record state.passed.back record_read.number } })
     else (
-      Counts (whole_ticks (record_read.time - first) state.tick) cell,
+      Counts (nearest_tick (record_read.time - first) state.tick) cell,
       record state { clock = Some (first, max latest record_read.time) },
     )
 

@@ -76,7 +76,7 @@ impl CellFollower for Cells {
     ghost is_total = { fixed_total cells_steps cells_closes };
 }
 
-/// Answers a capture by its cells, each as a line of a script for `upc run` or `upc ports`. Moments are whole ticks since the first cell.
+/// Answers a capture by its cells, each as a line of a script for `upc run` or `upc ports`. Moments are ticks since the first cell.
 /// If no link is asked for, a cell of a second link ends the run. Comments say how many records were passed over and why.
 ///
 /// With `threads` above 1, records are read on one thread while the cells of earlier ones are written on another, as in [`follow_cells`]. The

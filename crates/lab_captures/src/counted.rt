@@ -7,7 +7,7 @@ use upc_cell::Cell;
 pub struct CountedCell {
     /// The number of its record in the capture, from 1.
     pub number: u64,
-    /// When it arrived, in whole ticks since the first cell of the capture.
+    /// When it arrived, in ticks since the first cell of the capture.
     pub moment: u64,
     /// Its octets.
     pub cell: Cell,

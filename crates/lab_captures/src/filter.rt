@@ -9,7 +9,7 @@ use captures::{Clock, LentCell, Link, Passage, Record, Tick};
 /// What a record is to a run that reads the cells of one link.
 #[derive(PartialEq, Eq, Drop, Debug)]
 pub enum Filtered<'a> {
-    /// Its cell counts: the moment, in whole ticks since the first cell of the capture, and the cell.
+    /// Its cell counts: the moment, in ticks since the first cell of the capture, and the cell.
     Counts(u64, LentCell<'a>),
     /// It is passed over.
     Passed,

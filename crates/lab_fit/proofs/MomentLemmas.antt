@@ -5,7 +5,7 @@ use Rattle.std.specs.Prelude.{MatchOption, filter, unwrap_or}
 use Rattle.std.proofs.lemmas.Bool.{ltb-false}
 use Rattle.std.proofs.lemmas.Nat.{div-add-mod', le-div}
 use Rattle.captures.specs.Links.{same_link}
-use Rattle.captures.specs.Moments.{whole_ticks}
+use Rattle.captures.specs.Moments.{nearest_tick}
 use Rattle.captures.specs.declared.content.NoCell.{NoCell}
 use Rattle.captures.specs.declared.link.Link.{Link}
 use Rattle.captures.specs.declared.reader.Passage.{Passage}
@@ -25,13 +25,13 @@ div-grows a b d some less =
     le-div (a / d) b d some (omega (arith, parts, less))
 
 -- A later time has no fewer ticks.
-ticks-grow : (a b tick : ℕ) → 0 < tick → a ≤ b → whole_ticks a tick ≤ whole_ticks b tick
-ticks-grow a b tick some less = div-grows (a * 1000000000) (b * 1000000000) (2 ^ 32 * tick) (omega arith) (omega arith)
+ticks-grow : (a b tick : ℕ) → 0 < tick → a ≤ b → nearest_tick a tick ≤ nearest_tick b tick
+ticks-grow a b tick some less = div-grows (a * 1000000000 + 2 ^ 31 * tick) (b * 1000000000 + 2 ^ 31 * tick) (2 ^ 32 * tick) (omega arith) (omega arith)
 
 -- No cell that counted so far came after this moment.
 abbrev IsOn : FilterState → ℕ → Type 0
 IsOn state earliest =
-    MatchOption state.clock (earliest ≡ 0) (λ clock. (clock.0 ≤ clock.1) × (earliest ≤ whole_ticks (clock.1 - clock.0) state.tick))
+    MatchOption state.clock (earliest ≡ 0) (λ clock. (clock.0 ≤ clock.1) × (earliest ≤ nearest_tick (clock.1 - clock.0) state.tick))
 
 -- The next cell that counts is not before it.
 abbrev IsNext : ℕ → ℕ → Filtered → FilterState → Type 0
@@ -43,20 +43,20 @@ abbrev Reads : ℕ → ℕ → Filtered × FilterState → Type 0
 Reads tick earliest read = IsNext tick earliest read.0 read.1
 
 module _ (record_read : Record) (first latest earliest : ℕ) (ordered : first ≤ latest) where
-  at-time : (state : FilterState) (cell : List ℕ) → 0 < state.tick → earliest ≤ whole_ticks (latest - first) state.tick
+  at-time : (state : FilterState) (cell : List ℕ) → 0 < state.tick → earliest ≤ nearest_tick (latest - first) state.tick
       → Reads state.tick earliest (filter_at_time state first latest record_read cell)
   at-time state cell some on =
       let back : Filtered × FilterState = (
         Passed,
         record state { clock = Some (first, latest); passed = record state.passed { back = one_more_record state.passed.back record_read.number } },
       ) in
-      let moment = whole_ticks (record_read.time - first) state.tick in
+      let moment = nearest_tick (record_read.time - first) state.tick in
       let counts : Filtered × FilterState = (Counts moment cell, record state { clock = Some (first, max latest record_read.time) }) in
       let choice : (b : Bool) → nat_lt record_read.time latest ≡ b → Reads state.tick earliest (cond b back counts) = elim [
         | true ↦ λ e. ((ordered, on), refl)
         | false ↦ λ e.
             let late : latest ≤ record_read.time = ltb-false record_read.time latest e in
-            let later : whole_ticks (latest - first) state.tick ≤ moment =
+            let later : nearest_tick (latest - first) state.tick ≤ moment =
             ticks-grow (latest - first) (record_read.time - first) state.tick some (omega (arith, late)) in
             let up : record_read.time - first ≤ max latest record_read.time - first = omega (arith, late) in
             let here : first ≤ max latest record_read.time = omega (arith, late, ordered) in
@@ -64,7 +64,7 @@ module _ (record_read : Record) (first latest earliest : ℕ) (ordered : first �
       ] in
       choice (nat_lt record_read.time latest) refl
 
-  at-link : (state : FilterState) (cell : List ℕ) (link : Option Link) → 0 < state.tick → earliest ≤ whole_ticks (latest - first) state.tick
+  at-link : (state : FilterState) (cell : List ℕ) (link : Option Link) → 0 < state.tick → earliest ≤ nearest_tick (latest - first) state.tick
       → Reads state.tick earliest (filter_at_link state first latest record_read cell link)
   at-link state cell None some on = at-time (record state { link = Some record_read.link }) cell some on
   at-link state cell (Some link) some on =
@@ -84,11 +84,11 @@ module _ (record_read : Record) (first latest earliest : ℕ) (ordered : first �
       choice (same_link link record_read.link)
 
 at-clock : (state : FilterState) (record_read : Record) (cell : List ℕ) (earliest : ℕ) (clock : Option (ℕ × ℕ)) → 0 < state.tick
-    → MatchOption clock (earliest ≡ 0) (λ clock. (clock.0 ≤ clock.1) × (earliest ≤ whole_ticks (clock.1 - clock.0) state.tick))
+    → MatchOption clock (earliest ≡ 0) (λ clock. (clock.0 ≤ clock.1) × (earliest ≤ nearest_tick (clock.1 - clock.0) state.tick))
     → Reads state.tick earliest (filter_cell state (unwrap_or clock (record_read.time, record_read.time)) record_read cell)
 at-clock state record_read cell earliest None some on =
     let same : record_read.time ≤ record_read.time = omega arith in
-    let none : earliest ≤ whole_ticks (record_read.time - record_read.time) state.tick = omega (arith, on) in
+    let none : earliest ≤ nearest_tick (record_read.time - record_read.time) state.tick = omega (arith, on) in
     at-link record_read record_read.time record_read.time earliest same state cell state.link some none
 at-clock state record_read cell earliest (Some clock) some on = at-link record_read clock.0 clock.1 earliest on.0 state cell state.link some on.1
 

@@ -264,9 +264,11 @@ fn moments_of_times(rt: HostRuntime) -> Result<(), Fail> {
     let mut clock = Clock::new(start);
     for (time, nanoseconds, moment) in [
         (start, 1000, Some(0)),
-        (start + 42_949, 1000, Some(9)),
-        (start + 42_950, 1000, Some(10)),
-        (start + 0x8000_0000, 333_333_333, Some(1)),
+        (start + 40_802, 1000, Some(9)),
+        (start + 40_803, 1000, Some(10)),
+        (start + 45_096, 1000, Some(10)),
+        (start + 0x8000_0000, 333_333_334, Some(1)),
+        (start + 0x8000_0000, 333_333_333, Some(2)),
         (start + 0x8000_0000, 1, Some(500_000_000)),
         (start + 0x7fff_ffff, 1_000_000_000, None),
     ] {
@@ -276,9 +278,9 @@ fn moments_of_times(rt: HostRuntime) -> Result<(), Fail> {
         assert_eq!(rt; clock.read(time, tick), moment);
     }
     assert_eq!(rt; Tick::new(0), None);
-    for (nanoseconds, count) in [(1, 4_294_967_295_999_999_999), (u64::MAX, 0)] {
+    for (nanoseconds, count) in [(1, 4_294_967_296_000_000_000), (u64::MAX, 0)] {
         assert_eq!(rt;
-            Tick::new(nanoseconds).map(|tick| tick.count(u64::MAX)),
+            Tick::new(nanoseconds).map(|tick| tick.nearest(u64::MAX)),
             Some(count)
         );
     }
