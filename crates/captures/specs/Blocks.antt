@@ -40,7 +40,8 @@ block_size section octets =
     or_fault (block_order section octets) (λ order.
     or_fault (sized 0 12 most_block (number_in_order order (drop 4 octets))) even_block)
 
--- A section begins, with numbers in this order, after so many interfaces of earlier sections, and with no interface of its own.
+-- The state at the beginning of a section with numbers in this order, after this number of interfaces in earlier sections. It has no
+-- interface of its own.
 abbrev pub section_begun : Order → ℕ → Section
 section_begun order before = record { order = order; before = before; interfaces = 0; others = 0 }
 

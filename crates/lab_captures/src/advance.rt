@@ -15,7 +15,7 @@ use captures::Fault;
 use std::alloc::AllocError;
 use text_io::Turn;
 
-/// On one thread cells are answered after so many are read: those stay in the cache that is nearest to the processor.
+/// On one thread cells are answered after this number of them is read: those stay in the cache that is nearest to the processor.
 const FEW: usize = 256;
 
 /// How a run goes on.

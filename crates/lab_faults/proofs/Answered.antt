@@ -24,7 +24,7 @@ use Rattle.text_io.specs.Gathered.{gathered, LeavesAfter}
 use Rattle.text_io.specs.Limits.{most_ahead}
 use Rattle.text_io.specs.declared.ending.Done.{Done}
 use Rattle.text_io.specs.declared.ending.Done.TheVariants.{Whole, Ended}
-use Rattle.upc_codes.specs.CodeFaults.{verify_fault}
+use Rattle.upc_programs.specs.CodeFaults.{verify_fault}
 use Rattle.upc_programs.specs.Check.{most_source_octets}
 use Rattle.upc_programs.specs.SourceFaults.{asm_fault}
 use Rattle.upc_words.specs.FaultLines.{line, too_long}

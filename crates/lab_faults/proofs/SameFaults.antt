@@ -11,8 +11,8 @@ use Rattle.lab_faults.specs.Explained.{ExplainsCode, ExplainsSource}
 use Rattle.lab_faults.specs.SourceReasons.{source_explanation}
 use Rattle.text_io.specs.declared.ending.Done.{Done}
 use Rattle.text_io.specs.declared.ending.Done.TheVariants.{Whole, Ended}
-use Rattle.upc_codes.specs.CodeFaults.{verify_fault}
-use Rattle.upc_codes.specs.Program.{ProgramReading, is_program, is_refused, ChecksAs}
+use Rattle.upc_programs.specs.CodeFaults.{verify_fault}
+use Rattle.upc_programs.specs.Program.{ProgramReading, is_program, is_refused, ChecksAs}
 use Rattle.upc_programs.specs.Check.{IsCheckAnswer, PrintsSource}
 use Rattle.upc_programs.specs.SourceFaults.{asm_fault}
 

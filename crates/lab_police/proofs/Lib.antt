@@ -7,4 +7,11 @@ pub mod LeftLemmas
 pub mod LineTexts
 pub mod LeftExcess
 pub mod PoliceLemmas
+pub mod ScriptLines
+pub mod Completing
+pub mod Existence
+pub mod Digits
+pub mod WholeLines
+pub mod LinesKept
+pub mod EachCapture
 pub mod Public

@@ -1,28 +1,40 @@
 -- Lemmas for other crates.
-use Rattle.std.proofs.Common.{inl, inr, ℕ, List, Option, refl}
+use Rattle.std.proofs.Common.{ℕ, List, [], ◌∷◌, ◌++◌, map, Option, append-nil, append_assoc, ap, refl, subst, sym, ◌≡◌, ◌∙◌}
+use Rattle.std.proofs.lemmas.List.{map-append}
+use Rattle.std.specs.Global.{Vec}
 use Rattle.captures.specs.declared.link.Link.{Link}
-use Rattle.lab_captures.proofs.Public.{some_capture_text}
-use Rattle.lab_captures.specs.CellFilter.{filter_start}
 use Rattle.lab_captures.specs.declared.cell_lines.CellLines.{CellLines}
-use Rattle.lab_scripts.proofs.Public.{some-script_text}
-use Rattle.lab_scripts.specs.ScriptText.{IsScriptExplained}
 use Rattle.text_io.specs.declared.ending.Done.{Done}
-use Rattle.text_io.specs.declared.ending.Done.TheVariants.{Whole, Ended}
-use Rattle.lab_police.specs.PoliceText.{IsPoliceText, police_rules, police_start}
-use Rattle.lab_police.specs.inner.PoliceTotal.{police-total}
-use Rattle.lab_police.proofs.SetUpLemmas.{set_up_some}
+use Rattle.lab_police.specs.FilesRead.{AreTextsForFiles, IsTextForFile, octets_of_name, octets_of_names}
+use Rattle.lab_police.specs.RulesFiles.{octets_of_text, octets_of_texts}
+use Rattle.lab_police.specs.declared.shared_text.SharedText.{SharedText}
+use Rattle.lab_police.specs.SetupText.{IsSetupPoliced, MayBeSetupPoliced}
+use Rattle.lab_police.proofs.Existence as existence
 
-police_some : (lines : CellLines) (tick : ℕ) (link : Option Link) (script octets text : List ℕ) (done : Done) → IsScriptExplained script text done
-    → (text : List ℕ) × (done : Done) × IsPoliceText lines tick link script octets text done
-police_some lines tick link script octets text Ended explained = (text, Ended, inl (explained, refl))
-police_some lines tick link script octets text Whole explained =
-    let set = set_up_some script (text, explained) in
-    let printed = some_capture_text police_rules police-total (filter_start tick link) (police_start lines set.0) octets set.2 in
-    (printed.0, printed.1, inr (set.0, set.1, printed.2))
+-- A setup script, texts of rules and a capture have a text.
+pub some_setup_text : (lines : CellLines) (tick : ℕ) (link : Option Link) (setup : List ℕ) (texts : List (List ℕ)) (octets : List ℕ)
+    → (text : List ℕ) × (done : Done) × MayBeSetupPoliced lines tick link setup texts octets text done
+some_setup_text = existence.polices_each
 
--- A setup script and a capture have a text.
-pub some_police_text : (lines : CellLines) (tick : ℕ) (link : Option Link) (script octets : List ℕ)
-    → (text : List ℕ) × (done : Done) × IsPoliceText lines tick link script octets text done
-some_police_text lines tick link script octets =
-    let explained = some-script_text script in
-    police_some lines tick link script octets explained.0 explained.1 explained.2
+-- A text by the rules as they are is one where the code of any rules may be reported as too long.
+pub setup_text_may_be : (lines : CellLines) (tick : ℕ) (link : Option Link) (setup : List ℕ) (texts : List (List ℕ)) (octets text : List ℕ) (done : Done)
+    → IsSetupPoliced lines tick link setup texts octets text done → MayBeSetupPoliced lines tick link setup texts octets text done
+setup_text_may_be = existence.may_be_policed
+
+-- The text of one more file goes after those so far.
+pub one_more_text : (all : List (Option (List ℕ))) (file : Option (Vec ℕ)) (files : List (Option (Vec ℕ))) (texts : List SharedText) (text : SharedText)
+    → ((more : List (List ℕ)) → AreTextsForFiles (octets_of_names (file ∷ files)) more → AreTextsForFiles all (octets_of_texts texts ++ more))
+    → IsTextForFile (octets_of_name file) (octets_of_text text)
+    → (more : List (List ℕ)) → AreTextsForFiles (octets_of_names files) more → AreTextsForFiles all (octets_of_texts (texts ++ text ∷ []) ++ more)
+one_more_text all file files texts text so is more h =
+    let same : octets_of_texts (texts ++ text ∷ []) ++ more ≡ octets_of_texts texts ++ octets_of_text text ∷ more =
+    ap (λ (ts : List (List ℕ)). ts ++ more) (map-append octets_of_text texts (text ∷ []))
+    ∙ append_assoc (octets_of_texts texts) (octets_of_text text ∷ []) more in
+    subst (AreTextsForFiles all) (sym same) (so (octets_of_text text ∷ more) (is, h))
+
+-- The texts of all files, if none is left.
+pub all_texts : (all : List (Option (List ℕ))) (files : List (Option (Vec ℕ))) (texts : List SharedText)
+    → ((more : List (List ℕ)) → AreTextsForFiles (octets_of_names files) more → AreTextsForFiles all (octets_of_texts texts ++ more))
+    → files ≡ [] → AreTextsForFiles all (octets_of_texts texts)
+all_texts all files texts so none =
+    subst (AreTextsForFiles all) (append-nil (octets_of_texts texts)) (so [] (subst (λ (fs : List (Option (Vec ℕ))). AreTextsForFiles (octets_of_names fs) []) (sym none) refl))

@@ -4,4 +4,12 @@ pub mod NotJudgedCells
 pub mod ConnectionCounts
 pub mod PoliceText
 pub mod PoliceLaws
+pub mod RulesLines
+pub mod RulesFiles
+pub mod SetupPrograms
+pub mod FaultyRules
+pub mod FilesRead
+pub mod FileNames
+pub mod SetupText
+pub mod SetupLaws
 pub mod inner

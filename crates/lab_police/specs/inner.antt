@@ -5,3 +5,5 @@ pub mod CardArrival
 pub mod ExcessLeft
 pub mod PoliceShown
 pub mod PoliceTotal
+pub mod ScriptLine
+pub mod Expansion

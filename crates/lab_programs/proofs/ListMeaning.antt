@@ -25,8 +25,8 @@ use Rattle.hex.specs.Hex.{IsBytes, decode_of}
 use Rattle.hex.specs.declared.error.FromHexError.{FromHexError}
 use Rattle.std.specs.Result.{result_ok}
 use Rattle.text_io.specs.declared.ending.Done.TheVariants.{Whole}
-use Rattle.upc_codes.specs.CodeFaults.{decode_fault}
-use Rattle.upc_codes.specs.Program.{ReadsAs, is_program, is_refused}
+use Rattle.upc_programs.specs.CodeFaults.{decode_fault}
+use Rattle.upc_programs.specs.Program.{ReadsAs, is_program, is_refused}
 use Rattle.upc_programs.specs.Check.{PrintsSource, accepted_text}
 use Rattle.upc_words.specs.Hexadecimal.{octets_of_digits}
 use Rattle.lab_programs.proofs.Fits.{fits_all}

@@ -12,8 +12,8 @@ use Rattle.text_io.specs.Lines.{lines_of}
 use Rattle.text_io.specs.Printing.{IsFunctional}
 use Rattle.text_io.specs.Words.{words_of, is_silent}
 use Rattle.text_io.specs.declared.ending.Done.{Done}
-use Rattle.upc_codes.proofs.Public.{reads-once}
-use Rattle.upc_codes.specs.Program.{ProgramReading, is_program, is_refused}
+use Rattle.upc_programs.proofs.Public.{reads-once}
+use Rattle.upc_programs.specs.Program.{ProgramReading, is_program, is_refused}
 use Rattle.upc_words.specs.FaultLines.{bad_hex}
 use Rattle.upc_words.specs.Hexadecimal.{octets_of_digits}
 

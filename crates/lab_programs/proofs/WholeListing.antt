@@ -13,7 +13,7 @@ use Rattle.text_io.specs.Limits.{is_over}
 use Rattle.text_io.specs.Printing.{Prints}
 use Rattle.text_io.specs.Words.{is_silent, words_of}
 use Rattle.text_io.specs.declared.ending.Done.TheVariants.{Whole, Ended}
-use Rattle.upc_codes.specs.Program.{ProgramReading, ReadsAs, is_program, is_refused}
+use Rattle.upc_programs.specs.Program.{ProgramReading, ReadsAs, is_program, is_refused}
 use Rattle.upc_words.specs.FaultLines.{bad_hex}
 use Rattle.upc_words.specs.Hexadecimal.{octets_of_digits}
 

@@ -12,7 +12,7 @@ use Rattle.text_io.specs.Printing.{Rules, Prints}
 use Rattle.text_io.specs.Words.{words_of, is_silent}
 use Rattle.text_io.specs.declared.ending.Done.{Done}
 use Rattle.text_io.specs.declared.ending.Done.TheVariants.{Whole, Ended}
-use Rattle.upc_codes.specs.Program.{ProgramReading, is_program, is_refused, ReadsAs}
+use Rattle.upc_programs.specs.Program.{ProgramReading, is_program, is_refused, ReadsAs}
 use Rattle.upc_words.specs.FaultLines.{line, bad_line, bad_hex, no_program, too_long}
 use Rattle.upc_words.specs.Hexadecimal.{octets_of_digits}
 

@@ -29,8 +29,8 @@ use Rattle.upc_card_lines.specs.CardFaults.{desk_fault, desk_name, gcra_fault, n
 use Rattle.upc_card_lines.specs.CardLine.{card_line_shape}
 use Rattle.upc_card_lines.specs.Replies.{reply_text}
 use Rattle.upc_cell.specs.declared.vc.Vc.{Vc}
-use Rattle.upc_codes.specs.CodeFaults.{decode_fault, verify_fault}
-use Rattle.upc_codes.specs.Program.{ProgramReading, ReadsAs, is_program, is_refused}
+use Rattle.upc_programs.specs.CodeFaults.{decode_fault, verify_fault}
+use Rattle.upc_programs.specs.Program.{ProgramReading, ReadsAs, is_program, is_refused}
 use Rattle.upc_run.specs.RunSide.{run_side}
 use Rattle.upc_run.specs.RunText.{AsksConnection, Card, IsAnswered, LoadsOctets, Obeys, OpensCard, OpensOrObeys, PolicesCell, PolicesOctets, RefusesLine, RunSteps, RunWorld, TakesCommand, TakesNamed, TakesReading, new_card}
 use Rattle.upc_script.specs.ProgramNames.{program_named}

@@ -8,7 +8,7 @@ use Rattle.lab_faults.proofs.Public.{some-explain_text}
 use Rattle.lab_fit.specs.FitText.{fit_closes, fit_rules, fit_start, fit_steps}
 use Rattle.lab_programs.proofs.Public.{some-list_text, some-trace_text}
 use Rattle.lab_rules.proofs.Public.{some-asm_text, some-rules_text, some-why_text}
-use Rattle.lab_setups.proofs.Public.{some_setup_text}
+use Rattle.lab_police.proofs.Public.{some_setup_text}
 use Rattle.lab_sizes.proofs.Public.{some-sizes_text}
 use Rattle.upc_lab.specs.LabText.{IsAskedText, IsLabText}
 use Rattle.upc_lab.specs.declared.choice.Asked.{Asked}

@@ -9,7 +9,7 @@ use Rattle.lab_programs.specs.Trace.{IsTraceText}
 use Rattle.lab_rules.specs.AsmText.{MayBeAsmText}
 use Rattle.lab_rules.specs.RulesText.{MayBeRulesText}
 use Rattle.lab_rules.specs.WhyText.{MayBeWhyText}
-use Rattle.lab_setups.specs.SetupText.{MayBeSetupPoliced}
+use Rattle.lab_police.specs.SetupText.{MayBeSetupPoliced}
 use Rattle.lab_sizes.specs.SizeText.{IsSizesText}
 use Rattle.text_io.specs.declared.ending.Done.{Done}
 use Rattle.upc_lab.specs.declared.choice.Asked.{Asked}

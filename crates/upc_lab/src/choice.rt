@@ -6,6 +6,7 @@ ghost use Rattle.command_line.specs.Stopping.{StopsAt};
 ghost use Rattle.upc_lab.specs.LabWords.{AsksLab, IsLabStop, NamesLab, begins_cells, begins_differ, begins_fit, begins_police, begins_with, lab_faults_in};
 ghost use Rattle.upc_lab.specs.declared.choice.Asked.{Asked as TheAsked};
 
+use crate::help_words::{help_on, with_options_shown};
 use command_line::{Program, Row, Stop, VERSION, row_of_words};
 use lab_options::{
     CellsOptions, DifferOptions, FitOptions, PoliceOptions, cells_options, differ_options,
@@ -163,9 +164,10 @@ pub fn choose(alloc: Global, words: Vec<String>) -> Result<Asked, Stop>
             Err(stop) => Err(stop),
         }
     } else {
+        let subject = help_on(words.as_slice());
         match choose_plain(alloc, words) {
             Ok(subcommand) => Ok(Asked::Plain(subcommand)),
-            Err(stop) => Err(stop),
+            Err(stop) => Err(with_options_shown(alloc, subject, stop)),
         }
     }
 }

@@ -11,7 +11,7 @@ ghost use Rattle.upc_lab.specs.ShownNames.{is_terminal_text, shown_name};
 ghost use Rattle.upc_lab.specs.inner.OnlyWord.{is_only};
 
 use command_line::{CommandLine, InMemory, words_after_name};
-use lab_setups::add_escaped_name;
+use lab_police::add_escaped_name;
 use std::alloc::{AllocError, Global};
 use std::env::FillError;
 use std::str;

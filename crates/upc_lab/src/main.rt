@@ -3,6 +3,7 @@
 
 mod choice;
 mod file_names;
+mod help_words;
 mod invocation;
 mod laws;
 mod notice;
@@ -23,9 +24,9 @@ pub use lab_options::{
     CellsOptions, DifferOptions, FitOptions, PoliceOptions, cells_options, differ_options,
     fit_options, police_options,
 };
+pub use lab_police::police_setup;
 pub use lab_programs::{list_program, trace_cells};
 pub use lab_rules::{assemble_rules, compile_rules, decide_cells};
-pub use lab_setups::police_setup;
 pub use lab_sizes::size_contracts;
 pub use notice::awaited;
 pub use progress::{Counted, reads_capture};

@@ -2,15 +2,15 @@
 
 ghost use Rattle.std.specs.Prelude.{◌≡◌, ◌⊎◌, IfErr, IfOk, IfSome, IsOkAnd, None, []};
 ghost use Rattle.std.specs.Path.{path_with_file_name};
-ghost use Rattle.lab_setups.specs.FilesRead.{AreTextsForFiles, IsTextForFile, files_read, octets_of_name, octets_of_names};
-ghost use Rattle.lab_setups.specs.RulesFiles.{octets_of_text, octets_of_texts};
+ghost use Rattle.lab_police.specs.FilesRead.{AreTextsForFiles, IsTextForFile, files_read, octets_of_name, octets_of_names};
+ghost use Rattle.lab_police.specs.RulesFiles.{octets_of_text, octets_of_texts};
 ghost use Rattle.upc_lab.specs.SetupFile.{IsUnreadable, IsUnreadableSetup, IsUnreadableShown, old_name, setup_name, unreadable_line, unreadable_message};
 
 use crate::choice::Asked;
 use crate::file_names::{add_shown_name, name_given};
 use crate::reason::in_words;
 use command_line::{CommandLine, Stop};
-use lab_setups::{SharedText, files_read};
+use lab_police::{SharedText, files_read};
 use std::alloc::{AllocError, Global};
 use std::collections::BTreeMap;
 use std::fs::File;

@@ -27,13 +27,13 @@ use Rattle.upc_script.specs.ProgramNames.{number_of_program}
 use Rattle.upc_script.specs.ReplyTexts.{judging_text, verdict_text}
 use Rattle.upc_script.specs.ScriptCommands.{Command, cell, command_of}
 use Rattle.upc_ports.specs.LineAnswers.{Faults, MayAnswerCommand, MayAnswerLine, MayAnswerCell, MayAnswerOctets, Refuses}
-use Rattle.upc_dealing.specs.declared.cell_line.CellLineFault.{CellLineFault}
-use Rattle.upc_dealing.specs.declared.cell_line.CellLineFault.TheVariants.{BadLine, BadHex, WrongLength}
-use Rattle.upc_dealing.specs.declared.cell_line.CellLine.TheVariants.{IsFaulty}
+use Rattle.upc_script.specs.declared.cell_line.CellLineFault.{CellLineFault}
+use Rattle.upc_script.specs.declared.cell_line.CellLineFault.TheVariants.{BadLine, BadHex, WrongLength}
+use Rattle.upc_script.specs.declared.cell_line.CellLine.TheVariants.{IsFaulty}
 use Rattle.upc_ports.specs.declared.answered.AnsweredCell.{AnsweredCell}
 use Rattle.upc_ports.specs.inner.Arrivals.{AnswersPort, HasCell, IsStoredFrom, IsStoredOf}
-use Rattle.upc_dealing.specs.CellLine.{IsCellLine}
-use Rattle.upc_dealing.specs.Dealing.{is_cell_line}
+use Rattle.upc_script.specs.CellLine.{IsCellLine}
+use Rattle.upc_script.specs.Dealing.{is_cell_line}
 use Rattle.upc_ports.specs.inner.InOrder.{PrintsCell}
 use Rattle.upc_ports.specs.inner.Answered.{answer_kept, cell_counts, header_of, ruled, shown_cell}
 use Rattle.upc_ports.proofs.CountsLemmas.{same-counts}

@@ -10,7 +10,7 @@ use Rattle.text_io.specs.Printing.{IsFront}
 use Rattle.text_io.specs.declared.ending.Done.{Done}
 use Rattle.text_io.specs.declared.ending.RunFault.{RunFault}
 use Rattle.upc_ports.specs.ClosingText.{closing_text, done_of}
-use Rattle.upc_dealing.specs.Dealing.{AreLinesOf}
+use Rattle.upc_script.specs.Dealing.{AreLinesOf}
 use Rattle.upc_ports.specs.PortsText.{IsCardText}
 use Rattle.upc_ports.specs.ScriptAnswers.{AnswersScript}
 use Rattle.upc_ports.specs.inner.Script.{AnswersCard, OfLines}

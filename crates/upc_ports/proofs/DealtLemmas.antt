@@ -14,17 +14,17 @@ use Rattle.text_io.specs.Words.{words_of}
 use Rattle.upc_script.specs.ScriptCommands.{command_of}
 use Rattle.upc_ports.specs.LineAnswers.{MayAnswerLine}
 use Rattle.upc_ports.specs.ScriptAnswers.{AnswersEach}
-use Rattle.upc_dealing.specs.declared.cell_line.CellLine.{CellLine}
-use Rattle.upc_dealing.specs.declared.cell_line.CellLine.TheVariants.{Comes, IsFaulty}
-use Rattle.upc_dealing.specs.declared.dealing.Answerer.{Answerer}
-use Rattle.upc_dealing.specs.declared.cell_line.CellLineFault.{CellLineFault}
-use Rattle.upc_dealing.specs.declared.cell_line.CellLineFault.TheVariants.{BadLine, BadHex, WrongLength}
-use Rattle.upc_dealing.specs.declared.dealing.Answerer.TheVariants as answerers
-use Rattle.upc_dealing.specs.declared.dealing.Answerer.TheVariants.{Port, Desk}
+use Rattle.upc_script.specs.declared.cell_line.CellLine.{CellLine}
+use Rattle.upc_script.specs.declared.cell_line.CellLine.TheVariants.{Comes, IsFaulty}
+use Rattle.upc_script.specs.declared.dealing.Answerer.{Answerer}
+use Rattle.upc_script.specs.declared.cell_line.CellLineFault.{CellLineFault}
+use Rattle.upc_script.specs.declared.cell_line.CellLineFault.TheVariants.{BadLine, BadHex, WrongLength}
+use Rattle.upc_script.specs.declared.dealing.Answerer.TheVariants as answerers
+use Rattle.upc_script.specs.declared.dealing.Answerer.TheVariants.{Port, Desk}
 use Rattle.upc_ports.specs.declared.answered.AnsweredCell.{AnsweredCell}
 use Rattle.upc_ports.specs.inner.Arrivals.{AnswersPort, HasCell}
-use Rattle.upc_dealing.specs.CellLine.{IsCellLine}
-use Rattle.upc_dealing.specs.Dealing.{fault_dealt, is_cell_line, port_of, Dealt, none_dealt, DealsAll, DealsCell, DealsCellLine, DealsDeskLine, DealsFound, DealsOtherLine}
+use Rattle.upc_script.specs.CellLine.{IsCellLine}
+use Rattle.upc_script.specs.Dealing.{fault_dealt, is_cell_line, port_of, Dealt, none_dealt, DealsAll, DealsCell, DealsCellLine, DealsDeskLine, DealsFound, DealsOtherLine}
 use Rattle.upc_ports.specs.inner.DeskTexts.{ObeysEach, MayObeyLine}
 use Rattle.upc_ports.specs.inner.Script.{AnswersLater, OfLines}
 use Rattle.text_io.specs.Devices.{Adds}

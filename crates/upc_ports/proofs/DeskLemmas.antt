@@ -12,7 +12,7 @@ use Rattle.card_core.specs.declared.reply.Reply.{Reply}
 use Rattle.card_core.specs.declared.reply.Reply.TheVariants.{Loaded}
 use Rattle.upc_words.specs.FaultLines.{line, bad_hex, bad_line}
 use Rattle.upc_words.specs.Hexadecimal.{octets_of_digits}
-use Rattle.upc_codes.specs.Program.{is_program, ReadsAs}
+use Rattle.upc_programs.specs.Program.{is_program, ReadsAs}
 use Rattle.upc_card_lines.specs.CardFaults.{gcra_fault, no_such_program}
 use Rattle.upc_card_lines.specs.Replies.{reply_text}
 use Rattle.upc_script.specs.ProgramNames.{program_named}
@@ -27,7 +27,7 @@ use Rattle.line_record.specs.declared.tally.Tally.{Tally}
 use Rattle.upc_ports.proofs.CountsLemmas.{nothing-plus, plus-regroup}
 use Rattle.upc_ports.specs.LineAnswers.{MayAnswerCommand, MayAnswerLine, MayObey, MayReply, Refuses, Replies, RepliesToNamed, RepliesToOctets, loaded_id}
 use Rattle.upc_ports.specs.ScriptAnswers.{AnswersEach}
-use Rattle.upc_dealing.specs.Dealing.{is_cell_line}
+use Rattle.upc_script.specs.Dealing.{is_cell_line}
 use Rattle.upc_ports.specs.inner.DeskTexts.{AddsReply, MayObeyLine, ObeysEach}
 
 -- A reply that loads no program.

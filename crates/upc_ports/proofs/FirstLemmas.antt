@@ -7,11 +7,11 @@ use Rattle.line_record.specs.declared.tally.Tally.{Tally}
 use Rattle.upc_cell.specs.declared.side.Side.{Side}
 use Rattle.text_io.specs.Words.{words_of}
 use Rattle.upc_ports.specs.ScriptAnswers.{AnswersEach}
-use Rattle.upc_dealing.specs.Dealing.{AreLinesOf, is_cell_line}
+use Rattle.upc_script.specs.Dealing.{AreLinesOf, is_cell_line}
 use Rattle.upc_ports.specs.inner.FirstLines.{from_first_cell}
 use Rattle.upc_ports.specs.inner.DeskTexts.{MayObeyLine}
 use Rattle.upc_ports.specs.inner.Script.{AnswersFirst, AnswersLater, OfLines}
-use Rattle.upc_dealing.proofs.Public.{NoneBefore, starts_with, no_lines}
+use Rattle.upc_script.proofs.Public.{NoneBefore, starts_with, no_lines}
 use Rattle.upc_ports.proofs.CountsLemmas.{nothing-plus}
 use Rattle.upc_ports.proofs.DeskLemmas.{desk-answered, each-append}
 

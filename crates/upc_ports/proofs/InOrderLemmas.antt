@@ -4,7 +4,7 @@ use Rattle.std.proofs.lemmas.List.{take_more, append_assoc, append-nil}
 use Rattle.text_io.specs.Devices.{Adds}
 use Rattle.gen_arena.specs.declared.id.Id.{Id}
 use Rattle.upc_cell.specs.declared.side.Side.{Side}
-use Rattle.upc_dealing.specs.declared.dealing.Answerer.{Answerer}
+use Rattle.upc_script.specs.declared.dealing.Answerer.{Answerer}
 use Rattle.line_record.specs.declared.fault.LineFault.TheVariants.{TooLate, Back, Full, NoMemory}
 use Rattle.card_core.specs.declared.answer.Unjudged.{Unjudged}
 use Rattle.card_core.specs.declared.answer.Unjudged.TheVariants as unjudged

@@ -10,7 +10,7 @@ use Rattle.card_core.specs.declared.shape.Shape.{Shape}
 use Rattle.upc_ports.specs.PortsText.{IsCardText, IsPortsText, IsReadingText, ScriptReading, reading_rules, unread}
 use Rattle.upc_ports.specs.inner.Script.{OfLines}
 use Rattle.upc_ports.specs.inner.ReadingLaws.{reading-total}
-use Rattle.upc_dealing.specs.Dealing.{AreLinesOf}
+use Rattle.upc_script.specs.Dealing.{AreLinesOf}
 use Rattle.upc_ports.specs.inner.Reading.{IsStoredReading}
 use Rattle.upc_ports.proofs.ReadLines.{stored-lines}
 use Rattle.upc_ports.proofs.ReadingText.{reading-silent}

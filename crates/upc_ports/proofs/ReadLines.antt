@@ -14,7 +14,7 @@ use Rattle.card_core.specs.declared.fault.CardFault.{CardFault}
 use Rattle.card_core.specs.declared.shape.Shape.{Shape}
 use Rattle.upc_card_lines.specs.CardFaults.{no_card, shape_fault_line}
 use Rattle.upc_card_lines.specs.CardLine.{card_line_shape}
-use Rattle.upc_dealing.specs.Dealing.{AreLinesOf, IsOneLine, text_of}
+use Rattle.upc_script.specs.Dealing.{AreLinesOf, IsOneLine, text_of}
 use Rattle.upc_ports.specs.PortsText.{ScriptReading, unread, OpensOrEnds, ReadsWords, reading_rules}
 use Rattle.upc_ports.specs.inner.Reading.{IsStoredReading}
 

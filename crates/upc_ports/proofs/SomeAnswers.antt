@@ -15,8 +15,8 @@ use Rattle.upc_cell.specs.declared.side.Side.{Side}
 use Rattle.upc_cell.specs.declared.vc.Vc.{Vc}
 use Rattle.upc_card_lines.specs.CardFaults.{gcra_fault, no_such_program}
 use Rattle.upc_card_lines.specs.Replies.{reply_text}
-use Rattle.upc_codes.proofs.Public.{reads-as}
-use Rattle.upc_codes.specs.Program.{ProgramReading, is_program, is_refused}
+use Rattle.upc_programs.proofs.Public.{reads-as}
+use Rattle.upc_programs.specs.Program.{ProgramReading, is_program, is_refused}
 use Rattle.upc_script.specs.ProgramNames.{program_named}
 use Rattle.upc_script.specs.ReplyTexts.{connection_name}
 use Rattle.upc_script.specs.Rates.{first_wanted_fault}

@@ -17,7 +17,7 @@ use Rattle.line_record.specs.Piece.{IsPiece}
 use Rattle.port_card.specs.Answers.{IsJudgedAnswer, BlamesRightly, IsOfSetup, IsOfRetirement, IsOfReload, IsOfRelease, IsOfCut}
 use Rattle.upc_words.specs.FaultLines.{bad_hex, bad_line, wrong_length}
 use Rattle.upc_words.specs.Hexadecimal.{octets_of_digits, cell_of_octets}
-use Rattle.upc_codes.specs.Program.{ProgramReading, is_program, is_refused, ReadsAs}
+use Rattle.upc_programs.specs.Program.{ProgramReading, is_program, is_refused, ReadsAs}
 use Rattle.upc_card_lines.specs.CardFaults.{gcra_fault, no_such_program}
 use Rattle.upc_script.specs.Rates.{first_wanted_fault}
 use Rattle.upc_card_lines.specs.Replies.{answer_text, reply_text}

@@ -13,7 +13,7 @@ use port_card::{Card, Gate, Ledgers, PortSeat};
 use std::alloc::{AllocError, Global};
 use std::sync::Wait;
 use upc_cell::Side;
-use upc_dealing::{CellLine, read_cell_line};
+use upc_script::{CellLine, read_cell_line};
 
 /// Lets the cell of a line arrive, and returns what is stored of it and its answer. Returns None only for a line without
 /// a cell; a port gets no such line.

@@ -26,7 +26,7 @@ use std::marker::Brand;
 use std::sync::Wait;
 use std::thread::Threads;
 use text_io::{Done, Input, Output, RunFault, answer_lines, give_last};
-use upc_dealing::{Deal, deal_lines, first_line, is_cell_line};
+use upc_script::{Deal, deal_lines, first_line, is_cell_line};
 use upc_script::{Names, add_ready};
 
 /// Answers the lines before the first cell line, and returns the lines from there on.

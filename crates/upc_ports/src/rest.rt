@@ -56,7 +56,7 @@ fn first_of(own: &[AnsweredCell]) -> Option<(&AnsweredCell, &[AnsweredCell])>
 impl<'a> Rest<'a> {
     ghost use Rattle.std.specs.Prelude.{◌≡◌, slice_get};
     ghost use Rattle.std.specs.Option.{option_copied};
-    ghost use Rattle.upc_dealing.specs.declared.dealing.Answerer.TheVariants.{Port, Desk, WrongLength};
+    ghost use Rattle.upc_script.specs.declared.dealing.Answerer.TheVariants.{Port, Desk, WrongLength};
     ghost use Rattle.upc_ports.specs.inner.InOrder.{after_answerer, first_cell, first_length, first_text};
     ghost use Rattle.upc_ports.specs.inner.Rest.{unprinted};
 

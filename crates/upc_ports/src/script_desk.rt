@@ -10,7 +10,7 @@ use std::alloc::{AllocError, Global};
 use std::sync::Wait;
 use upc_card_lines::{add_desk_fault, add_gcra_fault, add_no_such_program};
 use upc_cell::Vc;
-use upc_codes::read_code;
+use upc_programs::read_code;
 use upc_script::{
     Command, Names, Wanted, add_cut, add_loaded, add_released, add_reloaded, add_retired, add_set,
     contracts, contracts_of, read_command,

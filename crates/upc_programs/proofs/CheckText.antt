@@ -3,8 +3,8 @@ use Rattle.std.proofs.Common.{◌≡◌, ℕ, ◌+◌, ◌≤◌, inl, inr, List
 use Rattle.bpf_asm.proofs.Public.{meaning-or_fault, never_both, fault_once, meaning_once}
 use Rattle.bpf_code.specs.declared.instr.Instr.{Instr}
 use Rattle.upc_programs.specs.Check.{IsCheckText, AnswersSource, PrintsCode, IsCheckAnswer, PrintsSource, accepted_text, most_source_octets}
-use Rattle.upc_codes.specs.Program.{ProgramReading, is_program, is_refused}
-use Rattle.upc_codes.proofs.Public.{checks-as, checks-once}
+use Rattle.upc_programs.specs.Program.{ProgramReading, is_program, is_refused}
+use Rattle.upc_programs.specs.inner.ReadingLaws.{checks-as, checks-once}
 use Rattle.upc_programs.specs.SourceFaults.{asm_fault}
 use Rattle.upc_words.specs.FaultLines.{too_long}
 use Rattle.text_io.specs.Devices.{TakesEnough}

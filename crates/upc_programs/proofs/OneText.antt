@@ -9,8 +9,8 @@ use Rattle.text_io.specs.Lines.{lines_of}
 use Rattle.text_io.specs.Printing.{IsFunctional}
 use Rattle.text_io.proofs.Public.{one-text, some-text}
 use Rattle.upc_programs.specs.Eval.{EvalWorld, IsProgramAnswer, ReadsProgram, ProgramLine, PrintsValue, RunsOn, CellLine, ReadsOrRuns, EvalSteps, EvalCloses, IsEvalText, eval_rules}
-use Rattle.upc_codes.specs.Program.{ProgramReading, is_program, is_refused}
-use Rattle.upc_codes.proofs.Public.{reads-once}
+use Rattle.upc_programs.specs.Program.{ProgramReading, is_program, is_refused}
+use Rattle.upc_programs.specs.inner.ReadingLaws.{reads-once}
 use Rattle.upc_programs.specs.inner.EvalLaws.{eval-total}
 use Rattle.upc_words.specs.FaultLines.{line, bad_line, bad_hex, wrong_length}
 use Rattle.upc_words.specs.Hexadecimal.{octets_of_digits, cell_of_octets}

@@ -1,10 +1,28 @@
 -- Lemmas for other crates.
 use Rattle.std.proofs.Common.{◌≡◌, ℕ, List}
+use Rattle.bpf_code.specs.declared.instr.Instr.{Instr}
 use Rattle.text_io.specs.declared.ending.Done.{Done}
 use Rattle.upc_programs.specs.Check.{IsCheckText}
 use Rattle.upc_programs.specs.Eval.{IsEvalText}
+use Rattle.upc_programs.specs.Program.{ProgramReading, ChecksAs, ReadsAs}
 use Rattle.upc_programs.proofs.CheckText as check
 use Rattle.upc_programs.proofs.OneText as eval
+use Rattle.upc_programs.specs.inner.ReadingLaws as reading
+
+-- Any octets are a program or refused.
+pub reads-as : (octets : List ℕ) → (reading : ProgramReading) × ReadsAs octets reading
+reads-as = reading.reads-as
+
+-- They are so in one way only.
+pub reads-once : (octets : List ℕ) (one other : ProgramReading) → ReadsAs octets one → ReadsAs octets other → one ≡ other
+reads-once = reading.reads-once
+
+-- The same for a code.
+pub checks-as : (code : List Instr) → (reading : ProgramReading) × ChecksAs code reading
+checks-as = reading.checks-as
+
+pub checks-once : (code : List Instr) (one other : ProgramReading) → ChecksAs code one → ChecksAs code other → one ≡ other
+checks-once = reading.checks-once
 
 -- An input has a text of `check`.
 pub some-check_text : (octets : List ℕ) → (text : List ℕ) × (done : Done) × IsCheckText octets text done

@@ -9,7 +9,7 @@ use Rattle.bpf_code.specs.declared.instr.Instr.{Instr}
 use Rattle.hex.specs.Hex.{encode_lower}
 use Rattle.upc_words.specs.FaultLines.{line, too_long}
 use Rattle.upc_programs.specs.SourceFaults.{asm_fault}
-use Rattle.upc_codes.specs.Program.{ProgramReading, is_program, is_refused, ChecksAs}
+use Rattle.upc_programs.specs.Program.{ProgramReading, is_program, is_refused, ChecksAs}
 use Rattle.text_io.specs.Gathered.{gathered}
 use Rattle.text_io.specs.declared.ending.Done.{Done}
 use Rattle.text_io.specs.declared.ending.Done.TheVariants.{Whole, Ended}

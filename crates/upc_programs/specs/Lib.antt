@@ -1,4 +1,7 @@
--- The subcommands for one program. Read the modules in this order:
+-- Programs as octets and codes, and the subcommands for one program. Read the modules in this order:
+pub mod CodeFaults
+pub mod Program
+pub mod Finding
 pub mod Eval
 pub mod SourceFaults
 pub mod Check

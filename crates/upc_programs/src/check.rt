@@ -6,11 +6,11 @@ ghost use Rattle.text_io.specs.Devices.{Adds};
 ghost use Rattle.text_io.specs.Serving.{IsServed};
 
 use crate::answer_texts::{add_asm_fault, add_program};
+use crate::program_reading::check_code;
 use bpf_asm::{AsmFault, AsmKind, assemble};
 use bpf_code::Instr;
 use std::alloc::{AllocError, Global};
 use text_io::{Done, Input, Output, RunFault, gather, give_last};
-use upc_codes::check_code;
 use upc_words::add_too_long;
 
 /// The maximum number of octets of a source.

@@ -7,12 +7,12 @@ ghost use Rattle.text_io.specs.Serving.{IsServed};
 ghost use Rattle.upc_programs.specs.Eval.{CellLine, ProgramLine, PrintsValue, EvalSteps, IsEvalText, eval_rules};
 
 use crate::answer_texts::{add_accepted, add_no_program, add_value};
+use crate::program_reading::read_code;
 use bpf_interp::run;
 use bpf_verify::Program;
 use std::alloc::{AllocError, Global};
 use text_io::{Done, Input, LineWords, Machine, Output, RunFault, Turn, answer_lines, line_words};
 use upc_cell::Cell;
-use upc_codes::read_code;
 use upc_words::{
     CellWord, add_bad_hex, add_bad_line, add_too_long, add_wrong_length, cell_of_digits,
     cell_of_word, octets_of_word,

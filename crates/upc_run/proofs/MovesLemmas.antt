@@ -18,7 +18,7 @@ use Rattle.upc_cell.specs.declared.side.Side.{Side}
 use Rattle.upc_words.specs.FaultLines.{bad_hex, bad_line}
 use Rattle.upc_card_lines.specs.CardFaults.{gcra_fault, no_such_program}
 use Rattle.upc_words.specs.Hexadecimal.{octets_of_digits}
-use Rattle.upc_codes.specs.Program.{is_program, ReadsAs}
+use Rattle.upc_programs.specs.Program.{is_program, ReadsAs}
 use Rattle.upc_script.specs.Rates.{AreContracts, first_wanted_fault}
 use Rattle.upc_script.specs.ProgramNames.{program_named}
 use Rattle.upc_card_lines.specs.Replies.{reply_text}

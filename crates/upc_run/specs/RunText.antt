@@ -27,7 +27,7 @@ use Rattle.upc_script.specs.Rates.{AreContracts, first_wanted_fault}
 use Rattle.upc_words.specs.FaultLines.{bad_hex, bad_line, too_long, wrong_length}
 use Rattle.upc_card_lines.specs.CardFaults.{gcra_fault, no_card, no_such_program, shape_fault_line}
 use Rattle.upc_words.specs.Hexadecimal.{octets_of_digits, cell_of_octets}
-use Rattle.upc_codes.specs.Program.{ProgramReading, is_program, is_refused, ReadsAs}
+use Rattle.upc_programs.specs.Program.{ProgramReading, is_program, is_refused, ReadsAs}
 use Rattle.upc_card_lines.specs.Replies.{answer_text, reply_text}
 use Rattle.upc_script.specs.ProgramNames.{program_named}
 use Rattle.upc_script.specs.declared.script_words.Wanted.{Wanted}

@@ -10,7 +10,7 @@ use upc_card_lines::{
     add_desk_fault, add_gcra_fault, add_judged, add_no_such_program, add_unjudged,
 };
 use upc_cell::{Cell, Side, Vc};
-use upc_codes::read_code;
+use upc_programs::read_code;
 use upc_script::{
     Command, Names, Wanted, add_cut, add_loaded, add_released, add_reloaded, add_retired, add_set,
     asking_word, contracts, contracts_of, named_command, read_common_cell,

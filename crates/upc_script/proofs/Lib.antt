@@ -7,4 +7,6 @@ pub mod ConnectionWords
 pub mod ContractWords
 pub mod PieceLemmas
 pub mod RateLemmas
+pub mod LineLemmas
+pub mod DealingLemmas
 pub mod Public

@@ -8,10 +8,12 @@ use Rattle.upc_words.specs.CellWord.{IsCellWord}
 use Rattle.upc_words.specs.declared.hexadecimal.CellWord.TheVariants.{OfCell}
 use Rattle.upc_cell.specs.declared.side.Side.{Side}
 use Rattle.upc_script.specs.CommonLine.{IsCommonLine}
+use Rattle.upc_script.specs.Dealing.{AreLinesOf}
 use Rattle.upc_script.specs.ProgramNames.{number_of_program}
 use Rattle.upc_script.specs.ScriptCommands.{cell, command_of}
 use Rattle.upc_script.specs.ScriptWords.{number_of_digits}
 use Rattle.upc_script.specs.inner.SpelledCell.{SpellsCell}
+use Rattle.upc_script.proofs.LineLemmas as cutting
 use Rattle.upc_script.proofs.NamingLemmas as naming
 use Rattle.upc_script.proofs.SpelledCellLemmas as spelled
 
@@ -42,3 +44,16 @@ cell-line = spelled.cell-line
 pub number-push : (id last : Id) (ids : List Id)
     → number_of_program (ids ++ last ∷ []) id ≡ (if is_same_id id last then suc (length ids) else number_of_program ids id)
 number-push = naming.number-push
+
+-- No octet of the line is a line feed.
+abbrev pub NoneBefore : List ℕ → List ℕ → Type 0
+NoneBefore = cutting.NoneBefore
+
+-- The first line is the octets before the first line feed, and the others are the lines of the octets after it.
+pub starts_with : (line rest octets : List ℕ) (lines : List (List ℕ)) → octets ≡ line ++ 10 ∷ rest → NoneBefore line octets
+    → AreLinesOf octets lines → cutting.StartsWith line rest lines
+starts_with = cutting.starts_with
+
+-- Octets without a line feed are the text of no lines.
+pub no_lines : (octets : List ℕ) (lines : List (List ℕ)) → NoneBefore octets octets → AreLinesOf octets lines → lines ≡ []
+no_lines = cutting.no_lines

@@ -3,7 +3,7 @@
 use super::link::record_of;
 use captures::Tick;
 use lab_captures::CellLines;
-use lab_setups::{SharedText, files_read, police_setup};
+use lab_police::{SharedText, files_read, police_setup};
 use std::alloc::{AllocError, Global};
 use std::test::Fail;
 use std::thread::Threads;

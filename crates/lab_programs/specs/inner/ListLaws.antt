@@ -12,9 +12,9 @@ use Rattle.text_io.specs.Printing.{IsTotal}
 use Rattle.text_io.specs.Words.{words_of, is_silent}
 use Rattle.text_io.specs.declared.ending.Done.{Done}
 use Rattle.text_io.specs.declared.ending.Done.TheVariants.{Whole, Ended}
-use Rattle.upc_codes.proofs.Public.{reads-as}
-use Rattle.upc_codes.specs.CodeFaults.{decode_fault}
-use Rattle.upc_codes.specs.Program.{ProgramReading, ReadsAs, is_program, is_refused}
+use Rattle.upc_programs.proofs.Public.{reads-as}
+use Rattle.upc_programs.specs.CodeFaults.{decode_fault}
+use Rattle.upc_programs.specs.Program.{ProgramReading, ReadsAs, is_program, is_refused}
 use Rattle.upc_words.specs.FaultLines.{bad_line, bad_hex, no_program}
 use Rattle.upc_words.specs.Hexadecimal.{octets_of_digits}
 

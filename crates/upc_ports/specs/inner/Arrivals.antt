@@ -6,9 +6,9 @@ use Rattle.text_io.specs.Words.{words_of}
 use Rattle.upc_cell.specs.declared.side.Side.{Side}
 use Rattle.upc_script.specs.ScriptCommands.{command_of}
 use Rattle.upc_ports.specs.LineAnswers.{MayAnswer}
-use Rattle.upc_dealing.specs.declared.cell_line.CellLine.TheVariants.{Comes}
+use Rattle.upc_script.specs.declared.cell_line.CellLine.TheVariants.{Comes}
 use Rattle.upc_ports.specs.declared.answered.AnsweredCell.{AnsweredCell}
-use Rattle.upc_dealing.specs.CellLine.{IsCellLine}
+use Rattle.upc_script.specs.CellLine.{IsCellLine}
 use Rattle.upc_ports.specs.inner.Answered.{answered_cell}
 
 -- The line has this cell, at this moment.

@@ -1,7 +1,7 @@
 -- The lines of a script before its first cell line.
 use Rattle.std.specs.Prelude.{ℕ, if◌then◌else◌, List, [], ◌∷◌}
 use Rattle.text_io.specs.Words.{words_of}
-use Rattle.upc_dealing.specs.Dealing.{is_cell_line}
+use Rattle.upc_script.specs.Dealing.{is_cell_line}
 
 -- The lines from the first cell line on.
 abbrev pub from_first_cell : List (List ℕ) → List (List ℕ)

@@ -5,8 +5,8 @@ use Rattle.upc_cell.specs.Connection.{vc_of}
 use Rattle.upc_cell.specs.declared.side.Side.{Side}
 use Rattle.upc_words.specs.FaultLines.{bad_hex, bad_line, wrong_length}
 use Rattle.upc_card_lines.specs.Replies.{answer_text}
-use Rattle.upc_dealing.specs.declared.dealing.Answerer.{Answerer}
-use Rattle.upc_dealing.specs.declared.dealing.Answerer.TheVariants.{Port, Desk, BadLine, BadHex, WrongLength}
+use Rattle.upc_script.specs.declared.dealing.Answerer.{Answerer}
+use Rattle.upc_script.specs.declared.dealing.Answerer.TheVariants.{Port, Desk, BadLine, BadHex, WrongLength}
 use Rattle.upc_ports.specs.declared.answered.AnsweredCell.{AnsweredCell}
 use Rattle.upc_ports.specs.inner.Answered.{answer_kept, shown_cell}
 

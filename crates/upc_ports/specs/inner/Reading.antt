@@ -1,7 +1,7 @@
 -- The stored script, as a state of the reading.
 use Rattle.std.specs.Prelude.{◌≡◌, ℕ, Bool, List}
 use Rattle.card_core.specs.declared.shape.Shape.{Shape}
-use Rattle.upc_dealing.specs.Dealing.{text_of}
+use Rattle.upc_script.specs.Dealing.{text_of}
 use Rattle.upc_ports.specs.PortsText.{ScriptReading}
 
 -- A script that stores this much of a card and these octets is in that state: the octets are its lines, each ended with a

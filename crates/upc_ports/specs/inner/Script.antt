@@ -5,7 +5,7 @@ use Rattle.line_record.specs.Tally.{nothing}
 use Rattle.line_record.specs.declared.tally.Tally.{Tally}
 use Rattle.upc_cell.specs.declared.side.Side.{Side}
 use Rattle.upc_ports.specs.ScriptAnswers.{AnswersEach, AnswersScript}
-use Rattle.upc_dealing.specs.Dealing.{AreLinesOf}
+use Rattle.upc_script.specs.Dealing.{AreLinesOf}
 use Rattle.upc_ports.specs.inner.FirstLines.{from_first_cell}
 
 -- This holds of the lines of the octets.

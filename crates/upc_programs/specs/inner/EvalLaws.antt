@@ -7,8 +7,8 @@ use Rattle.bpf_code.specs.declared.instr.Instr.{Instr}
 use Rattle.bpf_verify.specs.Accepted.{IsAccepted}
 use Rattle.bpf_interp.proofs.Public.{Value-some}
 use Rattle.upc_programs.specs.Eval.{EvalWorld, IsProgramAnswer, ReadsProgram, ProgramLine, PrintsValue, RunsOn, CellLine, ReadsOrRuns, EvalSteps, EvalCloses, IsSoundWorld, eval_rules}
-use Rattle.upc_codes.specs.Program.{ProgramReading, is_program, is_refused, ChecksAs}
-use Rattle.upc_codes.proofs.Public.{reads-as}
+use Rattle.upc_programs.specs.Program.{ProgramReading, is_program, is_refused, ChecksAs}
+use Rattle.upc_programs.specs.inner.ReadingLaws.{reads-as}
 use Rattle.upc_words.specs.FaultLines.{line, bad_line, bad_hex, no_program, wrong_length}
 use Rattle.upc_words.specs.Hexadecimal.{octets_of_digits, cell_of_octets}
 use Rattle.text_io.proofs.Public.{silent-or, silent-sound}

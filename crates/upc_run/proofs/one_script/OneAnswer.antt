@@ -17,14 +17,14 @@ use Rattle.card_core.specs.declared.answer.Answer.{Answer}
 use Rattle.upc_words.specs.FaultLines.{bad_hex, bad_line, wrong_length}
 use Rattle.upc_card_lines.specs.CardFaults.{arrive_fault, gcra_fault, no_such_program}
 use Rattle.upc_words.specs.Hexadecimal.{cell_of_octets, octets_of_digits}
-use Rattle.upc_codes.specs.Program.{ProgramReading, is_program, is_refused}
+use Rattle.upc_programs.specs.Program.{ProgramReading, is_program, is_refused}
 use Rattle.upc_script.specs.Rates.{AreContracts, IsContract, IsRate, first_wanted_fault}
 use Rattle.upc_card_lines.specs.Replies.{answer_text}
 use Rattle.upc_script.specs.ScriptCommands.{Command, cell, command_of, cut, load, release, reload, retire, setup}
 use Rattle.upc_script.specs.declared.script_words.Rate.{Rate}
 use Rattle.upc_script.specs.declared.script_words.Wanted.{Wanted}
 use Rattle.upc_script.specs.declared.script_words.Wanted.TheVariants as wanted
-use Rattle.upc_codes.proofs.Public.{reads-once}
+use Rattle.upc_programs.proofs.Public.{reads-once}
 use Rattle.upc_run.proofs.one_script.CellSteps.{FoundSeen, JudgesSeen, PolicesSeen, judged_seen, judged_text, seen_cell, seen_refusal}
 use Rattle.upc_run.proofs.one_script.Numbers.{is_number}
 use Rattle.upc_run.proofs.one_script.Seen.{Seen, SeenConnection, found_at}

@@ -16,7 +16,7 @@ use Rattle.text_io.specs.Limits.{most_input_lines}
 use Rattle.upc_words.specs.FaultLines.{bad_hex, bad_line, wrong_length}
 use Rattle.upc_card_lines.specs.CardFaults.{gcra_fault, no_such_program}
 use Rattle.upc_words.specs.Hexadecimal.{cell_of_octets, octets_of_digits}
-use Rattle.upc_codes.specs.Program.{ReadsAs, ProgramReading, is_program, is_refused}
+use Rattle.upc_programs.specs.Program.{ReadsAs, ProgramReading, is_program, is_refused}
 use Rattle.upc_script.specs.Rates.{AreContracts, first_wanted_fault}
 use Rattle.upc_script.specs.ProgramNames.{program_named}
 use Rattle.upc_card_lines.specs.Replies.{reply_text}

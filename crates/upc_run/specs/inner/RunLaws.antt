@@ -42,7 +42,7 @@ use Rattle.upc_script.specs.ScriptCommands.{Command, load, retire, setup, reload
 use Rattle.upc_words.specs.FaultLines.{bad_hex, bad_line, wrong_length}
 use Rattle.upc_card_lines.specs.CardFaults.{gcra_fault, no_card, no_such_program, shape_fault_line}
 use Rattle.upc_words.specs.Hexadecimal.{octets_of_digits, cell_of_octets}
-use Rattle.upc_codes.specs.Program.{ProgramReading, is_program, is_refused, ReadsAs}
+use Rattle.upc_programs.specs.Program.{ProgramReading, is_program, is_refused, ReadsAs}
 use Rattle.upc_script.specs.Rates.{AreContracts, IsContract, IsRate, first_of_two, first_wanted_fault, rate_fault, wanted_fault}
 use Rattle.upc_script.specs.ProgramNames.{program_named}
 use Rattle.upc_card_lines.specs.Replies.{reply_text}
@@ -51,7 +51,7 @@ use Rattle.upc_script.specs.declared.script_words.Rate.{Rate}
 use Rattle.upc_script.specs.declared.script_words.Wanted.{Wanted}
 use Rattle.upc_script.specs.declared.script_words.Wanted.TheVariants as wanted
 use Rattle.upc_run.specs.inner.CardSteps.{Spares, IsPrinted, answer-printed, cut-printed, load-printed, release-printed, reload-printed, retire-printed, setup-printed}
-use Rattle.upc_codes.proofs.Public.{reads-as}
+use Rattle.upc_programs.proofs.Public.{reads-as}
 use Rattle.upc_run.specs.inner.PortZero.{PortIs, cut-ports, enter-goes, judge-goes, load-ports, pick-goes, release-ports, reload-ports, retire-ports, setup-ports}
 
 -- The ids of a log with one more event.

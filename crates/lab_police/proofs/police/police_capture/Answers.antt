@@ -11,7 +11,7 @@ use Rattle.lab_police.specs.PoliceText.{IsPoliceText, police_rules, police_start
 use Rattle.lab_police.specs.declared.setting_up.SetUp.{SetUp}
 use Rattle.lab_police.specs.inner.SetUpCard.{LeadsScriptTo, IsSetUpAs}
 use Rattle.lab_police.proofs.PoliceLemmas.{served_as}
-use Rattle.lab_police.proofs.Public.{some_police_text}
+use Rattle.lab_police.proofs.EachCapture.{some_police_text}
 use Rattle.lab_police.proofs.police.police_capture.Goals as goal
 
 pub returns-in-Err : goal.returns-in-Err

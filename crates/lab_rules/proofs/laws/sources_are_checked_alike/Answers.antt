@@ -1,6 +1,6 @@
 use Rattle.std.proofs.Common.{inl, refl}
 use Rattle.rules_text.proofs.Public.{code_of_numbered}
-use Rattle.upc_codes.specs.Program.{is_program}
+use Rattle.upc_programs.specs.Program.{is_program}
 use Rattle.lab_rules.specs.AsmLaws.{SourcesAreCheckedAlike}
 use Rattle.lab_rules.proofs.laws.sources_are_checked_alike.Goals as goal
 

@@ -2,7 +2,7 @@
 use Rattle.std.proofs.Common.{◌≡◌, map, ap, refl, sym, ◌∙◌}
 use Rattle.std.proofs.lemmas.Result.{IfOk-weaker}
 use Rattle.port_card.specs.Closing.{seats_total}
-use Rattle.upc_dealing.specs.Dealing.{dealt}
+use Rattle.upc_script.specs.Dealing.{dealt}
 use Rattle.upc_ports.proofs.CountsLemmas.{seats-counted}
 use Rattle.upc_ports.proofs.DealtLemmas.{later-answered}
 use Rattle.upc_ports.proofs.ports.answer_later.Goals as goal

@@ -1,7 +1,7 @@
 -- The answer to a program or to a refusal.
 use Rattle.std.proofs.Common.{refl, ap, ◌∙◌, ◌++◌}
 use Rattle.upc_programs.specs.Check.{accepted_text}
-use Rattle.upc_codes.specs.Program.{is_program, is_refused}
+use Rattle.upc_programs.specs.Program.{is_program, is_refused}
 use Rattle.upc_programs.proofs.check.answer_code.Goals as goal
 
 pub returns-in_ok-add_program-in-Some : goal.returns-in_ok-add_program-in-Some

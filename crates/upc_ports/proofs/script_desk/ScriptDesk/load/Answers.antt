@@ -2,8 +2,8 @@
 use Rattle.std.proofs.Common.{◌≡◌, ◌++◌, List, ℕ, Some, ap, codes, option_map, refl, subst, sym, ◌∙◌}
 use Rattle.std.proofs.lemmas.Result.{on_ok_weaker}
 use Rattle.card_core.specs.declared.reply.Reply.TheVariants.{NotLoaded}
-use Rattle.upc_codes.specs.Finding.{Finds}
-use Rattle.upc_codes.specs.Program.{ReadsAs}
+use Rattle.upc_programs.specs.Finding.{Finds}
+use Rattle.upc_programs.specs.Program.{ReadsAs}
 use Rattle.upc_script.specs.ReplyTexts.{program_name}
 use Rattle.upc_script.specs.ScriptCommands.{load}
 use Rattle.upc_words.specs.FaultLines.{line}

@@ -2,10 +2,10 @@
 use Rattle.std.proofs.Common.{◌≡◌, ◌∙◌, Some, ap, option_map, subst, sym}
 use Rattle.card_core.specs.declared.step.Step.TheVariants.{Load}
 use Rattle.upc_words.specs.Hexadecimal.{octets_of_digits}
-use Rattle.upc_codes.specs.Program.{ReadsAs}
+use Rattle.upc_programs.specs.Program.{ReadsAs}
 use Rattle.upc_run.specs.RunText.{TakesCommand}
 use Rattle.upc_script.specs.ScriptCommands.{load}
-use Rattle.upc_codes.specs.Finding.{Finds}
+use Rattle.upc_programs.specs.Finding.{Finds}
 use Rattle.upc_run.specs.inner.Policing.{Moves}
 use Rattle.upc_run.proofs.MovesLemmas.{moves-load, on-ok}
 use Rattle.upc_run.proofs.script_card.ScriptCard.load.Goals as goal

@@ -1,0 +1,27 @@
+-- The text of `police` for a setup script with files of rules. If the rules of a line have a fault, it is about the first such line, and
+-- nothing is policed. Otherwise the cells of the capture are policed by the script with its programs.
+use Rattle.std.specs.Prelude.{◌≡◌, ◌⊎◌, ℕ, List, Option}
+use Rattle.captures.specs.declared.link.Link.{Link}
+use Rattle.lab_captures.specs.declared.cell_lines.CellLines.{CellLines}
+use Rattle.lab_police.specs.PoliceText.{IsPoliceText}
+use Rattle.text_io.specs.declared.ending.Done.{Done}
+use Rattle.text_io.specs.declared.ending.Done.TheVariants.{Ended}
+use Rattle.lab_police.specs.FaultyRules.{HasFaultyRules}
+use Rattle.lab_police.specs.RulesFiles.{IsFaultOfRules, MayBeFaultOfRules}
+use Rattle.lab_police.specs.SetupPrograms.{HasPrograms}
+
+-- The text for a setup script, the texts of its files of rules and a whole capture, and how the run ends. `IsFault` says which line is the
+-- fault line of a text of rules.
+abbrev pub IsSetupPolicedBy : (List ℕ → List ℕ → Type 0) → CellLines → ℕ → Option Link → List ℕ → List (List ℕ) → List ℕ → List ℕ → Done → Type 0
+IsSetupPolicedBy IsFault lines tick link setup texts octets text done =
+    (HasFaultyRules IsFault setup texts text × (done ≡ Ended))
+    ⊎ ((script : List ℕ) × HasPrograms setup texts script × IsPoliceText lines tick link script octets text done)
+
+-- The same, where the fault line is that of `upc-lab rules`.
+abbrev pub IsSetupPoliced : CellLines → ℕ → Option Link → List ℕ → List (List ℕ) → List ℕ → List ℕ → Done → Type 0
+IsSetupPoliced = IsSetupPolicedBy IsFaultOfRules
+
+-- The same, but that the code of any rules may be reported as too long. Every setup script, texts and capture have such a text, so if a call
+-- fails, what was written is the beginning of one.
+abbrev pub MayBeSetupPoliced : CellLines → ℕ → Option Link → List ℕ → List (List ℕ) → List ℕ → List ℕ → Done → Type 0
+MayBeSetupPoliced = IsSetupPolicedBy MayBeFaultOfRules

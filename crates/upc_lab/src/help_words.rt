@@ -1,0 +1,77 @@
+//! Help on a subcommand with options: `upc-lab help NAME` prints what `upc-lab NAME --help` prints.
+
+ghost use Rattle.std.specs.Prelude.{◌≡◌};
+ghost use Rattle.clap.specs.Kinds.{Kinds};
+ghost use Rattle.command_line.specs.Stopping.{StopsAt};
+
+use command_line::Stop;
+use lab_options::{cells_options, differ_options, fit_options, police_options};
+use std::alloc::Global;
+
+/// A subcommand with options.
+#[derive(Clone, Copy)]
+pub(crate) enum WithOptions {
+    /// `cells`.
+    Cells,
+    /// `fit`.
+    Fit,
+    /// `police`.
+    Police,
+    /// `differ`.
+    Differ,
+}
+
+/// Returns the subcommand with options on which the words `help NAME` ask for help.
+pub(crate) fn help_on(words: &[String]) -> Option<WithOptions> {
+    let [help, name] = words else {
+        return None;
+    };
+    if help.as_bytes() != b"help".as_slice() {
+        return None;
+    }
+    let name = name.as_bytes();
+    if name == b"cells".as_slice() {
+        Some(WithOptions::Cells)
+    } else if name == b"fit".as_slice() {
+        Some(WithOptions::Fit)
+    } else if name == b"police".as_slice() {
+        Some(WithOptions::Police)
+    } else if name == b"differ".as_slice() {
+        Some(WithOptions::Differ)
+    } else {
+        None
+    }
+}
+
+/// Replaces the help on such a subcommand by its own, which lists its options.
+pub(crate) fn with_options_shown(alloc: Global, subject: Option<WithOptions>, stop: Stop) -> Stop
+    ensures alike { (kinds : Kinds) → StopsAt kinds stop → StopsAt kinds result }
+    ensures memory { stop ≡ Stop.NoMemory → result ≡ Stop.NoMemory }
+{
+    let Stop::Help(short) = stop else {
+        return stop;
+    };
+    match own_help(alloc, subject) {
+        Some(Stop::Help(text)) => Stop::Help(text),
+        Some(Stop::NoMemory) => Stop::NoMemory,
+        _ => Stop::Help(short),
+    }
+}
+
+/// Returns what the subcommand answers to `--help`.
+fn own_help(alloc: Global, subject: Option<WithOptions>) -> Option<Stop> {
+    let subject = subject?;
+    let mut words = Vec::new(alloc);
+    let Ok(word) = String::from_str(alloc, "--help") else {
+        return Some(Stop::NoMemory);
+    };
+    if words.push(word).is_err() {
+        return Some(Stop::NoMemory);
+    }
+    match subject {
+        WithOptions::Cells => cells_options(alloc, words).err(),
+        WithOptions::Fit => fit_options(alloc, words).err(),
+        WithOptions::Police => police_options(alloc, words).err(),
+        WithOptions::Differ => differ_options(alloc, words).err(),
+    }
+}
