@@ -5,8 +5,7 @@ use Rattle.std.proofs.lemmas.List.{take-append-drop, drop_more, length-take, get
 use Rattle.std.proofs.lemmas.Bool.Decides.{nat_tests}
 use Rattle.text_io.specs.Lines.{Line, lines_of}
 use Rattle.text_io.specs.Limits.{is_over, most_input_lines, most_line_octets}
-use Rattle.text_io.specs.Devices.{Adds, IsPart, TakesEnough}
-use Rattle.text_io.specs.inner.Moving.{WritesPrefix}
+use Rattle.text_io.specs.Devices.{Adds, IsPart, TakesEnough, WritesPrefix}
 use Rattle.text_io.specs.Printing.{Rules, IsTotal, Prints, EndsAt, IsFront}
 use Rattle.text_io.specs.Answering.{OfEach}
 use Rattle.text_io.specs.inner.Progress.{Passes, Progress}
@@ -24,19 +23,19 @@ split-at_feed octets rest count below feed =
     ap (λ xs. xs ++ rest) (sym (take-append-drop count octets) ∙ ap (λ xs. take count octets ++ xs) (drop_more octets count 0 below ∙ ap (λ c. c ∷ drop (count + 1) octets) feed))
     ∙ append_assoc (take count octets) (10 ∷ drop (count + 1) octets) rest
 
--- A window, split at its first line feed.
-pub split-window : (window O rest : List ℕ) (count : ℕ) → O ≡ window → count < length window → get_or window count 0 ≡ 10
-    → window ++ rest ≡ take count O ++ 10 ∷ (drop (count + 1) O ++ rest)
-split-window window O rest count e below feed =
-    let B : List ℕ → Type 0 = λ xs. count < length xs in
-    let F : List ℕ → Type 0 = λ xs. get_or xs count 0 ≡ 10 in
-    ap (λ xs. xs ++ rest) (sym e) ∙ split-at_feed O rest count (subst B (sym e) below) (subst F (sym e) feed)
-
-pub no-feed-front : (window O : List ℕ) (count : ℕ) → O ≡ window → ((k : ℕ) → k < count → get_or window k 0 ≢ 10) → NoFeed (take count O)
-no-feed-front window O count e before k below =
-    let within : k < count = omega (arith, length-take count O) in
+pub no-feed-front : (octets : List ℕ) (count : ℕ) → ((k : ℕ) → k < count → get_or octets k 0 ≢ 10) → NoFeed (take count octets)
+no-feed-front octets count before k below =
+    let within : k < count = omega (arith, length-take count octets) in
     let Q : ℕ → Type 0 = λ n. n ≢ 10 in
-    subst Q (ap (λ xs. get_or xs k 0) (sym e) ∙ sym (get_or-take count O k 0 within)) (before k within)
+    subst Q (sym (get_or-take count octets k 0 within)) (before k within)
+
+-- Octets that were searched are still searched once more follow them.
+pub none-longer : (octets window window' : List ℕ) → octets ≡ window → take (length window) window' ≡ window
+    → ((k : ℕ) → k < length octets → get_or octets k 0 ≢ 10) → (k : ℕ) → k < length octets → get_or window' k 0 ≢ 10
+none-longer octets window window' same front none k below =
+    let Q : ℕ → Type 0 = λ n. n ≢ 10 in
+    let within : k < length window = subst (λ (xs : List ℕ). k < length xs) same below in
+    subst Q (ap (λ xs. get_or xs k 0) (same ∙ sym front) ∙ get_or-take (length window) window' k 0 within) (none k below)
 
 -- Case analysis on `is_err`.
 pub at-err : {T E : Type 0} (r : Result T E) (P : Type 0) → is_err r ≡ true → OnErr r P → P
@@ -46,11 +45,6 @@ at-err (Err y) P e h = h
 pub at-ok : {T E : Type 0} (r : Result T E) (P : Type 0) → is_err r ≡ false → OnOk r P → P
 at-ok (Ok x) P e h = h
 at-ok (Err y) P e h = cc
-
--- Transport of `no line feed` along an equality of octets.
-pub none-at : {O window : List ℕ} → O ≡ window → ((k : ℕ) → k < length window → get_or window k 0 ≢ 10) → (k : ℕ) → k < length O → get_or O k 0 ≢ 10
-none-at {O = O} {window = window} e none =
-    let P : List ℕ → Type 0 = λ xs. (k : ℕ) → k < length xs → get_or xs k 0 ≢ 10 in subst P (sym e) none
 
 -- Transport of a text along equalities.
 pub reprinted : {World : Type 0} (rules : Rules World) (start : World) (octets octets' text text' : List ℕ) (done : Done)

@@ -1,10 +1,11 @@
 pub mod Ranges
-pub mod WindowLemmas
 pub mod LinesLemmas
 pub mod FeedLemmas
 pub mod PrintingLemmas
 pub mod DriverLemmas
 pub mod WordsLemmas
 pub mod AlikeLemmas
+pub mod GatheredLemmas
+pub mod ServingLemmas
 pub mod SilentLines
 pub mod Public

@@ -12,6 +12,8 @@ use Rattle.text_io.specs.declared.ending.Done.{Done}
 use Rattle.text_io.specs.declared.ending.Done.TheVariants.{Whole}
 -- Lines without words.
 pub use Rattle.text_io.proofs.SilentLines.{silent-or, silent-sound}
+-- Promises by a wider relation.
+pub use Rattle.text_io.proofs.ServingLemmas.{served-wider}
 
 -- Octets without a blank are one word.
 pub one-word : (line : List ℕ) → 0 < length line → ((k : ℕ) → k < length line → is_blank (get_or line k 0) ≡ false) → words_of line ≡ line ∷ []

@@ -1,6 +1,6 @@
 -- Ranges of lists, as the window uses them.
-use Rattle.std.proofs.Common.{◌≡◌, ℕ, ◌+◌, ◌-◌, ◌<◌, ◌≤◌, List, ◌++◌, length, take, drop, get_or, ◌≢◌, subst, length-take, ap, sym, ◌∙◌, arith, append_assoc}
-use Rattle.std.proofs.lemmas.List.{drop-take, drop-drop, take_rest, get_or-drop, take-append-le}
+use Rattle.std.proofs.Common.{◌≡◌, ℕ, ◌+◌, ◌-◌, ◌≤◌, List, ◌++◌, length, take, drop, length-take, ap, sym, ◌∙◌, arith, append_assoc}
+use Rattle.std.proofs.lemmas.List.{drop-take, drop-drop, take_rest, take-append-le}
 use Rattle.std.proofs.Math.Seq.{take-append-add, take-add}
 use Rattle.std.specs.List.{slice_range}
 
@@ -23,17 +23,6 @@ taken-after front room post before after n count sized fits came =
 -- The length of a range is at most the distance of its ends.
 pub length-range : (xs : List ℕ) (s e : ℕ) → length (slice_range xs s e) ≤ e - s
 length-range xs s e = omega (arith, length-take (e - s) (drop s xs))
-
--- A value that isn't in the start of a range isn't in the start of a later one.
-pub range-none : (xs : List ℕ) (s looked count e value : ℕ) → s + count ≤ e
-    → ((k : ℕ) → k < looked → get_or (slice_range xs s e) k 0 ≢ value)
-    → (k : ℕ) → k < looked - count → get_or (slice_range xs (s + count) e) k 0 ≢ value
-range-none xs s looked count e value within none k below =
-    let P : List ℕ → Type 0 = λ ys. get_or ys k 0 ≢ value in
-    let Q : ℕ → Type 0 = λ n. n ≢ value in
-    let further : count + k < looked = omega arith in
-    subst P (sym (range-skip xs s count e within))
-    (subst Q (sym (get_or-drop count (slice_range xs s e) k 0)) (none (count + k) further))
 
 -- The output after `count` more octets are written.
 pub given-more : (xs start before after : List ℕ) (given count : ℕ) → before ≡ start ++ take given xs

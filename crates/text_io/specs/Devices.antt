@@ -10,6 +10,10 @@ one_more count = (count + 1) % 2 ^ 64
 abbrev pub IsPart : List ℕ → List ℕ → List ℕ → Type 0
 IsPart before after octets = (given : List ℕ) × (left : List ℕ) × (octets ≡ given ++ left) × (after ≡ before ++ given)
 
+-- The output grew by a prefix of the waiting octets, and these are left of them.
+abbrev pub WritesPrefix : List ℕ → List ℕ → List ℕ → List ℕ → Type 0
+WritesPrefix before after waiting left = (given : List ℕ) × (waiting ≡ given ++ left) × (after ≡ before ++ given)
+
 -- The output grew by a text with this property.
 abbrev pub Adds : (List ℕ → Type 0) → List ℕ → List ℕ → Type 0
 Adds IsText before after = (text : List ℕ) × (after ≡ before ++ text) × IsText text

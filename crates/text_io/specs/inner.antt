@@ -2,4 +2,3 @@
 pub mod Waiting
 pub mod Progress
 pub mod Alike
-pub mod Moving

@@ -1,11 +1,14 @@
 //! Writing collected answers to an output.
 
 ghost use Rattle.std.specs.Prelude.{◌≡◌, ◌++◌, List, ℕ, [], take, Err, IfOk, OnOk, OnErr};
-ghost use Rattle.text_io.specs.Devices.{one_more, IsPart};
+ghost use Rattle.text_io.specs.Devices.{one_more, IsPart, WritesPrefix};
 ghost use Rattle.text_io.specs.Failures.{write_failures};
 
 use crate::device::{Failed, Output};
 use crate::ending::{Done, RunFault};
+
+/// Collected answers are written as soon as they have this many octets.
+const ENOUGH: usize = 65536;
 
 /// Writes all octets, in as many calls as the output needs.
 ///
@@ -40,6 +43,26 @@ pub fn give_answers<O: Output>(output: &mut O, answers: &mut Vec<u8>) -> Result<
     give_all(output, answers)?;
     answers.clear();
     Ok(())
+}
+
+/// Writes the collected answers and clears them, if there are enough of them.
+///
+/// # Errors
+///
+/// `Failed` at the first call that fails; a prefix of the octets may have been written.
+#[inline(always)]
+pub fn give_if_enough<O: Output>(output: &mut O, answers: &mut Vec<u8>) -> Result<(), Failed>
+    ensures moved { O.is_known → OnOk result
+        (WritesPrefix (O.held output.old) (O.held output.new) answers.old.items answers.new.items) }
+    ensures front { O.is_known → OnErr result
+        (IsPart (O.held output.old) (O.held output.new) answers.old.items) }
+    ensures calm { OnOk result (O.failures output.new ≡ O.failures output.old) }
+    ensures failed { OnErr result (O.failures output.new ≡ one_more (O.failures output.old)) }
+{
+    if answers.len() < ENOUGH {
+        return Ok(());
+    }
+    give_answers(output, answers)
 }
 
 /// Writes the last answers of a run, and returns `done`.

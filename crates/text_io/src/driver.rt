@@ -2,8 +2,7 @@
 
 ghost use Rattle.std.specs.Prelude.{◌≡◌, ◌≢◌, ℕ, ◌+◌, ◌<◌, ◌≤◌, ◌++◌, ◌||◌, List, [], true, Ok, Err, length, slice_index, nat_le, nat_lt, IfOk, OnOk, OnErr};
 ghost use Rattle.text_io.specs.Answering.{OfEach};
-ghost use Rattle.text_io.specs.Devices.{Adds, IsPart, TakesEnough, one_more};
-ghost use Rattle.text_io.specs.inner.Moving.{WritesPrefix};
+ghost use Rattle.text_io.specs.Devices.{Adds, IsPart, TakesEnough};
 ghost use Rattle.text_io.specs.Limits.{most_ahead, most_input_lines, most_line_octets};
 ghost use Rattle.text_io.specs.Lines.{lines_of};
 ghost use Rattle.text_io.specs.Printing.{Prints, EndsAt, IsFront};
@@ -11,11 +10,12 @@ ghost use Rattle.text_io.specs.Failures.{read_failures, write_failures};
 ghost use Rattle.text_io.specs.inner.Progress.{Concludes, Passes};
 ghost use Rattle.text_io.specs.declared.ending.Done.{Done as TheDone};
 
-use crate::delivery::{give_answers, give_last};
-use crate::device::{Failed, Input, Output};
+use crate::delivery::{give_if_enough, give_last};
+use crate::device::{Input, Output};
 use crate::ending::{Done, RunFault};
-use crate::line_ends::before_return;
+use crate::line_ends::{before_return, first_feed};
 use crate::machine::{Machine, Turn};
+use crate::refilling::refill;
 use crate::window::Window;
 use std::alloc::{AllocError, Global};
 
@@ -25,8 +25,8 @@ const MOST_INPUT_LINES: u32 = 1000000;
 /// The maximum number of octets of a line, with its carriage return and without its line feed.
 const MOST_LINE_OCTETS: usize = 70000;
 
-/// Collected answers are written as soon as they have this many octets.
-const ENOUGH: usize = 65536;
+/// The room of the window, in octets. It is larger than the longest line.
+const WINDOW_ROOM: usize = 131072;
 
 /// Whether a line of this length, after `met` lines, is over the limits.
 fn is_over_limits(met: u32, octets: usize) -> bool
@@ -78,51 +78,6 @@ fn answer_end<M: Machine>(
         Turn::Ends => Ok(Done::Ended),
         Turn::GoesOn => machine.close(answers),
     }
-}
-
-/// Writes the collected answers, and then reads more input into the window.
-fn refill<I: Input, O: Output>(
-    window: &mut Window,
-    input: &mut I,
-    output: &mut O,
-    answers: &mut Vec<u8>,
-) -> Result<usize, RunFault>
-    requires { length window.old ≤ most_line_octets }
-    ensures octets { I.is_known → IfOk result (λ _. window.old ++ I.rest input.old ≡ window.new ++ I.rest input.new) }
-    ensures count { IfOk result (λ count. length window.new ≡ length window.old + count) }
-    ensures bounded { length window.new ≤ most_ahead }
-    ensures same { result ≡ Ok 0 → window.new ≡ window.old }
-    ensures end { I.is_known → result ≡ Ok 0 → I.rest input.new ≡ [] }
-    ensures given { O.is_known → OnOk result
-        (O.held output.new ≡ O.held output.old ++ answers.old.items) }
-    ensures none { OnOk result (answers.new.items ≡ []) }
-    ensures front { O.is_known → OnErr result
-        (IsPart (O.held output.old) (O.held output.new) answers.old.items) }
-    ensures reading { I.failures input.new ≡ read_failures result (I.failures input.old) }
-    ensures writing { O.failures output.new ≡ write_failures result (O.failures output.old) }
-{
-    if give_answers(output, answers).is_err() {
-        return Err(RunFault::WriteFailed);
-    }
-    match window.fill(input) {
-        Ok(count) => Ok(count),
-        Err(_) => Err(RunFault::ReadFailed),
-    }
-}
-
-/// Writes the collected answers if there are enough of them.
-fn give_if_enough<O: Output>(output: &mut O, answers: &mut Vec<u8>) -> Result<(), Failed>
-    ensures moved { O.is_known → OnOk result
-        (WritesPrefix (O.held output.old) (O.held output.new) answers.old.items answers.new.items) }
-    ensures front { O.is_known → OnErr result
-        (IsPart (O.held output.old) (O.held output.new) answers.old.items) }
-    ensures calm { OnOk result (O.failures output.new ≡ O.failures output.old) }
-    ensures failed { OnErr result (O.failures output.new ≡ one_more (O.failures output.old)) }
-{
-    if answers.len() < ENOUGH {
-        return Ok(());
-    }
-    give_answers(output, answers)
 }
 
 /// Ends a run at a line over the limits.
@@ -207,28 +162,32 @@ pub fn answer_lines<I: Input, O: Output, M: Machine>(
     ensures reading { I.failures input.new ≡ read_failures result (I.failures input.old) }
     ensures writing { O.failures output.new ≡ write_failures result (O.failures output.old) }
 {
-    let Ok(mut window) = Window::new(alloc) else {
+    let Ok(mut window) = Window::<WINDOW_ROOM>::new(alloc) else {
         return Err(RunFault::NoMemory);
     };
     let mut answers = Vec::new(alloc);
     let mut met: u32 = 0;
+    // How many of the waiting octets were searched; none of them is a line feed.
+    let mut looked = 0;
     loop {
-        match window.find_line() {
+        let waiting = window.octets();
+        match first_feed(waiting, looked) {
             Some(count) => {
-                match answer_line(machine, met, &window.octets()[..count], &mut answers) {
+                match answer_line(machine, met, &waiting[..count], &mut answers) {
                     Err(_) => return Err(RunFault::NoMemory),
                     Ok(Turn::Ends) => return give_last(output, &mut answers, Done::Ended),
                     Ok(Turn::GoesOn) => {}
                 }
                 window.skip(count + 1);
+                looked = 0;
                 met += 1;
                 if give_if_enough(output, &mut answers).is_err() {
                     return Err(RunFault::WriteFailed);
                 }
             }
             None => {
-                let waiting = window.octets().len();
-                if waiting > 0 && is_over_limits(met, waiting) {
+                looked = waiting.len();
+                if looked > 0 && is_over_limits(met, looked) {
                     return end_too_long(output, machine, &mut answers);
                 }
                 match refill(&mut window, input, output, &mut answers) {

@@ -11,7 +11,11 @@ use std::mem;
 /// # Errors
 ///
 /// `Failed` if the input failed; the octets before `end` are kept.
-pub fn read_after<I: Input>(input: &mut I, room: &mut [u8], end: usize) -> Result<usize, Failed>
+pub(crate) fn read_after<I: Input>(
+    input: &mut I,
+    room: &mut [u8],
+    end: usize,
+) -> Result<usize, Failed>
     requires { end < length room.old }
     ensures within { IfOk result (λ count. end + count ≤ length room.new) }
     ensures octets { I.is_known → IfOk result (λ count.
@@ -27,7 +31,7 @@ pub fn read_after<I: Input>(input: &mut I, room: &mut [u8], end: usize) -> Resul
 }
 
 /// Copies the range from `start` to `end` to the front of the spare buffer, and swaps the two buffers.
-pub fn bring_forward(buffer: &mut Vec<u8>, spare: &mut Vec<u8>, start: usize, end: usize)
+pub(crate) fn bring_forward(buffer: &mut Vec<u8>, spare: &mut Vec<u8>, start: usize, end: usize)
     requires ordered { start ≤ end }
     requires within { end ≤ vec_len buffer.old }
     requires alike { vec_len spare.old ≡ vec_len buffer.old }

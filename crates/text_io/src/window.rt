@@ -1,34 +1,26 @@
 //! The octets that were read and not yet answered.
 
-ghost use Rattle.std.specs.Prelude.{◌≡◌, ◌≢◌, ℕ, ◌+◌, ◌<◌, ◌≤◌, ◌++◌, [], length, take, drop, slice_index, IfOk, OnOk, OnErr, Ok, IfSome, IfNone};
+ghost use Rattle.std.specs.Prelude.{◌≡◌, ◌+◌, ◌<◌, ◌≤◌, ◌++◌, [], length, take, drop, IfOk, OnOk, OnErr, Ok};
 ghost use Rattle.text_io.specs.Devices.{one_more};
-ghost use Rattle.text_io.specs.Limits.{most_ahead, most_line_octets};
 
 use crate::device::{Failed, Input};
 use crate::filling::{bring_forward, read_after};
-use crate::line_ends::first_feed;
 use std::alloc::{AllocError, Global};
 use std::marker::Model;
 
-/// The capacity of a window, in octets. It is larger than the longest line.
-const WINDOW_ROOM: usize = 131072;
-
-/// The octets that were read and not yet answered. Each is searched for a line feed once. Contracts see the list of
-/// them.
+/// The octets that were read and not yet answered, at most `ROOM`. Contracts see the list of them.
 #[derive(Drop)]
-pub struct Window {
+pub struct Window<const ROOM: usize> {
     buffer: Vec<u8>,
     /// As long as the buffer. Waiting octets move here before more are read.
     spare: Vec<u8>,
     /// The place of the first waiting octet.
     start: usize,
-    /// How many of the waiting octets were searched; none of them is a line feed.
-    looked: usize,
     /// The place after the last waiting octet.
     end: usize,
 }
 
-impl Model for Window {
+impl<const ROOM: usize> Model for Window<ROOM> {
     ghost use Rattle.std.specs.Prelude.{List, ℕ, slice_range};
     ghost use Rattle.text_io.specs.inner.Waiting.{IsWindow};
 
@@ -36,71 +28,64 @@ impl Model for Window {
 
     ghost view = { λ w. slice_range w.buffer.items w.start w.end };
 
-    ghost invariant = { λ w. IsWindow w.buffer.items w.spare.items w.start w.looked w.end };
+    ghost invariant = { λ w. IsWindow ROOM w.buffer.items w.spare.items w.start w.end };
 }
 
-impl Window {
-    /// An empty window.
-    pub fn new(alloc: Global) -> Result<Window, AllocError>
+impl<const ROOM: usize> Window<ROOM> {
+    /// Makes an empty window.
+    pub fn new(alloc: Global) -> Result<Window<ROOM>, AllocError>
         ensures { IfOk result (λ window. window ≡ []) }
     {
-        let buffer = vec![in alloc; 0u8; WINDOW_ROOM]?;
-        let spare = vec![in alloc; 0u8; WINDOW_ROOM]?;
+        let buffer = vec![in alloc; 0u8; ROOM]?;
+        let spare = vec![in alloc; 0u8; ROOM]?;
         Ok(Window {
             buffer,
             spare,
             start: 0,
-            looked: 0,
             end: 0,
         })
     }
 
     /// The waiting octets.
+    #[inline(always)]
     pub fn octets(&self) -> &[u8]
         ensures { result.now ≡ self.now }
     {
         &self.buffer[self.start..self.end]
     }
 
-    /// The number of octets before the first line feed, if there is one.
-    #[inline(always)]
-    pub fn find_line(&mut self) -> Option<usize>
-        ensures same { self.new ≡ self.old }
-        ensures within { IfSome result (λ count. count < length self.new) }
-        ensures feed { IfSome result (λ count. slice_index self.new count ≡ 10) }
-        ensures before { IfSome result (λ count. (k : ℕ) → k < count → slice_index self.new k ≢ 10) }
-        ensures none { IfNone result ((k : ℕ) → k < length self.new → slice_index self.new k ≢ 10) }
-    {
-        match first_feed(&self.buffer[self.start..self.end], self.looked) {
-            Some(count) => {
-                self.looked = count;
-                Some(count)
-            }
-            None => {
-                self.looked = self.end - self.start;
-                None
-            }
-        }
-    }
-
     /// Drops the first `count` octets.
+    #[inline(always)]
     pub fn skip(&mut self, count: usize)
         requires { count ≤ length self.old }
-        ensures { self.new ≡ drop count self.old }
+        ensures octets { self.new ≡ drop count self.old }
+        ensures length { length self.new + count ≡ length self.old }
     {
         self.start += count;
-        self.looked = self.looked.saturating_sub(count);
+    }
+
+    // no ensures: a caller only decides by it when waiting octets are answered
+    // no edit: it has no ensures
+    /// Whether the last reading filled the window.
+    #[inline(always)]
+    pub fn is_full(&self) -> bool {
+        self.end == self.buffer.len()
     }
 
     /// Reads more octets after those that wait, and returns their number. It is 0 only at the end of the input.
+    ///
+    /// # Errors
+    ///
+    /// `Failed` if the input failed; the waiting octets are kept.
     pub fn fill<I: Input>(&mut self, input: &mut I) -> Result<usize, Failed>
-        requires { length self.old ≤ most_line_octets }
+        requires { length self.old < ROOM }
         ensures octets { I.is_known → IfOk result
             (λ _. self.old ++ I.rest input.old ≡ self.new ++ I.rest input.new) }
         ensures count { IfOk result (λ count. length self.new ≡ length self.old + count) }
-        ensures bounded { length self.new ≤ most_ahead }
-        ensures end { I.is_known → result ≡ Ok 0 → I.rest input.new ≡ [] }
         ensures front { take (length self.old) self.new ≡ self.old }
+        ensures bounded { length self.new ≤ ROOM }
+        ensures end { I.is_known → result ≡ Ok 0 → I.rest input.new ≡ [] }
+        ensures none { result ≡ Ok 0 → self.new ≡ self.old }
         ensures same { OnErr result (self.new ≡ self.old) }
         ensures kept { I.is_known → OnErr result (I.rest input.new ≡ I.rest input.old) }
         ensures calm { OnOk result (I.failures input.new ≡ I.failures input.old) }

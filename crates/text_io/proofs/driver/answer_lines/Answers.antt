@@ -1,5 +1,5 @@
 -- Each iteration preserves the invariant, and each exit returns an answer or a prefix of one.
-use Rattle.std.proofs.Common.{◌≡◌, ◌≤◌, ◌+◌, ℕ, List, Ok, [], ◌∷◌, ◌++◌, length, take, drop, refl, ap, sym, ◌∙◌, arith, append_assoc, append-nil, length-drop}
+use Rattle.std.proofs.Common.{◌≡◌, ◌<◌, ◌≤◌, ◌+◌, ℕ, List, Ok, [], ◌∷◌, ◌++◌, length, take, drop, refl, ap, sym, ◌∙◌, arith, append_assoc, append-nil, length-drop}
 use Rattle.std.proofs.lemmas.Result.{IfOk-weaker}
 use Rattle.text_io.specs.Lines.{lines_of}
 use Rattle.text_io.specs.Limits.{most_ahead}
@@ -7,7 +7,7 @@ use Rattle.text_io.specs.Printing.{Prints}
 use Rattle.text_io.specs.Answering.{OfEach}
 use Rattle.text_io.specs.declared.ending.Done.TheVariants.{Whole, Ended}
 use Rattle.text_io.proofs.DriverLemmas.{begin, progress-line, progress-given, progress-left, all-moved, text-of, front-of, front-of-last, world-of, enough, line-ends, window-over}
-use Rattle.text_io.proofs.DriverLemmas.{split-window, no-feed-front, at-err, at-ok, at-result, at-done, at-given, at-fault, none-at}
+use Rattle.text_io.proofs.DriverLemmas.{split-at_feed, no-feed-front, none-longer, at-err, at-ok, at-result, at-done, at-given, at-fault}
 use Rattle.text_io.proofs.driver.answer_lines.Goals as goal
 
 pub returns-in_default-clause-front : goal.returns-in_default-clause-front
@@ -48,14 +48,13 @@ returns-in-Ok-Ends-clause-text g c = λ ki ko.
     let rest = g.I.Input.rest c.loop-count.input in
     let left = c.loop-count.window ++ rest in
     let goes = c.loop-count.invariant.goes in
-    let O = c.octets.result.now in
+    let O = c.octets-waiting.result.now in
     let count = c.in-Some.count in
     let line = take count O in
     let later = drop (count + 1) O in
     let cut : left ≡ line ++ 10 ∷ (later ++ rest) =
-    ap (λ xs. xs ++ rest) (sym c.find_line.ensures.same)
-    ∙ split-window c.find_line.new.self O rest count c.octets.ensures c.in-Some.ensures.within c.in-Some.ensures.feed in
-    let none = no-feed-front c.find_line.new.self O count c.octets.ensures c.in-Some.ensures.before in
+    ap (λ xs. xs ++ rest) (sym c.octets-waiting.ensures) ∙ split-at_feed O rest count c.in-Some.ensures.place c.in-Some.ensures.feed in
+    let none = no-feed-front O count c.in-Some.ensures.before in
     let now' = m.shows c.answer_line.new.machine in
     let new = c.answer_line.new.answers.items in
     let passes = rw c.in-Ok-Ends.field-0-is at c.in-Ok-Ends.ensures.passes in
@@ -78,14 +77,13 @@ returns-in-Ok-Ends-clause-front g c = λ ki ko.
     let rest = g.I.Input.rest c.loop-count.input in
     let left = c.loop-count.window ++ rest in
     let goes = c.loop-count.invariant.goes in
-    let O = c.octets.result.now in
+    let O = c.octets-waiting.result.now in
     let count = c.in-Some.count in
     let line = take count O in
     let later = drop (count + 1) O in
     let cut : left ≡ line ++ 10 ∷ (later ++ rest) =
-    ap (λ xs. xs ++ rest) (sym c.find_line.ensures.same)
-    ∙ split-window c.find_line.new.self O rest count c.octets.ensures c.in-Some.ensures.within c.in-Some.ensures.feed in
-    let none = no-feed-front c.find_line.new.self O count c.octets.ensures c.in-Some.ensures.before in
+    ap (λ xs. xs ++ rest) (sym c.octets-waiting.ensures) ∙ split-at_feed O rest count c.in-Some.ensures.place c.in-Some.ensures.feed in
+    let none = no-feed-front O count c.in-Some.ensures.before in
     let now' = m.shows c.answer_line.new.machine in
     let new = c.answer_line.new.answers.items in
     let passes = rw c.in-Ok-Ends.field-0-is at c.in-Ok-Ends.ensures.passes in
@@ -112,18 +110,17 @@ returns-in-Ok-Ends-clause-left g c = λ ki.
     let rest = g.I.Input.rest c.loop-count.input in
     let left = c.loop-count.window ++ rest in
     let goes = c.loop-count.invariant.goes in
-    let O = c.octets.result.now in
+    let O = c.octets-waiting.result.now in
     let count = c.in-Some.count in
     let line = take count O in
     let later = drop (count + 1) O in
     let cut : left ≡ line ++ 10 ∷ (later ++ rest) =
-    ap (λ xs. xs ++ rest) (sym c.find_line.ensures.same)
-    ∙ split-window c.find_line.new.self O rest count c.octets.ensures c.in-Some.ensures.within c.in-Some.ensures.feed in
-    let none = no-feed-front c.find_line.new.self O count c.octets.ensures c.in-Some.ensures.before in
+    ap (λ xs. xs ++ rest) (sym c.octets-waiting.ensures) ∙ split-at_feed O rest count c.in-Some.ensures.place c.in-Some.ensures.feed in
+    let none = no-feed-front O count c.in-Some.ensures.before in
     let now' = m.shows c.answer_line.new.machine in
     let new = c.answer_line.new.answers.items in
     let passes = rw c.in-Ok-Ends.field-0-is at c.in-Ok-Ends.ensures.passes in
-    let short : length later ≤ most_ahead = omega (arith, length-drop (count + 1) O, ap length c.octets.ensures, ap length c.find_line.ensures.same, c.loop-count.invariant.bounded) in
+    let short : length later ≤ most_ahead = omega (arith, length-drop (count + 1) O, ap length c.octets-waiting.ensures, c.loop-count.invariant.bounded) in
     at-done c.give_last.result Ended _ c.give_last.ensures.done
     (enough m.rules shown now g.I.Input.is_known g.O.Output.is_known whole left (line ++ 10 ∷ []) later rest before held old passes.0 met most_ahead Ended ki
     (cut ∙ sym (append_assoc line (10 ∷ []) (later ++ rest))) short
@@ -142,14 +139,13 @@ returns-then-is_err-clause-front g c = λ ki ko.
     let rest = g.I.Input.rest c.loop-count.input in
     let left = c.loop-count.window ++ rest in
     let goes = c.loop-count.invariant.goes in
-    let O = c.octets.result.now in
+    let O = c.octets-waiting.result.now in
     let count = c.in-Some.count in
     let line = take count O in
     let later = drop (count + 1) O in
     let cut : left ≡ line ++ 10 ∷ (later ++ rest) =
-    ap (λ xs. xs ++ rest) (sym c.find_line.ensures.same)
-    ∙ split-window c.find_line.new.self O rest count c.octets.ensures c.in-Some.ensures.within c.in-Some.ensures.feed in
-    let none = no-feed-front c.find_line.new.self O count c.octets.ensures c.in-Some.ensures.before in
+    ap (λ xs. xs ++ rest) (sym c.octets-waiting.ensures) ∙ split-at_feed O rest count c.in-Some.ensures.place c.in-Some.ensures.feed in
+    let none = no-feed-front O count c.in-Some.ensures.before in
     let now' = m.shows c.answer_line.new.machine in
     let new = c.answer_line.new.answers.items in
     let passes = rw c.in-Ok-GoesOn.field-0-is at c.in-Ok-GoesOn.ensures.passes in
@@ -160,7 +156,9 @@ returns-then-is_err-clause-front g c = λ ki ko.
 pub loop-count-preserved-else-is_err : goal.loop-count-preserved-else-is_err
 loop-count-preserved-else-is_err g c = record {
   met = let h = c.in-Ok-GoesOn.ensures.within c.in-Ok-GoesOn.field-0-is in omega arith;
-  bounded = omega (arith, ap length c.skip.ensures, ap length c.find_line.ensures.same, length-drop (c.in-Some.count + 1) c.find_line.new.self, c.loop-count.invariant.bounded);
+  bounded = omega (arith, c.skip.ensures.length, c.loop-count.invariant.bounded);
+  looked = omega arith;
+  no_feed = λ k below. let none : k < 0 = below in absurd (omega arith);
   reading = c.loop-count.invariant.reading;
   writing = at-ok c.give_if_enough.result _ (sym c.is_err.ensures.value ∙ c.if-is_err.false) c.give_if_enough.ensures.calm ∙ c.loop-count.invariant.writing;
   goes =
@@ -175,14 +173,13 @@ loop-count-preserved-else-is_err g c = record {
       let rest = g.I.Input.rest c.loop-count.input in
       let left = c.loop-count.window ++ rest in
       let goes = c.loop-count.invariant.goes in
-      let O = c.octets.result.now in
+      let O = c.octets-waiting.result.now in
       let count = c.in-Some.count in
       let line = take count O in
       let later = drop (count + 1) O in
       let cut : left ≡ line ++ 10 ∷ (later ++ rest) =
-      ap (λ xs. xs ++ rest) (sym c.find_line.ensures.same)
-      ∙ split-window c.find_line.new.self O rest count c.octets.ensures c.in-Some.ensures.within c.in-Some.ensures.feed in
-      let none = no-feed-front c.find_line.new.self O count c.octets.ensures c.in-Some.ensures.before in
+      ap (λ xs. xs ++ rest) (sym c.octets-waiting.ensures) ∙ split-at_feed O rest count c.in-Some.ensures.place c.in-Some.ensures.feed in
+      let none = no-feed-front O count c.in-Some.ensures.before in
       let now' = m.shows c.answer_line.new.machine in
       let new = c.answer_line.new.answers.items in
       let passes = rw c.in-Ok-GoesOn.field-0-is at c.in-Ok-GoesOn.ensures.passes in
@@ -192,7 +189,7 @@ loop-count-preserved-else-is_err g c = record {
       let given = progress-given m.rules shown now' g.I.Input.is_known g.O.Output.is_known whole (later ++ rest) before held held' new new' (met + 1)
       (λ ko. at-ok c.give_if_enough.result _ (sym c.is_err.ensures.value ∙ c.if-is_err.false) (c.give_if_enough.ensures.moved ko)) on in
       progress-left m.rules shown now' g.I.Input.is_known g.O.Output.is_known whole (later ++ rest) (c.skip.new.self ++ rest) before held' new' (met + 1)
-      (λ _. ap (λ xs. xs ++ rest) (ap (λ xs. drop (count + 1) xs) c.octets.ensures ∙ sym c.skip.ensures)) given;
+      (λ _. ap (λ xs. xs ++ rest) (ap (λ xs. drop (count + 1) xs) c.octets-waiting.ensures ∙ sym c.skip.ensures.octets)) given;
 }
 
 pub returns-then-is_over_limits-clause-text : goal.returns-then-is_over_limits-clause-text
@@ -211,7 +208,7 @@ returns-then-is_over_limits-clause-text g c = λ ki ko.
     let W = c.octets-waiting.result.now in
     let over : (later : List ℕ) → OfEach m.rules now (λ present. Prints m.rules met present (lines_of (c.loop-count.window ++ later)) m.rules.too_long Ended) =
     λ later. window-over m.rules now met (length W) c.loop-count.window W later c.is_over_limits.result
-    (c.octets-waiting.ensures ∙ c.find_line.ensures.same) refl c.if-waiting-gt0.true (none-at c.octets-waiting.ensures c.in-None.ensures.none)
+    c.octets-waiting.ensures refl c.if-looked-gt0.true c.in-None.ensures.none
     c.is_over_limits.ensures c.if-is_over_limits.true in
     at-given c.end_too_long.result Ended _ _ c.end_too_long.ensures.done (c.end_too_long.ensures.given ko)
     (λ given. text-of m.rules shown now g.I.Input.is_known g.O.Output.is_known whole left before held (g.O.Output.held c.end_too_long.new.output) old m.rules.too_long met Ended ki ko
@@ -233,7 +230,7 @@ returns-then-is_over_limits-clause-front g c = λ ki ko.
     let W = c.octets-waiting.result.now in
     let over : (later : List ℕ) → OfEach m.rules now (λ present. Prints m.rules met present (lines_of (c.loop-count.window ++ later)) m.rules.too_long Ended) =
     λ later. window-over m.rules now met (length W) c.loop-count.window W later c.is_over_limits.result
-    (c.octets-waiting.ensures ∙ c.find_line.ensures.same) refl c.if-waiting-gt0.true (none-at c.octets-waiting.ensures c.in-None.ensures.none)
+    c.octets-waiting.ensures refl c.if-looked-gt0.true c.in-None.ensures.none
     c.is_over_limits.ensures c.if-is_over_limits.true in
     at-fault c.end_too_long.result _ _ (c.end_too_long.ensures.front ko)
     (λ part. front-of-last m.rules shown now g.I.Input.is_known g.O.Output.is_known whole left before held (g.O.Output.held c.end_too_long.new.output) old met ki ko
@@ -255,7 +252,7 @@ returns-then-is_over_limits-clause-left g c = λ ki.
     let W = c.octets-waiting.result.now in
     let over : (later : List ℕ) → OfEach m.rules now (λ present. Prints m.rules met present (lines_of (c.loop-count.window ++ later)) m.rules.too_long Ended) =
     λ later. window-over m.rules now met (length W) c.loop-count.window W later c.is_over_limits.result
-    (c.octets-waiting.ensures ∙ c.find_line.ensures.same) refl c.if-waiting-gt0.true (none-at c.octets-waiting.ensures c.in-None.ensures.none)
+    c.octets-waiting.ensures refl c.if-looked-gt0.true c.in-None.ensures.none
     c.is_over_limits.ensures c.if-is_over_limits.true in
     let none : length {A = ℕ} [] ≤ most_ahead = omega arith in
     at-done c.end_too_long.result Ended _ c.end_too_long.ensures.done
@@ -291,14 +288,14 @@ returns-in-Ok-eq0-clause-text g c = λ ki ko.
     let rest = g.I.Input.rest c.loop-count.input in
     let left = c.loop-count.window ++ rest in
     let goes = c.loop-count.invariant.goes in
-    let O = c.octets-in-Ok-eq0.result.now in
+    let O = c.octets.result.now in
     let held' = g.O.Output.held c.refill.new.output in
     let new = c.refill.new.answers.items in
     let none : c.in-Ok-eq0.field-0 ≡ 0 = omega arith in
     let at_end : g.I.Input.is_known → g.I.Input.rest c.refill.new.input ≡ [] = λ ki. c.in-Ok-eq0.ensures.end ki (ap (λ n. Ok n) none) in
-    let last : g.I.Input.is_known → left ≡ O = λ ki. ap (λ xs. xs ++ rest) (sym c.find_line.ensures.same) ∙ c.in-Ok-eq0.ensures.octets ki
+    let last : g.I.Input.is_known → left ≡ O = λ ki. c.in-Ok-eq0.ensures.octets ki
     ∙ ap (λ xs. c.refill.new.window ++ xs) (at_end ki)
-    ∙ append-nil c.refill.new.window ∙ sym c.octets-in-Ok-eq0.ensures in
+    ∙ append-nil c.refill.new.window ∙ sym c.octets.ensures in
     let given = progress-given m.rules shown now g.I.Input.is_known g.O.Output.is_known whole left before held held' old new met
     (λ ko. all-moved held held' old new (c.in-Ok-eq0.ensures.given ko) c.in-Ok-eq0.ensures.none) goes in
     let ready = progress-left m.rules shown now g.I.Input.is_known g.O.Output.is_known whole left O before held' new met last given in
@@ -321,14 +318,14 @@ returns-in-Ok-eq0-clause-world g c = λ ki is_whole.
     let rest = g.I.Input.rest c.loop-count.input in
     let left = c.loop-count.window ++ rest in
     let goes = c.loop-count.invariant.goes in
-    let O = c.octets-in-Ok-eq0.result.now in
+    let O = c.octets.result.now in
     let held' = g.O.Output.held c.refill.new.output in
     let new = c.refill.new.answers.items in
     let none : c.in-Ok-eq0.field-0 ≡ 0 = omega arith in
     let at_end : g.I.Input.is_known → g.I.Input.rest c.refill.new.input ≡ [] = λ ki. c.in-Ok-eq0.ensures.end ki (ap (λ n. Ok n) none) in
-    let last : g.I.Input.is_known → left ≡ O = λ ki. ap (λ xs. xs ++ rest) (sym c.find_line.ensures.same) ∙ c.in-Ok-eq0.ensures.octets ki
+    let last : g.I.Input.is_known → left ≡ O = λ ki. c.in-Ok-eq0.ensures.octets ki
     ∙ ap (λ xs. c.refill.new.window ++ xs) (at_end ki)
-    ∙ append-nil c.refill.new.window ∙ sym c.octets-in-Ok-eq0.ensures in
+    ∙ append-nil c.refill.new.window ∙ sym c.octets.ensures in
     let given = progress-given m.rules shown now g.I.Input.is_known g.O.Output.is_known whole left before held held' old new met
     (λ ko. all-moved held held' old new (c.in-Ok-eq0.ensures.given ko) c.in-Ok-eq0.ensures.none) goes in
     let ready = progress-left m.rules shown now g.I.Input.is_known g.O.Output.is_known whole left O before held' new met last given in
@@ -349,14 +346,14 @@ returns-in-Ok-eq0-clause-front g c = λ ki ko.
     let rest = g.I.Input.rest c.loop-count.input in
     let left = c.loop-count.window ++ rest in
     let goes = c.loop-count.invariant.goes in
-    let O = c.octets-in-Ok-eq0.result.now in
+    let O = c.octets.result.now in
     let held' = g.O.Output.held c.refill.new.output in
     let new = c.refill.new.answers.items in
     let none : c.in-Ok-eq0.field-0 ≡ 0 = omega arith in
     let at_end : g.I.Input.is_known → g.I.Input.rest c.refill.new.input ≡ [] = λ ki. c.in-Ok-eq0.ensures.end ki (ap (λ n. Ok n) none) in
-    let last : g.I.Input.is_known → left ≡ O = λ ki. ap (λ xs. xs ++ rest) (sym c.find_line.ensures.same) ∙ c.in-Ok-eq0.ensures.octets ki
+    let last : g.I.Input.is_known → left ≡ O = λ ki. c.in-Ok-eq0.ensures.octets ki
     ∙ ap (λ xs. c.refill.new.window ++ xs) (at_end ki)
-    ∙ append-nil c.refill.new.window ∙ sym c.octets-in-Ok-eq0.ensures in
+    ∙ append-nil c.refill.new.window ∙ sym c.octets.ensures in
     let given = progress-given m.rules shown now g.I.Input.is_known g.O.Output.is_known whole left before held held' old new met
     (λ ko. all-moved held held' old new (c.in-Ok-eq0.ensures.given ko) c.in-Ok-eq0.ensures.none) goes in
     let ready = progress-left m.rules shown now g.I.Input.is_known g.O.Output.is_known whole left O before held' new met last given in
@@ -376,14 +373,14 @@ returns-in-Ok-eq0-clause-left g c = λ ki.
     let rest = g.I.Input.rest c.loop-count.input in
     let left = c.loop-count.window ++ rest in
     let goes = c.loop-count.invariant.goes in
-    let O = c.octets-in-Ok-eq0.result.now in
+    let O = c.octets.result.now in
     let held' = g.O.Output.held c.refill.new.output in
     let new = c.refill.new.answers.items in
     let none : c.in-Ok-eq0.field-0 ≡ 0 = omega arith in
     let at_end : g.I.Input.is_known → g.I.Input.rest c.refill.new.input ≡ [] = λ ki. c.in-Ok-eq0.ensures.end ki (ap (λ n. Ok n) none) in
-    let last : g.I.Input.is_known → left ≡ O = λ ki. ap (λ xs. xs ++ rest) (sym c.find_line.ensures.same) ∙ c.in-Ok-eq0.ensures.octets ki
+    let last : g.I.Input.is_known → left ≡ O = λ ki. c.in-Ok-eq0.ensures.octets ki
     ∙ ap (λ xs. c.refill.new.window ++ xs) (at_end ki)
-    ∙ append-nil c.refill.new.window ∙ sym c.octets-in-Ok-eq0.ensures in
+    ∙ append-nil c.refill.new.window ∙ sym c.octets.ensures in
     let given = progress-given m.rules shown now g.I.Input.is_known g.O.Output.is_known whole left before held held' old new met
     (λ ko. all-moved held held' old new (c.in-Ok-eq0.ensures.given ko) c.in-Ok-eq0.ensures.none) goes in
     let ready = progress-left m.rules shown now g.I.Input.is_known g.O.Output.is_known whole left O before held' new met last given in
@@ -399,6 +396,8 @@ pub loop-count-preserved : goal.loop-count-preserved
 loop-count-preserved g c = record {
   met = c.loop-count.invariant.met;
   bounded = c.in-Ok-refill.ensures.bounded;
+  looked = omega (arith, ap length c.octets-waiting.ensures, c.in-Ok-refill.ensures.count);
+  no_feed = none-longer c.octets-waiting.result.now c.loop-count.window c.refill.new.window c.octets-waiting.ensures c.in-Ok-refill.ensures.front_octets c.in-None.ensures.none;
   reading = c.in-Ok-refill.ensures.reading ∙ c.loop-count.invariant.reading;
   writing = c.in-Ok-refill.ensures.writing ∙ c.loop-count.invariant.writing;
   goes =
@@ -418,5 +417,5 @@ loop-count-preserved g c = record {
       let given = progress-given m.rules shown now g.I.Input.is_known g.O.Output.is_known whole left before held held' old new met
       (λ ko. all-moved held held' old new (c.in-Ok-refill.ensures.given ko) c.in-Ok-refill.ensures.none) goes in
       progress-left m.rules shown now g.I.Input.is_known g.O.Output.is_known whole left (c.refill.new.window ++ g.I.Input.rest c.refill.new.input) before held' new met
-      (λ ki. ap (λ xs. xs ++ rest) (sym c.find_line.ensures.same) ∙ c.in-Ok-refill.ensures.octets ki) given;
+      c.in-Ok-refill.ensures.octets given;
 }
