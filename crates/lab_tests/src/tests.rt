@@ -1,4 +1,4 @@
-//! One module for each crate.
+//! One module for each crate, and one for rules.
 
 mod at_once;
 mod fit;
@@ -6,4 +6,5 @@ mod link;
 mod options;
 mod police;
 mod records;
+mod rules;
 mod setups;

@@ -1,0 +1,5 @@
+//! Texts of rules: one module for each kind of answer.
+
+mod comparisons;
+mod faults;
+mod values;

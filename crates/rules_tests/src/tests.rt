@@ -1,5 +1,0 @@
-//! One module for each kind of answer.
-
-mod comparisons;
-mod faults;
-mod values;
