@@ -14,6 +14,15 @@ Block = namedtuple("Block", "what place")
 NO_PACKET = (4, 5, 9, 10, 0xBAD, 0x40000BAD)
 
 
+# How files begin that were compressed.
+COMPRESSED = {
+    "1 Gzip": (b"\x1f\x8b\x08",),
+    "4 Xz": (b"\xfd7zXZ\x00",),
+    "5 Bzip2": tuple(b"BZh" + bytes([size]) + first for size in range(256) for first in (b"1AY&", b"\x17\x72\x45\x38")),
+    "6 Zstd": (b"\x28\xb5\x2f\xfd",),
+}
+
+
 class Refused(Exception):
     """The file isn't read at all: the fault, by its number and name."""
 
@@ -148,8 +157,12 @@ def records_of(octets):
         return pcap_records(octets, PCAP_ORDERS[magic])
     if magic == SECTION:
         return pcapng_records(octets)
-    if octets[:3] == b"\x1f\x8b\x08":
-        raise Refused("1 Gzip")
+    for why, beginnings in COMPRESSED.items():
+        if octets.startswith(beginnings):
+            raise Refused(why)
+    is_wide = octets[:2] == b"\xff\xfe" and not octets[3] | octets[5] or octets[:2] == b"\xfe\xff" and not octets[2] | octets[4]
+    if octets[:3] == b"\xef\xbb\xbf" or is_wide:
+        raise Refused("3 Text")
     if all(32 <= octet < 127 or 9 <= octet < 14 for octet in octets[:16]):
         raise Refused("3 Text")
     return erf_records(octets)

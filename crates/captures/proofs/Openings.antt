@@ -1,46 +1,45 @@
 -- What a file is by its first octets, whatever follows them.
-use Rattle.std.proofs.Common.{◌≡◌, ◌≢◌, ◌≤◌, ◌<◌, ◌%◌, ◌==◌, inl, inr, ℕ, Bool, true, false, List, ◌++◌, length, arith, refl, ◌∙◌, sym, ap, subst, length-append, if◌then◌else◌}
+use Rattle.std.proofs.Common.{◌≡◌, ◌≢◌, ◌≤◌, ◌<◌, ◌%◌, ◌==◌, inl, inr, ℕ, Bool, true, false, List, Option, None, Some, ◌++◌, length, arith, refl, ◌∙◌, sym, ap, subst, length-append, if◌then◌else◌}
 use Rattle.std.specs.List.{list_all}
 use Rattle.std.proofs.lemmas.Bool.{cases_lt}
 use Rattle.std.proofs.lemmas.List.{take-append-le}
 use Rattle.captures.specs.Blocks.{section_begun}
 use Rattle.captures.specs.Frames.{format_start}
-use Rattle.captures.specs.Opening.{OpeningsStay, begins_as_text, file_magic, is_gzip_magic, is_pcap_magic, is_pcapng_magic, is_text_octet, opening_by, opening_of, pcap_link, pcap_opening}
+use Rattle.captures.specs.Opening.{OpeningsStay, begins_as_text, fault_by, file_magic, file_number, is_pcap_magic, is_pcapng_magic, is_text_octet, opening_by, opening_of, pcap_link, pcap_opening, refused_or}
 use Rattle.captures.specs.declared.format.Format.{Format}
 use Rattle.captures.specs.declared.format.Format.TheVariants.{Erf, Pcap, PcapNg}
 use Rattle.captures.specs.declared.format.Order.{Order}
 use Rattle.captures.specs.declared.format.Order.TheVariants.{HighestFirst, LowestFirst}
-use Rattle.captures.specs.declared.opening.FileFault.TheVariants.{Gzip, OtherLink, Text}
+use Rattle.captures.specs.declared.opening.FileFault.{FileFault}
+use Rattle.captures.specs.declared.opening.FileFault.TheVariants.{OtherLink, Text}
 use Rattle.captures.specs.declared.opening.Opening.{Opening}
 use Rattle.captures.specs.declared.opening.Opening.TheVariants.{Opened, Undecided, Refused}
 use Rattle.captures.proofs.First.{when_above, when_below}
 use Rattle.captures.proofs.Stays.{number_at-append, number-append}
 
 -- The cases of a file, by its tests.
-by_tests : Bool → Bool → Bool → Bool → Bool → Opening → Opening → Opening
-by_tests high low blocks gzip text p q =
+by_tests : Bool → Bool → Bool → Option FileFault → Bool → Opening → Opening → Opening
+by_tests high low blocks fault text p q =
     if high then p
     else if low then q
     else if blocks then Opened (PcapNg (section_begun LowestFirst 0))
-    else if gzip then Refused Gzip
-    else if text then Refused Text
-    else Opened Erf
+    else refused_or fault (if text then Refused Text else Opened Erf)
 
 is_by_tests : (magic : ℕ) (xs : List ℕ) → opening_by magic xs
-    ≡ by_tests (is_pcap_magic HighestFirst magic) (is_pcap_magic LowestFirst magic) (is_pcapng_magic magic) (is_gzip_magic magic) (begins_as_text xs)
+    ≡ by_tests (is_pcap_magic HighestFirst magic) (is_pcap_magic LowestFirst magic) (is_pcapng_magic magic) (fault_by magic (file_number xs)) (begins_as_text xs)
     (pcap_opening HighestFirst xs) (pcap_opening LowestFirst xs)
 unfolding by_tests
 is_by_tests magic xs = refl
 
-tests_stay : (high low blocks gzip text : Bool) (p p' q q' : Opening) → (p ≢ Undecided → p' ≡ p) → (q ≢ Undecided → q' ≡ q)
-    → by_tests high low blocks gzip text p q ≢ Undecided → by_tests high low blocks gzip text p' q' ≡ by_tests high low blocks gzip text p q
+tests_stay : (high low blocks : Bool) (fault : Option FileFault) (text : Bool) (p p' q q' : Opening) → (p ≢ Undecided → p' ≡ p) → (q ≢ Undecided → q' ≡ q)
+    → by_tests high low blocks fault text p q ≢ Undecided → by_tests high low blocks fault text p' q' ≡ by_tests high low blocks fault text p q
 unfolding by_tests
-tests_stay true low blocks gzip text p p' q q' first second decided = first decided
-tests_stay false true blocks gzip text p p' q q' first second decided = second decided
-tests_stay false false true gzip text p p' q q' first second decided = refl
-tests_stay false false false true text p p' q q' first second decided = refl
-tests_stay false false false false true p p' q q' first second decided = refl
-tests_stay false false false false false p p' q q' first second decided = refl
+tests_stay true low blocks fault text p p' q q' first second decided = first decided
+tests_stay false true blocks fault text p p' q q' first second decided = second decided
+tests_stay false false true fault text p p' q q' first second decided = refl
+tests_stay false false false (Some fault) text p p' q q' first second decided = refl
+tests_stay false false false None true p p' q q' first second decided = refl
+tests_stay false false false None false p p' q q' first second decided = refl
 
 pcap_opening_by : Order → ℕ → Opening
 pcap_opening_by order link = if link == 197 then Opened (Pcap order) else Refused (OtherLink link)
@@ -68,10 +67,12 @@ by_magic_stays magic xs ys long decided =
     let high = is_pcap_magic HighestFirst magic in
     let low = is_pcap_magic LowestFirst magic in
     let blocks = is_pcapng_magic magic in
-    let gzip = is_gzip_magic magic in
+    let number : file_number (xs ++ ys) ≡ file_number xs = number_at-append HighestFirst 4 xs ys (omega (arith, long)) in
+    let fault = fault_by magic (file_number xs) in
     is_by_tests magic (xs ++ ys)
-    ∙ ap (λ t. by_tests high low blocks gzip t (pcap_opening HighestFirst (xs ++ ys)) (pcap_opening LowestFirst (xs ++ ys))) text
-    ∙ tests_stay high low blocks gzip (begins_as_text xs) (pcap_opening HighestFirst xs) (pcap_opening HighestFirst (xs ++ ys))
+    ∙ ap (λ n. by_tests high low blocks (fault_by magic n) (begins_as_text (xs ++ ys)) (pcap_opening HighestFirst (xs ++ ys)) (pcap_opening LowestFirst (xs ++ ys))) number
+    ∙ ap (λ t. by_tests high low blocks fault t (pcap_opening HighestFirst (xs ++ ys)) (pcap_opening LowestFirst (xs ++ ys))) text
+    ∙ tests_stay high low blocks fault (begins_as_text xs) (pcap_opening HighestFirst xs) (pcap_opening HighestFirst (xs ++ ys))
     (pcap_opening LowestFirst xs) (pcap_opening LowestFirst (xs ++ ys))
     (pcap_stays HighestFirst xs ys) (pcap_stays LowestFirst xs ys)
     (λ none. decided (is_by_tests magic xs ∙ none))
@@ -97,15 +98,15 @@ unfolding pcap_opening_by
 by_link P order link opened refused = by_test P (link == 197) (Opened (Pcap order)) (Refused (OtherLink link)) opened refused
 
 -- What holds of each case holds of a file.
-tests_all : (P : Opening → Type 0) (high low blocks gzip text : Bool) (p q : Opening) → P p → P q → P (Opened (PcapNg (section_begun LowestFirst 0)))
-    → P (Refused Gzip) → P (Refused Text) → P (Opened Erf) → P (by_tests high low blocks gzip text p q)
+tests_all : (P : Opening → Type 0) (high low blocks : Bool) (fault : Option FileFault) (text : Bool) (p q : Opening) → P p → P q → P (Opened (PcapNg (section_begun LowestFirst 0)))
+    → ((why : FileFault) → P (Refused why)) → P (Opened Erf) → P (by_tests high low blocks fault text p q)
 unfolding by_tests
-tests_all P true low blocks gzip text p q at_p at_q ng gz tx erf = at_p
-tests_all P false true blocks gzip text p q at_p at_q ng gz tx erf = at_q
-tests_all P false false true gzip text p q at_p at_q ng gz tx erf = ng
-tests_all P false false false true text p q at_p at_q ng gz tx erf = gz
-tests_all P false false false false true p q at_p at_q ng gz tx erf = tx
-tests_all P false false false false false p q at_p at_q ng gz tx erf = erf
+tests_all P true low blocks fault text p q at_p at_q ng refused erf = at_p
+tests_all P false true blocks fault text p q at_p at_q ng refused erf = at_q
+tests_all P false false true fault text p q at_p at_q ng refused erf = ng
+tests_all P false false false (Some fault) text p q at_p at_q ng refused erf = refused fault
+tests_all P false false false None true p q at_p at_q ng refused erf = refused Text
+tests_all P false false false None false p q at_p at_q ng refused erf = erf
 
 pcap_all : (P : Opening → Type 0) (order : Order) (xs : List ℕ) → (length xs < 24 → P Undecided)
     → (24 ≤ length xs → P (Opened (Pcap order))) → ((link : ℕ) → P (Refused (OtherLink link))) → P (pcap_opening order xs)
@@ -116,24 +117,24 @@ pcap_all P order xs none opened refused =
     ]
 
 opening_all : (P : Opening → Type 0) (xs : List ℕ) → (length xs < 24 → P Undecided)
-    → (24 ≤ length xs → (order : Order) → P (Opened (Pcap order))) → ((link : ℕ) → P (Refused (OtherLink link)))
-    → P (Opened (PcapNg (section_begun LowestFirst 0))) → P (Refused Gzip) → P (Refused Text) → P (Opened Erf) → P (opening_of xs)
-opening_all P xs none pcap link ng gz tx erf =
+    → (24 ≤ length xs → (order : Order) → P (Opened (Pcap order))) → P (Opened (PcapNg (section_begun LowestFirst 0)))
+    → ((why : FileFault) → P (Refused why)) → P (Opened Erf) → P (opening_of xs)
+opening_all P xs none pcap ng refused erf =
     elim (cases_lt (length xs) 16) [
       | inl short ↦ subst P (sym (when_below (length xs) 16 Undecided (opening_by (file_magic xs) xs) short)) (none (omega arith))
       | inr long ↦
           subst P (sym (when_above (length xs) 16 Undecided (opening_by (file_magic xs) xs) long ∙ is_by_tests (file_magic xs) xs))
-          (tests_all P (is_pcap_magic HighestFirst (file_magic xs)) (is_pcap_magic LowestFirst (file_magic xs)) (is_pcapng_magic (file_magic xs)) (is_gzip_magic (file_magic xs)) (begins_as_text xs)
+          (tests_all P (is_pcap_magic HighestFirst (file_magic xs)) (is_pcap_magic LowestFirst (file_magic xs)) (is_pcapng_magic (file_magic xs)) (fault_by (file_magic xs) (file_number xs)) (begins_as_text xs)
           (pcap_opening HighestFirst xs) (pcap_opening LowestFirst xs)
-          (pcap_all P HighestFirst xs none (λ long. pcap long HighestFirst) link)
-          (pcap_all P LowestFirst xs none (λ long. pcap long LowestFirst) link)
-          ng gz tx erf)
+          (pcap_all P HighestFirst xs none (λ long. pcap long HighestFirst) (λ link. refused (OtherLink link)))
+          (pcap_all P LowestFirst xs none (λ long. pcap long LowestFirst) (λ link. refused (OtherLink link)))
+          ng refused erf)
     ]
 
 -- 24 octets decide.
 pub undecided_short : (xs : List ℕ) → opening_of xs ≡ Undecided → length xs < 24
 undecided_short xs is =
-    opening_all (λ o. o ≡ Undecided → length xs < 24) xs (λ short same. short) (λ long order same. cc) (λ link same. cc) (λ same. cc) (λ same. cc) (λ same. cc) (λ same. cc) is
+    opening_all (λ o. o ≡ Undecided → length xs < 24) xs (λ short same. short) (λ long order same. cc) (λ same. cc) (λ why same. cc) (λ same. cc) is
 
 -- The header of a file that was opened is among its octets.
 pub header_within : (xs : List ℕ) (format : Format) → opening_of xs ≡ Opened format → format_start format ≤ length xs
@@ -141,8 +142,7 @@ header_within xs format is =
     opening_all (λ o. o ≡ Opened format → format_start format ≤ length xs) xs
     (λ short same. cc)
     (λ long order same. let equal : Pcap order ≡ format = cc in subst (λ (f : Format). format_start f ≤ length xs) equal long)
-    (λ link same. cc)
     (λ same. let equal : PcapNg (section_begun LowestFirst 0) ≡ format = cc in subst (λ (f : Format). format_start f ≤ length xs) equal (omega arith))
-    (λ same. cc) (λ same. cc)
+    (λ why same. cc)
     (λ same. let equal : Erf ≡ format = cc in subst (λ (f : Format). format_start f ≤ length xs) equal (omega arith))
     is

@@ -22,5 +22,5 @@ pub use format::{Format, Order};
 pub use lent_cell::LentCell;
 pub use link::{Channel, Link};
 pub use marks::Marks;
-pub use opening::{FileFault, Opening, open};
+pub use opening::{FileFault, Opening, is_text, open};
 pub use reader::{Next, Passage, Reader, Record};

@@ -1,7 +1,7 @@
 //! What a file is.
 
 ghost use Rattle.std.specs.Prelude.{◌≡◌, ◌≤◌, ◌↔◌, length, IsTrue};
-ghost use Rattle.captures.specs.Opening.{begins_as_text as begins_text, opening_of, is_pcap_magic, is_text_octet as is_printed, opening_by, pcap_opening};
+ghost use Rattle.captures.specs.Opening.{begins_as_text as begins_text, fault_by as fault_of, is_marked_text as is_marked, is_pcap_magic, is_text as are_printed, is_text_octet as is_printed, opening_by, opening_of, pcap_opening};
 
 use crate::block::Section;
 use crate::format::{FILE_HEADER_OCTETS, Format, Order};
@@ -21,6 +21,15 @@ pub enum FileFault {
     /// It is a text.
     #[error("3 Text")]
     Text,
+    /// It was compressed by xz.
+    #[error("4 Xz")]
+    Xz,
+    /// It was compressed by bzip2.
+    #[error("5 Bzip2")]
+    Bzip2,
+    /// It was compressed by zstd.
+    #[error("6 Zstd")]
+    Zstd,
 }
 
 /// What a file is, by its first octets.
@@ -57,14 +66,47 @@ fn is_text_octet(octet: u8) -> bool
     matches!(octet, 32..=126 | 9..=13)
 }
 
+/// Returns whether all of these octets are those of a text. So a file that is too short for `open` shows that it is one.
+pub fn is_text(octets: &[u8]) -> bool
+    ensures { result ≡ are_printed octets.now }
+{
+    octets.iter().all(|octet| is_text_octet(*octet))
+}
+
 /// Returns whether octets begin as those of a text.
 fn begins_as_text(octets: &[u8]) -> bool
     requires { 16 ≤ length octets.now }
     ensures { result ≡ begins_text octets.now }
 {
-    octets[..HEADER_OCTETS]
-        .iter()
-        .all(|octet| is_text_octet(*octet))
+    is_text(&octets[..HEADER_OCTETS])
+}
+
+/// Returns whether these two numbers are the beginning of a text with a byte order mark.
+fn is_marked_text(magic: u32, number: u32) -> bool
+    ensures { result ≡ is_marked magic number }
+{
+    magic / 0x100 == 0x00ef_bbbf
+        || (magic / 0x1_0000 == 0xfffe && magic % 0x100 == 0 && number / 0x1_0000 % 0x100 == 0)
+        || (magic / 0x100 == 0x00fe_ff00 && number / 0x100_0000 == 0)
+}
+
+/// Returns why a file isn't read that begins with these two numbers, if that shows.
+fn fault_by(magic: u32, number: u32) -> Option<FileFault>
+    ensures { result ≡ fault_of magic number }
+{
+    if magic / 0x100 == 0x001f_8b08 {
+        Some(FileFault::Gzip)
+    } else if magic == 0xfd37_7a58 && number / 0x1_0000 == 0x5a00 {
+        Some(FileFault::Xz)
+    } else if magic / 0x100 == 0x0042_5a68 && (number == 0x3141_5926 || number == 0x1772_4538) {
+        Some(FileFault::Bzip2)
+    } else if magic == 0x28b5_2ffd {
+        Some(FileFault::Zstd)
+    } else if is_marked_text(magic, number) {
+        Some(FileFault::Text)
+    } else {
+        None
+    }
 }
 
 /// Returns what the file is that begins with this number and these octets.
@@ -81,9 +123,11 @@ fn open_by(magic: u32, octets: &[u8]) -> Opening
             interfaces: 0,
             others: 0,
         })),
-        _ if magic / 0x100 == 0x001f_8b08 => Opening::Refused(FileFault::Gzip),
-        _ if begins_as_text(octets) => Opening::Refused(FileFault::Text),
-        _ => Opening::Opened(Format::Erf),
+        _ => match fault_by(magic, BigEndian::read_u32(from_place(octets, 4))) {
+            Some(fault) => Opening::Refused(fault),
+            None if begins_as_text(octets) => Opening::Refused(FileFault::Text),
+            None => Opening::Opened(Format::Erf),
+        },
     }
 }
 

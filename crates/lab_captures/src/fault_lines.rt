@@ -17,6 +17,9 @@ pub(crate) fn add_file_fault(answers: &mut Vec<u8>, fault: FileFault) -> Result<
             add_numbered(answers, b"fault file 2 OtherLink ", link as usize)
         }
         FileFault::Text => add_text(answers, b"fault file 3 Text\n"),
+        FileFault::Xz => add_text(answers, b"fault file 4 Xz\n"),
+        FileFault::Bzip2 => add_text(answers, b"fault file 5 Bzip2\n"),
+        FileFault::Zstd => add_text(answers, b"fault file 6 Zstd\n"),
     }
 }
 

@@ -252,6 +252,30 @@ fn what_files_are(rt: HostRuntime) -> Result<(), Fail> {
             b"\x1f\x8b\x08\x00            ",
             Opening::Refused(FileFault::Gzip),
         ),
+        (
+            b"\xfd7zXZ\x00\x00\x04        ",
+            Opening::Refused(FileFault::Xz),
+        ),
+        (
+            b"BZh91AY&SY\x00\x00\x00\x00\x00\x00",
+            Opening::Refused(FileFault::Bzip2),
+        ),
+        (
+            b"\x28\xb5\x2f\xfd            ",
+            Opening::Refused(FileFault::Zstd),
+        ),
+        (
+            b"\xef\xbb\xbf# a setup    ",
+            Opening::Refused(FileFault::Text),
+        ),
+        (
+            b"\xff\xfe#\x00 \x00a\x00 \x00s\x00e\x00t\x00",
+            Opening::Refused(FileFault::Text),
+        ),
+        (
+            b"\xfe\xff\x00#\x00 \x00a\x00 \x00s\x00e\x00t",
+            Opening::Refused(FileFault::Text),
+        ),
     ] {
         assert_eq!(rt; open(octets), opening);
     }
@@ -317,6 +341,9 @@ fn faults_as_text(rt: HostRuntime) -> Result<(), Fail> {
         (FileFault::Gzip, "1 Gzip"),
         (FileFault::OtherLink(1), "2 OtherLink 1"),
         (FileFault::Text, "3 Text"),
+        (FileFault::Xz, "4 Xz"),
+        (FileFault::Bzip2, "5 Bzip2"),
+        (FileFault::Zstd, "6 Zstd"),
     ] {
         assert_eq!(rt; format!(in rt.alloc(); "{file}")?.as_str(), text);
     }
