@@ -1,8 +1,8 @@
 -- Each step of a run keeps its progress, and each end of it gives a text or a front of one.
 use Rattle.std.proofs.Common.{◌≡◌, ℕ, List, [], ◌∷◌, ◌++◌, Result, Ok, Err, IfOk, refl, ap, sym, ◌∙◌, subst, append_assoc, append-nil}
 use Rattle.std.specs.Result.{OnErr, OnOk}
-use Rattle.lab_captures.specs.inner.Progress.{CaptureProgress, GivesFront, HasRead, Texts}
-use Rattle.text_io.specs.Devices.{Adds, IsPart}
+use Rattle.lab_captures.specs.inner.Progress.{CaptureProgress, HasRead, Texts}
+use Rattle.text_io.specs.Devices.{Adds, IsPart, WritesPrefix}
 use Rattle.text_io.specs.Printing.{IsFront}
 use Rattle.text_io.specs.declared.ending.Done.{Done}
 use Rattle.text_io.specs.declared.ending.RunFault.{RunFault}
@@ -65,7 +65,7 @@ stepped Whole Here Next Known Held near0 rest0 near own later rest before now ol
 
 -- After some answers are written.
 pub given : (Whole Here : Texts) (Known Held : Type 0) (near0 rest0 near rest before now now' waiting waiting' : List ℕ)
-    → CaptureProgress Whole Here Known Held near0 rest0 near rest before now waiting → (Held → GivesFront now now' waiting waiting')
+    → CaptureProgress Whole Here Known Held near0 rest0 near rest before now waiting → (Held → WritesPrefix now now' waiting waiting')
     → CaptureProgress Whole Here Known Held near0 rest0 near rest before now' waiting'
 given Whole Here Known Held near0 rest0 near rest before now now' waiting waiting' p moves = record {
   answered = p.answered;
@@ -82,7 +82,7 @@ given Whole Here Known Held near0 rest0 near rest before now now' waiting waitin
 }
 
 -- All waiting octets were written.
-pub all_given : (before after waiting left : List ℕ) → after ≡ before ++ waiting → left ≡ [] → GivesFront before after waiting left
+pub all_given : (before after waiting left : List ℕ) → after ≡ before ++ waiting → left ≡ [] → WritesPrefix before after waiting left
 all_given before after waiting left gives none = (waiting, sym (append-nil waiting) ∙ ap (λ xs. waiting ++ xs) (sym none), gives)
 
 extended : (answered near fresh more : List ℕ) (near' : List ℕ) → near' ≡ near ++ fresh → answered ++ (near ++ (fresh ++ more)) ≡ answered ++ (near' ++ more)

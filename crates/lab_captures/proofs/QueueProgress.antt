@@ -12,12 +12,12 @@ use Rattle.lab_captures.specs.declared.counted.CountedCell.{CountedCell}
 use Rattle.lab_captures.specs.declared.passed.PassedOver.{PassedOver}
 use Rattle.lab_captures.specs.declared.reading_ahead.ReadingAhead.{ReadingAhead}
 use Rattle.lab_captures.specs.inner.Ahead.{Advances, AdvancesToEnd, CameToQueue, HasCellsFrom, IsQueuedText}
-use Rattle.lab_captures.specs.inner.Progress.{CaptureProgress, GivesFront, HasRead}
+use Rattle.lab_captures.specs.inner.Progress.{CaptureProgress, HasRead}
 use Rattle.lab_captures.proofs.CellTexts.{cells_some}
 use Rattle.lab_captures.proofs.CellsOfOctets.{last_cells}
 use Rattle.lab_captures.proofs.Progresses.{begun, enough, front_of, front_of_last, given, part_at, refilled, reprinted, stepped, text_of}
 use Rattle.lab_captures.proofs.ReadingLemmas.{some_from}
-use Rattle.text_io.specs.Devices.{Adds, IsPart}
+use Rattle.text_io.specs.Devices.{Adds, IsPart, WritesPrefix}
 use Rattle.text_io.specs.Printing.{IsFront}
 use Rattle.text_io.specs.declared.ending.Done.{Done}
 use Rattle.text_io.specs.declared.ending.Done.TheVariants.{Ended}
@@ -77,7 +77,7 @@ queue_empty {rules = rules} {shown0 = shown0} {shown = shown} {reading0 = readin
 -- After some answers are written.
 pub queue_given : {World : Type 0} {rules : CellRules World} {shown0 shown : World → Type 0} {reading0 reading : ReadingAhead} {cells : List CountedCell}
     {Known Held : Type 0} {rest0 rest before now waiting : List ℕ} (now' waiting' : List ℕ)
-    → CameToQueue rules shown0 shown reading0 reading cells Known Held rest0 rest before now waiting → (Held → GivesFront now now' waiting waiting')
+    → CameToQueue rules shown0 shown reading0 reading cells Known Held rest0 rest before now waiting → (Held → WritesPrefix now now' waiting waiting')
     → CameToQueue rules shown0 shown reading0 reading cells Known Held rest0 rest before now' waiting'
 queue_given {rules = rules} {reading0 = reading0} {reading = reading} {cells = cells} {Known = Known} {Held = Held} {rest0 = rest0} {rest = rest} {before = before}
     {now = now} {waiting = waiting} now' waiting' goes gives = λ first sound is_shown.
@@ -95,7 +95,7 @@ pub queue_refilled : {World : Type 0} {rules : CellRules World} {shown0 shown : 
     {Known Held : Type 0} {rest0 rest before now waiting : List ℕ} (reading' : ReadingAhead) (rest' now' waiting' : List ℕ)
     → CameToQueue rules shown0 shown reading0 reading cells Known Held rest0 rest before now waiting
     → reading' ≡ record reading { window = reading'.window } → take (length reading.window) reading'.window ≡ reading.window
-    → (Known → reading.window ++ rest ≡ reading'.window ++ rest') → (Held → GivesFront now now' waiting waiting')
+    → (Known → reading.window ++ rest ≡ reading'.window ++ rest') → (Held → WritesPrefix now now' waiting waiting')
     → CameToQueue rules shown0 shown reading0 reading' cells Known Held rest0 rest' before now' waiting'
 queue_refilled {rules = rules} {reading0 = reading0} {reading = reading} {cells = cells} {Known = Known} {Held = Held} {rest0 = rest0} {rest = rest} {before = before}
     {now = now} {waiting = waiting} reading' rest' now' waiting' goes kept front same gives = λ first sound is_shown.

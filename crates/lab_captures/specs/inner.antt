@@ -1,5 +1,4 @@
 -- Definitions that only private functions and proofs use.
-pub mod Waiting
 pub mod Progress
 pub mod FixedRules
 pub mod Answered

@@ -15,15 +15,17 @@ use crate::fault_lines::add_file_fault;
 use crate::filter::CellFilter;
 use crate::follower::{CellFollower, answers_each_cell};
 use crate::passed::PassedOver;
-use crate::reading_ahead::ReadingAhead;
-use crate::window::Window;
+use crate::reading_ahead::{ReadingAhead, WINDOW_ROOM};
 use captures::{Fault, FileFault, Link, Opening, Reader, RecordFault, Tick, open};
 use std::alloc::Global;
 use std::thread::Threads;
-use text_io::{Done, Failed, Input, Output, RunFault, give_last};
+use text_io::{Done, Failed, Input, Output, RunFault, Window, give_last};
 
 /// Reads the first octets of a file, until they say what it is or the file ends.
-fn find_opening<I: Input>(window: &mut Window, input: &mut I) -> Result<Opening, Failed>
+fn find_opening<I: Input>(
+    window: &mut Window<WINDOW_ROOM>,
+    input: &mut I,
+) -> Result<Opening, Failed>
     requires { window.old ≡ [] }
     ensures octets { I.is_known → IfOk result (λ _. I.rest input.old ≡ window.new ++ I.rest input.new) }
     ensures opening { IfOk result (λ opening. opening ≡ opening_of window.new) }
@@ -122,7 +124,7 @@ pub fn follow_cells<R: Threads, I: Input + Send, O: Output, F: CellFollower + Se
 {
     answers_each_cell(follower);
     let filter = CellFilter::new(tick, link);
-    let Ok(mut window) = Window::new(alloc) else {
+    let Ok(mut window) = Window::<WINDOW_ROOM>::new(alloc) else {
         return Err(RunFault::NoMemory);
     };
     match find_opening(&mut window, input) {

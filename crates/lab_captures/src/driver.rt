@@ -5,8 +5,8 @@ ghost use Rattle.captures.specs.Frames.{first_frame};
 ghost use Rattle.lab_captures.specs.CaptureText.{done_at as ends_at};
 ghost use Rattle.lab_captures.specs.CellFollowing.{OfEachWorld};
 ghost use Rattle.lab_captures.specs.inner.Ahead.{IsQueuedText};
-ghost use Rattle.lab_captures.specs.inner.Progress.{GivesFront, HasRead};
-ghost use Rattle.text_io.specs.Devices.{Adds, IsPart, one_more};
+ghost use Rattle.lab_captures.specs.inner.Progress.{HasRead};
+ghost use Rattle.text_io.specs.Devices.{Adds, IsPart};
 ghost use Rattle.text_io.specs.Failures.{read_failures, write_failures};
 ghost use Rattle.text_io.specs.Printing.{IsFront};
 ghost use Rattle.text_io.specs.declared.ending.Done.{Done as TheDone};
@@ -16,61 +16,10 @@ use crate::ahead::give_and_go_ahead;
 use crate::follower::{CellFollower, answers_each_cell};
 use crate::queue::Queue;
 use crate::reading_ahead::ReadingAhead;
-use crate::window::Window;
 use captures::Fault;
 use std::alloc::Global;
 use std::thread::Threads;
-use text_io::{Done, Failed, Input, Output, RunFault, give_answers, give_last};
-
-/// Collected answers are written as soon as they have this many octets.
-const ENOUGH: usize = 65536;
-
-/// Writes the collected answers if there are enough of them.
-#[inline(always)]
-fn give_if_enough<O: Output>(output: &mut O, answers: &mut Vec<u8>) -> Result<(), Failed>
-    ensures moved { O.is_known → OnOk result
-        (GivesFront (O.held output.old) (O.held output.new) answers.old.items answers.new.items) }
-    ensures front { O.is_known → OnErr result
-        (IsPart (O.held output.old) (O.held output.new) answers.old.items) }
-    ensures calm { OnOk result (O.failures output.new ≡ O.failures output.old) }
-    ensures failed { OnErr result (O.failures output.new ≡ one_more (O.failures output.old)) }
-{
-    if answers.len() < ENOUGH {
-        return Ok(());
-    }
-    give_answers(output, answers)
-}
-
-/// Writes the collected answers, and then reads more input into the window.
-pub(crate) fn refill<I: Input, O: Output>(
-    window: &mut Window,
-    input: &mut I,
-    output: &mut O,
-    answers: &mut Vec<u8>,
-) -> Result<usize, RunFault>
-    requires { length window.old < 131072 }
-    ensures octets { I.is_known → IfOk result (λ _. window.old ++ I.rest input.old ≡ window.new ++ I.rest input.new) }
-    ensures count { IfOk result (λ count. length window.new ≡ length window.old + count) }
-    ensures front_octets { IfOk result (λ _. take (length window.old) window.new ≡ window.old) }
-    ensures bounded { length window.new ≤ 524288 }
-    ensures same { result ≡ Ok 0 → window.new ≡ window.old }
-    ensures end { I.is_known → result ≡ Ok 0 → I.rest input.new ≡ [] }
-    ensures given { O.is_known → OnOk result
-        (O.held output.new ≡ O.held output.old ++ answers.old.items) }
-    ensures none { OnOk result (answers.new.items ≡ []) }
-    ensures front { O.is_known → OnErr result
-        (IsPart (O.held output.old) (O.held output.new) answers.old.items) }
-    ensures reading { I.failures input.new ≡ read_failures result (I.failures input.old) }
-    ensures writing { O.failures output.new ≡ write_failures result (O.failures output.old) }
-{
-    if give_answers(output, answers).is_err() {
-        return Err(RunFault::WriteFailed);
-    }
-    match window.fill(input) {
-        Ok(count) => Ok(count),
-        Err(_) => Err(RunFault::ReadFailed),
-    }
-}
+use text_io::{Done, Input, Output, RunFault, give_if_enough, give_last, refill};
 
 /// Returns how a run ends at this end of a capture.
 pub(crate) fn done_at(ending: Option<Fault>) -> Done

@@ -20,7 +20,6 @@ mod queue;
 mod reading_ahead;
 mod run_lines;
 mod tally;
-mod window;
 
 pub use blocks::BlockTallies;
 pub use capture::follow_cells;

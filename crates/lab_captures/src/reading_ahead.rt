@@ -6,10 +6,12 @@ ghost use Rattle.lab_captures.specs.inner.Ahead.{FillsAndReads, ReadsCells};
 
 use crate::counted::CountedCell;
 use crate::filter::{CellFilter, Filtered};
-use crate::window::Window;
 use captures::{Fault, Link, Next, Reader};
 use std::alloc::AllocError;
-use text_io::{Input, RunFault};
+use text_io::{Input, RunFault, Window};
+
+/// The room of the window, in octets. A frame has at most 131,072.
+pub(crate) const WINDOW_ROOM: usize = 524_288;
 
 /// What comes after the records that were read.
 #[derive(Clone, Copy, PartialEq, Eq, Debug)]
@@ -28,7 +30,7 @@ pub(crate) enum Coming {
 #[derive(Drop)]
 pub(crate) struct ReadingAhead {
     /// The octets that wait.
-    pub(crate) window: Window,
+    pub(crate) window: Window<WINDOW_ROOM>,
     pub(crate) reader: Reader,
     pub(crate) filter: CellFilter,
 }

@@ -2,10 +2,6 @@
 use Rattle.std.specs.Prelude.{◌≡◌, ℕ, List, ◌++◌}
 use Rattle.text_io.specs.declared.ending.Done.{Done}
 
--- A prefix of the waiting octets was written, and these are left.
-abbrev pub GivesFront : List ℕ → List ℕ → List ℕ → List ℕ → Type 0
-GivesFront before after waiting left = (given : List ℕ) × (waiting ≡ given ++ left) × (after ≡ before ++ given)
-
 -- A relation between octets, a text for them, and how the run ends.
 abbrev pub Texts : Type 1
 Texts = List ℕ → List ℕ → Done → Type 0
