@@ -169,6 +169,8 @@ def records_of(octets):
 
 
 def short_file(octets):
+    if octets and all(32 <= octet < 127 or 9 <= octet < 14 for octet in octets):
+        raise Broken("14 ShortText", 0)
     if octets:
         raise Broken("1 CutOff", 0)
     return iter(())

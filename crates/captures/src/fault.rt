@@ -44,6 +44,9 @@ pub enum RecordFault {
     /// The length of the packet, which is above that of its block.
     #[error("13 LongPacket {0}")]
     LongPacket(u32),
+    /// They are a text of fewer than 16 octets.
+    #[error("14 ShortText")]
+    ShortText,
 }
 
 /// The first place where a file is no capture.

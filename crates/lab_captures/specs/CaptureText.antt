@@ -1,9 +1,9 @@
 -- The text that answers a capture: the answers to its cells that count, in order, and then to their end.
-use Rattle.std.specs.Prelude.{◌≡◌, ℕ, List, [], ◌∷◌, ◌++◌, drop, Option, Some, None, MatchOption}
+use Rattle.std.specs.Prelude.{◌≡◌, if◌then◌else◌, ℕ, List, [], ◌∷◌, ◌++◌, drop, Option, Some, None, MatchOption}
 use Rattle.captures.specs.Frames.{format_start}
-use Rattle.captures.specs.Opening.{opening_of}
+use Rattle.captures.specs.Opening.{is_text, opening_of}
 use Rattle.captures.specs.declared.fault.Fault.{Fault}
-use Rattle.captures.specs.declared.fault.RecordFault.TheVariants.{CutOff}
+use Rattle.captures.specs.declared.fault.RecordFault.TheVariants.{CutOff, ShortText}
 use Rattle.captures.specs.declared.format.Format.{Format}
 use Rattle.captures.specs.declared.opening.Opening.{Opening}
 use Rattle.captures.specs.declared.opening.Opening.TheVariants.{Opened, Undecided, Refused}
@@ -49,10 +49,10 @@ abbrev pub IsRecordsText : {World : Type 0} → CellRules World → FilterState 
 IsRecordsText rules filter format count at world octets text done =
     (cells : List CountedCell) × (end : CellsEnd) × HasCells filter format count at octets cells end × IsTextOfCells rules world cells end text done
 
--- How a file ends that is too short for a capture: it is an empty one, or was cut off.
+-- How a file ends that is too short for a capture: it is an empty one, or a text, or was cut off.
 abbrev pub short_ending : List ℕ → Option Fault
 short_ending [] = None
-short_ending (octet ∷ octets) = Some (record { at = 0; reason = CutOff })
+short_ending (octet ∷ octets) = Some (record { at = 0; reason = if is_text (octet ∷ octets) then ShortText else CutOff })
 
 -- From this state of the filter and this world, the text may answer a file with these octets that is what its first octets say.
 abbrev pub IsOpenedText : {World : Type 0} → CellRules World → FilterState → World → List ℕ → Opening → List ℕ → Done → Type 0

@@ -16,7 +16,7 @@ use crate::filter::CellFilter;
 use crate::follower::{CellFollower, answers_each_cell};
 use crate::passed::PassedOver;
 use crate::reading_ahead::{ReadingAhead, WINDOW_ROOM};
-use captures::{Fault, FileFault, Link, Opening, Reader, RecordFault, Tick, open};
+use captures::{Fault, FileFault, Link, Opening, Reader, RecordFault, Tick, is_text, open};
 use std::alloc::Global;
 use std::thread::Threads;
 use text_io::{Done, Failed, Input, Output, RunFault, Window, give_last};
@@ -53,10 +53,12 @@ fn short_ending(octets: &[u8]) -> Option<Fault>
     if octets.is_empty() {
         return None;
     }
-    Some(Fault {
-        at: 0,
-        reason: RecordFault::CutOff,
-    })
+    let reason = if is_text(octets) {
+        RecordFault::ShortText
+    } else {
+        RecordFault::CutOff
+    };
+    Some(Fault { at: 0, reason })
 }
 
 /// Answers a file that isn't read.

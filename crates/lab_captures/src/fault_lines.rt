@@ -56,6 +56,7 @@ fn add_record_fault(answers: &mut Vec<u8>, fault: RecordFault) -> Result<(), All
         RecordFault::OtherLink(n) => add_with_number(answers, b"11 OtherLink ", u32::from(n)),
         RecordFault::NoInterface(n) => add_with_number(answers, b"12 NoInterface ", n),
         RecordFault::LongPacket(n) => add_with_number(answers, b"13 LongPacket ", n),
+        RecordFault::ShortText => add_text(answers, b"14 ShortText"),
     }
 }
 

@@ -334,6 +334,7 @@ fn faults_as_text(rt: HostRuntime) -> Result<(), Fail> {
         (RecordFault::OtherLink(1), "11 OtherLink 1"),
         (RecordFault::NoInterface(1), "12 NoInterface 1"),
         (RecordFault::LongPacket(69), "13 LongPacket 69"),
+        (RecordFault::ShortText, "14 ShortText"),
     ] {
         assert_eq!(rt; format!(in rt.alloc(); "{reason}")?.as_str(), text);
     }
