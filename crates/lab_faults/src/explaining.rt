@@ -15,8 +15,7 @@ use bpf_verify::first_fault;
 use lab_scripts::explain_script;
 use std::alloc::{AllocError, Global};
 use text_io::{Done, Input, Output, RunFault, gather, give_last};
-use upc_programs::add_verify_fault;
-use upc_programs::{add_accepted, add_asm_fault};
+use upc_programs::{add_accepted, add_asm_fault, add_verify_fault};
 use upc_words::add_too_long;
 
 /// The maximum number of octets of a source.

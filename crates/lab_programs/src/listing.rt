@@ -16,8 +16,7 @@ use bpf_asm::listing;
 use bpf_code::{Instr, encode};
 use std::alloc::{AllocError, Global};
 use text_io::{Done, Input, LineWords, Machine, Output, RunFault, Turn, answer_lines, line_words};
-use upc_programs::read_code;
-use upc_programs::add_no_program;
+use upc_programs::{add_no_program, read_code};
 use upc_words::{add_bad_hex, add_bad_line, add_numbered, add_too_long, octets_of_word};
 
 /// Appends the octets of an instruction, in lower case hexadecimal digits.

@@ -18,8 +18,7 @@ use std::marker::Model;
 use std::ops::ControlFlow::{Break, Continue};
 use text_io::{Done, Input, LineWords, Machine, Output, RunFault, Turn, answer_lines, line_words};
 use upc_cell::Cell;
-use upc_programs::read_code;
-use upc_programs::{add_accepted, add_no_program, add_value};
+use upc_programs::{add_accepted, add_no_program, add_value, read_code};
 use upc_words::{
     CellWord, add_bad_hex, add_bad_line, add_too_long, add_wrong_length, cell_of_word,
     octets_of_word,

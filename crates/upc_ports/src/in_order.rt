@@ -14,8 +14,7 @@ use crate::rest::Rest;
 use std::alloc::AllocError;
 use upc_card_lines::{add_judged, add_unjudged};
 use upc_cell::Side;
-use upc_script::Answerer;
-use upc_script::Names;
+use upc_script::{Answerer, Names};
 use upc_words::{add_bad_hex, add_bad_line, add_wrong_length};
 
 /// Adds the answer to a cell.

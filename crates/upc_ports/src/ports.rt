@@ -26,8 +26,7 @@ use std::marker::Brand;
 use std::sync::Wait;
 use std::thread::Threads;
 use text_io::{Done, Input, Output, RunFault, answer_lines, give_last};
-use upc_script::{Deal, deal_lines, first_line, is_cell_line};
-use upc_script::{Names, add_ready};
+use upc_script::{Deal, Names, add_ready, deal_lines, first_line, is_cell_line};
 
 /// Answers the lines before the first cell line, and returns the lines from there on.
 fn answer_first<'a, S: Ledgers, R: Wait>(

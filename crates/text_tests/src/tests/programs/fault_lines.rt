@@ -6,8 +6,7 @@ use bpf_verify::Fault;
 use std::process::Abort;
 use std::string::String;
 use std::test::Fail;
-use upc_programs::{add_decode_fault, add_verify_fault};
-use upc_programs::add_asm_fault;
+use upc_programs::{add_asm_fault, add_decode_fault, add_verify_fault};
 
 /// Expects that the answers are this line.
 fn expect(rt: &impl Abort, answers: &Vec<u8>, line: &String) {
