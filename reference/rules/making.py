@@ -147,6 +147,16 @@ def long(source):
     return [source.choice(kinds) + " -> 1"]
 
 
+def spent(source):
+    """Returns lines whose names add about as many tokens as they may, 64 times 4095 and 64 more."""
+    few = source.choice([31, 32, 33])
+    uses = [source.choice(["vci many -> 1", "vci many, 5 -> 2"]) for _ in range(64)]
+    defined = [f"define more{it} = many" for it in range(source.choice([0, 1, 3]))]
+    last = source.choice(["vci few -> 1", "vci few, few -> 1", "vci 5, few -> few", "any -> gold", "vpi 1 and vci few -> gold"])
+    named = [f"define many = {', '.join(['7'] * 2048)}", f"define few = {', '.join(['9'] * few)}", "contract gold = 5"]
+    return [*named, *defined, *uses[len(defined):], last, source.choice(["any -> gold", "vci few -> 1", "any -> 1"])]
+
+
 # Lines with a fault, or at a limit.
 AT_LIMITS = (
     "octet 51 1 -> 1", "octet 52 1 -> 1", "half 50 1 -> 1", "half 51 1 -> 1", "word 48 1 -> 1", "word 49 1 -> 1", "word 4294967295 1 -> 1",
@@ -184,6 +194,8 @@ def text_of(source):
         made += long(source)
     elif kind < 0.25:
         made = doubled(source)
+    elif kind < 0.257:
+        made = spent(source)
     if source.random() < 0.5:
         made.append(f"otherwise -> {source.choice(['refuse', '7'])}")
     text = source.choice(["\n", "\n", "\r\n"]).join(made) + source.choice(["", "\n"])

@@ -22,10 +22,13 @@ WORDS = {
 WORDS |= {it.encode() for it in (*CHANNELS, *TYPES)} | {it for it in SYNONYMS if it.isalnum()}
 # What no token is: the number of a contract begins with this, and a definition ends with that.
 NUMBER, END = b"=>", b""
+# What is read in place of a name whose tokens are more than names may add.
+OVER = b"..."
 MOST_DEEP = 64
 MOST_COMPARISONS = 4096
 MOST_NAMES = 4096
 MOST_TOKENS = 4096
+MOST_ADDED = 262144
 
 
 class Fault(Exception):
@@ -110,12 +113,24 @@ class Line:
         token = self.tokens[self.at][0]
         if is_word(token) and token not in WORDS:
             self.fault("UnknownName")
+        if token == OVER:
+            self.fault("TooLong")
         return SYNONYMS.get(token, token)
 
     def expand(self):
-        """Puts in place of names, from the present token on, what they mean."""
+        """Puts in place of names, from the present token on, what they mean, as long as they may add so much."""
         rest = self.tokens[self.at:]
-        self.tokens[self.at:] = [(it, column) for token, column in rest for it in self.reader.names.get(token, [token])]
+        self.tokens[self.at:] = [(it, column) for token, column in rest for it in self.meant(token)]
+
+    def meant(self, token):
+        """Returns what is read in place of a token, and counts what a name adds."""
+        if token not in self.reader.names:
+            return [token]
+        tokens = self.reader.names[token]
+        if len(tokens) > self.reader.room:
+            tokens = [OVER]
+        self.reader.room = max(self.reader.room - len(tokens), 0)
+        return tokens
 
     def take(self):
         """Returns the present token and goes on."""
@@ -307,6 +322,8 @@ class Reader:
         self.rules, self.otherwise, self.heads = [], 0, []
         # The tokens that each name means.
         self.names = {}
+        # How many tokens they may still add.
+        self.room = MOST_ADDED
 
     def depth(self):
         """Returns how many blocks are open."""

@@ -3,10 +3,10 @@ use Rattle.std.proofs.Common.{◌≡◌, ℕ, suc, ◌+◌, ◌≤◌, ◌<◌, 
 use Rattle.std.proofs.lemmas.Bool.{le-ltb, lt-leb}
 use Rattle.bpf_code.specs.declared.instr.Size.{Size}
 use Rattle.match_code.specs.declared.part.Span.{Span}
-use Rattle.rules_text.specs.LineGrammar.{Awaited, GroupRead, LineContext, ListRead, field_list, denied_list, path_list, Reading, StatementRead, SubjectRead, awaits_start, awaits_unit, awaits_operator, awaits_offset, awaits_relation, awaits_mask, awaits_sign, awaits_constant, awaits_dots, awaits_high, awaits_comma, awaits_low, awaits_slash, awaits_channel, awaits_value, awaits_end, both_of, group_after_or, group_test, group_with, no_group, nothing_read, field_of_list, list_test, path_test, read_awaited, read_channel, read_comma, read_constant, read_dots, read_high, read_low, read_mask, read_offset, read_operator, read_relation, read_sign, read_slash, read_start, read_token, read_unit, range_of_one, read_value, statement_at_end, line_statement, may_be_name, subject_of, whole_test, with_block, with_close, with_head, with_list, with_open, with_range, with_unit}
+use Rattle.rules_text.specs.LineGrammar.{Awaited, GroupRead, LineContext, ListRead, field_list, denied_list, path_list, Reading, StatementRead, SubjectRead, awaits_start, awaits_unit, awaits_operator, awaits_offset, awaits_relation, awaits_mask, awaits_sign, awaits_constant, awaits_dots, awaits_high, awaits_comma, awaits_low, awaits_slash, awaits_channel, awaits_value, awaits_end, both_of, group_after_or, group_test, group_with, no_group, nothing_read, field_of_list, list_test, path_test, read_awaited, read_channel, read_comma, read_constant, read_dots, read_high, read_low, read_mask, read_offset, read_operator, read_relation, read_sign, read_slash, read_start, read_token, read_unit, range_of_one, read_value, statement_at_end, line_statement, lacks_room, may_be_name, subject_of, whole_test, with_block, with_close, with_head, with_list, with_open, with_range, with_unit}
 use Rattle.rules_text.specs.RuleGrammar.{FieldFits, HeadFits, HeadForm, bare_head, equal_head, unequal_head, path_head, OrderForm, less_order, at_most_order, greater_order, at_least_order, head_tokens, list_of_head, order_sign, HighFits, ListFits, MaskFits, PartFits, PartForm, RangeForm, SubjectFits, TestFits, TestForm, UnitFits, UnitForm, word_unit, order_unit, path_unit, list_unit, not_unit, parenthesis_unit, one_unit, and_unit, one_part, or_part, field_tokens, high_tokens, list_tokens, mask_tokens, part_count, units_tokens, part_written, span_from, spans_written, subject_tokens, test_count, test_tokens, test_written, unit_count, unit_tokens, unit_written}
 use Rattle.rules_text.specs.RulesRead.{FieldRead, vpi_field, SignRead, equal_sign, unequal_sign, TestRead, any_cell, comparing, compared, block_line, rule_line, gfc_field, vci_field, pti_field, clp_field, octets_field}
-use Rattle.rules_text.specs.RuleTokens.{RuleFound, RuleToken, test_word, name_word, not_word, and_word, or_word, field_word, size_word, number_word, arrow_mark, open_brace, open_parenthesis, close_parenthesis, mask_mark, comma_mark, dots_mark, slash_mark, star_mark, sign_mark}
+use Rattle.rules_text.specs.RuleTokens.{RuleFound, RuleToken, test_word, name_word, no_room, not_word, and_word, or_word, field_word, size_word, number_word, arrow_mark, open_brace, open_parenthesis, close_parenthesis, mask_mark, comma_mark, dots_mark, slash_mark, star_mark, sign_mark}
 use Rattle.rules_text.specs.TextOfRules.{statement_from}
 use Rattle.rules_text.proofs.ReadingSteps.{statement_end, statement_more}
 use Rattle.rules_text.specs.Subjects.{header_read, most_of_field, octets_read, value_read}
@@ -558,11 +558,15 @@ value_is_no_name : (token : RuleToken) (value : ℕ) → value_read token ≡ Ok
 value_is_no_name name_word value e = absurd (cc)
 value_is_no_name _ value e = refl
 
+value_has_room : (token : RuleToken) (value : ℕ) → value_read token ≡ Ok value → lacks_room token ≡ false
+value_has_room no_room value e = absurd (cc)
+value_has_room _ value e = refl
+
 value_step : (context : LineContext) (column : ℕ) (reading : Reading) (token : RuleToken) (value : ℕ) → value_read token ≡ Ok value
     → read_token context column (record reading { awaited = awaits_value }) token
     ≡ Ok (record reading { test = any_cell; statement = line_statement (rule_line reading.test value); awaited = awaits_end })
 unfolding read_awaited read_value
-value_step context column reading token value e = rw (value_is_no_name token value e, e) refl
+value_step context column reading token value e = rw (value_is_no_name token value e, value_has_room token value e, e) refl
 
 block_step : (context : LineContext) (column : ℕ) (group : GroupRead) (outermost comparisons : ℕ) (test : TestRead) → group_test group ≡ Some test → context.blocks < 64
     → read_token context column (after_unit nothing_read group outermost comparisons) open_brace

@@ -2,6 +2,7 @@ pub mod TokenSteps
 pub mod ReadingSteps
 pub mod NameSteps
 pub mod NamePlaces
+pub mod NameTables
 pub mod Values
 pub mod GrammarReads
 pub mod Chains

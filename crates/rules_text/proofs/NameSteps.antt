@@ -1,8 +1,8 @@
 -- A line with names, read token by token.
-use Rattle.std.proofs.Common.{◌≡◌, ℕ, List, [], ◌∷◌, ◌++◌, map, Ok, Err, refl, sym, ap, ◌∙◌}
+use Rattle.std.proofs.Common.{◌≡◌, ℕ, ◌-◌, List, [], ◌∷◌, ◌++◌, length, map, Ok, Err, refl, sym, ap, ◌∙◌}
 use Rattle.std.proofs.lemmas.List.{map-append}
 use Rattle.rules_text.specs.LineGrammar.{LineContext, LineStep, Reading, read_token}
-use Rattle.rules_text.specs.Names.{FormRead, rule_form, value_form, test_form, list_form, NameRead, admitted, all_at, ending, expanded, meant, read_for}
+use Rattle.rules_text.specs.Names.{FormRead, rule_form, value_form, test_form, list_form, NameRead, admitted, all_at, ending, expanded, meant, read_for, room_after, room_left}
 use Rattle.rules_text.specs.RuleTokens.{RuleFound, RuleToken, arrow_mark, refuse_word}
 use Rattle.rules_text.specs.TextOfRules.{fault_column, placed_fault, read_then, statement_from}
 use Rattle.rules_text.specs.declared.fault.RuleFault.{RuleFault}
@@ -21,6 +21,23 @@ tokens_fault context number column reading token rest fault e = rw e refl
 -- No more tokens.
 pub tokens_end : (context : LineContext) (number column : ℕ) (reading : Reading) → all_tokens_read context number column reading [] ≡ Ok reading
 tokens_end context number column reading = refl
+
+-- What is left after a token.
+room_same : (names : List NameRead) (room : ℕ) (line : List ℕ) (found : RuleFound) (tokens : List RuleToken) (left : ℕ)
+    → tokens ≡ meant names room line found → left ≡ room - length tokens → room_after names room line found ≡ left
+room_same names room line found tokens left same less = ap (λ (t : List RuleToken). room - length t) (sym same) ∙ sym less
+
+-- One more token of a line whose names are counted.
+pub left_more : (names : List NameRead) (room : ℕ) (line : List ℕ) (found : RuleFound) (rest : List RuleFound) (tokens : List RuleToken) (left : ℕ)
+    → tokens ≡ meant names room line found → left ≡ room - length tokens → room_left names room line (found ∷ rest) ≡ room_left names left line rest
+unfolding room_left
+left_more names room line found rest tokens left same less =
+    ap (λ (k : ℕ). room_left names k line rest) (room_same names room line found tokens left same less)
+
+-- The end of a line whose names are counted.
+pub left_end : (names : List NameRead) (room : ℕ) (line : List ℕ) → room_left names room line [] ≡ room
+unfolding room_left
+left_end names room line = refl
 
 module _ (context : LineContext) (number column after : ℕ) where
   abbrev place : RuleToken → RuleFound
@@ -73,23 +90,26 @@ module _ (context : LineContext) (number column after : ℕ) where
   for_fault reading fault before form token [] rest e = placed_tokens_fault reading fault before (admitted form token) [] rest e
   for_fault reading fault before form token (first ∷ tokens) rest e = placed_tokens_fault reading fault before first tokens rest e
 
-module _ (context : LineContext) (names : List NameRead) (form : FormRead) (number : ℕ) (line : List ℕ) where
+module _ (context : LineContext) (names : List NameRead) (room : ℕ) (form : FormRead) (number : ℕ) (line : List ℕ) where
   -- One more token of a line, or what it means.
-  pub found_more : (reading next : Reading) (before : ℕ) (found : RuleFound) (rest : List RuleFound) (tokens : List RuleToken)
-      → tokens ≡ meant names line found → all_tokens_read context number found.column reading (read_for form found.token tokens) ≡ Ok next
-      → statement_from context number reading before (expanded names form line before (found ∷ rest)) ≡ statement_from context number next found.after (expanded names form line found.after rest)
+  pub found_more : (reading next : Reading) (before : ℕ) (found : RuleFound) (rest : List RuleFound) (tokens : List RuleToken) (left : ℕ)
+      → tokens ≡ meant names room line found → left ≡ room - length tokens → all_tokens_read context number found.column reading (read_for form found.token tokens) ≡ Ok next
+      → statement_from context number reading before (expanded names room form line before (found ∷ rest)) ≡ statement_from context number next found.after (expanded names left form line found.after rest)
   unfolding expanded
-  found_more reading next before found rest tokens same e =
-      for_more context number found.column found.after reading next before form found.token (meant names line found) (expanded names form line found.after rest)
+  found_more reading next before found rest tokens left same less e =
+      for_more context number found.column found.after reading next before form found.token (meant names room line found)
+      (expanded names (room_after names room line found) form line found.after rest)
       (ap (λ (t : List RuleToken). all_tokens_read context number found.column reading (read_for form found.token t)) (sym same) ∙ e)
+      ∙ ap (λ (k : ℕ). statement_from context number next found.after (expanded names k form line found.after rest)) (room_same names room line found tokens left same less)
 
   -- A fault at a token, or in what it means.
   pub found_fault : (reading : Reading) (fault : RuleFault) (before : ℕ) (found : RuleFound) (rest : List RuleFound) (tokens : List RuleToken)
-      → tokens ≡ meant names line found → all_tokens_read context number found.column reading (read_for form found.token tokens) ≡ Err fault
-      → statement_from context number reading before (expanded names form line before (found ∷ rest)) ≡ Err fault
+      → tokens ≡ meant names room line found → all_tokens_read context number found.column reading (read_for form found.token tokens) ≡ Err fault
+      → statement_from context number reading before (expanded names room form line before (found ∷ rest)) ≡ Err fault
   unfolding expanded
   found_fault reading fault before found rest tokens same e =
-      for_fault context number found.column found.after reading fault before form found.token (meant names line found) (expanded names form line found.after rest)
+      for_fault context number found.column found.after reading fault before form found.token (meant names room line found)
+      (expanded names (room_after names room line found) form line found.after rest)
       (ap (λ (t : List RuleToken). all_tokens_read context number found.column reading (read_for form found.token t)) (sym same) ∙ e)
 
 end_by : (context : LineContext) (number : ℕ) (form : FormRead) (reading next : Reading) (column : ℕ)
@@ -101,11 +121,11 @@ end_by context number test_form reading next column e = placed_more context numb
 end_by context number list_form reading next column e = placed_more context number column column reading next column arrow_mark (refuse_word ∷ []) [] e
 
 -- The end of a line.
-pub line_ended : (context : LineContext) (names : List NameRead) (form : FormRead) (number : ℕ) (line : List ℕ) (reading next : Reading) (column : ℕ)
+pub line_ended : (context : LineContext) (names : List NameRead) (room : ℕ) (form : FormRead) (number : ℕ) (line : List ℕ) (reading next : Reading) (column : ℕ)
     → all_tokens_read context number column reading (ending form) ≡ Ok next
-    → statement_from context number reading column (expanded names form line column []) ≡ statement_from context number next column []
+    → statement_from context number reading column (expanded names room form line column []) ≡ statement_from context number next column []
 unfolding expanded
-line_ended context names form number line reading next column e = end_by context number form reading next column e
+line_ended context names room form number line reading next column e = end_by context number form reading next column e
 
 end_fault_by : (context : LineContext) (number : ℕ) (form : FormRead) (reading : Reading) (fault : RuleFault) (column : ℕ)
     → all_tokens_read context number column reading (ending form) ≡ Err fault
@@ -116,29 +136,32 @@ end_fault_by context number test_form reading fault column e = placed_tokens_fau
 end_fault_by context number list_form reading fault column e = placed_tokens_fault context number column column reading fault column arrow_mark (refuse_word ∷ []) [] e
 
 -- A fault at the end of a line.
-pub line_end_fault : (context : LineContext) (names : List NameRead) (form : FormRead) (number : ℕ) (line : List ℕ) (reading : Reading) (fault : RuleFault) (column : ℕ)
+pub line_end_fault : (context : LineContext) (names : List NameRead) (room : ℕ) (form : FormRead) (number : ℕ) (line : List ℕ) (reading : Reading) (fault : RuleFault) (column : ℕ)
     → all_tokens_read context number column reading (ending form) ≡ Err fault
-    → statement_from context number reading column (expanded names form line column []) ≡ Err fault
+    → statement_from context number reading column (expanded names room form line column []) ≡ Err fault
 unfolding expanded
-line_end_fault context names form number line reading fault column e = end_fault_by context number form reading fault column e
+line_end_fault context names room form number line reading fault column e = end_fault_by context number form reading fault column e
 
 -- The tokens of a definition, with those that one more token means.
-module _ (names : List NameRead) (line : List ℕ) where
+module _ (names : List NameRead) (room : ℕ) (line : List ℕ) where
   tokens_at : (column after : ℕ) (tokens : List RuleToken) → map (λ (it : RuleFound). it.token) (all_at column after tokens) ≡ tokens
   tokens_at column after [] = refl
   tokens_at column after (token ∷ tokens) = ap (λ (t : List RuleToken). token ∷ t) (tokens_at column after tokens)
 
   -- One more token of a definition.
-  pub body_more : (before : ℕ) (found : RuleFound) (rest : List RuleFound) (tokens : List RuleToken) → tokens ≡ meant names line found
-      → map (λ (it : RuleFound). it.token) (expanded names rule_form line before (found ∷ rest))
-      ≡ read_for rule_form found.token tokens ++ map (λ (it : RuleFound). it.token) (expanded names rule_form line found.after rest)
+  pub body_more : (before : ℕ) (found : RuleFound) (rest : List RuleFound) (tokens : List RuleToken) (left : ℕ) → tokens ≡ meant names room line found → left ≡ room - length tokens
+      → map (λ (it : RuleFound). it.token) (expanded names room rule_form line before (found ∷ rest))
+      ≡ read_for rule_form found.token tokens ++ map (λ (it : RuleFound). it.token) (expanded names left rule_form line found.after rest)
   unfolding expanded
-  body_more before found rest tokens same =
-      map-append (λ (it : RuleFound). it.token) (all_at found.column found.after (read_for rule_form found.token (meant names line found))) (expanded names rule_form line found.after rest)
-      ∙ ap (λ (t : List RuleToken). t ++ map (λ (it : RuleFound). it.token) (expanded names rule_form line found.after rest))
-      (tokens_at found.column found.after (read_for rule_form found.token (meant names line found)) ∙ ap (read_for rule_form found.token) (sym same))
+  body_more before found rest tokens left same less =
+      map-append (λ (it : RuleFound). it.token) (all_at found.column found.after (read_for rule_form found.token (meant names room line found)))
+      (expanded names (room_after names room line found) rule_form line found.after rest)
+      ∙ ap (λ (t : List RuleToken). t ++ map (λ (it : RuleFound). it.token) (expanded names (room_after names room line found) rule_form line found.after rest))
+      (tokens_at found.column found.after (read_for rule_form found.token (meant names room line found)) ∙ ap (read_for rule_form found.token) (sym same))
+      ∙ ap (λ (k : ℕ). read_for rule_form found.token tokens ++ map (λ (it : RuleFound). it.token) (expanded names k rule_form line found.after rest))
+      (room_same names room line found tokens left same less)
 
   -- The end of a definition.
-  pub body_end : (column : ℕ) → map (λ (it : RuleFound). it.token) (expanded names rule_form line column []) ≡ []
+  pub body_end : (column : ℕ) → map (λ (it : RuleFound). it.token) (expanded names room rule_form line column []) ≡ []
   unfolding expanded
   body_end column = refl

@@ -1,12 +1,12 @@
 -- A line read token by token, and a text line by line.
-use Rattle.std.proofs.Common.{◌≡◌, ◌≢◌, inl, inr, IsErrAnd, IfErr, IfOk, ℕ, ◌+◌, true, false, List, [], ◌∷◌, Result, Ok, Err, refl, sym, ap, ◌∙◌, subst}
+use Rattle.std.proofs.Common.{◌≡◌, ◌≢◌, inl, inr, IsErrAnd, IfErr, IfOk, ℕ, ◌+◌, Bool, true, false, if◌then◌else◌, List, [], ◌∷◌, Result, Ok, Err, refl, sym, ap, ◌∙◌, subst}
 use Rattle.bpf_asm.specs.SourceLines.{source_lines}
 use Rattle.rules_text.specs.LineGrammar.{LineContext, Reading, StatementRead, read_token, statement_at_end}
 use Rattle.rules_text.specs.Names.{NameRead, rule_form}
 use Rattle.rules_text.specs.NumberedText.{numbered_read}
 use Rattle.rules_text.specs.RuleTokens.{RuleFound, rule_tokens}
 use Rattle.rules_text.specs.TextFaults.{IsFaultOf}
-use Rattle.rules_text.specs.TextOfRules.{NumberedRead, TextReading, context_of, fault_column, formed_statement, gives_name, name_given, no_text_read, placed_fault, numbered_at_end, numbered_from, numbered_in, rules_in, statement_from, text_with, text_with_line, text_with_name}
+use Rattle.rules_text.specs.TextOfRules.{NumberedRead, TextReading, context_of, fault_column, formed_statement, gives_name, name_given, no_text_read, placed_fault, numbered_at_end, numbered_from, numbered_in, read_then, rules_in, statement_from, text_with, text_with_line, text_with_name, text_with_room, text_with_tokens}
 use Rattle.rules_text.specs.declared.fault.RuleFault.{RuleFault}
 use Rattle.rules_text.specs.declared.fault.RuleKind.{RuleKind}
 use Rattle.rules_text.specs.declared.fault.RuleKind.TheVariants.{BadLine, BadNumber, TooLarge, OutsideCell, AfterOtherwise, Unbalanced, TooDeep, TooLong, NoMemory, UnknownName, NameTaken}
@@ -67,16 +67,30 @@ pub line_closed : (text : TextReading) (number : ℕ) (line : List ℕ) (first :
 unfolding text_with_line
 line_closed text number line first rest e closed = rw (e, closed) refl
 
+open_by : (closed : Bool) (fault : RuleFault) (read : Result TextReading RuleFault) → closed ≡ false → (if closed then Err fault else read) ≡ read
+open_by true fault read e = cc
+open_by false fault read e = refl
+
+-- A line before `otherwise`.
+line_open : (text : TextReading) (number : ℕ) (line : List ℕ) (first : RuleFound) (rest : List RuleFound) → text.closed ≡ false
+    → text_with_tokens text number line (first ∷ rest) ≡ (
+    if gives_name first.token
+    then read_then (name_given text number line first rest) (λ fault. fault) (λ name. Ok (text_with_name (text_with_room text line (first ∷ rest)) name))
+    else read_then (formed_statement (context_of text) text.names rule_form number line 1 (first ∷ rest)) (λ fault. fault)
+    (λ statement. Ok (text_with (text_with_room text line (first ∷ rest)) number first.column statement)))
+line_open text number line first rest closed = open_by text.closed _ _ closed
+
 -- A line with a statement.
-pub line_with_statement : (text : TextReading) (number : ℕ) (line : List ℕ) (first : RuleFound) (rest : List RuleFound) (statement : StatementRead)
-    → rule_tokens line ≡ first ∷ rest → text.closed ≡ false → gives_name first.token ≡ false
+pub line_with_statement : (text : TextReading) (number : ℕ) (line : List ℕ) (first : RuleFound) (rest : List RuleFound) (statement : StatementRead) (spent : TextReading)
+    → text_with_room text line (rule_tokens line) ≡ spent → rule_tokens line ≡ first ∷ rest → text.closed ≡ false → gives_name first.token ≡ false
     → formed_statement (context_of text) text.names rule_form number line 1 (rule_tokens line) ≡ Ok statement
-    → text_with_line text number line ≡ Ok (text_with text number first.column statement)
+    → text_with_line text number line ≡ Ok (text_with spent number first.column statement)
 unfolding text_with_line
-line_with_statement text number line first rest statement e closed gives s =
+line_with_statement text number line first rest statement spent spends e closed gives s =
+    let room : text_with_room text line (first ∷ rest) ≡ spent = ap (text_with_room text line) (sym e) ∙ spends in
     let t : formed_statement (context_of text) text.names rule_form number line 1 (first ∷ rest) ≡ Ok statement =
     ap (formed_statement (context_of text) text.names rule_form number line 1) (sym e) ∙ s in
-    rw (e, closed, gives, t) refl
+    ap (text_with_tokens text number line) e ∙ line_open text number line first rest closed ∙ rw (gives, t) (ap (λ (x : TextReading). Ok (text_with x number first.column statement)) room)
 
 -- A line with a fault.
 pub line_fault : (text : TextReading) (number : ℕ) (line : List ℕ) (first : RuleFound) (rest : List RuleFound) (fault : RuleFault)
@@ -90,11 +104,13 @@ line_fault text number line first rest fault e closed gives s =
     rw (e, closed, gives, t) refl
 
 -- A line that gives a name.
-pub line_with_name : (text : TextReading) (number : ℕ) (line : List ℕ) (first : RuleFound) (rest : List RuleFound) (name : NameRead)
-    → rule_tokens line ≡ first ∷ rest → text.closed ≡ false → gives_name first.token ≡ true → name_given text number line first rest ≡ Ok name
-    → text_with_line text number line ≡ Ok (text_with_name text name)
+pub line_with_name : (text : TextReading) (number : ℕ) (line : List ℕ) (first : RuleFound) (rest : List RuleFound) (name : NameRead) (spent : TextReading)
+    → text_with_room text line (rule_tokens line) ≡ spent → rule_tokens line ≡ first ∷ rest → text.closed ≡ false → gives_name first.token ≡ true → name_given text number line first rest ≡ Ok name
+    → text_with_line text number line ≡ Ok (text_with_name spent name)
 unfolding text_with_line
-line_with_name text number line first rest name e closed gives s = rw (e, closed, gives, s) refl
+line_with_name text number line first rest name spent spends e closed gives s =
+    let room : text_with_room text line (first ∷ rest) ≡ spent = ap (text_with_room text line) (sym e) ∙ spends in
+    ap (text_with_tokens text number line) e ∙ line_open text number line first rest closed ∙ rw (gives, s) (ap (λ (x : TextReading). Ok (text_with_name x name)) room)
 
 -- A line that gives a name with a fault.
 pub line_name_fault : (text : TextReading) (number : ℕ) (line : List ℕ) (first : RuleFound) (rest : List RuleFound) (fault : RuleFault)

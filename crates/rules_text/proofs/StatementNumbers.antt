@@ -7,7 +7,7 @@ use Rattle.rules_text.specs.LineGrammar.{LineContext, StatementRead, blank_state
 use Rattle.rules_text.specs.Names.{NameRead, rule_form}
 use Rattle.rules_text.specs.RulesRead.{LineRead, rule_line, block_line, end_line}
 use Rattle.rules_text.specs.RuleTokens.{RuleFound, rule_tokens}
-use Rattle.rules_text.specs.TextOfRules.{NumberedRead, TextReading, context_of, formed_statement, gives_name, name_given, no_text_read, numbered_from, placed_fault, read_then, text_with, text_with_line, text_with_tokens, text_with_name}
+use Rattle.rules_text.specs.TextOfRules.{NumberedRead, TextReading, context_of, formed_statement, gives_name, name_given, no_text_read, numbered_from, placed_fault, read_then, text_with, text_with_line, text_with_tokens, text_with_name, text_with_room}
 use Rattle.rules_text.specs.declared.fault.RuleFault.{RuleFault}
 use Rattle.rules_text.specs.declared.fault.RuleKind.TheVariants.{AfterOtherwise, Unbalanced}
 use Rattle.rules_text.proofs.ReadingSteps.{rules_begun, without_numbers}
@@ -35,17 +35,17 @@ module _ (octets : List ℕ) where
   by_statement text next number column (line_statement end_line) e held is =
       subst Holds e (statement_more text.numbers text.lines number end_line held (is end_line refl))
 
-  by_found : (text next : TextReading) (number column : ℕ) (found : Result StatementRead RuleFault)
-      → read_then found (λ fault. fault) (λ statement. Ok (text_with text number column statement)) ≡ Ok next → Holds text
+  by_found : (text next : TextReading) (number column room : ℕ) (found : Result StatementRead RuleFault)
+      → read_then found (λ fault. fault) (λ statement. Ok (text_with (record text { room = room }) number column statement)) ≡ Ok next → Holds text
       → ((l : LineRead) → found ≡ Ok (line_statement l) → IsLineReadAt octets number l) → Holds next
-  by_found text next number column (Ok statement) e held is =
-      let same : text_with text number column statement ≡ next = cc in
-      by_statement text next number column statement same held (λ l f. is l (ap (λ (s : StatementRead). Ok s) f))
-  by_found text next number column (Err fault) e held is = cc
+  by_found text next number column room (Ok statement) e held is =
+      let same : text_with (record text { room = room }) number column statement ≡ next = cc in
+      by_statement (record text { room = room }) next number column statement same held (λ l f. is l (ap (λ (s : StatementRead). Ok s) f))
+  by_found text next number column room (Err fault) e held is = cc
 
-  by_name : (text next : TextReading) (given : Result NameRead RuleFault) → read_then given (λ fault. fault) (λ name. Ok (text_with_name text name)) ≡ Ok next → Holds text → Holds next
-  by_name text next (Ok name) e held = let same : text_with_name text name ≡ next = cc in subst Holds same held
-  by_name text next (Err fault) e held = cc
+  by_name : (text next : TextReading) (room : ℕ) (given : Result NameRead RuleFault) → read_then given (λ fault. fault) (λ name. Ok (text_with_name (record text { room = room }) name)) ≡ Ok next → Holds text → Holds next
+  by_name text next room (Ok name) e held = let same : text_with_name (record text { room = room }) name ≡ next = cc in subst Holds same held
+  by_name text next room (Err fault) e held = cc
 
   -- Each line of rules that is read of these tokens is the one that is read of the source line of this number.
   abbrev Reads : ℕ → List ℕ → List RuleFound → Type 0
@@ -55,14 +55,14 @@ module _ (octets : List ℕ) where
   by_first : (closed gives : Bool) (text next : TextReading) (number : ℕ) (line : List ℕ) (first : RuleFound) (rest : List RuleFound)
       → (if closed then Err (placed_fault number first.column AfterOtherwise) else (
       if gives
-      then read_then (name_given text number line first rest) (λ fault. fault) (λ name. Ok (text_with_name text name))
+      then read_then (name_given text number line first rest) (λ fault. fault) (λ name. Ok (text_with_name (text_with_room text line (first ∷ rest)) name))
       else read_then (formed_statement (context_of text) text.names rule_form number line 1 (first ∷ rest)) (λ fault. fault)
-      (λ statement. Ok (text_with text number first.column statement)))) ≡ Ok next
+      (λ statement. Ok (text_with (text_with_room text line (first ∷ rest)) number first.column statement)))) ≡ Ok next
       → Holds text → Reads number line (first ∷ rest) → Holds next
   by_first true gives text next number line first rest e held is = cc
-  by_first false true text next number line first rest e held is = by_name text next (name_given text number line first rest) e held
+  by_first false true text next number line first rest e held is = by_name text next (text_with_room text line (first ∷ rest)).room (name_given text number line first rest) e held
   by_first false false text next number line first rest e held is =
-      by_found text next number first.column (formed_statement (context_of text) text.names rule_form number line 1 (first ∷ rest)) e held (is (context_of text) text.names)
+      by_found text next number first.column (text_with_room text line (first ∷ rest)).room (formed_statement (context_of text) text.names rule_form number line 1 (first ∷ rest)) e held (is (context_of text) text.names)
 
   by_tokens : (text next : TextReading) (number : ℕ) (line : List ℕ) (tokens : List RuleFound) → text_with_tokens text number line tokens ≡ Ok next → Holds text → Reads number line tokens → Holds next
   by_tokens text next number line [] e held is = let same : text ≡ next = cc in subst Holds same held

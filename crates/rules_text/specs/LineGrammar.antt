@@ -6,7 +6,7 @@ use Rattle.match_code.specs.declared.part.Span.{Span}
 use Rattle.upc_cell.specs.declared.side.Side.{Side}
 use Rattle.upc_cell.specs.declared.side.Side.TheVariants as side_of
 use Rattle.rules_text.specs.RulesRead.{FieldRead, vpi_field, vci_field, LineRead, SignRead, equal_sign, unequal_sign, TestRead, any_cell, comparing, negation, conjunction, two_tests, joined_by_and, joined_by_or, compared, listed, rule_line, block_line, end_line}
-use Rattle.rules_text.specs.RuleTokens.{RuleToken, test_word, name_word, not_word, and_word, or_word, otherwise_word, side_word, uni_word, nni_word, field_word, size_word, arrow_mark, open_brace, close_brace, open_parenthesis, close_parenthesis, mask_mark, comma_mark, dots_mark, slash_mark, star_mark, sign_mark}
+use Rattle.rules_text.specs.RuleTokens.{RuleToken, test_word, name_word, no_room, not_word, and_word, or_word, otherwise_word, side_word, uni_word, nni_word, field_word, size_word, arrow_mark, open_brace, close_brace, open_parenthesis, close_parenthesis, mask_mark, comma_mark, dots_mark, slash_mark, star_mark, sign_mark}
 use Rattle.rules_text.specs.Subjects.{header_read, most_of_field, number_within, octets_at_token, value_read}
 use Rattle.rules_text.specs.declared.fault.RuleKind.{RuleKind}
 use Rattle.rules_text.specs.declared.fault.RuleKind.TheVariants.{BadLine, TooLarge, Unbalanced, TooDeep, TooLong, UnknownName}
@@ -19,6 +19,8 @@ pub record LineContext : Type 0 where
   pub blocks : ℕ
   -- whether a line with tokens was read
   pub begun : Bool
+  -- how many tokens names may still add
+  pub room : ℕ
 
 -- The statement of a line.
 pub data StatementRead : Type 0 where
@@ -387,10 +389,16 @@ abbrev pub may_be_name : RuleToken → Bool
 may_be_name name_word = true
 may_be_name _ = false
 
--- The next token. A word that is no name yet is a fault wherever it comes.
+-- Whether a token stands for a name whose tokens are more than names may add.
+abbrev pub lacks_room : RuleToken → Bool
+lacks_room no_room = true
+lacks_room _ = false
+
+-- The next token. A word that is no name yet, and a name for which there is no room, are faults wherever they come.
 abbrev pub read_token : LineContext → ℕ → Reading → RuleToken → LineStep
 read_token context column reading token =
-    if may_be_name token then Err UnknownName else read_awaited reading.awaited context column reading token
+    if may_be_name token then Err UnknownName else (
+    if lacks_room token then Err TooLong else read_awaited reading.awaited context column reading token)
 
 -- The statement of the line where its tokens end, if it may end there.
 abbrev pub statement_at_end : Awaited → StatementRead → Result StatementRead RuleKind

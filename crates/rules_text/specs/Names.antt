@@ -1,20 +1,20 @@
 -- The names of a text, and how a line with names is read: as if what a name means stood there in its place.
-use Rattle.std.specs.Prelude.{ℕ, ◌-◌, Bool, true, false, if◌then◌else◌, slice_range, map, List, [], ◌∷◌, ◌++◌}
+use Rattle.std.specs.Prelude.{ℕ, ◌-◌, Bool, true, false, if◌then◌else◌, nat_lt, slice_range, length, map, List, [], ◌∷◌, ◌++◌, Option, Some, None}
 use Rattle.std.specs.Str.{bytes_eq}
 use Rattle.bpf_code.specs.declared.instr.Size.TheVariants.{Word}
 use Rattle.rules_text.specs.LineGrammar.{Awaited, Reading, awaits_start, awaits_low, awaits_rest, awaits_unit, field_list, may_be_name, nothing_read, subject_of}
 use Rattle.rules_text.specs.RulesRead.{octets_field}
-use Rattle.rules_text.specs.RuleTokens.{RuleFound, RuleToken, name_word, refuse_word, number_word, bad_number, arrow_mark, open_brace, open_parenthesis, close_parenthesis, comma_mark, dots_mark, slash_mark, no_token}
+use Rattle.rules_text.specs.RuleTokens.{RuleFound, RuleToken, name_word, no_room, refuse_word, number_word, bad_number, arrow_mark, open_brace, open_parenthesis, close_parenthesis, comma_mark, dots_mark, slash_mark, no_token}
 
 -- A name: its letters, and the tokens that it means.
 pub record NameRead : Type 0 where
   pub letters : List ℕ
   pub tokens : List RuleToken
 
--- The tokens of a name. A name that wasn't given has none.
-abbrev pub name_tokens : List NameRead → List ℕ → List RuleToken
-name_tokens [] letters = []
-name_tokens (name ∷ names) letters = if bytes_eq letters name.letters then name.tokens else name_tokens names letters
+-- What a name means, if it was given.
+abbrev pub name_meaning : List NameRead → List ℕ → Option (List RuleToken)
+name_meaning [] letters = None
+name_meaning (name ∷ names) letters = if bytes_eq letters name.letters then Some name.tokens else name_meaning names letters
 
 -- The letters of a token of a line.
 abbrev pub letters_of : List ℕ → RuleFound → List ℕ
@@ -63,20 +63,39 @@ ending list_form = arrow_mark ∷ refuse_word ∷ []
 abbrev pub all_at : ℕ → ℕ → List RuleToken → List RuleFound
 all_at column after tokens = map (λ token. record { token = token; column = column; after = after }) tokens
 
+-- The most tokens that the names of a text add: the tokens of a name count wherever it is read.
+abbrev pub most_added : ℕ
+most_added = 262144
+
+-- What is read of the meaning of a name where names may add this many tokens: all of it, or none if it has more.
+abbrev pub within_room : ℕ → Option (List RuleToken) → List RuleToken
+within_room room None = []
+within_room room (Some tokens) = if nat_lt room (length tokens) then no_room ∷ [] else tokens
+
 -- The tokens that a token means, if it is a name that was given.
-abbrev pub meant : List NameRead → List ℕ → RuleFound → List RuleToken
-meant names line found = if may_be_name found.token then name_tokens names (letters_of line found) else []
+abbrev pub meant : List NameRead → ℕ → List ℕ → RuleFound → List RuleToken
+meant names room line found = if may_be_name found.token then within_room room (name_meaning names (letters_of line found)) else []
 
 -- What is read in place of a token: what it means, or itself.
 abbrev pub read_for : FormRead → RuleToken → List RuleToken → List RuleToken
 read_for form token [] = admitted form token ∷ []
 read_for form token (first ∷ more) = first ∷ more
 
--- What is read of the tokens of a line, up to its end. The column is the one after the token before them.
-unfoldable pub expanded : List NameRead → FormRead → List ℕ → ℕ → List RuleFound → List RuleFound
-expanded names form line column [] = all_at column column (ending form)
-expanded names form line column (found ∷ rest) =
-    all_at found.column found.after (read_for form found.token (meant names line found)) ++ expanded names form line found.after rest
+-- How many tokens names may still add after a token.
+abbrev pub room_after : List NameRead → ℕ → List ℕ → RuleFound → ℕ
+room_after names room line found = room - length (meant names room line found)
+
+-- What is read of the tokens of a line, up to its end, where names may add this many. The column is the one after the token before them.
+unfoldable pub expanded : List NameRead → ℕ → FormRead → List ℕ → ℕ → List RuleFound → List RuleFound
+expanded names room form line column [] = all_at column column (ending form)
+expanded names room form line column (found ∷ rest) =
+    all_at found.column found.after (read_for form found.token (meant names room line found))
+    ++ expanded names (room_after names room line found) form line found.after rest
+
+-- How many tokens names may still add after the tokens of a line.
+unfoldable pub room_left : List NameRead → ℕ → List ℕ → List RuleFound → ℕ
+room_left names room line [] = room
+room_left names room line (found ∷ rest) = room_left names (room_after names room line found) line rest
 
 -- Whether tokens after a number don't make a path of it.
 abbrev pub is_no_path : List RuleToken → Bool

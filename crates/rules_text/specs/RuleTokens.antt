@@ -10,7 +10,8 @@ use Rattle.rules_text.specs.RulesRead.{FieldRead, gfc_field, vpi_field, vci_fiel
 use Rattle.rules_text.specs.TestWords.{f4_cell, f4_segment_cell, f4_end_cell, f5_segment_cell, f5_end_cell, oam_cell, rm_cell, meta_signalling_cell, broadcast_cell, signalling_cell, ilmi_cell, idle_cell}
 
 -- A token: a word of the language (of those that are tests, the test), a number, a word that begins with a digit and is no number, any other
--- word, which may be a name, a mark, or anything else. The value of a contract comes from its name alone.
+-- word, which may be a name, a mark, or anything else. The value of a contract comes from its name alone, and `no_room` from a name whose
+-- tokens are more than names may add.
 pub data RuleToken : Type 0 where
   test_word : TestRead → RuleToken
   not_word : RuleToken
@@ -25,6 +26,7 @@ pub data RuleToken : Type 0 where
   contract_word : RuleToken
   name_word : RuleToken
   contract_value : ℕ → RuleToken
+  no_room : RuleToken
   field_word : FieldRead → RuleToken
   size_word : Size → RuleToken
   number_word : ℕ → RuleToken

@@ -1,5 +1,6 @@
 -- The rules of a text, or its first fault.
 use Rattle.std.specs.Prelude.{ℕ, ◌+◌, ◌-◌, ◌&&◌, Bool, true, false, not, nat_le, nat_lt, if◌then◌else◌, slice_index, map, List, [], ◌∷◌, ◌++◌, length, Result, Ok, Err}
+use Rattle.std.specs.Option.{is_some}
 use Rattle.bpf_asm.specs.Tokens.{is_word}
 use Rattle.bpf_asm.specs.SourceLines.{source_lines}
 use Rattle.text_io.specs.Words.{is_digit}
@@ -8,7 +9,7 @@ use Rattle.upc_cell.specs.declared.side.Side.TheVariants.{Uni}
 use Rattle.rules_text.specs.RulesRead.{LineRead, RulesRead, equal_sign, rule_line, block_line, end_line}
 use Rattle.rules_text.specs.RuleTokens.{RuleFound, RuleToken, contract_value, contract_word, define_word, rule_tokens, sign_mark}
 use Rattle.rules_text.specs.LineGrammar.{LineContext, Reading, StatementRead, blank_statement, side_statement, line_statement, otherwise_statement, may_be_name, read_token, statement_at_end}
-use Rattle.rules_text.specs.Names.{FormRead, rule_form, value_form, NameRead, defined_as, expanded, definition_form, form_start, letters_of, name_tokens}
+use Rattle.rules_text.specs.Names.{FormRead, rule_form, value_form, NameRead, defined_as, expanded, definition_form, form_start, letters_of, most_added, name_meaning, room_left}
 use Rattle.rules_text.specs.declared.fault.RuleFault.{RuleFault}
 use Rattle.rules_text.specs.declared.fault.RuleKind.{RuleKind}
 use Rattle.rules_text.specs.declared.fault.RuleKind.TheVariants.{AfterOtherwise, BadLine, NameTaken, TooLong, Unbalanced}
@@ -39,7 +40,7 @@ statement_from context number reading column (found ∷ rest) =
 -- The statement of the tokens of a line from this column on, or what is read there in this form, where names mean this.
 abbrev pub formed_statement : LineContext → List NameRead → FormRead → ℕ → List ℕ → ℕ → List RuleFound → Result StatementRead RuleFault
 formed_statement context names form number line column tokens =
-    statement_from context number (form_start form) column (expanded names form line column tokens)
+    statement_from context number (form_start form) column (expanded names context.room form line column tokens)
 
 -- What was read of a text.
 pub record TextReading : Type 0 where
@@ -51,6 +52,8 @@ pub record TextReading : Type 0 where
   pub numbers : List ℕ
   -- the names, in the order in which they were given
   pub names : List NameRead
+  -- how many tokens they may still add
+  pub room : ℕ
   -- the value where no rule gives one
   pub otherwise : ℕ
   -- how many blocks are open
@@ -70,6 +73,7 @@ no_text_read = record {
   lines = [];
   numbers = [];
   names = [];
+  room = most_added;
   otherwise = 0;
   blocks = 0;
   head_line = 0;
@@ -106,7 +110,7 @@ text_with text line column (line_statement statement) = with_line text statement
 
 -- What a line must know of the text before it.
 abbrev pub context_of : TextReading → LineContext
-context_of text = record { side = text.side; blocks = text.blocks; begun = text.begun }
+context_of text = record { side = text.side; blocks = text.blocks; begun = text.begun; room = text.room }
 
 -- Whether a word begins with this octet.
 abbrev pub starts_word : ℕ → Bool
@@ -116,7 +120,7 @@ starts_word octet = is_word octet && not (is_digit octet)
 abbrev pub new_name : List NameRead → List ℕ → RuleToken → Result (List ℕ) RuleKind
 new_name names letters token =
     if may_be_name token
-    then (if nat_lt 0 (length (name_tokens names letters)) then Err NameTaken else (if nat_le 4096 (length names) then Err TooLong else Ok letters))
+    then (if is_some (name_meaning names letters) then Err NameTaken else (if nat_le 4096 (length names) then Err TooLong else Ok letters))
     else (if starts_word (slice_index letters 0) then Err NameTaken else Err BadLine)
 
 -- A name where it is given: its letters and its column, and what comes after its `=`.
@@ -158,8 +162,8 @@ contract_given context names number line name =
     (λ statement. Ok (record { letters = name.letters; tokens = contract_value (contract_number statement) ∷ [] }))
 
 -- The tokens of a definition, with those that names in it mean.
-abbrev pub definition_tokens : List NameRead → List ℕ → NameFound → List RuleToken
-definition_tokens names line name = map (λ found. found.token) (expanded names rule_form line name.after name.tokens)
+abbrev pub definition_tokens : List NameRead → ℕ → List ℕ → NameFound → List RuleToken
+definition_tokens names room line name = map (λ found. found.token) (expanded names room rule_form line name.after name.tokens)
 
 -- The name of a test or of a list of these tokens, of which there are at most 4096.
 abbrev pub definition_given : LineContext → List NameRead → ℕ → List ℕ → NameFound → List RuleToken → Result NameRead RuleFault
@@ -171,7 +175,7 @@ definition_given context names number line name tokens =
 -- What a line that begins with this word gives a name.
 abbrev pub given_by : RuleToken → LineContext → List NameRead → ℕ → List ℕ → NameFound → Result NameRead RuleFault
 given_by contract_word context names number line name = contract_given context names number line name
-given_by _ context names number line name = definition_given context names number line name (definition_tokens names line name)
+given_by _ context names number line name = definition_given context names number line name (definition_tokens names context.room line name)
 
 -- Whether lines that begin with the token give names.
 abbrev pub gives_name : RuleToken → Bool
@@ -190,15 +194,19 @@ name_given text number line first rest =
 abbrev pub text_with_name : TextReading → NameRead → TextReading
 text_with_name text name = record text { names = text.names ++ name ∷ []; begun = true }
 
+-- What was read, where the names in a line of these tokens add what they mean.
+abbrev pub text_with_room : TextReading → List ℕ → List RuleFound → TextReading
+text_with_room text line tokens = record text { room = room_left text.names text.room line tokens }
+
 -- What was read, with a line of these tokens.
 abbrev pub text_with_tokens : TextReading → ℕ → List ℕ → List RuleFound → Result TextReading RuleFault
 text_with_tokens text number line [] = Ok text
 text_with_tokens text number line (first ∷ rest) =
     if text.closed then Err (placed_fault number first.column AfterOtherwise) else (
     if gives_name first.token
-    then read_then (name_given text number line first rest) (λ fault. fault) (λ name. Ok (text_with_name text name))
+    then read_then (name_given text number line first rest) (λ fault. fault) (λ name. Ok (text_with_name (text_with_room text line (first ∷ rest)) name))
     else read_then (formed_statement (context_of text) text.names rule_form number line 1 (first ∷ rest)) (λ fault. fault)
-    (λ statement. Ok (text_with text number first.column statement)))
+    (λ statement. Ok (text_with (text_with_room text line (first ∷ rest)) number first.column statement)))
 
 -- What was read, with a line.
 unfoldable pub text_with_line : TextReading → ℕ → List ℕ → Result TextReading RuleFault

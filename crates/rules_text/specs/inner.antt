@@ -3,3 +3,4 @@ pub mod SeenReading
 pub mod SeenFaults
 pub mod TokensRead
 pub mod SeenNames
+pub mod SeenNameTable

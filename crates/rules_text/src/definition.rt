@@ -1,19 +1,21 @@
 //! The lines that give names.
 
-ghost use Rattle.std.specs.Prelude.{◌≡◌, ◌≢◌, ◌+◌, ◌≤◌, ◌<◌, ◌++◌, IsTrue, false, Ok, Err, IfOk, IfErr, drop, length, map, MatchOption};
-ghost use Rattle.rules_text.specs.Names.{expanded, read_for, rule_form};
+ghost use Rattle.std.specs.Prelude.{◌≡◌, ◌≢◌, ◌+◌, ◌≤◌, ◌<◌, ◌++◌, IsTrue, false, Ok, Err, IfOk, IfErr, drop, length, map, slice_range, None, MatchOption};
+ghost use Rattle.rules_text.specs.Names.{expanded, name_meaning, read_for, rule_form};
 ghost use Rattle.rules_text.specs.RuleTokens.{tokens_from};
 ghost use Rattle.rules_text.specs.TextFaults.{IsFaultOf};
 ghost use Rattle.rules_text.specs.TextOfRules.{contract_given, contract_number, definition_given, definition_tokens, given_by, gives_name, is_equal, name_found, new_name};
 ghost use Rattle.rules_text.specs.inner.Seen.{found_seen, rule_token_seen};
-ghost use Rattle.rules_text.specs.inner.SeenReading.{context_seen, line_statement_seen, name_seen};
+ghost use Rattle.rules_text.specs.inner.SeenReading.{context_seen, line_statement_seen, name_seen, names_seen};
+ghost use Rattle.rules_text.specs.inner.SeenNameTable.{IsFoundByLetters};
 ghost use Rattle.rules_text.specs.inner.SeenNames.{letters_found, place_seen};
 ghost use Rattle.rules_text.specs.declared.fault.RuleKind.TheVariants.{NoMemory};
 
 use crate::fault::{RuleFault, RuleKind, fault_at};
 use crate::lexer::{Found, Sign, Token, begins_word, next_token};
 use crate::line_reader::{Context, Statement};
-use crate::names::{Form, Name, are_list, meaning, tokens_named};
+use crate::name_table::NameTable;
+use crate::names::{Form, Name, are_list, meaning};
 use crate::statement_reader::{meant_by, statement_in};
 use std::alloc::{AllocError, Global};
 
@@ -29,9 +31,11 @@ pub(crate) struct NamePlace {
 }
 
 /// Whether the letters of a token are a new name.
-fn test_name(names: &[Name], letters: &[u8], token: Token) -> Result<(), RuleKind>
-    requires { 0 < length letters.now }
-    ensures found { letters_found letters.now result ≡ new_name (map name_seen names.now) letters.now (rule_token_seen token) }
+fn test_name(names: &NameTable, letters: &[u8], token: Token) -> Result<(), RuleKind>
+    requires names { IsFoundByLetters names.now }
+    requires some { 0 < length letters.now }
+    ensures found { letters_found letters.now result ≡ new_name (names_seen names.now) letters.now (rule_token_seen token) }
+    ensures new { IfOk result (λ _. name_meaning (names_seen names.now) letters.now ≡ None) }
     ensures placed { IfErr result (λ kind. kind ≢ NoMemory) }
 {
     if !token.is_name() {
@@ -41,7 +45,7 @@ fn test_name(names: &[Name], letters: &[u8], token: Token) -> Result<(), RuleKin
             RuleKind::BadLine
         });
     }
-    if !tokens_named(names, letters).is_empty() {
+    if names.find(letters).is_some() {
         return Err(RuleKind::NameTaken);
     }
     if names.len() >= MOST {
@@ -59,16 +63,18 @@ fn equal(token: Token) -> bool
 
 /// The place of the name that a line gives, from a column on.
 pub(crate) fn name_place(
-    names: &[Name],
+    names: &NameTable,
     number: usize,
     line: &[u8],
     from: usize,
 ) -> Result<NamePlace, RuleFault>
-    requires { from ≤ length line.now }
-    ensures ok { IfOk result (λ place. name_found (map name_seen names.now) number line.now (from + 1) (tokens_from (from + 1) 0 (drop from line.now)) ≡ Ok (place_seen line.now place)) }
+    requires names { IsFoundByLetters names.now }
+    requires from { from ≤ length line.now }
+    ensures ok { IfOk result (λ place. name_found (names_seen names.now) number line.now (from + 1) (tokens_from (from + 1) 0 (drop from line.now)) ≡ Ok (place_seen line.now place)) }
+    ensures new { IfOk result (λ place. name_meaning (names_seen names.now) (slice_range line.now place.start place.end) ≡ None) }
     ensures letters { IfOk result (λ place. (place.start < place.end) × (place.end ≤ length line.now)) }
     ensures after { IfOk result (λ place. place.after ≤ length line.now) }
-    ensures err { IfErr result (λ fault. name_found (map name_seen names.now) number line.now (from + 1) (tokens_from (from + 1) 0 (drop from line.now)) ≡ Err fault) }
+    ensures err { IfErr result (λ fault. name_found (names_seen names.now) number line.now (from + 1) (tokens_from (from + 1) 0 (drop from line.now)) ≡ Err fault) }
 {
     let Some(name) = next_token(line, from) else {
         return Err(fault_at(RuleKind::BadLine, number, from + 1));
@@ -111,21 +117,25 @@ fn add_token(tokens: &mut Vec<Token>, found: Found, meant: &[Token]) -> Result<b
 /// The tokens of a definition from a column on, with those that names in it mean; none if there are more than 4096.
 fn body(
     alloc: Global,
-    names: &[Name],
+    names: &NameTable,
+    allowed: usize,
     line: &[u8],
     after: usize,
 ) -> Result<Option<Vec<Token>>, AllocError>
-    requires { after ≤ length line.now }
-    ensures { IfOk result (λ found. let wanted = map (λ it. it.token) (expanded (map name_seen names.now) rule_form line.now (after + 1) (tokens_from (after + 1) 0 (drop after line.now)))
+    requires names { IsFoundByLetters names.now }
+    requires after { after ≤ length line.now }
+    ensures { IfOk result (λ found. let wanted = map (λ it. it.token) (expanded (names_seen names.now) allowed rule_form line.now (after + 1) (tokens_from (after + 1) 0 (drop after line.now)))
         in MatchOption found (4096 < length wanted) (λ tokens. (map rule_token_seen tokens.items ≡ wanted) × (length tokens.items ≤ 4096))) }
 {
     let mut tokens = Vec::new(alloc);
+    let mut room = allowed;
     let mut from = after;
     while let Some(found) = next_token(line, from) {
-        let meant = meant_by(names, line, found);
+        let meant = meant_by(names, room, line, found);
         if !add_token(&mut tokens, found, meant)? {
             return Ok(None);
         }
+        room = room.saturating_sub(meant.len());
         from = found.end;
     }
     Ok(Some(tokens))
@@ -135,19 +145,20 @@ fn body(
 pub(crate) fn definition(
     alloc: Global,
     context: Context,
-    names: &[Name],
+    names: &NameTable,
     number: usize,
     line: &[u8],
     place: NamePlace,
 ) -> Result<Vec<Token>, RuleFault>
+    requires names { IsFoundByLetters names.now }
     requires letters { (place.start < place.end) × (place.end ≤ length line.now) }
     requires after { place.after ≤ length line.now }
     ensures ok { IfOk result (λ tokens. let seen = place_seen line.now place
-        in definition_given (context_seen context) (map name_seen names.now) number line.now seen (definition_tokens (map name_seen names.now) line.now seen) ≡ Ok (record { letters = seen.letters; tokens = map rule_token_seen tokens.items })) }
+        in definition_given (context_seen context) (names_seen names.now) number line.now seen (definition_tokens (names_seen names.now) context.room line.now seen) ≡ Ok (record { letters = seen.letters; tokens = map rule_token_seen tokens.items })) }
     ensures err { IfErr result (let seen = place_seen line.now place
-        in IsFaultOf (definition_given (context_seen context) (map name_seen names.now) number line.now seen (definition_tokens (map name_seen names.now) line.now seen))) }
+        in IsFaultOf (definition_given (context_seen context) (names_seen names.now) number line.now seen (definition_tokens (names_seen names.now) context.room line.now seen))) }
 {
-    let Some(tokens) = body(alloc, names, line, place.after)? else {
+    let Some(tokens) = body(alloc, names, context.room, line, place.after)? else {
         return Err(fault_at(RuleKind::TooLong, number, place.start + 1));
     };
     let form = if are_list(tokens.as_slice()) {
@@ -163,15 +174,16 @@ pub(crate) fn definition(
 pub(crate) fn contract(
     alloc: Global,
     context: Context,
-    names: &[Name],
+    names: &NameTable,
     number: usize,
     line: &[u8],
     place: NamePlace,
 ) -> Result<Vec<Token>, RuleFault>
-    requires { place.after ≤ length line.now }
+    requires names { IsFoundByLetters names.now }
+    requires after { place.after ≤ length line.now }
     ensures ok { IfOk result (λ tokens. let seen = place_seen line.now place
-        in contract_given (context_seen context) (map name_seen names.now) number line.now seen ≡ Ok (record { letters = seen.letters; tokens = map rule_token_seen tokens.items })) }
-    ensures err { IfErr result (IsFaultOf (contract_given (context_seen context) (map name_seen names.now) number line.now (place_seen line.now place))) }
+        in contract_given (context_seen context) (names_seen names.now) number line.now seen ≡ Ok (record { letters = seen.letters; tokens = map rule_token_seen tokens.items })) }
+    ensures err { IfErr result (IsFaultOf (contract_given (context_seen context) (names_seen names.now) number line.now (place_seen line.now place))) }
 {
     let statement = statement_in(
         alloc,
@@ -208,16 +220,18 @@ pub(crate) fn is_giving(token: Token) -> bool
 pub(crate) fn name_at(
     alloc: Global,
     context: Context,
-    names: &[Name],
+    names: &NameTable,
     number: usize,
     line: &[u8],
     first: Token,
     place: NamePlace,
 ) -> Result<Name, RuleFault>
+    requires names { IsFoundByLetters names.now }
     requires letters { (place.start < place.end) × (place.end ≤ length line.now) }
     requires after { place.after ≤ length line.now }
-    ensures ok { IfOk result (λ name. given_by (rule_token_seen first) (context_seen context) (map name_seen names.now) number line.now (place_seen line.now place) ≡ Ok (name_seen name)) }
-    ensures err { IfErr result (IsFaultOf (given_by (rule_token_seen first) (context_seen context) (map name_seen names.now) number line.now (place_seen line.now place))) }
+    ensures ok { IfOk result (λ name. given_by (rule_token_seen first) (context_seen context) (names_seen names.now) number line.now (place_seen line.now place) ≡ Ok (name_seen name)) }
+    ensures letters { IfOk result (λ name. name.letters.items ≡ slice_range line.now place.start place.end) }
+    ensures err { IfErr result (IsFaultOf (given_by (rule_token_seen first) (context_seen context) (names_seen names.now) number line.now (place_seen line.now place))) }
 {
     let tokens = match first {
         Token::Contract => contract(alloc, context, names, number, line, place)?,

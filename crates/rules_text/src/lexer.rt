@@ -3,7 +3,7 @@
 ghost use Rattle.std.specs.Prelude.{◌≡◌, ◌+◌, ◌≤◌, ◌<◌, ◌∷◌, ◌==◌, [], false, length, slice_index, take, drop, map, MatchOption, IfSome};
 ghost use Rattle.bpf_asm.specs.Tokens.{is_word};
 ghost use Rattle.text_io.specs.Words.{is_blank, is_digit};
-ghost use Rattle.rules_text.specs.LineGrammar.{may_be_name};
+ghost use Rattle.rules_text.specs.LineGrammar.{lacks_room, may_be_name};
 ghost use Rattle.rules_text.specs.TextOfRules.{starts_word};
 ghost use Rattle.rules_text.specs.RuleTokens.{first_cut, letters_len, long_marks, longest_mark, row_token, rule_words, short_marks, token_of_letters, tokens_from};
 ghost use Rattle.rules_text.specs.inner.Seen.{cut_seen, found_seen, rule_token_seen, some_token};
@@ -49,6 +49,8 @@ pub(crate) enum Token {
     Name,
     /// The value of a contract, which comes from its name alone.
     Value(u32),
+    /// In place of a name whose tokens are more than names may add.
+    NoRoom,
     /// The name of a field of the header.
     Field(Field),
     /// `octet`, `half` or `word`.
@@ -89,6 +91,13 @@ impl Token {
         ensures { result ≡ may_be_name (rule_token_seen self) }
     {
         matches!(self, Token::Name)
+    }
+
+    /// Whether this stands for a name whose tokens are more than names may add.
+    pub(crate) fn lacks_room(self) -> bool
+        ensures { result ≡ lacks_room (rule_token_seen self) }
+    {
+        matches!(self, Token::NoRoom)
     }
 }
 

@@ -11,6 +11,7 @@ pub mod laws;
 mod lexer;
 mod line_reader;
 mod list;
+mod name_table;
 mod names;
 mod reader;
 mod statement_reader;

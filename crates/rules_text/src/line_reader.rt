@@ -84,6 +84,8 @@ pub(crate) struct Context {
     pub blocks: usize,
     /// Whether a line with a token was read.
     pub begun: bool,
+    /// How many tokens names may still add.
+    pub room: usize,
 }
 
 /// What was read of a line.
@@ -156,10 +158,13 @@ impl LineReader {
         if token.is_name() {
             return Err(RuleKind::UnknownName);
         }
+        if token.lacks_room() {
+            return Err(RuleKind::TooLong);
+        }
         self.read_known(alloc, context, column, token)
     }
 
-    /// Reads a token that is no unknown name.
+    /// Reads a token that is no unknown name, and no name for which there is no room.
     #[tactic(auto, unfolding(crate::specs::LineGrammar::read_awaited))]
     fn read_known(
         &mut self,

@@ -1,9 +1,9 @@
 //! The names of a text.
 
 ghost use Rattle.std.specs.Prelude.{◌≡◌, ◌++◌, ◌∷◌, [], map, IfOk};
-ghost use Rattle.rules_text.specs.Names.{admitted, defined_as, is_list, name_tokens};
+ghost use Rattle.rules_text.specs.Names.{admitted, defined_as, is_list};
 ghost use Rattle.rules_text.specs.inner.Seen.{rule_token_seen};
-ghost use Rattle.rules_text.specs.inner.SeenReading.{form_seen, name_seen};
+ghost use Rattle.rules_text.specs.inner.SeenReading.{form_seen};
 
 use crate::lexer::Token;
 use std::alloc::{AllocError, Global};
@@ -28,20 +28,6 @@ pub(crate) struct Name {
     pub letters: Vec<u8>,
     /// The tokens that it means.
     pub tokens: Vec<Token>,
-}
-
-/// The tokens of the name with these letters, none if it wasn't given.
-pub(crate) fn tokens_named<'a>(names: &'a [Name], letters: &[u8]) -> &'a [Token]
-    ensures { map rule_token_seen result.now ≡ name_tokens (map name_seen names.now) letters.now }
-{
-    let mut left = names;
-    while let [name, rest @ ..] = left {
-        if letters == name.letters.as_slice() {
-            return name.tokens.as_slice();
-        }
-        left = rest;
-    }
-    &[]
 }
 
 /// The token, where this is read.

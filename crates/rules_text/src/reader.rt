@@ -1,26 +1,31 @@
 //! The reader of a text, line by line.
 
-ghost use Rattle.std.specs.Prelude.{◌≡◌, ◌+◌, ◌≤◌, ◌<◌, ◌^◌, Ok, Err, IfOk, IfErr, drop, length};
+ghost use Rattle.std.specs.Prelude.{◌≡◌, ◌+◌, ◌≤◌, ◌<◌, ◌^◌, Ok, Err, IfOk, IfErr, drop, length, None};
 ghost use Rattle.rules_text.specs.RulesRead.{line_read};
-ghost use Rattle.rules_text.specs.Names.{rule_form};
+ghost use Rattle.rules_text.specs.Names.{name_meaning, rule_form};
 ghost use Rattle.rules_text.specs.RuleTokens.{rule_tokens, tokens_from};
 ghost use Rattle.rules_text.specs.NumberedText.{HasNumbered, HasRules, numbered_read};
 ghost use Rattle.rules_text.specs.TextFaults.{IsFaultOf};
-ghost use Rattle.rules_text.specs.TextOfRules.{context_of, formed_statement, name_given, numbered_at_end, numbered_in, placed_fault, rules_in, text_with, text_with_line, with_line, text_with_name};
+ghost use Rattle.rules_text.specs.TextOfRules.{context_of, formed_statement, name_given, numbered_at_end, numbered_in, placed_fault, rules_in, text_with, text_with_line, text_with_room, with_line, text_with_name};
 ghost use Rattle.rules_text.specs.declared.fault.RuleKind.TheVariants.{NoMemory};
 ghost use Rattle.rules_text.specs.inner.Seen.{found_seen};
-ghost use Rattle.rules_text.specs.inner.SeenReading.{context_seen, line_statement_seen, name_seen, text_seen};
+ghost use Rattle.rules_text.specs.inner.SeenNameTable.{IsFoundByLetters};
+ghost use Rattle.rules_text.specs.inner.SeenReading.{context_seen, line_statement_seen, name_seen, names_seen, text_seen};
 
 use crate::definition::{is_giving, name_at, name_place};
 use crate::fault::{RuleFault, RuleKind, fault_at};
 use crate::lexer::{Found, next_token};
 use crate::line_reader::{Context, Statement};
+use crate::name_table::NameTable;
 use crate::names::{Form, Name};
-use crate::statement_reader::statement_in;
+use crate::statement_reader::{room_after_line, statement_in};
 use bpf_asm::next_line;
 use cell_rules::{RuleLine, Rules};
 use std::alloc::Global;
 use upc_cell::Side;
+
+/// The most tokens that the names of a text add.
+const MOST_ADDED: usize = 262_144;
 
 /// Rules, and the source lines that they are written in.
 #[derive(Debug, Drop)]
@@ -46,7 +51,9 @@ struct TextReader {
     /// The numbers of the source lines of their lines.
     numbers: Vec<usize>,
     /// The names.
-    names: Vec<Name>,
+    names: NameTable,
+    /// How many tokens they may still add.
+    room: usize,
     /// How many blocks are open.
     blocks: usize,
     /// The head of the outermost of them.
@@ -63,6 +70,7 @@ impl TextReader {
         requires { self.old.blocks < 2 ^ 63 }
         ensures ok { IfOk result (λ _. with_line (text_seen self.old) (line_read line) place.line place.column ≡ text_seen self.new) }
         ensures blocks { self.new.blocks ≤ self.old.blocks + 1 }
+        ensures names { self.new.names ≡ self.old.names }
         ensures err { IfErr result (λ kind. kind ≡ NoMemory) }
     {
         match line {
@@ -86,6 +94,7 @@ impl TextReader {
         requires { self.old.blocks < 2 ^ 63 }
         ensures ok { IfOk result (λ _. text_with (text_seen self.old) place.line place.column (line_statement_seen statement) ≡ text_seen self.new) }
         ensures blocks { self.new.blocks ≤ self.old.blocks + 1 }
+        ensures names { self.new.names ≡ self.old.names }
         ensures err { IfErr result (λ kind. kind ≡ NoMemory) }
     {
         match statement {
@@ -113,6 +122,7 @@ impl TextReader {
             side: self.rules.side,
             blocks: self.blocks,
             begun: self.begun,
+            room: self.room,
         }
     }
 
@@ -124,15 +134,17 @@ impl TextReader {
         line: &[u8],
         first: Found,
     ) -> Result<Name, RuleFault>
+        requires names { IsFoundByLetters self.now.names }
         requires start { first.start < first.end }
         requires end { first.end ≤ length line.now }
         ensures ok { IfOk result (λ name. name_given (text_seen self.now) number line.now (found_seen first) (tokens_from (first.end + 1) 0 (drop first.end line.now)) ≡ Ok (name_seen name)) }
+        ensures new { IfOk result (λ name. name_meaning (names_seen self.now.names) name.letters.items ≡ None) }
         ensures err { IfErr result (IsFaultOf (name_given (text_seen self.now) number line.now (found_seen first) (tokens_from (first.end + 1) 0 (drop first.end line.now)))) }
     {
         if !self.rules.lines.is_empty() {
             return Err(fault_at(RuleKind::BadLine, number, first.start + 1));
         }
-        let names = self.names.as_slice();
+        let names = &self.names;
         let place = name_place(names, number, line, first.end)?;
         name_at(
             alloc,
@@ -147,27 +159,50 @@ impl TextReader {
 
     /// The statement of a line.
     fn statement(&self, alloc: Global, number: usize, line: &[u8]) -> Result<Statement, RuleFault>
+        requires { IsFoundByLetters self.now.names }
         ensures ok { IfOk result (λ statement. formed_statement (context_of (text_seen self.now)) (text_seen self.now).names rule_form number line.now 1 (rule_tokens line.now) ≡ Ok (line_statement_seen statement)) }
         ensures err { IfErr result (IsFaultOf (formed_statement (context_of (text_seen self.now)) (text_seen self.now).names rule_form number line.now 1 (rule_tokens line.now))) }
     {
-        let names = self.names.as_slice();
-        statement_in(alloc, self.context(), names, Form::Rule, number, line, 0)
+        statement_in(
+            alloc,
+            self.context(),
+            &self.names,
+            Form::Rule,
+            number,
+            line,
+            0,
+        )
+    }
+
+    /// Counts what the names in a line add.
+    fn spend(&mut self, line: &[u8])
+        requires { IsFoundByLetters self.old.names }
+        ensures room { text_with_room (text_seen self.old) line.now (rule_tokens line.now) ≡ text_seen self.new }
+        ensures blocks { self.new.blocks ≡ self.old.blocks }
+        ensures names { IsFoundByLetters self.new.names }
+    {
+        self.room = room_after_line(&self.names, self.room, line);
     }
 
     /// Takes a name.
-    fn take_name(&mut self, name: Name) -> Result<(), RuleFault>
+    fn take_name(&mut self, alloc: Global, name: Name) -> Result<(), RuleFault>
+        requires names { IsFoundByLetters self.old.names }
+        requires new { name_meaning (names_seen self.old.names) name.letters.items ≡ None }
+        ensures names { IfOk result (λ _. IsFoundByLetters self.new.names) }
         ensures ok { IfOk result (λ _. text_with_name (text_seen self.old) (name_seen name) ≡ text_seen self.new) }
         ensures blocks { self.new.blocks ≡ self.old.blocks }
         ensures err { IfErr result (λ fault. fault ≡ placed_fault 0 0 NoMemory) }
     {
         self.begun = true;
-        self.names.push(name)?;
+        self.names.give(alloc, name)?;
         Ok(())
     }
 
     /// Reads a line of this number, counted from 1.
     fn read_line(&mut self, alloc: Global, number: usize, line: &[u8]) -> Result<(), RuleFault>
-        requires { self.old.blocks < 2 ^ 63 }
+        requires names { IsFoundByLetters self.old.names }
+        requires blocks { self.old.blocks < 2 ^ 63 }
+        ensures names { IfOk result (λ _. IsFoundByLetters self.new.names) }
         ensures ok { IfOk result (λ _. text_with_line (text_seen self.old) number line.now ≡ Ok (text_seen self.new)) }
         ensures blocks { self.new.blocks ≤ self.old.blocks + 1 }
         ensures err { IfErr result (IsFaultOf (text_with_line (text_seen self.old) number line.now)) }
@@ -181,9 +216,11 @@ impl TextReader {
         }
         if is_giving(first.token) {
             let name = self.name_in(alloc, number, line, first)?;
-            return self.take_name(name);
+            self.spend(line);
+            return self.take_name(alloc, name);
         }
         let statement = self.statement(alloc, number, line)?;
+        self.spend(line);
         let place = Place {
             line: number,
             column,
@@ -228,7 +265,8 @@ pub fn read_numbered(alloc: Global, text: &[u8]) -> Result<NumberedRules, RuleFa
             otherwise: 0,
         },
         numbers: Vec::new(alloc),
-        names: Vec::new(alloc),
+        names: NameTable::new(alloc),
+        room: MOST_ADDED,
         blocks: 0,
         head: Place { line: 0, column: 0 },
         begun: false,

@@ -1,18 +1,20 @@
 //! The reader of a statement, in a line with names.
 
 ghost use Rattle.std.specs.Prelude.{◌≡◌, ◌+◌, ◌≤◌, ◌<◌, ◌∷◌, [], Ok, Err, IfOk, IfErr, drop, length, map};
-ghost use Rattle.rules_text.specs.Names.{ending, meant, read_for};
-ghost use Rattle.rules_text.specs.RuleTokens.{tokens_from};
+ghost use Rattle.rules_text.specs.Names.{ending, meant, read_for, room_left};
+ghost use Rattle.rules_text.specs.RuleTokens.{rule_tokens, tokens_from};
 ghost use Rattle.rules_text.specs.TextFaults.{IsFaultOf};
 ghost use Rattle.rules_text.specs.TextOfRules.{formed_statement};
 ghost use Rattle.rules_text.specs.inner.Seen.{found_seen, rule_token_seen};
-ghost use Rattle.rules_text.specs.inner.SeenReading.{context_seen, form_seen, line_statement_seen, name_seen, reading_seen};
+ghost use Rattle.rules_text.specs.inner.SeenReading.{context_seen, form_seen, line_statement_seen, names_seen, reading_seen};
+ghost use Rattle.rules_text.specs.inner.SeenNameTable.{IsFoundByLetters};
 ghost use Rattle.rules_text.specs.inner.TokensRead.{token_read, all_tokens_read};
 
 use crate::fault::{RuleFault, RuleKind, fault_at};
 use crate::lexer::{Found, Token, next_token};
 use crate::line_reader::{Context, LineReader, Statement};
-use crate::names::{Form, Name, admit, tokens_named};
+use crate::name_table::NameTable;
+use crate::names::{Form, admit};
 use std::alloc::Global;
 
 impl LineReader {
@@ -101,38 +103,62 @@ impl LineReader {
     }
 }
 
-/// The tokens that a token of a line means, none if it is no name that was given.
-pub(crate) fn meant_by<'a>(names: &'a [Name], line: &[u8], found: Found) -> &'a [Token]
+/// The tokens that a token of a line means where names may add this many, none if it is no name that was given.
+pub(crate) fn meant_by<'a>(
+    names: &'a NameTable,
+    room: usize,
+    line: &[u8],
+    found: Found,
+) -> &'a [Token]
+    requires names { IsFoundByLetters names.now }
     requires start { found.start < found.end }
     requires end { found.end ≤ length line.now }
-    ensures { map rule_token_seen result.now ≡ meant (map name_seen names.now) line.now (found_seen found) }
+    ensures { map rule_token_seen result.now ≡ meant (names_seen names.now) room line.now (found_seen found) }
 {
     if found.token.is_name() {
-        tokens_named(names, &line[found.start..found.end])
+        names.find_within(room, &line[found.start..found.end])
     } else {
         &[]
     }
+}
+
+/// How many tokens names may still add after the tokens of a line.
+pub(crate) fn room_after_line(names: &NameTable, allowed: usize, line: &[u8]) -> usize
+    requires { IsFoundByLetters names.now }
+    ensures { result ≡ room_left (names_seen names.now) allowed line.now (rule_tokens line.now) }
+{
+    let mut room = allowed;
+    let mut from = 0;
+    while let Some(found) = next_token(line, from) {
+        let meant = meant_by(names, room, line, found);
+        room = room.saturating_sub(meant.len());
+        from = found.end;
+    }
+    room
 }
 
 /// Reads the statement of a line from a column on, or what is read there in this form.
 pub(crate) fn statement_in(
     alloc: Global,
     context: Context,
-    names: &[Name],
+    names: &NameTable,
     form: Form,
     number: usize,
     line: &[u8],
     start: usize,
 ) -> Result<Statement, RuleFault>
-    requires { start ≤ length line.now }
-    ensures ok { IfOk result (λ statement. formed_statement (context_seen context) (map name_seen names.now) (form_seen form) number line.now (start + 1) (tokens_from (start + 1) 0 (drop start line.now)) ≡ Ok (line_statement_seen statement)) }
-    ensures err { IfErr result (IsFaultOf (formed_statement (context_seen context) (map name_seen names.now) (form_seen form) number line.now (start + 1) (tokens_from (start + 1) 0 (drop start line.now)))) }
+    requires names { IsFoundByLetters names.now }
+    requires start { start ≤ length line.now }
+    ensures ok { IfOk result (λ statement. formed_statement (context_seen context) (names_seen names.now) (form_seen form) number line.now (start + 1) (tokens_from (start + 1) 0 (drop start line.now)) ≡ Ok (line_statement_seen statement)) }
+    ensures err { IfErr result (IsFaultOf (formed_statement (context_seen context) (names_seen names.now) (form_seen form) number line.now (start + 1) (tokens_from (start + 1) 0 (drop start line.now)))) }
 {
     let mut reader = LineReader::new(alloc, form);
+    let mut room = context.room;
     let mut from = start;
     while let Some(found) = next_token(line, from) {
-        let meant = meant_by(names, line, found);
+        let meant = meant_by(names, room, line, found);
         reader.read_found(alloc, context, form, number, found, meant)?;
+        room = room.saturating_sub(meant.len());
         from = found.end;
     }
     let column = from + 1;

@@ -1,7 +1,7 @@
 -- What the code's values are in the words of the definitions.
 use Rattle.std.specs.Prelude.{◌+◌, Option, Some, None}
 use Rattle.rules_text.specs.RulesRead.{TestRead, any_cell, f5_cell, user_cell, SignRead, equal_sign, unequal_sign, less_sign, at_most_sign, greater_sign, at_least_sign, field_read}
-use Rattle.rules_text.specs.RuleTokens.{RuleFound, RuleToken, TokenCut, test_word, not_word, and_word, or_word, otherwise_word, refuse_word, side_word, uni_word, nni_word, define_word, contract_word, name_word, contract_value, field_word, size_word, number_word, bad_number, arrow_mark, open_brace, close_brace, open_parenthesis, close_parenthesis, mask_mark, comma_mark, dots_mark, slash_mark, star_mark, sign_mark, no_token}
+use Rattle.rules_text.specs.RuleTokens.{RuleFound, RuleToken, TokenCut, test_word, not_word, and_word, or_word, otherwise_word, refuse_word, side_word, uni_word, nni_word, define_word, contract_word, name_word, contract_value, no_room, field_word, size_word, number_word, bad_number, arrow_mark, open_brace, close_brace, open_parenthesis, close_parenthesis, mask_mark, comma_mark, dots_mark, slash_mark, star_mark, sign_mark, no_token}
 use Rattle.rules_text.specs.TestWords.{f4_cell, f4_segment_cell, f4_end_cell, f5_segment_cell, f5_end_cell, oam_cell, rm_cell, meta_signalling_cell, broadcast_cell, signalling_cell, ilmi_cell, idle_cell}
 use Rattle.rules_text.specs.declared.class.Class.{Class}
 use Rattle.rules_text.specs.declared.class.Class.TheVariants as class
@@ -54,6 +54,7 @@ rule_token_seen token.Define = define_word
 rule_token_seen token.Contract = contract_word
 rule_token_seen token.Name = name_word
 rule_token_seen (token.Value k) = contract_value k
+rule_token_seen token.NoRoom = no_room
 rule_token_seen (token.Field field) = field_word (field_read field)
 rule_token_seen (token.Octets size) = size_word size
 rule_token_seen (token.Number k) = number_word k

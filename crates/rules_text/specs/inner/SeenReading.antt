@@ -1,5 +1,5 @@
 -- What the readers have read, in the words of the definitions.
-use Rattle.std.specs.Prelude.{map, reverse, Option, Some, None, Result, Ok, Err}
+use Rattle.std.specs.Prelude.{map, reverse, List, Option, Some, None, Result, Ok, Err}
 use Rattle.cell_rules.specs.declared.field.Field.{Field}
 use Rattle.cell_rules.specs.declared.test.Test.{Test}
 use Rattle.rules_text.specs.LineGrammar.{Awaited, GroupRead, LineContext, ListRead, field_list, denied_list, path_list, Reading, StatementRead, SubjectRead, awaits_start, awaits_unit, awaits_operator, awaits_offset, awaits_relation, awaits_mask, awaits_sign, awaits_constant, awaits_dots, awaits_high, awaits_comma, awaits_low, awaits_slash, awaits_channel, awaits_arrow, awaits_value, awaits_rest, awaits_side, awaits_end, blank_statement, side_statement, line_statement, otherwise_statement}
@@ -21,6 +21,7 @@ use Rattle.rules_text.specs.declared.subject.Subject.{Subject}
 use Rattle.rules_text.specs.declared.names.Form.{Form}
 use Rattle.rules_text.specs.declared.names.Form.TheVariants as form
 use Rattle.rules_text.specs.declared.names.Name.{Name}
+use Rattle.rules_text.specs.declared.name_table.NameTable.{NameTable}
 use Rattle.rules_text.specs.inner.Seen.{rule_token_seen, sign_seen}
 
 -- A field with a mask.
@@ -73,7 +74,7 @@ line_statement_seen (statement.Otherwise value) = otherwise_statement value
 
 -- What was read before a line.
 abbrev pub context_seen : Context → LineContext
-context_seen context = record { side = context.side; blocks = context.blocks; begun = context.begun }
+context_seen context = record { side = context.side; blocks = context.blocks; begun = context.begun; room = context.room }
 
 -- What was read of a line.
 abbrev pub reading_seen : LineReader → Reading
@@ -92,6 +93,10 @@ reading_seen reader = record {
 abbrev pub name_seen : Name → NameRead
 name_seen name = record { letters = name.letters.items; tokens = map rule_token_seen name.tokens.items }
 
+-- The names of a text, in the order in which they were given.
+abbrev pub names_seen : NameTable → List NameRead
+names_seen names = map name_seen names.given.items
+
 -- What is read of a line.
 abbrev pub form_seen : Form → FormRead
 form_seen form.Rule = rule_form
@@ -105,7 +110,8 @@ text_seen reader = record {
   side = reader.rules.side;
   lines = map line_read reader.rules.lines.items;
   numbers = reader.numbers.items;
-  names = map name_seen reader.names.items;
+  names = names_seen reader.names;
+  room = reader.room;
   otherwise = reader.rules.otherwise;
   blocks = reader.blocks;
   head_line = reader.head.line;

@@ -80,6 +80,43 @@ fn faults_of_names_have_their_places(rt: HostRuntime) {
     }
 }
 
+/// Adds a line that gives a name to a list of this many numbers.
+fn define_list(text: &mut Vec<u8>, name: &[u8], count: usize) -> Result<(), std::test::Fail> {
+    text.extend_from_slice(b"define ")?;
+    text.extend_from_slice(name)?;
+    text.extend_from_slice(b" = 7")?;
+    for _ in 1..count {
+        text.extend_from_slice(b", 7")?;
+    }
+    text.push(b'\n')?;
+    Ok(())
+}
+
+/// The fault of a text whose names add 262,144 tokens, and then this line; one without a place if it has none.
+fn fault_after_names(rt: &HostRuntime, last: &[u8]) -> Result<RuleFault, std::test::Fail> {
+    let mut text = Vec::new(rt.alloc());
+    text.extend_from_slice(b"contract gold = 1\n")?;
+    define_list(&mut text, b"many", 2048)?;
+    define_list(&mut text, b"few", 32)?;
+    for _ in 0..64 {
+        text.extend_from_slice(b"vci many -> 1\n")?;
+    }
+    text.extend_from_slice(b"vci few -> gold\n")?;
+    text.extend_from_slice(last)?;
+    match read_rules(rt.alloc(), &text) {
+        Ok(_) => Ok(at(RuleKind::BadLine, 0, 0)),
+        Err(fault) => Ok(fault),
+    }
+}
+
+#[test]
+fn names_add_262144_tokens_and_no_more(rt: HostRuntime) -> Result<(), std::test::Fail> {
+    assert_eq!(rt; fault_after_names(&rt, b"")?, at(RuleKind::BadLine, 0, 0));
+    assert_eq!(rt; fault_after_names(&rt, b"any -> 1")?, at(RuleKind::BadLine, 0, 0));
+    assert_eq!(rt; fault_after_names(&rt, b"any -> gold")?, at(RuleKind::TooLong, 69, 8));
+    Ok(())
+}
+
 /// A text of this many opening parentheses, and then a test that needs no more than that.
 fn opened(rt: &HostRuntime, count: usize) -> Result<RuleFault, std::test::Fail> {
     let mut text = Vec::new(rt.alloc());

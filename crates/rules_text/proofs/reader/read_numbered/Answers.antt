@@ -7,7 +7,7 @@ use Rattle.rules_text.proofs.ReadingSteps.{rules_begun, rules_more, rules_fault,
 use Rattle.rules_text.proofs.reader.read_numbered.Goals as goal
 
 pub loop-line-init : goal.loop-line-init
-loop-line-init c = record { counted = omega arith; blocks = omega arith; rest = rw (c.new.ensures.items, c.new-2.ensures.items, c.new-3.ensures.items) (sym (rules_begun c.args.text.now)) }
+loop-line-init c = record { counted = omega arith; blocks = omega arith; names = c.new-3.ensures.found; rest = rw (c.new.ensures.items, c.new-2.ensures.items, c.new-3.ensures.empty) (sym (rules_begun c.args.text.now)) }
 
 pub returns-in_err-read_line-clause-fault : goal.returns-in_err-read_line-clause-fault
 returns-in_err-read_line-clause-fault c =
@@ -26,6 +26,7 @@ loop-line-preserved c =
     record {
       counted = omega (arith, c.in-Some.ensures.shorter);
       blocks = omega arith;
+      names = c.in_ok-read_line.ensures.names;
       rest =
           sym (rules_more text next c.loop-line.number line rest c.in_ok-read_line.ensures.ok)
           ∙ ap (numbered_from text c.loop-line.number) (sym c.in-Some.ensures.lines)

@@ -2,6 +2,7 @@
 use Rattle.std.proofs.Common.{◌≡◌, ◌+◌, ◌≤◌, length}
 use Rattle.bpf_asm.specs.SourceLines.{source_lines}
 use Rattle.rules_text.specs.TextOfRules.{numbered_from, numbered_in}
+use Rattle.rules_text.specs.inner.SeenNameTable.{IsFoundByLetters}
 use Rattle.rules_text.specs.inner.SeenReading.{text_seen}
 use Rattle.rules_text.proofs.reader.read_numbered.Given as goal
 
@@ -9,6 +10,7 @@ abbrev pub invariant-loop-line : goal.invariant-loop-line
 invariant-loop-line l = record {
   counted : l.number + length l.left ≤ length l.text + 1;
   blocks : l.reader.blocks + 1 ≤ l.number;
+  names : IsFoundByLetters l.reader.names;
   rest : numbered_from (text_seen l.reader) l.number (source_lines l.left) ≡ numbered_in l.text;
 }
 

@@ -30,8 +30,8 @@ returns-then-is_giving-clause-ok c =
     let first = c.in-Some.first in
     let text = text_seen c.args.self.now in
     let name = name_seen c.in_ok-name.name in
-    returned_onward c.take_name.result (text_with_name text name ≡ text_seen c.take_name.new.self) (text_with_line text c.args.number c.args.line.now ≡ Ok (text_seen c.take_name.new.self)) (λ e.
-    line_with_name text c.args.number c.args.line.now (found_seen first) (tokens_from (first.end + 1) 0 (drop first.end c.args.line.now)) name c.in-Some.ensures.tokens c.if-self.false (sym c.is_giving.ensures ∙ c.if-is_giving.true) c.in_ok-name.ensures.ok
+    returned_onward c.take_name.result (text_with_name (text_seen c.spend.new.self) name ≡ text_seen c.take_name.new.self) (text_with_line text c.args.number c.args.line.now ≡ Ok (text_seen c.take_name.new.self)) (λ e.
+    line_with_name text c.args.number c.args.line.now (found_seen first) (tokens_from (first.end + 1) 0 (drop first.end c.args.line.now)) name (text_seen c.spend.new.self) c.spend.ensures.room c.in-Some.ensures.tokens c.if-self.false (sym c.is_giving.ensures ∙ c.if-is_giving.true) c.in_ok-name.ensures.ok
     ∙ ap (λ (next : TextReading). Ok next) e) c.take_name.ensures.ok
 
 pub returns-in_err-statement-clause-err : goal.returns-in_err-statement-clause-err
@@ -45,5 +45,5 @@ pub returns-in-Ok-clause-ok : goal.returns-in-Ok-clause-ok
 returns-in-Ok-clause-ok c =
     let first = c.in-Some.first in
     let text = text_seen c.args.self.now in
-    line_with_statement text c.args.number c.args.line.now (found_seen first) (tokens_from (first.end + 1) 0 (drop first.end c.args.line.now)) (line_statement_seen c.in_ok-statement.statement) c.in-Some.ensures.tokens c.if-self.false (sym c.is_giving.ensures ∙ c.if-is_giving.false) c.in_ok-statement.ensures.ok
+    line_with_statement text c.args.number c.args.line.now (found_seen first) (tokens_from (first.end + 1) 0 (drop first.end c.args.line.now)) (line_statement_seen c.in_ok-statement.statement) (text_seen c.spend-2.new.self) c.spend-2.ensures.room c.in-Some.ensures.tokens c.if-self.false (sym c.is_giving.ensures ∙ c.if-is_giving.false) c.in_ok-statement.ensures.ok
     ∙ ap (λ (next : TextReading). Ok next) c.in-Ok.ensures.ok
