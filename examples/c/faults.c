@@ -442,7 +442,8 @@ int main(void)
 	                                       "0064000000000020", "0005000000000001", "0007000000000000",
 	                                       "00610000000000030016000000000000"};
 	static const char *const texts[] = {"otherwise -> 7", "vpi", "vpi 1x -> 1", "vci 5..4 -> 1", "octet 52 = 1 -> 1",
-	                                    "otherwise -> 1\nany -> 1", "any {\n}\n}",
+	                                    "otherwise -> 1\nany -> 1", "any {\n}\n}", "gold -> 1",
+	                                    "contract gold = 1\ndefine gold = 2",
 	                                    "((((((((((((((((((((((((((((((((((((((((((((((((((((((((((((((((("};
 	size_t k;
 
