@@ -8,3 +8,6 @@ pub mod CellBits
 pub mod LineSteps
 pub mod Walking
 pub mod CaseSteps
+pub mod NumberSets
+pub mod InsideSteps
+pub mod UnusedSteps

@@ -1,3 +1,4 @@
 pub mod CellNumbers
 pub mod Cases
+pub mod UnusedRules
 pub mod inner

@@ -12,3 +12,6 @@ pub mod Fields
 pub mod Lined
 pub mod Walks
 pub mod CaseLists
+pub mod Pairs
+pub mod Numbers
+pub mod Holding

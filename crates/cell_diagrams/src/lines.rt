@@ -1,6 +1,6 @@
 //! Diagrams of the lines that decide.
 
-ghost use Rattle.std.specs.Prelude.{◌≡◌, ◌+◌, ◌<◌, ◌^◌, ℕ, [], ◌∷◌, List, IfOk, OnOk};
+ghost use Rattle.std.specs.Prelude.{◌≡◌, ◌+◌, ◌-◌, ◌<◌, ◌^◌, ℕ, [], ◌∷◌, List, length, IfOk, OnOk};
 ghost use Rattle.cell_diagrams.specs.inner.Values.{Keeps};
 ghost use Rattle.cell_diagrams.specs.inner.Tells.{GivesNumber};
 ghost use Rattle.cell_diagrams.specs.inner.Lines.{deciding_line};
@@ -108,6 +108,7 @@ pub(crate) fn deciding_lines(
 ) -> Result<Diagram, Undecided>
     ensures keeps { Keeps diagrams.old diagrams.new }
     ensures gives { IfOk result (GivesNumber diagrams.new (deciding_line rules.now)) }
+    ensures few { IfOk result (λ _. length rules.now.lines.items < 2 ^ 32 - 1) }
 {
     let lines = rules.lines.as_slice();
     if lines.len() >= u32::MAX as usize {

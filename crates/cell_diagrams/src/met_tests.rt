@@ -83,7 +83,11 @@ fn denied(diagrams: &mut Diagrams, test: Diagram) -> Result<Diagram, Undecided>
 }
 
 /// The diagram of the cells that both of two tell.
-fn both(diagrams: &mut Diagrams, one: Diagram, other: Diagram) -> Result<Diagram, Undecided>
+pub(crate) fn both(
+    diagrams: &mut Diagrams,
+    one: Diagram,
+    other: Diagram,
+) -> Result<Diagram, Undecided>
     requires one { IsWithin diagrams.old one }
     requires other { IsWithin diagrams.old other }
     ensures keeps { Keeps diagrams.old diagrams.new }

@@ -4,7 +4,8 @@ ghost use Rattle.std.specs.Prelude.{◌≡◌, ◌+◌, ◌-◌, ◌^◌, ◌≤
 ghost use Rattle.std.specs.List.{All, Contains};
 ghost use Rattle.cell_diagrams.specs.CellNumbers.{octets_number};
 ghost use Rattle.cell_diagrams.specs.inner.Values.{IsWithin};
-ghost use Rattle.cell_diagrams.specs.inner.Meetings.{AreMeetings, has_pair};
+ghost use Rattle.cell_diagrams.specs.inner.Meetings.{AreMeetings};
+ghost use Rattle.cell_diagrams.specs.inner.Pairs.{ArePairs};
 ghost use Rattle.cell_diagrams.specs.inner.Store.{above};
 ghost use Rattle.cell_diagrams.specs.inner.Walks.{AreSeen, IsClearFrom, IsWalked, both_top, with_meeting};
 ghost use Rattle.cell_diagrams.specs.declared.diagram.Diagram.{Diagram as Kind};
@@ -14,6 +15,7 @@ use crate::fault::Undecided;
 use crate::meeting::{Both, Meeting, Pair};
 use crate::store::{Diagrams, TABLE, code_of, place_of};
 use std::alloc::Global;
+use std::collections::BTreeSet;
 use upc_cell::{CELL_OCTETS, Cell};
 
 /// The largest number of steps of a walk.
@@ -27,6 +29,8 @@ pub const MOST_MEETINGS: usize = 65536;
 struct Walk {
     /// The meetings so far.
     met: Vec<Meeting>,
+    /// The numbers of the meetings so far.
+    pairs: BTreeSet<(u32, u32)>,
     /// Diagrams that were walked through. Each place has the last two that belong there.
     seen: Vec<Option<Both>>,
     /// How many steps may follow.
@@ -95,25 +99,6 @@ fn nothing_seen(alloc: Global, size: usize) -> Result<Vec<Option<Both>>, Undecid
     Ok(vec![in alloc; None; size]?)
 }
 
-/// Whether a meeting has these two numbers.
-fn is_of(meeting: &Meeting, one: u32, other: u32) -> bool
-    ensures { result ≡ ((meeting.now.one == one) && (meeting.now.other == other)) }
-{
-    meeting.one == one && meeting.other == other
-}
-
-/// Whether these two numbers are among the meetings.
-fn has_pair(meetings: &[Meeting], one: u32, other: u32) -> bool
-    ensures { result ≡ has_pair meetings.now one other }
-{
-    for meeting in meetings {
-        if is_of(meeting, one, other) {
-            return true;
-        }
-    }
-    false
-}
-
 impl Walk {
     /// Whether these diagrams were walked through.
     fn is_seen(&self, both: Both) -> bool
@@ -127,6 +112,7 @@ impl Walk {
     fn keep(&mut self, both: Both)
         requires { length self.old.seen.items ≡ 65536 }
         ensures met { self.new.met ≡ self.old.met }
+        ensures pairs { self.new.pairs ≡ self.old.pairs }
         ensures seen { (place : ℕ) × (self.new.seen.items ≡ slice_set self.old.seen.items place (Some both)) }
     {
         let place = place_of_both(both);
@@ -135,10 +121,12 @@ impl Walk {
 
     /// Adds a meeting, if its numbers aren't among those so far.
     fn meet(&mut self, meeting: Meeting) -> Result<(), Undecided>
+        requires { ArePairs self.old.pairs self.old.met.items }
         ensures met { OnOk result (self.new.met.items ≡ with_meeting self.old.met.items meeting) }
+        ensures pairs { OnOk result (ArePairs self.new.pairs self.new.met.items) }
         ensures seen { self.new.seen ≡ self.old.seen }
     {
-        if has_pair(&self.met, meeting.one, meeting.other) {
+        if !self.pairs.insert((meeting.one, meeting.other))? {
             return Ok(());
         }
         if self.met.len() >= MOST_MEETINGS {
@@ -160,7 +148,9 @@ impl Walk {
         requires other { IsWithin other.now both.other }
         requires seen { AreSeen one.now other.now self.old.met.items self.old.seen.items }
         requires cell { IsClearFrom (both_top one.now other.now both) cell }
-        ensures { OnOk result (IsWalked one.now other.now self.old.met.items self.new.met.items self.new.seen.items both (octets_number cell)) }
+        requires pairs { ArePairs self.old.pairs self.old.met.items }
+        ensures walked { OnOk result (IsWalked one.now other.now self.old.met.items self.new.met.items self.new.seen.items both (octets_number cell)) }
+        ensures pairs { OnOk result (ArePairs self.new.pairs self.new.met.items) }
     {
         if self.is_seen(both) {
             return Ok(());
@@ -221,6 +211,7 @@ pub(crate) fn meetings(
 {
     let mut walk = Walk {
         met: Vec::new(alloc),
+        pairs: BTreeSet::new(alloc),
         seen: nothing_seen(alloc, TABLE)?,
         left: MOST_STEPS,
     };
