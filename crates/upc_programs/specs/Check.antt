@@ -1,6 +1,6 @@
 -- The output of `upc check`. The whole input is a source of assembly. The answer is the octets of its program, or the
 -- first error of the source or of its code.
-use Rattle.std.specs.Prelude.{◌≡◌, ◌⊎◌, ℕ, List, ◌++◌, length, codes, decimal, Option, MatchOption}
+use Rattle.std.specs.Prelude.{◌≡◌, ◌⊎◌, ℕ, List, ◌++◌, length, codes, decimal}
 use Rattle.bpf_asm.specs.Faults.{IsFault}
 use Rattle.bpf_asm.specs.Meaning.{IsMeaning}
 use Rattle.bpf_asm.specs.declared.fault.AsmFault.{AsmFault}
@@ -10,7 +10,7 @@ use Rattle.hex.specs.Hex.{encode_lower}
 use Rattle.upc_words.specs.FaultLines.{line, too_long}
 use Rattle.upc_programs.specs.SourceFaults.{asm_fault}
 use Rattle.upc_programs.specs.Program.{ProgramReading, is_program, is_refused, ChecksAs}
-use Rattle.text_io.specs.Gathered.{gathered}
+use Rattle.text_io.specs.Gathered.{AnswersGathered, gathered}
 use Rattle.text_io.specs.declared.ending.Done.{Done}
 use Rattle.text_io.specs.declared.ending.Done.TheVariants.{Whole, Ended}
 
@@ -38,10 +38,6 @@ PrintsSource source text done =
     ((code : List Instr) × IsMeaning source code × PrintsCode code text done)
     ⊎ ((fault : AsmFault) × IsFault source fault × (text ≡ asm_fault fault) × (done ≡ Ended))
 
--- The answer to the source, or `too_long` if the input is over the limit.
-abbrev pub AnswersSource : Option (List ℕ) → List ℕ → Done → Type 0
-AnswersSource found text done = MatchOption found ((text ≡ too_long) × (done ≡ Ended)) (λ source. PrintsSource source text done)
-
--- The output for a whole input, and how the run ends.
+-- The output for a whole input, or `too_long` if it is over the limit, and how the run ends.
 abbrev pub IsCheckText : List ℕ → List ℕ → Done → Type 0
-IsCheckText octets text done = AnswersSource (gathered most_source_octets octets) text done
+IsCheckText octets text done = AnswersGathered too_long PrintsSource (gathered most_source_octets octets) text done

@@ -1,7 +1,7 @@
 //! `upc check`: assembles and checks a source.
 
-ghost use Rattle.std.specs.Prelude.{IfOk, option_map};
-ghost use Rattle.upc_programs.specs.Check.{IsCheckText, AnswersSource, PrintsCode, PrintsSource};
+ghost use Rattle.std.specs.Prelude.{IfOk};
+ghost use Rattle.upc_programs.specs.Check.{IsCheckText, PrintsCode};
 ghost use Rattle.text_io.specs.Devices.{Adds};
 ghost use Rattle.text_io.specs.Serving.{IsServed};
 
@@ -10,7 +10,7 @@ use crate::program_reading::check_code;
 use bpf_asm::{AsmFault, AsmKind, assemble};
 use bpf_code::Instr;
 use std::alloc::{AllocError, Global};
-use text_io::{Done, Input, Output, RunFault, gather, give_last};
+use text_io::{Answerer, Done, Input, Output, RunFault, answer_whole};
 use upc_words::add_too_long;
 
 /// The maximum number of octets of a source.
@@ -31,41 +31,47 @@ fn answer_code(alloc: Global, code: Vec<Instr>, answers: &mut Vec<u8>) -> Result
 }
 
 /// Answers a source: its code, or its error.
-fn answer_source(alloc: Global, source: &[u8], answers: &mut Vec<u8>) -> Result<Done, AllocError>
-    ensures { IfOk result (λ done.
-        Adds (λ text. PrintsSource source.now text done) answers.old.items answers.new.items) }
-{
-    match assemble(alloc, source) {
-        Ok(code) => answer_code(alloc, code, answers),
-        Err(
-            AsmFault {
-                kind: AsmKind::NoMemory,
-                ..
-            },
-        ) => Err(AllocError),
-        Err(fault) => {
-            add_asm_fault(answers, fault)?;
-            Ok(Done::Ended)
-        }
-    }
-}
+struct Checking;
 
-/// Answers the whole input, or an input over the limit.
-fn answer_gathered(
-    alloc: Global,
-    found: Option<Vec<u8>>,
-    answers: &mut Vec<u8>,
-) -> Result<Done, AllocError>
-    ensures { IfOk result (λ done. Adds (λ text. AnswersSource (option_map (λ source. source.items) found) text done)
-        answers.old.items answers.new.items) }
-{
-    match found {
-        Some(source) => answer_source(alloc, &source, answers),
-        None => {
-            add_too_long(answers)?;
-            Ok(Done::Ended)
+impl Answerer for Checking {
+    ghost use Rattle.upc_programs.specs.Check.{PrintsSource};
+    ghost use Rattle.upc_programs.specs.inner.CheckLaws.{source-printed};
+    ghost use Rattle.upc_words.specs.FaultLines.{too_long};
+
+    ghost prints = { λ checking. PrintsSource };
+
+    ghost allows = { λ checking. PrintsSource };
+
+    ghost too_long = { too_long };
+
+    fn answer(
+        &self,
+        alloc: Global,
+        octets: &[u8],
+        answers: &mut Vec<u8>,
+    ) -> Result<Done, AllocError> {
+        match assemble(alloc, octets) {
+            Ok(code) => answer_code(alloc, code, answers),
+            Err(
+                AsmFault {
+                    kind: AsmKind::NoMemory,
+                    ..
+                },
+            ) => Err(AllocError),
+            Err(fault) => {
+                add_asm_fault(answers, fault)?;
+                Ok(Done::Ended)
+            }
         }
     }
+
+    fn refuse(&self, answers: &mut Vec<u8>) -> Result<(), AllocError> {
+        add_too_long(answers)
+    }
+
+    ghost is_wider = { λ checking octets text done prints. prints };
+
+    ghost is_total = { λ checking. source-printed };
 }
 
 /// Answers a source of assembly: the number of instructions of its program and their octets in lower case hexadecimal
@@ -82,13 +88,5 @@ pub fn check_source<I: Input, O: Output>(
 ) -> Result<Done, RunFault>
     ensures { IsServed IsCheckText I.Input input.old input.new O.Output output.old output.new result }
 {
-    let found = match gather(alloc, input, MOST_SOURCE_OCTETS) {
-        Ok(found) => found,
-        Err(fault) => return Err(fault),
-    };
-    let mut answers = Vec::new(alloc);
-    match answer_gathered(alloc, found, &mut answers) {
-        Err(_) => Err(RunFault::NoMemory),
-        Ok(done) => give_last(output, &mut answers, done),
-    }
+    answer_whole(alloc, input, output, MOST_SOURCE_OCTETS, &Checking)
 }
