@@ -3,6 +3,7 @@ pub mod ReadingSteps
 pub mod NameSteps
 pub mod NamePlaces
 pub mod NameTables
+pub mod NamesAdded
 pub mod Values
 pub mod GrammarReads
 pub mod Chains

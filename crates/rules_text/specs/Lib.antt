@@ -13,4 +13,5 @@ pub mod PlacesOfText
 pub mod DecisionsRead
 pub mod RuleGrammar
 pub mod Laws
+pub mod NameLaws
 pub mod inner

@@ -1,5 +1,6 @@
 //! Laws of the definition of texts of rules. Each is the contract of a function that does nothing.
 
+ghost use Rattle.rules_text.specs.NameLaws.{LinesAddWhatNamesMean, RoomIsNoLimitWithin};
 ghost use Rattle.rules_text.specs.Laws.{CodeGivesWhatIsDecided, HeadsAreReadAsTheyAreWritten, NumbersAreThoseOfTheLines, RulesAreReadAsTheyAreWritten, TextsHaveOneCode};
 
 /// A line with the tokens of a test of the grammar, `->` and a token that is a value is read as this rule.
@@ -25,4 +26,14 @@ pub fn code_gives_what_is_decided()
 /// Each text of rules has one code.
 pub fn texts_have_one_code()
     ensures { TextsHaveOneCode }
+{}
+
+/// A line without a fault adds what its names mean, and no more than names may add.
+pub fn lines_add_what_names_mean()
+    ensures { LinesAddWhatNamesMean }
+{}
+
+/// Where names may add as much as they do in a line, the limit changes nothing of what is read.
+pub fn room_is_no_limit_within()
+    ensures { RoomIsNoLimitWithin }
 {}
