@@ -5,7 +5,8 @@ use Rattle.lab_captures.specs.inner.Progress.{CaptureProgress, HasRead, Texts}
 use Rattle.text_io.specs.Devices.{Adds, IsPart, WritesPrefix}
 use Rattle.text_io.specs.Printing.{IsFront}
 use Rattle.text_io.specs.declared.ending.Done.{Done}
-use Rattle.text_io.specs.declared.ending.RunFault.{RunFault}
+-- Of results, and of all that waited.
+pub use Rattle.text_io.proofs.DriverLemmas.{all-moved as all_given, at-done as if_done, at-fault as on_fault, at-given as if_given}
 
 -- A text along equal octets.
 pub reprinted : (Whole : Texts) (octets octets' text text' : List ℕ) (done : Done)
@@ -80,10 +81,6 @@ given Whole Here Known Held near0 rest0 near rest before now now' waiting waitin
       );
   leads = p.leads;
 }
-
--- All waiting octets were written.
-pub all_given : (before after waiting left : List ℕ) → after ≡ before ++ waiting → left ≡ [] → WritesPrefix before after waiting left
-all_given before after waiting left gives none = (waiting, sym (append-nil waiting) ∙ ap (λ xs. waiting ++ xs) (sym none), gives)
 
 extended : (answered near fresh more : List ℕ) (near' : List ℕ) → near' ≡ near ++ fresh → answered ++ (near ++ (fresh ++ more)) ≡ answered ++ (near' ++ more)
 extended answered near fresh more near' longer =
@@ -171,20 +168,6 @@ enough Whole Here Known Held near0 rest0 near rest before now waiting here done 
             (ap (λ xs. p.answered ++ xs) (append-nil near) ∙ sym came.2) refl (p.leads [] here done is),
       ),
     )
-
--- Of results.
-pub if_given : (result : Result Done RunFault) (done : Done) (All : Type 0) (P : Done → Type 0)
-    → IfOk result (λ value. value ≡ done) → OnOk result All → (All → P done) → IfOk result P
-if_given (Ok value) done All P same all holds = subst P (sym same) (holds all)
-if_given (Err fault) done All P same all holds = tt
-
-pub if_done : (result : Result Done RunFault) (done : Done) (P : Done → Type 0) → IfOk result (λ value. value ≡ done) → P done → IfOk result P
-if_done (Ok value) done P same holds = subst P (sym same) holds
-if_done (Err fault) done P same holds = tt
-
-pub on_fault : (result : Result Done RunFault) (Part Front : Type 0) → OnErr result Part → (Part → Front) → OnErr result Front
-on_fault (Ok value) Part Front part holds = tt
-on_fault (Err fault) Part Front part holds = holds part
 
 -- A front of equal octets.
 pub part_at : (before after octets octets' : List ℕ) → octets ≡ octets' → IsPart before after octets → IsPart before after octets'
