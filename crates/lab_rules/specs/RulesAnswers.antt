@@ -1,11 +1,11 @@
 -- Answers to a whole input that is a text of rules, whatever its program is printed as.
-use Rattle.std.specs.Prelude.{◌≡◌, ◌⊎◌, ℕ, List, Option, MatchOption, Some, Ok, Err}
+use Rattle.std.specs.Prelude.{◌≡◌, ◌⊎◌, ℕ, List, Option, Some, Ok, Err}
 use Rattle.rules_text.specs.RulesRead.{RulesRead}
 use Rattle.rules_text.specs.TextFaults.{IsTooLong}
 use Rattle.rules_text.specs.TextOfRules.{placed_fault, rules_in}
 use Rattle.rules_text.specs.declared.fault.RuleFault.{RuleFault}
 use Rattle.rules_text.specs.declared.fault.RuleKind.TheVariants.{TooLong}
-use Rattle.text_io.specs.Gathered.{gathered}
+use Rattle.text_io.specs.Gathered.{AnswersGathered, gathered}
 use Rattle.text_io.specs.declared.ending.Done.{Done}
 use Rattle.text_io.specs.declared.ending.Done.TheVariants.{Ended}
 use Rattle.lab_rules.specs.RuleFaults.{rule_fault}
@@ -27,7 +27,7 @@ PrintsFault text answer done =
 
 -- The answer to a text by this relation of text, answer and end of the run, or `too_long` if the input is over the limit.
 abbrev pub AnswersBy : (List ℕ → List ℕ → Done → Type 0) → Option (List ℕ) → List ℕ → Done → Type 0
-AnswersBy prints found answer done = MatchOption found ((answer ≡ too_long) × (done ≡ Ended)) (λ text. prints text answer done)
+AnswersBy = AnswersGathered too_long
 
 -- The output for a whole input, and how the run ends.
 abbrev pub IsAnswerBy : (List ℕ → List ℕ → Done → Type 0) → List ℕ → List ℕ → Done → Type 0

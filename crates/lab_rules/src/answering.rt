@@ -1,15 +1,15 @@
 //! A whole input that is a text of rules, answered once.
 
-ghost use Rattle.std.specs.Prelude.{IfOk, option_map};
+ghost use Rattle.std.specs.Prelude.{IfOk};
 ghost use Rattle.text_io.specs.Devices.{Adds};
 ghost use Rattle.text_io.specs.Serving.{IsServed};
-ghost use Rattle.lab_rules.specs.RulesAnswers.{AnswersBy, IsAnswerBy, MayBeAnswerBy};
+ghost use Rattle.lab_rules.specs.RulesAnswers.{IsAnswerBy, MayBeAnswerBy};
 ghost use Rattle.lab_rules.specs.inner.PrintedAs.{prints_as};
 
 use crate::assembling::answer_by_source;
 use crate::compiling::answer_by_octets;
 use std::alloc::{AllocError, Global};
-use text_io::{Done, Input, Output, RunFault, gather, give_last};
+use text_io::{Answerer, Done, Input, Output, RunFault, answer_whole};
 use upc_words::add_too_long;
 
 /// The maximum number of octets of a text of rules.
@@ -24,40 +24,36 @@ pub(crate) enum Printed {
     Source,
 }
 
-/// Answers a text: its program, or its fault.
-fn answer_text(
-    alloc: Global,
-    printed: Printed,
-    text: &[u8],
-    answers: &mut Vec<u8>,
-) -> Result<Done, AllocError>
-    ensures { IfOk result (λ done.
-        Adds (λ answer. prints_as printed text.now answer done) answers.old.items answers.new.items) }
-{
-    match printed {
-        Printed::Octets => answer_by_octets(alloc, text, answers),
-        Printed::Source => answer_by_source(alloc, text, answers),
-    }
-}
+impl Answerer for Printed {
+    ghost use Rattle.lab_rules.specs.inner.PrintedAs.{MayPrint, may-answer, prints_as};
+    ghost use Rattle.std.proofs.Common.{inl};
+    ghost use Rattle.upc_words.specs.FaultLines.{too_long};
 
-/// Answers the whole input, or an input over the limit.
-fn answer_gathered(
-    alloc: Global,
-    printed: Printed,
-    found: Option<Vec<u8>>,
-    answers: &mut Vec<u8>,
-) -> Result<Done, AllocError>
-    ensures { IfOk result (λ done.
-        Adds (λ answer. AnswersBy (prints_as printed) (option_map (λ text. text.items) found) answer done)
-        answers.old.items answers.new.items) }
-{
-    match found {
-        Some(text) => answer_text(alloc, printed, &text, answers),
-        None => {
-            add_too_long(answers)?;
-            Ok(Done::Ended)
+    ghost prints = { prints_as };
+
+    ghost allows = { λ printed. MayPrint (prints_as printed) };
+
+    ghost too_long = { too_long };
+
+    fn answer(
+        &self,
+        alloc: Global,
+        octets: &[u8],
+        answers: &mut Vec<u8>,
+    ) -> Result<Done, AllocError> {
+        match *self {
+            Printed::Octets => answer_by_octets(alloc, octets, answers),
+            Printed::Source => answer_by_source(alloc, octets, answers),
         }
     }
+
+    fn refuse(&self, answers: &mut Vec<u8>) -> Result<(), AllocError> {
+        add_too_long(answers)
+    }
+
+    ghost is_wider = { λ printed text answer done prints. inl prints };
+
+    ghost is_total = { may-answer };
 }
 
 /// Answers a text of rules by its program, or by its fault with line and column.
@@ -76,13 +72,5 @@ pub(crate) fn answer_rules<I: Input, O: Output>(
     ensures printed { I.is_known → O.is_known → IfOk result (λ done.
         Adds (λ answer. IsAnswerBy (prints_as printed) (I.rest input.old) answer done) (O.held output.old) (O.held output.new)) }
 {
-    let found = match gather(alloc, input, MOST_RULES_OCTETS) {
-        Ok(found) => found,
-        Err(fault) => return Err(fault),
-    };
-    let mut answers = Vec::new(alloc);
-    match answer_gathered(alloc, printed, found, &mut answers) {
-        Err(_) => Err(RunFault::NoMemory),
-        Ok(done) => give_last(output, &mut answers, done),
-    }
+    answer_whole(alloc, input, output, MOST_RULES_OCTETS, &printed)
 }
