@@ -2,7 +2,7 @@
 use Rattle.std.proofs.Common.{◌≡◌, ℕ, ◌-◌, List, [], ◌∷◌, ◌++◌, length, map, Ok, Err, refl, sym, ap, ◌∙◌}
 use Rattle.std.proofs.lemmas.List.{map-append}
 use Rattle.rules_text.specs.LineGrammar.{LineContext, LineStep, Reading, read_token}
-use Rattle.rules_text.specs.Names.{FormRead, rule_form, value_form, test_form, list_form, NameRead, admitted, all_at, ending, expanded, meant, read_for, room_after, room_left}
+use Rattle.rules_text.specs.Names.{FormRead, rule_form, value_form, test_form, list_form, NameRead, admitted, all_at, ending, expanded, meant, read_for, room_after_token, room_left}
 use Rattle.rules_text.specs.RuleTokens.{RuleFound, RuleToken, arrow_mark, refuse_word}
 use Rattle.rules_text.specs.TextOfRules.{fault_column, placed_fault, read_then, statement_from}
 use Rattle.rules_text.specs.declared.fault.RuleFault.{RuleFault}
@@ -24,7 +24,7 @@ tokens_end context number column reading = refl
 
 -- What is left after a token.
 room_same : (names : List NameRead) (room : ℕ) (line : List ℕ) (found : RuleFound) (tokens : List RuleToken) (left : ℕ)
-    → tokens ≡ meant names room line found → left ≡ room - length tokens → room_after names room line found ≡ left
+    → tokens ≡ meant names room line found → left ≡ room - length tokens → room_after_token names room line found ≡ left
 room_same names room line found tokens left same less = ap (λ (t : List RuleToken). room - length t) (sym same) ∙ sym less
 
 -- One more token of a line whose names are counted.
@@ -98,7 +98,7 @@ module _ (context : LineContext) (names : List NameRead) (room : ℕ) (form : Fo
   unfolding expanded
   found_more reading next before found rest tokens left same less e =
       for_more context number found.column found.after reading next before form found.token (meant names room line found)
-      (expanded names (room_after names room line found) form line found.after rest)
+      (expanded names (room_after_token names room line found) form line found.after rest)
       (ap (λ (t : List RuleToken). all_tokens_read context number found.column reading (read_for form found.token t)) (sym same) ∙ e)
       ∙ ap (λ (k : ℕ). statement_from context number next found.after (expanded names k form line found.after rest)) (room_same names room line found tokens left same less)
 
@@ -109,7 +109,7 @@ module _ (context : LineContext) (names : List NameRead) (room : ℕ) (form : Fo
   unfolding expanded
   found_fault reading fault before found rest tokens same e =
       for_fault context number found.column found.after reading fault before form found.token (meant names room line found)
-      (expanded names (room_after names room line found) form line found.after rest)
+      (expanded names (room_after_token names room line found) form line found.after rest)
       (ap (λ (t : List RuleToken). all_tokens_read context number found.column reading (read_for form found.token t)) (sym same) ∙ e)
 
 end_by : (context : LineContext) (number : ℕ) (form : FormRead) (reading next : Reading) (column : ℕ)
@@ -155,8 +155,8 @@ module _ (names : List NameRead) (room : ℕ) (line : List ℕ) where
   unfolding expanded
   body_more before found rest tokens left same less =
       map-append (λ (it : RuleFound). it.token) (all_at found.column found.after (read_for rule_form found.token (meant names room line found)))
-      (expanded names (room_after names room line found) rule_form line found.after rest)
-      ∙ ap (λ (t : List RuleToken). t ++ map (λ (it : RuleFound). it.token) (expanded names (room_after names room line found) rule_form line found.after rest))
+      (expanded names (room_after_token names room line found) rule_form line found.after rest)
+      ∙ ap (λ (t : List RuleToken). t ++ map (λ (it : RuleFound). it.token) (expanded names (room_after_token names room line found) rule_form line found.after rest))
       (tokens_at found.column found.after (read_for rule_form found.token (meant names room line found)) ∙ ap (read_for rule_form found.token) (sym same))
       ∙ ap (λ (k : ℕ). read_for rule_form found.token tokens ++ map (λ (it : RuleFound). it.token) (expanded names k rule_form line found.after rest))
       (room_same names room line found tokens left same less)

@@ -82,20 +82,20 @@ read_for form token [] = admitted form token ∷ []
 read_for form token (first ∷ more) = first ∷ more
 
 -- How many tokens names may still add after a token.
-abbrev pub room_after : List NameRead → ℕ → List ℕ → RuleFound → ℕ
-room_after names room line found = room - length (meant names room line found)
+abbrev pub room_after_token : List NameRead → ℕ → List ℕ → RuleFound → ℕ
+room_after_token names room line found = room - length (meant names room line found)
 
 -- What is read of the tokens of a line, up to its end, where names may add this many. The column is the one after the token before them.
 unfoldable pub expanded : List NameRead → ℕ → FormRead → List ℕ → ℕ → List RuleFound → List RuleFound
 expanded names room form line column [] = all_at column column (ending form)
 expanded names room form line column (found ∷ rest) =
     all_at found.column found.after (read_for form found.token (meant names room line found))
-    ++ expanded names (room_after names room line found) form line found.after rest
+    ++ expanded names (room_after_token names room line found) form line found.after rest
 
 -- How many tokens names may still add after the tokens of a line.
 unfoldable pub room_left : List NameRead → ℕ → List ℕ → List RuleFound → ℕ
 room_left names room line [] = room
-room_left names room line (found ∷ rest) = room_left names (room_after names room line found) line rest
+room_left names room line (found ∷ rest) = room_left names (room_after_token names room line found) line rest
 
 -- Whether tokens after a number don't make a path of it.
 abbrev pub is_no_path : List RuleToken → Bool
