@@ -112,8 +112,14 @@ fn fault_after_names(rt: &HostRuntime, last: &[u8]) -> Result<RuleFault, std::te
 #[test]
 fn names_add_262144_tokens_and_no_more(rt: HostRuntime) -> Result<(), std::test::Fail> {
     assert_eq!(rt; fault_after_names(&rt, b"")?, at(RuleKind::BadLine, 0, 0));
-    assert_eq!(rt; fault_after_names(&rt, b"any -> 1")?, at(RuleKind::BadLine, 0, 0));
-    assert_eq!(rt; fault_after_names(&rt, b"any -> gold")?, at(RuleKind::TooLong, 69, 8));
+    assert_eq!(rt;
+        fault_after_names(&rt, b"any -> 1")?,
+        at(RuleKind::BadLine, 0, 0)
+    );
+    assert_eq!(rt;
+        fault_after_names(&rt, b"any -> gold")?,
+        at(RuleKind::TooLong, 69, 8)
+    );
     Ok(())
 }
 
