@@ -10,7 +10,7 @@ use Rattle.std.proofs.lemmas.Cmp.{ranked}
 use Rattle.std.proofs.lemmas.List.Elements.{All-nil, All-cons, All-contains}
 use Rattle.cell_diagrams.specs.UnusedRules.{AreAscending}
 use Rattle.cell_diagrams.specs.inner.Meetings.{has_pair, AreMeetings, IsLeast}
-use Rattle.cell_diagrams.specs.inner.Numbers.{AreNumbers, has_one, places_of}
+use Rattle.cell_diagrams.specs.inner.Numbers.{AreGivenNumbers, has_one, places_of}
 use Rattle.cell_diagrams.specs.inner.Pairs.{ArePairs, pair_cmp}
 use Rattle.cell_diagrams.specs.inner.Values.{diagram_value}
 use Rattle.cell_diagrams.specs.declared.diagram.Diagram.{Diagram}
@@ -103,7 +103,7 @@ meeting_of (first ∷ more) one e =
     cases (first.one == one) refl
 
 pub numbers_are : (nodes : List Node) (diagram : Diagram) (both : Both) (meetings : List Meeting) (numbers : BTreeSet ℕ) → both ≡ record { one = diagram; other = Leaf 0 }
-    → AreMeetings nodes nodes both meetings → ((n : ℕ) → contains nat_cmp numbers n ≡ has_one meetings n) → AreNumbers nodes diagram numbers
+    → AreMeetings nodes nodes both meetings → ((n : ℕ) → contains nat_cmp numbers n ≡ has_one meetings n) → AreGivenNumbers nodes diagram numbers
 numbers_are nodes diagram both meetings numbers is given same =
     let pair : Both = record { one = diagram; other = Leaf 0 } in
     let are : AreMeetings nodes nodes pair meetings = subst (λ (b : Both). AreMeetings nodes nodes b meetings) is given in

@@ -19,7 +19,7 @@ use Rattle.cell_diagrams.specs.UnusedRules.{AreAscending, AreUnused, ArePlacesAs
 use Rattle.cell_diagrams.specs.inner.Choices.{chosen, IsChoice}
 use Rattle.cell_diagrams.specs.inner.Holding.{AreDeciders, AreTaken, AreUnusedBefore, IsFoundAt, IsSpared, passed_before}
 use Rattle.cell_diagrams.specs.inner.Lines.{line_number, deciding_line}
-use Rattle.cell_diagrams.specs.inner.Numbers.{AreNumbers, places_of}
+use Rattle.cell_diagrams.specs.inner.Numbers.{AreGivenNumbers, places_of}
 use Rattle.cell_diagrams.specs.inner.Spans.{truth}
 use Rattle.cell_diagrams.specs.inner.Tells.{GivesNumber, Tells}
 use Rattle.cell_diagrams.specs.inner.Values.{diagram_value, Keeps}
@@ -41,7 +41,7 @@ chosen_some true one place e = (refl, e)
 chosen_some false one place e = absurd (omega arith)
 
 pub taken_are : (old new : List Node) (deciding held taken : Diagram) (numbers : BTreeSet ℕ) (places : List ℕ) (number : List ℕ → ℕ) (holds : List ℕ → Bool) → Keeps old new
-    → IsChoice new held deciding (Leaf 0) taken → AreNumbers new taken numbers → places ≡ places_of numbers.keys → IsOrdered nat_cmp numbers
+    → IsChoice new held deciding (Leaf 0) taken → AreGivenNumbers new taken numbers → places ≡ places_of numbers.keys → IsOrdered nat_cmp numbers
     → GivesNumber old number deciding → Tells old holds held → AreTaken number holds places
 taken_are old new deciding held taken numbers places number holds keeps is are same ordered gives tells =
     let zero_gives : GivesNumber old (λ cell. 0) (Leaf 0) = record { within = tt; value = λ cell there. refl } in
@@ -57,7 +57,7 @@ taken_are old new deciding held taken numbers places number holds keeps is are s
       ascending = places_ascend numbers.keys ordered;
     })
 
-pub deciders_are : (nodes : List Node) (rules : Rules) (deciding : Diagram) (numbers : BTreeSet ℕ) → GivesNumber nodes (deciding_line rules) deciding → AreNumbers nodes deciding numbers
+pub deciders_are : (nodes : List Node) (rules : Rules) (deciding : Diagram) (numbers : BTreeSet ℕ) → GivesNumber nodes (deciding_line rules) deciding → AreGivenNumbers nodes deciding numbers
     → AreDeciders (deciding_line rules) numbers
 deciders_are nodes rules deciding numbers gives are = record {
   each = λ cell there. subst (λ n. contains nat_cmp numbers n ≡ true) (gives.value cell there) (are.each (octets_number cell));

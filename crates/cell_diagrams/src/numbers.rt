@@ -4,7 +4,7 @@ ghost use Rattle.std.specs.Prelude.{◌≡◌, ℕ, ◌++◌, ◌∷◌, [], IfO
 ghost use Rattle.std.specs.BTreeSet.{IsOrdered, contains};
 ghost use Rattle.std.specs.Ordering.{nat_cmp};
 ghost use Rattle.cell_diagrams.specs.inner.Values.{IsWithin};
-ghost use Rattle.cell_diagrams.specs.inner.Numbers.{AreNumbers, has_one, places_of};
+ghost use Rattle.cell_diagrams.specs.inner.Numbers.{AreGivenNumbers, has_one, places_of};
 
 use crate::diagram::Diagram;
 use crate::fault::Undecided;
@@ -36,7 +36,7 @@ pub(crate) fn numbers(
     diagram: Diagram,
 ) -> Result<BTreeSet<u32>, Undecided>
     requires { IsWithin diagrams.now diagram }
-    ensures { IfOk result (AreNumbers diagrams.now diagram) }
+    ensures { IfOk result (AreGivenNumbers diagrams.now diagram) }
 {
     let both = Both {
         one: diagram,

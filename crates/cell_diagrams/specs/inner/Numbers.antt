@@ -15,7 +15,7 @@ has_one [] number = false
 has_one (meeting ∷ more) number = (meeting.one == number) || has_one more number
 
 -- The set has the numbers that the diagram gives cells, and no other.
-pub record AreNumbers (nodes : List Node) (diagram : Diagram) (numbers : BTreeSet ℕ) : Type 0 where
+pub record AreGivenNumbers (nodes : List Node) (diagram : Diagram) (numbers : BTreeSet ℕ) : Type 0 where
   pub each : (cell : ℕ) → contains nat_cmp numbers (diagram_value nodes diagram cell) ≡ true
   pub only : (number : ℕ) → contains nat_cmp numbers number ≡ true → (cell : List ℕ) × IsCell cell × (diagram_value nodes diagram (octets_number cell) ≡ number)
 
