@@ -213,13 +213,13 @@ def differing(listed, asked):
 
 
 def packaged(sources):
-    """Yields what is wrong with tools/packages. Scripts of tests/ ask for a package by `needs`, pages by a mark of tests/pages."""
+    """Yields what is wrong with tools/packages. Scripts of tests/ ask for a package by `needs` or run tools/needs, pages by a mark of tests/pages."""
     lines = [line.split(None, 2) for line in text_of("tools/packages").split("\n") if line and not line.startswith("#")]
     listed = {(package, check) for package, _, checks in lines for check in checks.split(", ")}
     asked = {(package, "tests/pages") for page in pages_of(sources) for package in re.findall(r"<!-- needs (\S+) -->", text_of(page))}
     for name in os.listdir(f"{ROOT}/tests"):
         if os.path.isfile(f"{ROOT}/tests/{name}"):
-            asked |= {(package, f"tests/{name}") for package in re.findall(r"(?:if|!|&&|\|\|) needs ([a-z0-9.+-]+) ", text_of(f"tests/{name}"))}
+            asked |= {(package, f"tests/{name}") for package in re.findall(r"(?:(?:if|!|&&|\|\|) needs |tools/needs\", \")([a-z0-9.+-]+)[ \"]", text_of(f"tests/{name}"))}
     yield from differing(listed, asked)
 
 
