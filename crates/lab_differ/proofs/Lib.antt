@@ -3,3 +3,8 @@ pub mod Served
 pub mod Public
 pub mod LineOfCell
 pub mod Decided
+pub mod UnusedAnswers
+pub mod NamedUnused
+pub mod SameLists
+pub mod OneAnswer
+pub mod OneSearch

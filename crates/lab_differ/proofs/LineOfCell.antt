@@ -16,10 +16,11 @@ use Rattle.rules_text.specs.declared.fault.RuleFault.{RuleFault}
 use Rattle.rules_text.proofs.Public.{decision_same}
 use Rattle.text_io.specs.Gathered.{gathered}
 use Rattle.lab_differ.specs.ChangeLines.{case_text, cases_text, change_text, is_listed}
-use Rattle.lab_differ.specs.DifferLaws.{EachCellThatDiffersHasItsLine, IsConclusive, TheSameGiveEachCellOneValue}
+use Rattle.lab_differ.specs.DifferLaws.{EachCellThatDiffersHasItsLine, TheSameGiveEachCellOneValue}
 use Rattle.lab_differ.specs.DifferText.{FindsText, IsDecided, IsDifferText, PrintsCases, same_text}
+use Rattle.lab_differ.specs.Findings.{IsConclusive}
 use Rattle.lab_differ.specs.declared.finding.Finding.{Finding}
-use Rattle.lab_differ.specs.declared.finding.Finding.TheVariants.{Same, Differ, Faulty, Undecided}
+use Rattle.lab_differ.specs.declared.finding.Finding.TheVariants.{Nothing, Something, Faulty, Undecided}
 
 -- ---- the two texts
 
@@ -34,16 +35,16 @@ one_read : (one other : NumberedRead) (found : Result NumberedRead RuleFault) �
 one_read one other found e f = cc
 
 -- The rules that were found are those of the text.
-read_is : (octets : List ℕ) (one other : NumberedRead) → FindsText (gathered most_rules_octets octets) one → numbered_in octets ≡ Ok other → one ≡ other
+pub read_is : (octets : List ℕ) (one other : NumberedRead) → FindsText (gathered most_rules_octets octets) one → numbered_in octets ≡ Ok other → one ≡ other
 read_is octets one other finds read =
     let same = found_is octets finds.0 finds.1 in
     one_read one other (numbered_in octets) (subst (λ (text : List ℕ). numbered_in text ≡ Ok one) (sym same) finds.2) read
 
 -- A finding that says something is of a comparison.
-said_not_faulty : {A : Type 0} (finding : Finding) → IsConclusive finding → finding ≡ Faulty → A
+pub said_not_faulty : {A : Type 0} (finding : Finding) → IsConclusive finding → finding ≡ Faulty → A
 said_not_faulty finding said e = absurd (subst IsConclusive e said)
 
-said_not_undecided : {A : Type 0} (finding : Finding) → IsConclusive finding → finding ≡ Undecided → A
+pub said_not_undecided : {A : Type 0} (finding : Finding) → IsConclusive finding → finding ≡ Undecided → A
 said_not_undecided finding said e = absurd (subst IsConclusive e said)
 
 decided_from : (lines : Bool) (old octets answer : List ℕ) (was is : NumberedRead) (finding : Finding) → IsDifferText lines old octets answer finding → IsConclusive finding
@@ -60,13 +61,13 @@ decided_from lines old octets answer was is finding (inr (one, finds, inr (other
 read_decides : (rules : Rules) (read : RulesRead) (cell : List ℕ) → read ≡ rules_read rules → decision_of rules cell ≡ rules_decide read cell
 read_decides rules read cell e = decision_same rules cell ∙ ap (λ (r : RulesRead). rules_decide r cell) (sym e)
 
-same_given : (lines : Bool) (was is : NumberedRead) (one other : Rules) (cases : List Case) (answer : List ℕ) → PrintsCases lines was is one other cases answer Same → GiveSame one other
+same_given : (lines : Bool) (was is : NumberedRead) (one other : Rules) (cases : List Case) (answer : List ℕ) → PrintsCases lines was is one other cases answer Nothing → GiveSame one other
 same_given lines was is one other cases answer (inl prints) = prints.0
-same_given lines was is one other cases answer (inr prints) = let bad : Same ≡ Differ = prints.2 in absurd (cc)
+same_given lines was is one other cases answer (inr prints) = let bad : Nothing ≡ Something = prints.2 in absurd (cc)
 
 pub the_same_give_one : TheSameGiveEachCellOneValue
 the_same_give_one lines old octets answer was is text old_is new_is cell there =
-    let decided = decided_from lines old octets answer was is Same text tt old_is new_is in
+    let decided = decided_from lines old octets answer was is Nothing text tt old_is new_is in
     let gives : GiveSame decided.was decided.is = same_given lines was is decided.was decided.is decided.cases answer decided.prints in
     let value_was : (decision_of decided.was cell).value ≡ (rules_decide was.rules cell).value = ap (λ (d : Decision). d.value) (read_decides decided.was was.rules cell decided.old_read) in
     let value_is : (decision_of decided.is cell).value ≡ (rules_decide is.rules cell).value = ap (λ (d : Decision). d.value) (read_decides decided.is is.rules cell decided.new_read) in

@@ -10,7 +10,8 @@ use Rattle.text_io.specs.declared.ending.Done.TheVariants.{Whole, Ended}
 use Rattle.upc_words.specs.FaultLines.{too_long}
 use Rattle.lab_rules.specs.RuleFaults.{rule_fault}
 use Rattle.lab_rules.specs.RulesAnswers.{most_rules_octets}
-use Rattle.lab_differ.specs.DifferText.{FindsText, IsDifferAnswer, PrintsDiffer, finding_done, new_mark, not_decided, old_mark}
+use Rattle.lab_differ.specs.DifferText.{FindsText, IsDifferAnswer, PrintsDiffer, new_mark, not_decided, old_mark}
+use Rattle.lab_differ.specs.Findings.{finding_done}
 use Rattle.lab_differ.specs.declared.finding.Finding.{Finding}
 use Rattle.lab_differ.specs.declared.finding.Finding.TheVariants.{Faulty, Undecided}
 
@@ -41,7 +42,7 @@ some_answer lines old octets =
     (has.0, finding_done has.1, (has.1, has.2, refl))
 
 -- One octet more than the limit is over the limit.
-gathered_none : (octets : List ℕ) → length octets ≡ most_rules_octets + 1 → gathered most_rules_octets octets ≡ None
+pub gathered_none : (octets : List ℕ) → length octets ≡ most_rules_octets + 1 → gathered most_rules_octets octets ≡ None
 gathered_none octets sized = ap (λ n. if nat_lt most_rules_octets n then None else Some octets) sized
 
 -- The octets that were read are enough for the answer.

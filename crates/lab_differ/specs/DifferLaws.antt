@@ -6,19 +6,13 @@ use Rattle.rules_text.specs.DecisionsRead.{rules_decide}
 use Rattle.rules_text.specs.TextOfRules.{NumberedRead, numbered_in}
 use Rattle.lab_differ.specs.ChangeLines.{change_text}
 use Rattle.lab_differ.specs.DifferText.{IsDifferText}
+use Rattle.lab_differ.specs.Findings.{IsConclusive}
 use Rattle.lab_differ.specs.declared.finding.Finding.{Finding}
-use Rattle.lab_differ.specs.declared.finding.Finding.TheVariants.{Same, Differ, Faulty, Undecided}
-
--- The finding says whether the texts are the same.
-abbrev pub IsConclusive : Finding → Type 0
-IsConclusive Same = Unit {0}
-IsConclusive Differ = Unit {0}
-IsConclusive Faulty = ⊥
-IsConclusive Undecided = ⊥
+use Rattle.lab_differ.specs.declared.finding.Finding.TheVariants.{Nothing}
 
 -- If the finding is that the texts are the same, they give each cell the same value.
 abbrev pub TheSameGiveEachCellOneValue : Type 0
-TheSameGiveEachCellOneValue = (lines : Bool) (old octets answer : List ℕ) (was is : NumberedRead) → IsDifferText lines old octets answer Same
+TheSameGiveEachCellOneValue = (lines : Bool) (old octets answer : List ℕ) (was is : NumberedRead) → IsDifferText lines old octets answer Nothing
     → numbered_in old ≡ Ok was → numbered_in octets ≡ Ok is
     → (cell : List ℕ) → IsCell cell → (rules_decide was.rules cell).value ≡ (rules_decide is.rules cell).value
 

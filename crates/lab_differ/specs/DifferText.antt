@@ -1,5 +1,5 @@
 -- The output of `upc-lab differ`, which compares two texts of rules. The old one is a file, and the whole input is the new one.
-use Rattle.std.specs.Prelude.{◌≡◌, ◌⊎◌, ℕ, Bool, List, ◌++◌, codes, Option, Some, MatchOption, Result, Ok, Err}
+use Rattle.std.specs.Prelude.{◌≡◌, ◌⊎◌, ℕ, Bool, List, ◌++◌, codes, Option, Some, MatchOption, Ok, Err}
 use Rattle.cell_diagrams.specs.Cases.{AreCases, GiveSame}
 use Rattle.cell_diagrams.specs.declared.case.Case.{Case}
 use Rattle.cell_rules.specs.declared.rules.Rules.{Rules}
@@ -10,12 +10,11 @@ use Rattle.rules_text.specs.TextOfRules.{NumberedRead, numbered_in}
 use Rattle.rules_text.specs.declared.fault.RuleFault.{RuleFault}
 use Rattle.text_io.specs.Gathered.{gathered}
 use Rattle.text_io.specs.declared.ending.Done.{Done}
-use Rattle.text_io.specs.declared.ending.Done.TheVariants.{Whole, Ended}
-use Rattle.text_io.specs.declared.ending.RunFault.{RunFault}
 use Rattle.upc_words.specs.FaultLines.{too_long}
 use Rattle.lab_differ.specs.ChangeLines.{cases_text}
+use Rattle.lab_differ.specs.Findings.{IsAnswerWith}
 use Rattle.lab_differ.specs.declared.finding.Finding.{Finding}
-use Rattle.lab_differ.specs.declared.finding.Finding.TheVariants.{Same, Differ, Faulty, Undecided}
+use Rattle.lab_differ.specs.declared.finding.Finding.TheVariants.{Nothing, Something, Faulty, Undecided}
 
 -- What precedes the fault line of the old text.
 abbrev pub old_mark : List ℕ
@@ -45,8 +44,8 @@ same_text = codes "same on every cell\n"
 -- The answer by all cases of the rules: that they give each cell the same value, exactly if they do, and then the lines of the cases.
 abbrev pub PrintsCases : Bool → NumberedRead → NumberedRead → Rules → Rules → List Case → List ℕ → Finding → Type 0
 PrintsCases lines old new was is cases answer finding =
-    (GiveSame was is × (answer ≡ same_text ++ cases_text lines old new cases) × (finding ≡ Same))
-    ⊎ ((GiveSame was is → ⊥) × (answer ≡ cases_text lines old new cases) × (finding ≡ Differ))
+    (GiveSame was is × (answer ≡ same_text ++ cases_text lines old new cases) × (finding ≡ Nothing))
+    ⊎ ((GiveSame was is → ⊥) × (answer ≡ cases_text lines old new cases) × (finding ≡ Something))
 
 -- The rules in memory are those that were read, and the answer is by all of their cases.
 pub record IsDecided (lines : Bool) (old new : NumberedRead) (answer : List ℕ) (finding : Finding) : Type 0 where
@@ -73,18 +72,6 @@ PrintsDiffer lines old new answer finding =
 abbrev pub IsDifferText : Bool → List ℕ → List ℕ → List ℕ → Finding → Type 0
 IsDifferText lines old octets = PrintsDiffer lines (gathered most_rules_octets old) (gathered most_rules_octets octets)
 
--- How the run ends: texts that are the same are a whole answer.
-abbrev pub finding_done : Finding → Done
-finding_done Same = Whole
-finding_done Differ = Ended
-finding_done Faulty = Ended
-finding_done Undecided = Ended
-
 -- The output, and how the run ends.
 abbrev pub IsDifferAnswer : Bool → List ℕ → List ℕ → List ℕ → Done → Type 0
-IsDifferAnswer lines old octets answer done = (finding : Finding) × IsDifferText lines old octets answer finding × (done ≡ finding_done finding)
-
--- How a run with this result ends.
-abbrev pub ended_by : Result Finding RunFault → Result Done RunFault
-ended_by (Ok finding) = Ok (finding_done finding)
-ended_by (Err fault) = Err fault
+IsDifferAnswer lines old = IsAnswerWith (IsDifferText lines old)

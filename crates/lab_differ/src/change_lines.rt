@@ -78,7 +78,7 @@ fn add_fields(answers: &mut Vec<u8>, side: Side, cell: &Cell) -> Result<(), Allo
 
 /// Appends the line of rules that decides, or `otherwise`.
 #[tactic(auto, using(std::proofs::lemmas::List::append_assoc))]
-fn add_decider(
+pub(crate) fn add_decider(
     answers: &mut Vec<u8>,
     numbers: &[usize],
     line: Option<usize>,

@@ -1,22 +1,23 @@
 //! `upc-lab differ`: compares two texts of rules.
 
-ghost use Rattle.std.specs.Prelude.{◌≡◌, ◌≢◌, ◌++◌, Err, IfOk, OnErr, OnOk, option_map};
+ghost use Rattle.std.specs.Prelude.{IfOk, option_map};
 ghost use Rattle.cell_diagrams.specs.Cases.{AreCases};
 ghost use Rattle.lab_rules.specs.RulesAnswers.{most_rules_octets};
 ghost use Rattle.rules_text.specs.NumberedText.{numbered_read};
-ghost use Rattle.text_io.specs.Devices.{Adds, IsPart};
-ghost use Rattle.text_io.specs.Failures.{write_failures};
+ghost use Rattle.text_io.specs.Devices.{Adds};
 ghost use Rattle.text_io.specs.Gathered.{gathered};
 ghost use Rattle.text_io.specs.Serving.{IsServed};
-ghost use Rattle.lab_differ.specs.DifferText.{IsDecided, IsDifferAnswer, IsDifferText, PrintsComparison, PrintsDiffer, ended_by};
+ghost use Rattle.lab_differ.specs.DifferText.{IsDecided, IsDifferAnswer, IsDifferText, PrintsComparison, PrintsDiffer};
+ghost use Rattle.lab_differ.specs.Findings.{ended_by};
 
 use crate::change_lines::add_cases;
-use crate::finding::{Finding, done_of};
-use crate::reading::{MOST_RULES_OCTETS, read_new, read_old};
+use crate::finding::Finding;
+use crate::giving::give_finding;
+use crate::reading::{MOST_RULES_OCTETS, Which, read_found, read_old};
 use cell_diagrams::{Case, Undecided, compare, give_same};
 use rules_text::NumberedRules;
 use std::alloc::{AllocError, Global};
-use text_io::{Input, Output, RunFault, gather, give_last};
+use text_io::{Input, Output, RunFault, gather};
 use upc_words::add_text;
 
 /// Appends the comparison of two texts, by all cases of their rules.
@@ -35,10 +36,10 @@ fn add_decided(
     if give_same(cases) {
         add_text(answers, b"same on every cell\n")?;
         add_cases(answers, lines, old, new, cases)?;
-        Ok(Finding::Same)
+        Ok(Finding::Nothing)
     } else {
         add_cases(answers, lines, old, new, cases)?;
-        Ok(Finding::Differ)
+        Ok(Finding::Something)
     }
 }
 
@@ -78,28 +79,10 @@ fn add_differ(
     let Some(was) = read_old(alloc, old, answers)? else {
         return Ok(Finding::Faulty);
     };
-    let Some(changed) = read_new(alloc, new, answers)? else {
+    let Some(changed) = read_found(alloc, Which::New, new, answers)? else {
         return Ok(Finding::Faulty);
     };
     add_comparison(alloc, answers, lines, &was, &changed)
-}
-
-/// Writes the answer, and returns what was found.
-fn give_finding<O: Output>(
-    output: &mut O,
-    answers: &mut Vec<u8>,
-    finding: Finding,
-) -> Result<Finding, RunFault>
-    ensures found { IfOk result (λ value. value ≡ finding) }
-    ensures given { O.is_known → OnOk result (O.held output.new ≡ O.held output.old ++ answers.old.items) }
-    ensures front { O.is_known → OnErr result (IsPart (O.held output.old) (O.held output.new) answers.old.items) }
-    ensures fault { OnErr result (result ≡ Err RunFault.WriteFailed) }
-    ensures writing { O.failures output.new ≡ write_failures (ended_by result) (O.failures output.old) }
-{
-    match give_last(output, answers, done_of(finding)) {
-        Ok(_) => Ok(finding),
-        Err(fault) => Err(fault),
-    }
 }
 
 /// Compares two texts of rules, the old one and the whole input: what they decide differently for some cell. The answer says that they

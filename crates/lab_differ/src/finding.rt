@@ -1,18 +1,18 @@
-//! What a comparison of two texts of rules found.
+//! What was found of texts of rules.
 
 ghost use Rattle.std.specs.Prelude.{◌≡◌};
-ghost use Rattle.lab_differ.specs.DifferText.{ended_by, finding_done};
+ghost use Rattle.lab_differ.specs.Findings.{ended_by, finding_done};
 
 use text_io::{Done, RunFault};
 
-/// What a comparison of two texts of rules found.
+/// What was found of one text of rules, or of two.
 #[derive(Clone, Copy, Debug, PartialEq, Eq)]
 pub enum Finding {
-    /// Both give each cell the same value.
-    Same,
-    /// They give some cell two values.
-    Differ,
-    /// One of them has a fault.
+    /// Both texts give each cell the same value; each rule decides some cell.
+    Nothing,
+    /// They give some cell two values; some rule decides no cell.
+    Something,
+    /// A text has a fault.
     Faulty,
     /// There are too many cases to decide.
     Undecided,
@@ -23,12 +23,12 @@ pub(crate) fn done_of(finding: Finding) -> Done
     ensures { result ≡ finding_done finding }
 {
     match finding {
-        Finding::Same => Done::Whole,
-        Finding::Differ | Finding::Faulty | Finding::Undecided => Done::Ended,
+        Finding::Nothing => Done::Whole,
+        Finding::Something | Finding::Faulty | Finding::Undecided => Done::Ended,
     }
 }
 
-/// How a run with this result ends: texts that are the same are a whole answer.
+/// How a run with this result ends: where nothing was found, it is a whole answer.
 pub fn ended_by(found: Result<Finding, RunFault>) -> Result<Done, RunFault>
     ensures { result ≡ ended_by found }
 {

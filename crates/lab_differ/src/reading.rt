@@ -1,4 +1,4 @@
-//! The reading of the two texts.
+//! The reading of texts.
 
 ghost use Rattle.std.specs.Prelude.{◌≡◌, ◌++◌, IfOk, OnOk, Some, option_map};
 ghost use Rattle.text_io.specs.Gathered.{gathered};
@@ -14,13 +14,15 @@ use upc_words::{add_text, add_too_long};
 /// The maximum number of octets of a text of rules.
 pub(crate) const MOST_RULES_OCTETS: u32 = 1048576;
 
-/// One of the two texts.
+/// One of two texts, or the only one.
 #[derive(Clone, Copy, Debug, PartialEq, Eq)]
 pub(crate) enum Which {
     /// The text before the change.
     Old,
     /// The text after it.
     New,
+    /// The only text.
+    Only,
 }
 
 /// Appends which text a fault is of.
@@ -30,6 +32,7 @@ fn add_which(answers: &mut Vec<u8>, which: Which) -> Result<(), AllocError>
     match which {
         Which::Old => add_text(answers, b"old: "),
         Which::New => add_text(answers, b"new: "),
+        Which::Only => Ok(()),
     }
 }
 
@@ -83,18 +86,19 @@ pub(crate) fn read_old(
     read_text(alloc, Which::Old, text, answers)
 }
 
-/// Reads the new text, or appends its fault. None was found if it is over the limit.
-pub(crate) fn read_new(
+/// Reads a text of the input, or appends its fault. None was found if it is over the limit.
+pub(crate) fn read_found(
     alloc: Global,
+    which: Which,
     found: Option<Vec<u8>>,
     answers: &mut Vec<u8>,
 ) -> Result<Option<NumberedRules>, AllocError>
-    ensures { IfOk result (ReadsText Which.New (option_map (λ text. text.items) found) answers.old.items answers.new.items) }
+    ensures { IfOk result (ReadsText which (option_map (λ text. text.items) found) answers.old.items answers.new.items) }
 {
     match found {
-        Some(text) => read_text(alloc, Which::New, &text, answers),
+        Some(text) => read_text(alloc, which, &text, answers),
         None => {
-            add_too_long_of(answers, Which::New)?;
+            add_too_long_of(answers, which)?;
             Ok(None)
         }
     }

@@ -1,5 +1,5 @@
--- The effect of `differ` is that of the program, if the words ask for it.
-use Rattle.std.proofs.Common.{◌≡◌, ℕ, Option, Some, None, Result, Ok, Err, refl, sym, ap, subst, ◌∙◌}
+-- The status of `differ` and of `unused` is that of the program, if the words ask for it.
+use Rattle.std.proofs.Common.{◌≡◌, ℕ, true, Some, Result, Ok, Err, refl, ◌∙◌}
 use Rattle.text_io.specs.declared.ending.Done.{Done}
 use Rattle.text_io.specs.declared.ending.Done.TheVariants.{Whole, Ended}
 use Rattle.text_io.specs.declared.ending.RunFault.{RunFault}
@@ -8,16 +8,16 @@ use Rattle.command_line.specs.ExitStatus.{status_of}
 use Rattle.command_line.specs.Invocation.{IsStatusFor}
 use Rattle.command_line.specs.declared.stop.Stop.{Stop}
 use Rattle.lab_differ.specs.declared.finding.Finding.{Finding}
-use Rattle.lab_differ.specs.declared.finding.Finding.TheVariants.{Same, Differ, Faulty, Undecided}
+use Rattle.lab_differ.specs.declared.finding.Finding.TheVariants.{Nothing, Something, Faulty, Undecided}
 use Rattle.lab_options.specs.declared.differ.DifferOptions.{DifferOptions}
 use Rattle.upc_lab.specs.Comparison.{finding_status}
-use Rattle.upc_lab.specs.SetupFile.{differ_in}
+use Rattle.upc_lab.specs.SetupFile.{asks_unused, differ_in}
 use Rattle.upc_lab.specs.declared.choice.Asked.{Asked}
 
--- A run with the status of a comparison.
+-- A run with the status of a finding.
 run_with : (ended : Result Finding RunFault) → (run : Result Done RunFault) × (finding_status ended ≡ status_of run)
-run_with (Ok Same) = (Ok Whole, refl)
-run_with (Ok Differ) = (Ok Ended, refl)
+run_with (Ok Nothing) = (Ok Whole, refl)
+run_with (Ok Something) = (Ok Ended, refl)
 run_with (Ok Faulty) = (Ok Ended, refl)
 run_with (Ok Undecided) = (Err NoMemory, refl)
 run_with (Err fault) = (Err fault, refl)
@@ -26,3 +26,7 @@ pub differ_status : (chosen : Result Asked Stop) (options : DifferOptions) (stat
     → (ended : Result Finding RunFault) × (status ≡ finding_status ended) → IsStatusFor chosen status
 differ_status (Ok asked) options status is ends = let run = run_with ends.0 in (run.0, ends.1 ∙ run.1)
 differ_status (Err stop) options status is ends = absurd (cc)
+
+pub unused_status : (chosen : Result Asked Stop) (status : ℕ) → asks_unused chosen ≡ true → (ended : Result Finding RunFault) × (status ≡ finding_status ended) → IsStatusFor chosen status
+unused_status (Ok asked) status is ends = let run = run_with ends.0 in (run.0, ends.1 ∙ run.1)
+unused_status (Err stop) status is ends = absurd (cc)

@@ -1,5 +1,6 @@
 -- What the words of `upc-lab` ask for.
 use Rattle.std.proofs.Common.{drop, ◌≡◌, ◌∙◌, Bool, ap, codes, cond, find, map, refl, subst, sym, true, false, inl, inr, List, [], ◌∷◌, ◌++◌, Option, Some, None, IfErr, IfOk, IsOkAnd, IsSome, IsSomeAnd, Ok, Err, option_map, Result}
+use Rattle.std.specs.Bool.{MatchBool}
 use Rattle.std.specs.Str.{bytes_eq}
 use Rattle.std.proofs.lemmas.Slice.Eq.{bytes_eq-Decides}
 use Rattle.clap.specs.Walk.{Text, is_empty}
@@ -14,7 +15,7 @@ use Rattle.lab_options.specs.CellsOptions.{AsksCells, CellsAsked, cells_asked_by
 use Rattle.lab_options.specs.FitOptions.{AsksFit, FitAsked, asked_by}
 use Rattle.lab_options.specs.DifferOptions.{AsksDiffer, DifferAsked, differ_asked_by}
 use Rattle.lab_options.specs.PoliceOptions.{AsksPolice, PoliceAsked, police_asked_by}
-use Rattle.upc_lab.specs.LabWords.{AsksLab, NamesLab, begins_cells, begins_differ, begins_fit, begins_police, lab_app, lab_faults_in, lab_subcommands, lab_table}
+use Rattle.upc_lab.specs.LabWords.{AsksLab, IsLabStop, NamesLab, begins_cells, begins_differ, begins_fit, begins_police, lab_app, lab_faults_in, lab_subcommands, lab_table}
 use Rattle.upc_lab.specs.declared.choice.Asked.{Asked}
 use Rattle.upc_lab.specs.declared.choice.Asked.TheVariants.{Plain, Cells, Fit, Police, Differ}
 use Rattle.upc_lab.specs.declared.choice.Subcommand.{Subcommand}
@@ -175,6 +176,16 @@ granted_plain words stop (Cells options) one two three four granted h = let bad 
 granted_plain words stop (Fit options) one two three four granted h = let bad : true ≡ false = sym h.1 ∙ two in cc
 granted_plain words stop (Police options) one two three four granted h = let bad : true ≡ false = sym h.2 ∙ three in cc
 granted_plain words stop (Differ options) one two three four granted h = let bad : true ≡ false = sym h.3 ∙ four in cc
+
+other_case : (P Q : Type 0) (test : Bool) → test ≡ false → Q → MatchBool test P Q
+other_case P Q false same other = other
+other_case P Q true same other = absurd (cc)
+
+-- A stop that the words may give as a subcommand without options is one that they may give.
+pub stopped_plain : (words : List Text) (stop : Stop) → begins_cells words ≡ false → begins_fit words ≡ false → begins_police words ≡ false
+    → begins_differ words ≡ false → StopsAt (lab_faults_in words) stop → IsLabStop words stop
+stopped_plain words stop one two three four stops =
+    other_case _ _ (begins_cells words) one (other_case _ _ (begins_fit words) two (other_case _ _ (begins_police words) three (other_case _ _ (begins_differ words) four stops)))
 
 -- What words that begin with `cells` ask for is in their options, and so it is with `fit`, `police` and `differ`.
 pub granted_cells : (words after : List Text) (stop : Stop) (asked : Asked) → begins_cells words ≡ true → after ≡ drop 1 words

@@ -3,7 +3,7 @@ use Rattle.std.proofs.Common.{ℕ, List}
 use Rattle.text_io.specs.declared.ending.Done.{Done}
 use Rattle.lab_captures.proofs.Public.{fixed_total, some_capture_text, some_cells_text}
 use Rattle.lab_captures.specs.CellFilter.{filter_start}
-use Rattle.lab_differ.proofs.Public.{some-differ_text}
+use Rattle.lab_differ.proofs.Public.{some-differ_text, some-unused_text}
 use Rattle.lab_faults.proofs.Public.{some-explain_text}
 use Rattle.lab_fit.specs.FitText.{fit_closes, fit_rules, fit_start, fit_steps}
 use Rattle.lab_programs.proofs.Public.{some-list_text, some-trace_text}
@@ -20,6 +20,7 @@ some-lab_text : (chosen : Subcommand) (octets : List ℕ) → (answer : List ℕ
 some-lab_text lab.Rules octets = some-rules_text octets
 some-lab_text lab.Why octets = some-why_text octets
 some-lab_text lab.Asm octets = some-asm_text octets
+some-lab_text lab.Unused octets = some-unused_text octets
 some-lab_text lab.List octets = some-list_text octets
 some-lab_text lab.Trace octets = some-trace_text octets
 some-lab_text lab.Size octets = some-sizes_text octets

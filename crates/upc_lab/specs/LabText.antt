@@ -2,6 +2,7 @@
 use Rattle.std.specs.Prelude.{ℕ, List}
 use Rattle.lab_captures.specs.CellsText.{IsCellsText}
 use Rattle.lab_differ.specs.DifferText.{IsDifferAnswer}
+use Rattle.lab_differ.specs.UnusedText.{IsUnusedAnswer}
 use Rattle.lab_fit.specs.FitText.{IsFitText}
 use Rattle.lab_faults.specs.Explained.{IsExplainText}
 use Rattle.lab_programs.specs.ListedProgram.{IsListText}
@@ -22,6 +23,7 @@ abbrev pub IsLabText : Subcommand → List ℕ → List ℕ → Done → Type 0
 IsLabText lab.Rules = MayBeRulesText
 IsLabText lab.Why = MayBeWhyText
 IsLabText lab.Asm = MayBeAsmText
+IsLabText lab.Unused = IsUnusedAnswer
 IsLabText lab.List = IsListText
 IsLabText lab.Trace = IsTraceText
 IsLabText lab.Size = IsSizesText

@@ -21,8 +21,8 @@ use Rattle.upc_lab.specs.declared.choice.Subcommand.TheVariants as lab
 -- The name of each subcommand without options: those for rules, those for programs, that for contracts, and that for faults.
 abbrev pub lab_subcommands : List (Text × Subcommand)
 lab_subcommands =
-    (codes "rules", lab.Rules) ∷ (codes "why", lab.Why) ∷ (codes "asm", lab.Asm) ∷ (codes "list", lab.List) ∷ (codes "trace", lab.Trace)
-    ∷ (codes "size", lab.Size) ∷ (codes "explain", lab.Explain) ∷ []
+    (codes "rules", lab.Rules) ∷ (codes "why", lab.Why) ∷ (codes "asm", lab.Asm) ∷ (codes "unused", lab.Unused) ∷ (codes "list", lab.List)
+    ∷ (codes "trace", lab.Trace) ∷ (codes "size", lab.Size) ∷ (codes "explain", lab.Explain) ∷ []
 
 -- Each subcommand of the command. Those with options, which mean nothing here, have a command of their own: words that begin with `cells`,
 -- `fit`, `police` or `differ` are read by it.

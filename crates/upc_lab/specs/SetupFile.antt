@@ -1,5 +1,5 @@
 -- What the program does with the files that the words name: a setup script and the files of rules that it names, or an old text of rules.
-use Rattle.std.specs.Prelude.{◌≡◌, ◌⊎◌, ◌==◌, IsTrue, if◌then◌else◌, ℕ, List, [], ◌++◌, Option, Some, None, MatchOption, Result, Ok, Err, codes, length, option_map}
+use Rattle.std.specs.Prelude.{◌≡◌, ◌⊎◌, ◌==◌, IsTrue, if◌then◌else◌, ℕ, List, [], ◌++◌, Option, Some, None, MatchBool, MatchOption, Bool, true, false, Result, Ok, Err, codes, length, option_map}
 use Rattle.std.specs.Path.{path_with_file_name}
 use Rattle.std.specs.Str.{bytes_eq}
 use Rattle.std.specs.String.{string_bytes}
@@ -11,12 +11,16 @@ use Rattle.command_line.specs.ShownWords.{shown_word}
 use Rattle.command_line.specs.declared.stop.Stop.{Stop}
 use Rattle.command_line.specs.Invocation.{CarriesOut, IsStatusFor}
 use Rattle.command_line.specs.Messages.{IsIdle, WritesMessage}
+use Rattle.lab_differ.specs.DifferText.{IsDifferText}
+use Rattle.lab_differ.specs.UnusedText.{IsUnusedText}
 use Rattle.lab_options.specs.declared.differ.DifferOptions.{DifferOptions}
-use Rattle.upc_lab.specs.Comparison.{CarriesDiffer}
+use Rattle.upc_lab.specs.Comparison.{CarriesFinding}
 use Rattle.upc_lab.specs.LabText.{IsAskedText}
 use Rattle.upc_lab.specs.ShownNames.{shown_name}
 use Rattle.upc_lab.specs.declared.choice.Asked.{Asked}
 use Rattle.upc_lab.specs.declared.choice.Asked.TheVariants.{Plain, Cells, Fit, Police, Differ}
+use Rattle.upc_lab.specs.declared.choice.Subcommand.{Subcommand}
+use Rattle.upc_lab.specs.declared.choice.Subcommand.TheVariants as lab
 use Rattle.upc_lab.specs.declared.setup_file.SetupFiles.{SetupFiles}
 use Rattle.upc_lab.specs.declared.setup_file.Unreadable.{Unreadable}
 
@@ -33,6 +37,26 @@ differ_in (Ok (Fit options)) = None
 differ_in (Ok (Police options)) = None
 differ_in (Ok (Differ options)) = Some options
 differ_in (Err stop) = None
+
+-- Whether this is `unused`.
+abbrev pub is_unused : Subcommand → Bool
+is_unused lab.Unused = true
+is_unused lab.Rules = false
+is_unused lab.Why = false
+is_unused lab.Asm = false
+is_unused lab.List = false
+is_unused lab.Trace = false
+is_unused lab.Size = false
+is_unused lab.Explain = false
+
+-- Whether the words ask for `unused`.
+abbrev pub asks_unused : Result Asked Stop → Bool
+asks_unused (Ok (Plain subcommand)) = is_unused subcommand
+asks_unused (Ok (Cells options)) = false
+asks_unused (Ok (Fit options)) = false
+asks_unused (Ok (Police options)) = false
+asks_unused (Ok (Differ options)) = false
+asks_unused (Err stop) = false
 
 -- The name of the file with the old rules, if the words name one.
 abbrev pub old_name : Result Asked Stop → Option (List ℕ)
@@ -73,13 +97,20 @@ unreadable_message unreadable = if length unreadable.line.items == 0 then plain_
 abbrev pub rules_in_files : SetupFiles → List (List ℕ)
 rules_in_files files = octets_of_texts files.rules.items
 
+-- The effect of the program for words that don't ask for `differ`.
+abbrev pub CarriesPlain : {Source Sink Errors : Type 0} → (RunFault → List ℕ) → Result Asked Stop → SetupFiles
+    → InputView Source → Source → Source → OutputView Sink → Sink → Sink → OutputView Errors → Errors → Errors → ℕ → Type 0
+CarriesPlain message chosen files I input input' O output output' E errors errors' status = MatchBool (asks_unused chosen)
+    (CarriesFinding message IsUnusedText I input input' O output output' E errors errors' status)
+    (CarriesOut message (IsAskedText files.script.items (rules_in_files files) files.old.items) chosen I input input' O output output' E errors errors' status)
+
 -- The effect of the program for its words and for the octets of the files that they name, which were read, with these messages for
 -- failures.
 abbrev pub CarriesWith : {Source Sink Errors : Type 0} → (RunFault → List ℕ) → Result Asked Stop → SetupFiles
     → InputView Source → Source → Source → OutputView Sink → Sink → Sink → OutputView Errors → Errors → Errors → ℕ → Type 0
 CarriesWith message chosen files I input input' O output output' E errors errors' status = MatchOption (differ_in chosen)
-    (CarriesOut message (IsAskedText files.script.items (rules_in_files files) files.old.items) chosen I input input' O output output' E errors errors' status)
-    (λ options. CarriesDiffer message options.all files.old.items I input input' O output output' E errors errors' status)
+    (CarriesPlain message chosen files I input input' O output output' E errors errors' status)
+    (λ options. CarriesFinding message (IsDifferText options.all files.old.items) I input input' O output output' E errors errors' status)
 
 -- The same, for files that may not have been read. If a file
 -- couldn't be read, nothing is read or written but the message about it.

@@ -23,6 +23,8 @@ pub enum Subcommand {
     Why,
     /// Compile a text of rules, and print the source of their program.
     Asm,
+    /// Print which rules of a text decide no cell.
+    Unused,
     /// Print the listing of a program, with the octets of each instruction.
     List,
     /// Run a program on cells, and print each step.
@@ -58,7 +60,7 @@ const LAB: Program = Program {
 };
 
 /// Its subcommands. None stands for one with options, which has a command of its own.
-const SUBCOMMANDS: [Row<Option<Subcommand>>; 11] = [
+const SUBCOMMANDS: [Row<Option<Subcommand>>; 12] = [
     Row {
         name: "rules",
         about: "Compile rules for cells and print the octets of their program",
@@ -78,6 +80,12 @@ const SUBCOMMANDS: [Row<Option<Subcommand>>; 11] = [
         about: "Compile rules for cells and print their program in assembly, with the rules as comments",
         example: Some("Example: upc-lab asm < examples/customer.rules"),
         means: Some(Subcommand::Asm),
+    },
+    Row {
+        name: "unused",
+        about: "Print which rules decide no cell, and which rules take their cells",
+        example: Some("Example: upc-lab unused < examples/customer.rules"),
+        means: Some(Subcommand::Unused),
     },
     Row {
         name: "list",

@@ -5,20 +5,22 @@ ghost use Rattle.text_io.specs.Serving.{IsServed};
 ghost use Rattle.command_line.specs.ExitStatus.{status_of};
 ghost use Rattle.command_line.specs.Invocation.{CarriesOut, IsStatusFor};
 ghost use Rattle.command_line.specs.Messages.{Reports};
-ghost use Rattle.lab_differ.specs.DifferText.{ended_by};
+ghost use Rattle.lab_differ.specs.DifferText.{IsDifferText};
+ghost use Rattle.lab_differ.specs.Findings.{ended_by};
+ghost use Rattle.lab_differ.specs.UnusedText.{IsUnusedText};
 ghost use Rattle.lab_differ.specs.declared.finding.Finding.{Finding as Found};
 ghost use Rattle.text_io.specs.declared.ending.RunFault.{RunFault as Failed};
-ghost use Rattle.upc_lab.specs.Comparison.{CarriesDiffer, finding_status};
+ghost use Rattle.upc_lab.specs.Comparison.{CarriesFinding, finding_status};
 ghost use Rattle.upc_lab.specs.LabMessages.{lab_failure_line, shell_status_of};
 ghost use Rattle.upc_lab.specs.LabText.{IsAskedText, IsLabText};
-ghost use Rattle.upc_lab.specs.SetupFile.{CarriesAllOut, CarriesWith, IsStatusIn, differ_in, rules_in_files};
+ghost use Rattle.upc_lab.specs.SetupFile.{CarriesAllOut, CarriesPlain, CarriesWith, IsStatusIn, asks_unused, differ_in, rules_in_files};
 
 use crate::choice::{Asked, Subcommand};
 use crate::reason::Reasoned;
 use crate::setup_file::{SetupFiles, Unreadable};
 use command_line::{Stop, status, write_message};
 use lab_captures::cells_of_capture;
-use lab_differ::{Finding, compare_texts, ended_by};
+use lab_differ::{Finding, compare_texts, ended_by, unused_in_text};
 use lab_faults::{Ahead, explain_faults};
 use lab_fit::fit_capture;
 use lab_options::DifferOptions;
@@ -88,6 +90,7 @@ fn run_plain<I: Ahead, O: Output>(
         Subcommand::Rules => compile_rules(alloc, input, output),
         Subcommand::Why => decide_cells(alloc, input, output),
         Subcommand::Asm => assemble_rules(alloc, input, output),
+        Subcommand::Unused => ended_by(unused_in_text(alloc, input, output)),
         Subcommand::List => list_program(alloc, input, output),
         Subcommand::Trace => trace_cells(alloc, input, output),
         Subcommand::Size => size_contracts(alloc, input, output),
@@ -159,18 +162,18 @@ fn differ_in(chosen: &Result<Asked, Stop>) -> Option<&DifferOptions>
     }
 }
 
-/// Returns the exit status of a comparison.
+/// Returns the exit status of a run with a finding.
 fn finding_status(ended: &Result<Finding, RunFault>) -> u8
     ensures { result ≡ finding_status ended.now }
 {
     match ended {
-        Ok(Finding::Same) => 0,
-        Ok(Finding::Differ | Finding::Faulty) => 1,
+        Ok(Finding::Nothing) => 0,
+        Ok(Finding::Something | Finding::Faulty) => 1,
         Ok(Finding::Undecided) | Err(_) => 3,
     }
 }
 
-/// Writes the message for a failed comparison, and returns the exit status of any comparison.
+/// Writes the message for a failed run with a finding, and returns the exit status of any such run.
 fn report_finding<I: Reasoned, O: Reasoned, E: Output>(
     ended: Result<Finding, RunFault>,
     input: &I,
@@ -200,12 +203,38 @@ fn carry_out_differ<I: Ahead + Reasoned, O: Output + Reasoned, E: Output>(
     output: &mut O,
     errors: &mut E,
 ) -> u8
-    ensures carried { I.is_known → O.is_known → E.is_known → CarriesDiffer
+    ensures carried { I.is_known → O.is_known → E.is_known → CarriesFinding
         (lab_failure_line (I.message input.new) (O.message output.new) (O.is_closed output.new))
-        all old.now I.Input input.old input.new O.Output output.old output.new E.Output errors.old errors.new result }
+        (IsDifferText all old.now) I.Input input.old input.new O.Output output.old output.new E.Output errors.old errors.new result }
     ensures status { (ended : Result Found Failed) × (result ≡ finding_status ended) }
 {
     let ended = compare_texts(alloc, old, all, input, output);
+    report_finding(ended, input, output, errors)
+}
+
+/// Returns whether the words ask for `unused`.
+fn asks_unused(chosen: &Result<Asked, Stop>) -> bool
+    ensures { result ≡ asks_unused chosen.now }
+{
+    match chosen {
+        Ok(Asked::Plain(Subcommand::Unused)) => true,
+        _ => false,
+    }
+}
+
+/// Names the rules of the whole input that decide no cell, and returns the exit status. A failure also gets a message.
+fn carry_out_unused<I: Ahead + Reasoned, O: Output + Reasoned, E: Output>(
+    alloc: Global,
+    input: &mut I,
+    output: &mut O,
+    errors: &mut E,
+) -> u8
+    ensures carried { I.is_known → O.is_known → E.is_known → CarriesFinding
+        (lab_failure_line (I.message input.new) (O.message output.new) (O.is_closed output.new))
+        IsUnusedText I.Input input.old input.new O.Output output.old output.new E.Output errors.old errors.new result }
+    ensures status { (ended : Result Found Failed) × (result ≡ finding_status ended) }
+{
+    let ended = unused_in_text(alloc, input, output);
     report_finding(ended, input, output, errors)
 }
 
@@ -242,6 +271,28 @@ fn carry_out_with<R: Threads, I: Ahead + Reasoned + Send, O: Output + Reasoned, 
     }
 }
 
+/// Does what words that don't ask for `differ` ask for, and returns the exit status. `unused` has one of its own.
+fn carry_out_plain<R: Threads, I: Ahead + Reasoned + Send, O: Output + Reasoned, E: Output>(
+    rt: &R,
+    alloc: Global,
+    chosen: &Result<Asked, Stop>,
+    files: &SetupFiles,
+    input: &mut I,
+    output: &mut O,
+    errors: &mut E,
+) -> u8
+    ensures carried { I.is_known → O.is_known → E.is_known → CarriesPlain
+        (lab_failure_line (I.message input.new) (O.message output.new) (O.is_closed output.new))
+        chosen.now files.now I.Input input.old input.new O.Output output.old output.new E.Output errors.old errors.new result }
+    ensures status { IsStatusFor chosen.now result }
+{
+    if asks_unused(chosen) {
+        carry_out_unused(alloc, input, output, errors)
+    } else {
+        carry_out_with(rt, alloc, chosen, files, input, output, errors)
+    }
+}
+
 /// Does what the words ask for, with the files that they name, and returns the exit status. A comparison has one of its own.
 fn carry_out_read<R: Threads, I: Ahead + Reasoned + Send, O: Output + Reasoned, E: Output>(
     rt: &R,
@@ -266,7 +317,7 @@ fn carry_out_read<R: Threads, I: Ahead + Reasoned + Send, O: Output + Reasoned, 
             output,
             errors,
         ),
-        None => carry_out_with(rt, alloc, chosen, files, input, output, errors),
+        None => carry_out_plain(rt, alloc, chosen, files, input, output, errors),
     }
 }
 

@@ -30,6 +30,7 @@ fn notice_of(subcommand: Subcommand) -> &'static str
         Subcommand::Why =>
             "upc-lab why: reading rules, a line `cells` and cells from the terminal, to its end",
         Subcommand::Asm => "upc-lab asm: reading rules from the terminal, to its end",
+        Subcommand::Unused => "upc-lab unused: reading rules from the terminal, to its end",
         Subcommand::List => "upc-lab list: reading a program from the terminal, to its end",
         Subcommand::Trace =>
             "upc-lab trace: reading a program and cells from the terminal, to its end",

@@ -1,16 +1,17 @@
 -- The reading of a text that was found.
-use Rattle.std.specs.Prelude.{◌≡◌, ℕ, List, Option, MatchOption}
+use Rattle.std.specs.Prelude.{◌≡◌, ℕ, List, [], Option, MatchOption}
 use Rattle.rules_text.specs.NumberedText.{numbered_read}
 use Rattle.rules_text.specs.declared.reader.NumberedRules.{NumberedRules}
 use Rattle.text_io.specs.Devices.{Adds}
 use Rattle.lab_differ.specs.DifferText.{FindsText, PrintsFaultAfter, new_mark, old_mark}
 use Rattle.lab_differ.specs.declared.reading.Which.{Which}
-use Rattle.lab_differ.specs.declared.reading.Which.TheVariants.{Old, New}
+use Rattle.lab_differ.specs.declared.reading.Which.TheVariants.{Old, New, Only}
 
 -- What precedes the fault line of a text.
 abbrev pub which_mark : Which → List ℕ
 which_mark Old = old_mark
 which_mark New = new_mark
+which_mark Only = []
 
 -- The text was read, and nothing was added to the answers; or its fault was.
 abbrev pub ReadsText : Which → Option (List ℕ) → List ℕ → List ℕ → Option NumberedRules → Type 0

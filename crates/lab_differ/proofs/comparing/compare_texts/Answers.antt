@@ -51,10 +51,10 @@ returns-clause-served g c =
     let text : g.I.Input.is_known → IsDifferText lines old octets answers finding =
     λ known. subst (λ (f : Option (List ℕ)). PrintsDiffer lines (gathered most_rules_octets old) f answers finding) (c.in-Ok.ensures.whole known) prints in
     record {
-      text = λ known written. text_given lines old octets held held' result
-          (printed_given lines old octets held held' answers finding result c.give_finding.ensures.found (c.give_finding.ensures.given written) (text known));
-      front = λ known written. front_given lines old octets held held' answers finding result (c.give_finding.ensures.front written) (text known);
-      left = λ known. left_given lines old octets left finding result c.give_finding.ensures.found
+      text = λ known written. text_given (IsDifferText lines old) octets held held' result
+          (printed_given (IsDifferText lines old) octets held held' answers finding result c.give_finding.ensures.found (c.give_finding.ensures.given written) (text known));
+      front = λ known written. front_given (IsDifferText lines old) octets held held' answers finding result (c.give_finding.ensures.front written) (text known);
+      left = λ known. left_given (IsDifferText lines old) octets left finding result c.give_finding.ensures.found
           (enough lines old octets left found answers finding (c.in-Ok.ensures.whole known) (c.in-Ok.ensures.left known) prints);
       whole = λ known e. whole_read lines (gathered most_rules_octets old) found octets left answers finding
           (done_whole finding result c.give_finding.ensures.found e) prints (c.in-Ok.ensures.left known);
@@ -76,5 +76,5 @@ returns-clause-printed g c = λ known written.
     subst (λ xs. PrintsDiffer lines (gathered most_rules_octets old) found xs finding) (sym text_is) answered.2 in
     let text : IsDifferText lines old octets answers finding =
     subst (λ (f : Option (List ℕ)). PrintsDiffer lines (gathered most_rules_octets old) f answers finding) (c.in-Ok.ensures.whole known) prints in
-    printed_given lines old octets (g.O.Output.held c.args.output.now) (g.O.Output.held c.give_finding.new.output) answers finding c.give_finding.result
+    printed_given (IsDifferText lines old) octets (g.O.Output.held c.args.output.now) (g.O.Output.held c.give_finding.new.output) answers finding c.give_finding.result
     c.give_finding.ensures.found (c.give_finding.ensures.given written) text
