@@ -9,7 +9,7 @@ nearest_tick time nanoseconds = (time * 1000000000 + 2 ^ 31 * nanoseconds) / (2 
 abbrev pub stamp_at : ℕ → ℕ
 stamp_at nanosecond = nanosecond * 2 ^ 32 / 1000000000
 
--- Stamps lose no tick: of two cells that came so many ticks apart, the stamps are as many ticks apart.
+-- Stamps lose no tick: if two cells came a whole number of ticks apart, their stamps give this number.
 abbrev pub StampsLoseNoTick : Type 0
 StampsLoseNoTick = (first ticks nanoseconds : ℕ) → 0 < nanoseconds
     → nearest_tick (stamp_at (first + ticks * nanoseconds) - stamp_at first) nanoseconds ≡ ticks

@@ -24,7 +24,7 @@ pub fn captures_have_a_reading()
     ensures { HasSomeReading }
 {}
 
-/// Cells that came so many ticks apart have stamps as many ticks apart, although stamps are rounded down.
+/// If two cells came a whole number of ticks apart, their stamps give this number, although stamps are rounded down.
 pub fn stamps_lose_no_tick()
     ensures { StampsLoseNoTick }
 {}

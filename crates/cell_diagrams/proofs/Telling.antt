@@ -95,7 +95,7 @@ module _ (old new : List Node) (keeps : Keeps old new) {E : Type 0} where
       (choice_gives old new one (Leaf 1) other made (λ cell. truth (met cell)) (λ cell. 1) (λ cell. truth (also cell)) keeps tells (leaf_gives old 1) too is)
   either_tells one other (Err e) is = tt
 
--- What is told of cells by tests that are the same.
+-- Tests that agree on every cell are told by the same diagrams.
 pub tells_by : {E : Type 0} (nodes : List Node) (r : Result Diagram E) (f g : List ℕ → Bool) → ((cell : List ℕ) → f cell ≡ g cell) → IfOk r (Tells nodes f) → IfOk r (Tells nodes g)
 tells_by nodes (Ok made) f g same tells = gives_same nodes (λ cell. truth (f cell)) (λ cell. truth (g cell)) made (λ cell. ap truth (same cell)) tells
 tells_by nodes (Err e) f g same tells = tt

@@ -6,7 +6,7 @@ use Rattle.text_io.specs.Devices.{Adds, IsPart, WritesPrefix}
 use Rattle.text_io.specs.Printing.{IsFront}
 use Rattle.text_io.specs.declared.ending.Done.{Done}
 -- Of results, and of all that waited.
-pub use Rattle.text_io.proofs.DriverLemmas.{all-moved as all_given, at-done as if_done, at-fault as on_fault, at-given as if_given}
+pub use Rattle.text_io.proofs.Public.{all-moved as all_given, at-done as if_done, at-fault as on_fault, at-given as if_given}
 
 -- A text along equal octets.
 pub reprinted : (Whole : Texts) (octets octets' text text' : List ℕ) (done : Done)

@@ -1,6 +1,6 @@
 -- Every input has an answer.
 use Rattle.std.proofs.Common.{ℕ, ◌⊎◌, inl, inr, List, Option, Some, None, refl}
-use Rattle.text_io.proofs.GatheredLemmas.{some-gathered}
+use Rattle.text_io.proofs.Public.{some-gathered}
 use Rattle.text_io.specs.Gathered.{AnswersGathered, gathered}
 use Rattle.text_io.specs.declared.ending.Done.{Done}
 use Rattle.lab_rules.specs.RulesAnswers.{AnswersBy, AreRulesOf, MayBeAnswerBy, PrintsLongCode, most_rules_octets}

@@ -111,7 +111,7 @@ fn value_at(lines: &[RuleLine], place: usize) -> u32
     }
 }
 
-/// The decision of the line at a place, counted from 1; 0 stands for no line.
+/// The decision of the line at a place, counted from 1; 0 is no line.
 fn decision_by_place(rules: &Rules, number: u32) -> Decision
     ensures { result ≡ decision_by_place rules.now number }
 {

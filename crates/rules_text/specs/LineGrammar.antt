@@ -389,7 +389,7 @@ abbrev pub may_be_name : RuleToken → Bool
 may_be_name name_word = true
 may_be_name _ = false
 
--- Whether a token stands for a name whose tokens are more than names may add.
+-- Whether a token was read in place of a name whose tokens are more than names may add.
 abbrev pub lacks_room : RuleToken → Bool
 lacks_room no_room = true
 lacks_room _ = false

@@ -93,7 +93,7 @@ impl Token {
         matches!(self, Token::Name)
     }
 
-    /// Whether this stands for a name whose tokens are more than names may add.
+    /// Whether this was read in place of a name whose tokens are more than names may add.
     pub(crate) fn lacks_room(self) -> bool
         ensures { result ≡ lacks_room (rule_token_seen self) }
     {

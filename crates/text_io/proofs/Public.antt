@@ -14,6 +14,10 @@ use Rattle.text_io.specs.declared.ending.Done.TheVariants.{Whole}
 pub use Rattle.text_io.proofs.SilentLines.{silent-or, silent-sound}
 -- Promises by a wider relation.
 pub use Rattle.text_io.proofs.ServingLemmas.{served-wider}
+-- A gathered input has a text, if all octets have one.
+pub use Rattle.text_io.proofs.GatheredLemmas.{some-gathered}
+-- The cases of what a driver or a step of it returns.
+pub use Rattle.text_io.proofs.DriverLemmas.{at-ok, at-err, at-result, at-done, at-fault, at-given, all-moved}
 
 -- Octets without a blank are one word.
 pub one-word : (line : List ℕ) → 0 < length line → ((k : ℕ) → k < length line → is_blank (get_or line k 0) ≡ false) → words_of line ≡ line ∷ []

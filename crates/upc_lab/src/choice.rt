@@ -59,7 +59,7 @@ const LAB: Program = Program {
     wants_one: true,
 };
 
-/// Its subcommands. None stands for one with options, which has a command of its own.
+/// Its subcommands. One with options has a command of its own in place of a subcommand here.
 const SUBCOMMANDS: [Row<Option<Subcommand>>; 12] = [
     Row {
         name: "rules",

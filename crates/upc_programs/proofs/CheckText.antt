@@ -8,7 +8,7 @@ use Rattle.upc_programs.specs.inner.ReadingLaws.{checks-once}
 use Rattle.upc_programs.specs.inner.CheckLaws.{source-printed}
 use Rattle.upc_programs.specs.SourceFaults.{asm_fault}
 use Rattle.upc_words.specs.FaultLines.{too_long}
-use Rattle.text_io.proofs.GatheredLemmas.{some-gathered}
+use Rattle.text_io.proofs.Public.{some-gathered}
 use Rattle.text_io.specs.Gathered.{AnswersGathered, gathered}
 use Rattle.text_io.specs.declared.ending.Done.{Done}
 

@@ -39,7 +39,7 @@ value_of_line (Some (Rule test value)) = value
 value_of_line (Some (Block test)) = 0
 value_of_line (Some End) = 0
 
--- The decision of the line at this place, counted from 1; 0 stands for no line.
+-- The decision of the line at this place, counted from 1; 0 is no line.
 abbrev pub decision_by_place : Rules → ℕ → Decision
 decision_by_place rules zero = record { line = None; value = rules.otherwise }
 decision_by_place rules (suc place) = record { line = Some place; value = value_of_line (slice_get rules.lines.items place) }

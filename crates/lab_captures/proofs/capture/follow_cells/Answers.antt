@@ -14,7 +14,7 @@ use Rattle.text_io.specs.Devices.{IsPart}
 use Rattle.text_io.specs.Failures.{read_failures}
 use Rattle.text_io.specs.declared.ending.Done.TheVariants.{Ended, Whole}
 use Rattle.text_io.specs.declared.ending.RunFault.TheVariants.{NoMemory, ReadFailed}
-use Rattle.text_io.proofs.DriverLemmas.{at-result}
+use Rattle.text_io.proofs.Public.{at-result}
 use Rattle.lab_captures.proofs.CaptureTexts.{a_front, all_needed, no_front, not_read, opened_enough, opened_text, refused_text, served_from, short_text}
 use Rattle.lab_captures.proofs.Progresses.{if_done, if_given, on_fault}
 use Rattle.lab_captures.proofs.capture.follow_cells.Goals as goal

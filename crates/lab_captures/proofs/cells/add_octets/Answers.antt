@@ -1,6 +1,6 @@
 use Rattle.std.proofs.Common.{◌++◌, ◌∙◌, sym, ap}
 use Rattle.hex.specs.Hex.{encode_lower}
-use Rattle.text_io.proofs.DriverLemmas.{at-ok}
+use Rattle.text_io.proofs.Public.{at-ok}
 use Rattle.lab_captures.proofs.Progresses.{on_done}
 use Rattle.lab_captures.proofs.cells.add_octets.Goals as goal
 

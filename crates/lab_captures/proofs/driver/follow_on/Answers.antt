@@ -2,7 +2,7 @@
 use Rattle.std.proofs.Common.{◌≡◌, Ok, [], ◌++◌, List, ℕ, refl, ap, subst, sym, ◌∙◌, arith, append-nil, length}
 use Rattle.std.proofs.lemmas.List.{length-append}
 use Rattle.std.proofs.lemmas.Result.{IfOk-weaker}
-use Rattle.text_io.proofs.DriverLemmas.{at-err, at-ok}
+use Rattle.text_io.proofs.Public.{at-err, at-ok}
 use Rattle.text_io.specs.declared.ending.Done.TheVariants.{Ended}
 use Rattle.lab_captures.specs.inner.Ahead.{CameSoFar, FillsAhead, IsQueuedText, with_window}
 use Rattle.lab_captures.specs.declared.advance.Going.{Going}

@@ -1,6 +1,6 @@
 use Rattle.std.proofs.Common.{◌++◌, ◌∙◌, sym, ap}
 use Rattle.hex.specs.Hex.{encode_lower}
-use Rattle.text_io.proofs.DriverLemmas.{at-ok}
+use Rattle.text_io.proofs.Public.{at-ok}
 use Rattle.std.proofs.lemmas.Result.{on_ok_weaker}
 use Rattle.lab_differ.proofs.change_lines.add_octets.Goals as goal
 

@@ -2,8 +2,7 @@
 use Rattle.std.proofs.Common.{◌≡◌, List, ℕ, [], inl, inr, refl, subst}
 use Rattle.lab_captures.proofs.CaptureTexts.{a_front, all_needed, not_read}
 use Rattle.lab_captures.proofs.Progresses.{if_done, if_given, on_fault}
-use Rattle.text_io.proofs.DriverLemmas.{at-result}
-use Rattle.text_io.proofs.Public.{nothing-begins}
+use Rattle.text_io.proofs.Public.{at-result, nothing-begins}
 use Rattle.text_io.specs.declared.ending.Done.TheVariants.{Ended, Whole}
 use Rattle.lab_captures.specs.CaptureText.{IsCaptureText}
 use Rattle.lab_captures.specs.CellFilter.{filter_start}

@@ -3,8 +3,7 @@ use Rattle.std.proofs.Common.{◌≡◌, List, ℕ, [], inl, inr, refl, subst, s
 use Rattle.std.proofs.lemmas.Result.{IfOk-weaker}
 use Rattle.lab_captures.proofs.CaptureTexts.{a_front, all_needed, not_read}
 use Rattle.lab_captures.proofs.Progresses.{if_done, if_given, on_fault}
-use Rattle.text_io.proofs.DriverLemmas.{at-result}
-use Rattle.text_io.proofs.Public.{nothing-begins}
+use Rattle.text_io.proofs.Public.{at-result, nothing-begins}
 use Rattle.text_io.specs.declared.ending.Done.TheVariants.{Ended, Whole}
 use Rattle.lab_police.proofs.PoliceLemmas.{served_as}
 use Rattle.lab_police.specs.PoliceText.{IsPoliceText}

@@ -5,8 +5,7 @@ use Rattle.rules_text.specs.NumberedText.{numbered_read}
 use Rattle.text_io.specs.Devices.{Adds}
 use Rattle.text_io.specs.Failures.{read_failures}
 use Rattle.text_io.specs.declared.ending.Done.TheVariants.{Ended, Whole}
-use Rattle.text_io.proofs.DriverLemmas.{at-done, at-fault, at-given, at-result}
-use Rattle.text_io.proofs.Public.{nothing-begins}
+use Rattle.text_io.proofs.Public.{at-done, at-fault, at-given, at-result, nothing-begins}
 use Rattle.lab_rules.specs.RulesAnswers.{AnswersBy, PrintsFault}
 use Rattle.lab_rules.specs.WhyText.{IsWhyText, MayBeWhyText}
 use Rattle.lab_rules.specs.inner.Places.{FindsRules}
