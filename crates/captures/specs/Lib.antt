@@ -7,6 +7,7 @@ pub mod Framing
 pub mod Blocks
 pub mod Frames
 pub mod Reading
+pub mod RecordOctets
 pub mod Opening
 pub mod Moments
 pub mod inner

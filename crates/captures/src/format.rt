@@ -46,8 +46,8 @@ pub(crate) struct LentRecord<'a> {
 /// How a file goes on after a frame, and the record in the frame, or what it is that has none.
 #[derive(Clone, Copy)]
 pub(crate) struct Held<'a> {
-    /// What the file has of records after the frame.
-    pub(crate) after: Format,
+    /// The section that the blocks after the frame are in, in a pcapng file.
+    pub(crate) after: Option<Section>,
     /// The record in the frame, or what it is.
     pub(crate) framed: Result<LentRecord<'a>, Unread>,
 }
@@ -79,7 +79,7 @@ impl Order {
 }
 
 impl Format {
-    ghost use Rattle.captures.specs.inner.Lent.{held_of};
+    ghost use Rattle.captures.specs.inner.Lent.{format_after, held_of};
     ghost use Rattle.captures.specs.Frames.{format_start, frame_held, frame_size, head_length};
 
     /// Returns how many octets of the file come before its first record, packet or block.
@@ -89,6 +89,16 @@ impl Format {
         match self {
             Format::Erf | Format::PcapNg(_) => 0,
             Format::Pcap(_) => FILE_HEADER_OCTETS,
+        }
+    }
+
+    /// Goes on after a frame, in this section of a pcapng file.
+    #[inline(always)]
+    pub(crate) fn go_on(&mut self, after: Option<Section>)
+        ensures { self.new ≡ format_after self.old after }
+    {
+        if let Some(section) = after {
+            *self = Format::PcapNg(section);
         }
     }
 
@@ -132,20 +142,20 @@ impl Format {
         requires whole { head_length self ≤ length frame.now }
         requires bounded { length frame.now ≤ 131072 }
         ensures held { IfOk result (λ held. frame_held self frame.now
-            ≡ Ok (held.after, held_of held.framed)) }
+            ≡ Ok (format_after self held.after, held_of held.framed)) }
         ensures fault { IfErr result (λ reason. frame_held self frame.now ≡ Err reason) }
         ensures headed { IfOk result (λ held. IfOk held.framed (λ framed. 16 ≤ length framed.octets.now)) }
     {
         match self {
             Format::Erf => Ok(Held {
-                after: self,
+                after: None,
                 framed: Ok(LentRecord {
                     packet: None,
                     octets: frame,
                 }),
             }),
             Format::Pcap(_) => Ok(Held {
-                after: self,
+                after: None,
                 framed: Ok(LentRecord {
                     packet: None,
                     octets: record_in_packet(from_place(frame, PACKET_HEADER_OCTETS))?,
@@ -154,7 +164,7 @@ impl Format {
             Format::PcapNg(section) => {
                 let held = section.held_in(frame)?;
                 Ok(Held {
-                    after: Format::PcapNg(held.section),
+                    after: Some(held.section),
                     framed: held.framed,
                 })
             }

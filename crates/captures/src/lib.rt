@@ -13,6 +13,7 @@ mod marks;
 mod opening;
 mod packet;
 mod reader;
+mod record_octets;
 
 pub use block::{Section, Unread};
 pub use clock::{Clock, Tick};
@@ -24,3 +25,4 @@ pub use link::{Channel, Link};
 pub use marks::Marks;
 pub use opening::{FileFault, Opening, is_text, open};
 pub use reader::{Next, Passage, Reader, Record};
+pub use record_octets::cell_place;

@@ -8,12 +8,13 @@ ghost use Rattle.captures.specs.RecordContent.{IsContent};
 ghost use Rattle.captures.specs.RecordReading.{IsRecordOf};
 
 use crate::block::Unread;
-use crate::content::{NoCell, cell_at, place_of};
+use crate::content::{ATM, NoCell, cell_at, place_of};
 use crate::fault::{Fault, RecordFault};
 use crate::format::{Format, LentRecord};
 use crate::lent_cell::LentCell;
 use crate::link::{Channel, Link, channel_before};
 use crate::marks::{Marks, first_marks, marks_before};
+use crate::packet::HEADER_OCTETS;
 use byteorder::{ByteOrder, LittleEndian};
 
 /// A record of a capture. It borrows its cell from the octets that it was read from.
@@ -160,13 +161,31 @@ impl Reader {
             return self.broken(RecordFault::TooFar);
         };
         self.at = end;
-        self.format = held.after;
+        self.format.go_on(held.after);
         match held.framed {
             Err(what) => Next::Passed(Passage { what, at }, size),
             Ok(framed) => {
                 self.count += 1;
                 Next::Taken(record_in(self.count, framed), size)
             }
+        }
+    }
+
+    // no ensures: a caller only decides by it which copy of its code reads the record
+    // no edit: it has no ensures
+    /// Whether these octets begin with a record as most are: in an ERF file, of type 3, without extension headers, an error or a loss. A copy of
+    /// the code that reads on only then lacks the cases that can't occur.
+    #[inline(always)]
+    pub fn is_usual(&self, octets: &[u8]) -> bool {
+        match self.format {
+            Format::Erf => {
+                octets.len() >= HEADER_OCTETS
+                    && octets[8] == ATM
+                    && octets[9] / 8 % 8 == 0
+                    && octets[12] == 0
+                    && octets[13] == 0
+            }
+            Format::Pcap(_) | Format::PcapNg(_) => false,
         }
     }
 

@@ -22,7 +22,7 @@ use std::thread::Threads;
 use text_io::{Done, Failed, Input, Output, RunFault, Window, give_last};
 
 /// Reads the first octets of a file, until they say what it is or the file ends.
-fn find_opening<I: Input>(
+pub fn find_opening<I: Input>(
     window: &mut Window<WINDOW_ROOM>,
     input: &mut I,
 ) -> Result<Opening, Failed>
@@ -47,7 +47,7 @@ fn find_opening<I: Input>(
 }
 
 /// Returns how a file ends that is too short for a capture.
-fn short_ending(octets: &[u8]) -> Option<Fault>
+pub fn short_ending(octets: &[u8]) -> Option<Fault>
     ensures { result ≡ ends_short octets.now }
 {
     if octets.is_empty() {

@@ -22,7 +22,7 @@ use std::thread::Threads;
 use text_io::{Done, Input, Output, RunFault, give_if_enough, give_last, refill};
 
 /// Returns how a run ends at this end of a capture.
-pub(crate) fn done_at(ending: Option<Fault>) -> Done
+pub fn done_at(ending: Option<Fault>) -> Done
     ensures { result ≡ ends_at ending }
 {
     match ending {

@@ -8,7 +8,7 @@ use std::alloc::AllocError;
 use upc_words::{add_number, add_numbered, add_text};
 
 /// Appends the answer to a file that isn't read.
-pub(crate) fn add_file_fault(answers: &mut Vec<u8>, fault: FileFault) -> Result<(), AllocError>
+pub fn add_file_fault(answers: &mut Vec<u8>, fault: FileFault) -> Result<(), AllocError>
     ensures { OnOk result (answers.new.items ≡ answers.old.items ++ file_fault_line fault) }
 {
     match fault {

@@ -22,14 +22,17 @@ mod run_lines;
 mod tally;
 
 pub use blocks::BlockTallies;
-pub use capture::follow_cells;
+pub use capture::{find_opening, follow_cells, short_ending};
 pub use cell_lines::CellLines;
 pub use cells::cells_of_capture;
 pub use counted::CountedCell;
+pub use driver::done_at;
+pub use fault_lines::add_file_fault;
 pub use filter::{CellFilter, Filtered};
 pub use follower::CellFollower;
 pub use link_words::add_link;
 pub use marked::MarkTallies;
 pub use passed::PassedOver;
+pub use reading_ahead::WINDOW_ROOM;
 pub use run_lines::{add_closing, add_several};
 pub use tally::PassedTally;

@@ -1,8 +1,10 @@
 //! Records that are read before the cells of earlier ones are answered.
 
-ghost use Rattle.std.specs.Prelude.{◌≡◌, ◌≢◌, ◌<◌, Err, IfOk, length};
+ghost use Rattle.std.specs.Prelude.{◌≡◌, ◌≢◌, ◌<◌, Err, IfOk, List, None, length};
 ghost use Rattle.text_io.specs.Failures.{read_failures};
-ghost use Rattle.lab_captures.specs.inner.Ahead.{FillsAndReads, ReadsCells};
+ghost use Rattle.lab_captures.specs.inner.Ahead.{FillsAndReads, ReadsCells, ReadsSoFar, StepsTo};
+ghost use Rattle.lab_captures.specs.declared.counted.CountedCell.{CountedCell as Counted};
+ghost use Rattle.lab_captures.specs.declared.reading_ahead.ReadingAhead.{ReadingAhead as Reading};
 
 use crate::counted::CountedCell;
 use crate::filter::{CellFilter, Filtered};
@@ -11,7 +13,7 @@ use std::alloc::AllocError;
 use text_io::{Input, RunFault, Window};
 
 /// The room of the window, in octets. A frame has at most 131,072.
-pub(crate) const WINDOW_ROOM: usize = 524_288;
+pub const WINDOW_ROOM: usize = 524_288;
 
 /// What comes after the records that were read.
 #[derive(Clone, Copy, PartialEq, Eq, Debug)]
@@ -62,6 +64,74 @@ impl ReadingAhead {
         }
     }
 
+    /// Reads the next frame among the octets that wait, and appends its cell to the others if it counts. None if the reading goes on.
+    #[inline(always)]
+    fn step(
+        &mut self,
+        cells: &mut Vec<CountedCell>,
+        most: usize,
+    ) -> Result<Option<Coming>, AllocError>
+        ensures reads { (first : Reading) (old : List Counted) → ReadsSoFar first self.old old cells.old.items
+            → IfOk result (λ found. StepsTo first self.new old cells.new.items found) }
+        ensures shorter { IfOk result (λ found. found ≡ None → length self.new.window < length self.old.window) }
+    {
+        match self.reader.next(self.window.octets()) {
+            Next::Unfinished => return Ok(Some(Coming::Wants)),
+            Next::Broken(fault) => return Ok(Some(Coming::Broken(fault))),
+            Next::Passed(passage, own) => {
+                self.filter.pass(passage);
+                self.window.skip(own);
+            }
+            Next::Taken(record_read, own) => match self.filter.read(&record_read) {
+                Filtered::Passed => self.window.skip(own),
+                Filtered::Several(one, other) => return Ok(Some(Coming::Several(one, other))),
+                Filtered::Counts(moment, cell) => {
+                    cells.push(CountedCell {
+                        number: record_read.number,
+                        moment,
+                        cell: cell.cell(),
+                    })?;
+                    self.window.skip(own);
+                    if most <= cells.len() {
+                        return Ok(Some(Coming::Enough));
+                    }
+                }
+            },
+        }
+        Ok(None)
+    }
+
+    /// The same, apart from the code for usual records.
+    fn step_apart(
+        &mut self,
+        cells: &mut Vec<CountedCell>,
+        most: usize,
+    ) -> Result<Option<Coming>, AllocError>
+        ensures reads { (first : Reading) (old : List Counted) → ReadsSoFar first self.old old cells.old.items
+            → IfOk result (λ found. StepsTo first self.new old cells.new.items found) }
+        ensures shorter { IfOk result (λ found. found ≡ None → length self.new.window < length self.old.window) }
+    {
+        self.step(cells, most)
+    }
+
+    /// The same, by one of two copies of the code: a usual record needs half of it.
+    #[inline(always)]
+    fn step_either(
+        &mut self,
+        cells: &mut Vec<CountedCell>,
+        most: usize,
+    ) -> Result<Option<Coming>, AllocError>
+        ensures reads { (first : Reading) (old : List Counted) → ReadsSoFar first self.old old cells.old.items
+            → IfOk result (λ found. StepsTo first self.new old cells.new.items found) }
+        ensures shorter { IfOk result (λ found. found ≡ None → length self.new.window < length self.old.window) }
+    {
+        if self.reader.is_usual(self.window.octets()) {
+            self.step(cells, most)
+        } else {
+            self.step_apart(cells, most)
+        }
+    }
+
     /// Reads the whole frames among the octets that wait, and appends the cells that count to the others. It stops at what ends a run,
     /// and after a cell if there are `most` or more then.
     pub(crate) fn read(
@@ -72,28 +142,8 @@ impl ReadingAhead {
         ensures { IfOk result (λ coming. ReadsCells self.old coming self.new cells.old.items cells.new.items) }
     {
         loop {
-            match self.reader.next(self.window.octets()) {
-                Next::Unfinished => return Ok(Coming::Wants),
-                Next::Broken(fault) => return Ok(Coming::Broken(fault)),
-                Next::Passed(passage, own) => {
-                    self.filter.pass(passage);
-                    self.window.skip(own);
-                }
-                Next::Taken(record_read, own) => match self.filter.read(&record_read) {
-                    Filtered::Passed => self.window.skip(own),
-                    Filtered::Several(one, other) => return Ok(Coming::Several(one, other)),
-                    Filtered::Counts(moment, cell) => {
-                        cells.push(CountedCell {
-                            number: record_read.number,
-                            moment,
-                            cell: cell.cell(),
-                        })?;
-                        self.window.skip(own);
-                        if most <= cells.len() {
-                            return Ok(Coming::Enough);
-                        }
-                    }
-                },
+            if let Some(coming) = self.step_either(cells, most)? {
+                return Ok(coming);
             }
         }
     }

@@ -1,7 +1,10 @@
 -- The record in a frame, as a list of octets.
-use Rattle.std.specs.Prelude.{Result, Ok, Err}
+use Rattle.std.specs.Prelude.{Option, Some, None, Result, Ok, Err}
 use Rattle.captures.specs.Framing.{Framed}
+use Rattle.captures.specs.declared.block.Section.{Section}
 use Rattle.captures.specs.declared.block.Unread.{Unread}
+use Rattle.captures.specs.declared.format.Format.{Format}
+use Rattle.captures.specs.declared.format.Format.TheVariants.{PcapNg}
 use Rattle.captures.specs.declared.format.LentRecord.{LentRecord}
 
 -- What contracts see of a record that is lent.
@@ -12,3 +15,8 @@ framed_of lent = record { packet = lent.packet; octets = lent.octets.now }
 abbrev pub held_of : Result LentRecord Unread → Result Framed Unread
 held_of (Ok lent) = Ok (framed_of lent)
 held_of (Err unread) = Err unread
+
+-- How a file goes on after a frame: in this section, if it is a pcapng file.
+abbrev pub format_after : Format → Option Section → Format
+format_after format None = format
+format_after format (Some section) = PcapNg section

@@ -64,6 +64,11 @@ pub record ReadsCells (before : ReadingAhead) (how : Coming) (after : ReadingAhe
   pub leads : (more : List ℕ) (later : List CountedCell) (end : CellsEnd) → ComesAfter after how more later end
       → HasCellsFrom before (before.window ++ more) (fresh ++ later) end
 
+-- The reading goes on, or is what was read before this comes.
+abbrev pub StepsTo : ReadingAhead → ReadingAhead → List CountedCell → List CountedCell → Option Coming → Type 0
+StepsTo first after old new None = ReadsSoFar first after old new
+StepsTo first after old new (Some how) = ReadsCells first how after old new
+
 -- From this world, the answers grew by a text that answers the cells that were read and what comes after them, and ends the run.
 pub record EndsAfter {World : Type 0} (rules : CellRules World) (after : ReadingAhead) (how : Coming) (cells : List CountedCell) (world : World)
     (old new : List ℕ) : Type 0 where

@@ -1,5 +1,5 @@
 use Rattle.std.proofs.Common.{◌<◌, Ok, Err, arith, refl, ◌∙◌, sym, ap}
-use Rattle.captures.specs.inner.Lent.{framed_of, held_of}
+use Rattle.captures.specs.inner.Lent.{format_after, framed_of, held_of}
 use Rattle.captures.proofs.First.{takes_frame, head_some}
 use Rattle.captures.proofs.reader.Reader.next.Goals as goal
 
@@ -11,7 +11,7 @@ returns-in-Err-framed c =
     _
     c.args.octets.now
     c.in-Ok.size
-    c.in-Ok-held_in.held.after
+    (format_after c.args.self.now.format c.in-Ok-held_in.held.after)
     (Err c.in-Err-framed.what)
     _
     (omega arith)
@@ -19,10 +19,10 @@ returns-in-Err-framed c =
     some
     (omega arith)
     (c.in-Ok-held_in.ensures.held
-    ∙ ap (λ framed. Ok (c.in-Ok-held_in.held.after, held_of framed)) c.in-Err-framed.is)
+    ∙ ap (λ framed. Ok (format_after c.args.self.now.format c.in-Ok-held_in.held.after, held_of framed)) c.in-Err-framed.is)
     (omega arith)
     (cc)
-    refl
+    c.go_on.ensures
     refl
     (omega arith)
 
@@ -34,7 +34,7 @@ returns-in-Ok-framed c =
     _
     c.args.octets.now
     c.in-Ok.size
-    c.in-Ok-held_in.held.after
+    (format_after c.args.self.now.format c.in-Ok-held_in.held.after)
     (Ok (framed_of c.in-Ok-framed.framed))
     (Ok c.record_in.result)
     (omega arith)
@@ -42,9 +42,9 @@ returns-in-Ok-framed c =
     some
     (omega arith)
     (c.in-Ok-held_in.ensures.held
-    ∙ ap (λ framed. Ok (c.in-Ok-held_in.held.after, held_of framed)) c.in-Ok-framed.is)
+    ∙ ap (λ framed. Ok (format_after c.args.self.now.format c.in-Ok-held_in.held.after, held_of framed)) c.in-Ok-framed.is)
     (omega (arith, c.in-Some.ensures))
     c.record_in.ensures
-    refl
+    c.go_on.ensures
     refl
     (omega (arith, c.in-Some.ensures))
