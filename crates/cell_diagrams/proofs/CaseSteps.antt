@@ -1,9 +1,10 @@
--- Meetings of the diagrams of rules are the cases of the rules.
+-- Meetings of the diagrams of rules or programs are the cases of what they decide.
 use Rattle.std.proofs.Common.{◌≡◌, ℕ, zero, suc, ◌<◌, ◌==◌, ◌&&◌, ◌||◌, ◌↔◌, Bool, true, false, IsTrue, List, [], ◌∷◌, map, length, get_or, ◌⊎◌, inl, inr, Option, Some, None, IfSome, refl, sym, ap, subst, ◌∙◌, arith}
 use Rattle.std.proofs.lemmas.Bool.{eq-eqb}
 use Rattle.std.proofs.lemmas.Bool.Decides.{nat_tests}
 use Rattle.std.proofs.lemmas.List.Elements.{All-map, All-weaker, All-head, All-tail, All-contains}
 use Rattle.std.specs.List.{All, Contains}
+use Rattle.cell_rules.specs.Fields.{IsCell}
 use Rattle.cell_rules.specs.Decisions.{decision_of, IsTried, IsFirstDecision, TheFirstRuleDecides}
 use Rattle.cell_rules.specs.Tests.{is_met}
 use Rattle.cell_rules.specs.declared.deciding.Decision.{Decision}
@@ -12,13 +13,16 @@ use Rattle.cell_rules.specs.declared.rules.RuleLine.TheVariants.{Rule, Block, En
 use Rattle.cell_rules.specs.declared.rules.Rules.{Rules}
 use Rattle.cell_rules.specs.declared.test.Test.{Test}
 use Rattle.cell_diagrams.specs.CellNumbers.{octets_number}
-use Rattle.cell_diagrams.specs.Cases.{IsCase, AreCasesApart, AreInOrder, AreCases, GiveSame}
+use Rattle.cell_diagrams.specs.Cases.{IsCase, IsCaseOf, AreCasesApart, AreInOrder, AreCases, AreCasesOf, GiveOneValue, GiveSame}
+use Rattle.cell_diagrams.specs.ComparedCases.{SaysDecisions}
 use Rattle.cell_diagrams.specs.inner.Lines.{line_number, deciding_line}
 use Rattle.cell_diagrams.specs.inner.Meetings.{has_pair, IsLeast, ArePairsApart, AreMeetingsInOrder, AreMeetings}
-use Rattle.cell_diagrams.specs.inner.Tells.{GivesNumber}
 use Rattle.cell_diagrams.specs.inner.Values.{diagram_value}
-use Rattle.cell_diagrams.specs.inner.CaseLists.{case_of, have_one_value}
+use Rattle.cell_diagrams.specs.inner.CaseLists.{IsShown, case_of, decision_with, decisions, have_one_value}
 use Rattle.cell_diagrams.specs.declared.case.Case.{Case}
+use Rattle.cell_diagrams.specs.declared.compared.Compared.{Compared}
+use Rattle.cell_diagrams.specs.declared.compared.Compared.TheVariants.{Rules as OfRules, Program as OfProgram}
+use Rattle.cell_diagrams.specs.declared.diagram.Diagram.{Diagram}
 use Rattle.cell_diagrams.specs.declared.diagram.Node.{Node}
 use Rattle.cell_diagrams.specs.declared.meeting.Both.{Both}
 use Rattle.cell_diagrams.specs.declared.meeting.Meeting.{Meeting}
@@ -121,64 +125,115 @@ mapped_from f (first ∷ more) y there =
 
 -- ---- cases
 
-cases_ordered : (old new : Rules) (meetings : List Meeting) → AreMeetingsInOrder meetings → AreInOrder (map (case_of old new) meetings)
-cases_ordered old new [] are = tt
-cases_ordered old new (m ∷ more) are =
-    (All-map (λ (later : Case). octets_number m.cell < octets_number later.cell) (case_of old new) more are.0, cases_ordered old new more are.1)
+map_same : {X Y : Type 0} (is : X → Type 0) (f g : X → Y) → ((x : X) → is x → f x ≡ g x) → (xs : List X) → All is xs → map f xs ≡ map g xs
+map_same is f g same [] all = refl
+map_same is f g same (x ∷ more) all =
+    let here = same x (All-head is x more all) in
+    let rest = map_same is f g same more (All-tail is x more all) in
+    ap (λ y. y ∷ map f more) here ∙ ap (λ ys. g x ∷ ys) rest
 
-module _ (law : TheFirstRuleDecides) (old new : Rules) (one other : List Node) (both : Both) (one_gives : GivesNumber one (deciding_line old) both.one) (other_gives : GivesNumber other (deciding_line new) both.other) where
+-- Two cells have one decision exactly if they have one number.
+abbrev Agrees : (ℕ → ℕ) → (List ℕ → Decision) → Type 0
+Agrees numbers said = (cell other : List ℕ) → IsCell cell → IsCell other → (numbers (octets_number cell) ≡ numbers (octets_number other)) ↔ (said cell ≡ said other)
+
+-- The case of a meeting, by what is decided for its cell.
+abbrev case_by : (List ℕ → Decision) → (List ℕ → Decision) → Meeting → Case
+case_by was is meeting = record { old = was meeting.cell; new = is meeting.cell; cell = meeting.cell }
+
+cases_ordered : (was is : List ℕ → Decision) (meetings : List Meeting) → AreMeetingsInOrder meetings → AreInOrder (map (case_by was is) meetings)
+cases_ordered was is [] are = tt
+cases_ordered was is (m ∷ more) are =
+    (All-map (λ (later : Case). octets_number m.cell < octets_number later.cell) (case_by was is) more are.0, cases_ordered was is more are.1)
+
+module _ (was is : List ℕ → Decision) (one other : ℕ → ℕ) (one_agrees : Agrees one was) (other_agrees : Agrees other is) where
   abbrev IsOne : Meeting → Type 0
-  IsOne m = IsLeast (diagram_value one both.one) (diagram_value other both.other) m
+  IsOne m = IsLeast one other m
 
-  -- The lines of a meeting's cell are its numbers.
-  old_line : (m : Meeting) → IsOne m → deciding_line old m.cell ≡ m.one
-  old_line m is = sym (one_gives.value m.cell is.cell) ∙ is.one_is
-
-  new_line : (m : Meeting) → IsOne m → deciding_line new m.cell ≡ m.other
-  new_line m is = sym (other_gives.value m.cell is.cell) ∙ is.other_is
-
-  is_case : (m : Meeting) → IsOne m → IsCase old new (case_of old new m)
-  is_case m is = record {
-    cell = is.cell;
+  is_case : (m : Meeting) → IsOne m → IsCaseOf was is (case_by was is m)
+  is_case m here = record {
+    cell = here.cell;
     old_is = refl;
     new_is = refl;
-    least = λ cell there p q. is.least (octets_number cell)
-        (one_gives.value cell there ∙ (ap (λ (d : Decision). line_number d.line) p ∙ old_line m is))
-        (other_gives.value cell there ∙ (ap (λ (d : Decision). line_number d.line) q ∙ new_line m is));
+    least = λ cell there p q. here.least (octets_number cell)
+        ((one_agrees cell m.cell there here.cell).1 p ∙ here.one_is)
+        ((other_agrees cell m.cell there here.cell).1 q ∙ here.other_is);
   }
 
-  cases_apart : (meetings : List Meeting) → All IsOne meetings → ArePairsApart meetings → AreCasesApart (map (case_of old new) meetings)
+  cases_apart : (meetings : List Meeting) → All IsOne meetings → ArePairsApart meetings → AreCasesApart (map (case_by was is) meetings)
   cases_apart [] all apart = tt
   cases_apart (m ∷ more) all apart =
       let here = All-head IsOne m more all in
       let rest = All-tail IsOne m more all in (
         λ case there p q.
-            let from = mapped_from (case_of old new) more case there in
-            let is = All-contains IsOne more from.0 rest from.1 in
-            let first : from.0.one ≡ m.one = sym (old_line from.0 is) ∙ (ap (λ (c : Case). line_number c.old.line) from.2 ∙ (ap (λ (d : Decision). line_number d.line) p ∙ old_line m here)) in
-            let second : from.0.other ≡ m.other = sym (new_line from.0 is) ∙ (ap (λ (c : Case). line_number c.new.line) from.2 ∙ (ap (λ (d : Decision). line_number d.line) q ∙ new_line m here)) in
+            let from = mapped_from (case_by was is) more case there in
+            let that = All-contains IsOne more from.0 rest from.1 in
+            let old : was from.0.cell ≡ was m.cell = ap (λ (c : Case). c.old) from.2 ∙ p in
+            let new : is from.0.cell ≡ is m.cell = ap (λ (c : Case). c.new) from.2 ∙ q in
+            let first : from.0.one ≡ m.one = sym that.one_is ∙ ((one_agrees from.0.cell m.cell that.cell here.cell).1 old ∙ here.one_is) in
+            let second : from.0.other ≡ m.other = sym that.other_is ∙ ((other_agrees from.0.cell m.cell that.cell here.cell).1 new ∙ here.other_is) in
             let found = has_from more from.0 m.one m.other from.1 first second in
             let none = apart.0 in
             absurd (cc),
         cases_apart more rest apart.1,
       )
 
-  pub cases_are : (meetings : List Meeting) (cases : List Case) → cases ≡ map (case_of old new) meetings → AreMeetings one other both meetings → AreCases old new cases
-  cases_are meetings cases e are = subst (λ (cs : List Case). AreCases old new cs) (sym e) (record {
-    all = All-map (IsCase old new) (case_of old new) meetings (All-weaker IsOne (λ (m : Meeting). IsCase old new (case_of old new m)) is_case meetings are.least);
+  cases_by : (meetings : List Meeting) → All IsOne meetings → ((cell : ℕ) → has_pair meetings (one cell) (other cell) ≡ true) → ArePairsApart meetings → AreMeetingsInOrder meetings
+      → AreCasesOf was is (map (case_by was is) meetings)
+  cases_by meetings least each apart ordered = record {
+    all = All-map (IsCaseOf was is) (case_by was is) meetings (All-weaker IsOne (λ (m : Meeting). IsCaseOf was is (case_by was is m)) is_case meetings least);
     each = λ cell there.
         let number = octets_number cell in
-        let found = pair_in meetings (diagram_value one both.one number) (diagram_value other both.other number) (are.each number) in
-        let is = All-contains IsOne meetings found.0 are.least found.1 in
+        let found = pair_in meetings (one number) (other number) (each number) in
+        let here = All-contains IsOne meetings found.0 least found.1 in
         record {
-          case = case_of old new found.0;
-          is_among = contains_map (case_of old new) meetings found.0 found.1;
-          old_is = decided_same law old found.0.cell cell (old_line found.0 is ∙ (found.2 ∙ one_gives.value cell there));
-          new_is = decided_same law new found.0.cell cell (new_line found.0 is ∙ (found.3 ∙ other_gives.value cell there));
+          case = case_by was is found.0;
+          is_among = contains_map (case_by was is) meetings found.0 found.1;
+          old_is = (one_agrees found.0.cell cell here.cell there).0 (here.one_is ∙ found.2);
+          new_is = (other_agrees found.0.cell cell here.cell there).0 (here.other_is ∙ found.3);
         };
-    apart = cases_apart meetings are.least are.apart;
-    ordered = cases_ordered old new meetings are.ordered;
-  })
+    apart = cases_apart meetings least apart;
+    ordered = cases_ordered was is meetings ordered;
+  }
+
+-- ---- rules and programs
+
+abbrev value_decision : ℕ → Decision
+value_decision number = record { line = None; value = number }
+
+agrees : TheFirstRuleDecides → (nodes : List Node) (compared : Compared) (diagram : Diagram) → IsShown nodes compared diagram → Agrees (diagram_value nodes diagram) (decisions nodes diagram compared)
+agrees law nodes (OfRules rules) diagram shown = λ cell other there also. (
+  λ e. decided_same law rules.now cell other (sym (shown.value cell there) ∙ (e ∙ shown.value other also)),
+  λ e. shown.value cell there ∙ (ap (λ (d : Decision). line_number d.line) e ∙ sym (shown.value other also)),
+)
+agrees law nodes (OfProgram code) diagram shown = λ cell other there also. (
+  λ e. ap value_decision e,
+  λ e. ap (λ (d : Decision). d.value) e,
+)
+
+pub says : (nodes : List Node) (compared : Compared) (diagram : Diagram) → IsShown nodes compared diagram → SaysDecisions compared (decisions nodes diagram compared)
+says nodes (OfRules rules) diagram shown = λ cell there. refl
+says nodes (OfProgram code) diagram shown = λ cell there. (refl, shown.value cell there)
+
+decision_met : (nodes : List Node) (compared : Compared) (diagram : Diagram) (cell : List ℕ) (number : ℕ) → diagram_value nodes diagram (octets_number cell) ≡ number
+    → decision_with compared cell number ≡ decisions nodes diagram compared cell
+decision_met nodes (OfRules rules) diagram cell number e = refl
+decision_met nodes (OfProgram code) diagram cell number e = ap value_decision (sym e)
+
+pub cases_are : TheFirstRuleDecides → (old new : Compared) (one other : List Node) (both : Both) → IsShown one old both.one → IsShown other new both.other
+    → (meetings : List Meeting) (cases : List Case) → cases ≡ map (case_of old new) meetings → AreMeetings one other both meetings
+    → AreCasesOf (decisions one both.one old) (decisions other both.other new) cases
+cases_are law old new one other both one_shown other_shown meetings cases e are =
+    let was = decisions one both.one old in
+    let is = decisions other both.other new in
+    let first = diagram_value one both.one in
+    let second = diagram_value other both.other in
+    let same : map (case_of old new) meetings ≡ map (case_by was is) meetings =
+    map_same (IsLeast first second) (case_of old new) (case_by was is) (λ m here.
+    let by_old : Decision → Case = λ d. record { old = d; new = decision_with new m.cell m.other; cell = m.cell } in
+    let by_new : Decision → Case = λ d. record { old = was m.cell; new = d; cell = m.cell } in
+    ap by_old (decision_met one old both.one m.cell m.one here.one_is) ∙ ap by_new (decision_met other new both.other m.cell m.other here.other_is)) meetings are.least in
+    subst (λ (cs : List Case). AreCasesOf was is cs) (sym (e ∙ same))
+    (cases_by was is first second (agrees law one old both.one one_shown) (agrees law other new both.other other_shown) meetings are.least are.each are.apart are.ordered)
 
 -- ---- one value
 
@@ -213,5 +268,19 @@ same_values law old new cases result e are = (
       let all : All HasOneValue cases = All-weaker (IsCase old new) HasOneValue (λ case is.
       ap (λ (d : Decision). d.value) (sym is.old_is)
       ∙ ((law old case.cell).value ∙ (same case.cell is.cell ∙ (sym (law new case.cell).value ∙ ap (λ (d : Decision). d.value) is.new_is)))) cases are.all in
+      e ∙ have_all cases all,
+)
+
+pub same_decisions : (was is : List ℕ → Decision) (cases : List Case) (result : Bool) → result ≡ have_one_value cases → AreCasesOf was is cases → IsTrue result ↔ GiveOneValue was is
+same_decisions was is cases result e are = (
+  λ true_is cell there.
+      let found = are.each cell there in
+      let one : have_one_value cases ≡ true = sym e ∙ true_is in
+      let same = all_have cases found.case one found.is_among in
+      ap (λ (d : Decision). d.value) (sym found.old_is) ∙ (same ∙ ap (λ (d : Decision). d.value) found.new_is),
+  λ same.
+      let all : All HasOneValue cases = All-weaker (IsCaseOf was is) HasOneValue (λ case here.
+      ap (λ (d : Decision). d.value) (sym here.old_is)
+      ∙ (same case.cell here.cell ∙ ap (λ (d : Decision). d.value) here.new_is)) cases are.all in
       e ∙ have_all cases all,
 )

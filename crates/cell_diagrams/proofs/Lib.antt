@@ -11,3 +11,9 @@ pub mod CaseSteps
 pub mod NumberSets
 pub mod InsideSteps
 pub mod UnusedSteps
+pub mod WordSteps
+pub mod WordDiagrams
+pub mod FollowSteps
+pub mod ScratchSteps
+pub mod ProgramSteps
+pub mod FirstContents

@@ -70,8 +70,8 @@ line_of : (line : Option ℕ) (place : ℕ) → line_number line ≡ suc place �
 line_of None place e = absurd (omega arith)
 line_of (Some other) place e = let same : other ≡ place = omega arith in ap (λ n. Some n) same
 
-number_of : (line : Option ℕ) (place : ℕ) → line ≡ Some place → line_number line ≡ suc place
-number_of line place e = let next : place + 1 ≡ suc place = omega arith in ap line_number e ∙ next
+word_number : (line : Option ℕ) (place : ℕ) → line ≡ Some place → line_number line ≡ suc place
+word_number line place e = let next : place + 1 ≡ suc place = omega arith in ap line_number e ∙ next
 
 same_rule : (test other : Test) (value also : ℕ) → Some (Rule test value) ≡ Some (Rule other also) → test ≡ other
 same_rule test other value also e = cc
@@ -131,7 +131,7 @@ module _ (law : TheFirstRuleDecides) (rules : Rules) (place value : ℕ) (test :
       → contains nat_cmp deciders (suc place) ≡ false → AreTaken (deciding_line rules) holds takers → IsUnused rules unused
   unused_is deciders takers unused is items are lacks taken =
       let none : DecidesNone rules place = λ cell there e.
-      let number : deciding_line rules cell ≡ suc place = number_of (decision_of rules cell).line place e in
+      let number : deciding_line rules cell ≡ suc place = word_number (decision_of rules cell).line place e in
       let has : contains nat_cmp deciders (suc place) ≡ true = subst (λ n. contains nat_cmp deciders n ≡ true) number (are.each cell there) in
       absurd (cc) in
       let only = All-weaker (λ taker. (cell : List ℕ) × IsCell cell × (holds cell ≡ true) × (deciding_line rules cell ≡ suc taker))
@@ -142,7 +142,7 @@ module _ (law : TheFirstRuleDecides) (rules : Rules) (place value : ℕ) (test :
         none = none;
         decided = λ cell there of.
             let by = decided_by cell of in
-            (by.0, subst (λ (ts : List ℕ). Contains ts by.0) (sym items) (taken.each cell there (holds_if cell of) by.0 (number_of (decision_of rules cell).line by.0 by.1)), by.1);
+            (by.0, subst (λ (ts : List ℕ). Contains ts by.0) (sym items) (taken.each cell there (holds_if cell of) by.0 (word_number (decision_of rules cell).line by.0 by.1)), by.1);
         takers = subst (λ (ts : List ℕ). All (λ taker. (cell : List ℕ) × IsCell cell × HoldsOf rules place cell × Decides rules taker cell) ts) (sym items) only;
         before = subst (λ (ts : List ℕ). All (λ taker. taker < place) ts) (sym items)
             (All-weaker (λ taker. (cell : List ℕ) × IsCell cell × HoldsOf rules place cell × Decides rules taker cell) (λ taker. taker < place) (λ taker found.

@@ -15,3 +15,7 @@ pub mod CaseLists
 pub mod Pairs
 pub mod Numbers
 pub mod Holding
+pub mod Words
+pub mod WordTests
+pub mod Following
+pub mod Programs

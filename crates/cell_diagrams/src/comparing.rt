@@ -1,26 +1,31 @@
-//! The comparison of two rules.
+//! The comparison of rules or programs.
 
-ghost use Rattle.std.specs.Prelude.{◌≡◌, ◌==◌, ◌↔◌, map, IfOk, IsTrue};
-ghost use Rattle.cell_diagrams.specs.Cases.{AreCases, GiveSame};
-ghost use Rattle.cell_diagrams.specs.inner.CaseLists.{case_of, have_one_value};
+ghost use Rattle.std.specs.Prelude.{◌≡◌, ◌==◌, ◌↔◌, ℕ, List, map, IfOk, IsTrue};
+ghost use Rattle.cell_diagrams.specs.Cases.{AreCases, AreCasesOf, GiveOneValue, GiveSame};
+ghost use Rattle.cell_diagrams.specs.ComparedCases.{AreComparedCases};
+ghost use Rattle.cell_diagrams.specs.inner.CaseLists.{IsShown, case_of, have_one_value};
+ghost use Rattle.cell_diagrams.specs.inner.Values.{IsWithin};
+ghost use Rattle.cell_rules.specs.declared.deciding.Decision.{Decision as Decided};
 ghost use Rattle.cell_rules.specs.declared.rules.Rules.{Rules as Written};
 
 use crate::case::Case;
-use crate::fault::Undecided;
+use crate::compared::{Compared, decision_with, shown};
+use crate::diagram::Diagram;
+use crate::fault::{Uncompared, Undecided, Unfollowed};
 use crate::lines::deciding_lines;
 use crate::meeting::{Both, Meeting};
 use crate::store::Diagrams;
 use crate::walk::meetings;
-use cell_rules::{Rules, decide, laws};
+use cell_rules::{Rules, laws};
 use std::alloc::{AllocError, Global};
 
 /// The case of a meeting.
-fn case_of(old: &Rules, new: &Rules, meeting: &Meeting) -> Case
-    ensures { result ≡ case_of old.now new.now meeting.now }
+fn case_of(old: Compared<'_>, new: Compared<'_>, meeting: &Meeting) -> Case
+    ensures { result ≡ case_of old.entry new.entry meeting.now }
 {
     Case {
-        old: decide(old, &meeting.cell),
-        new: decide(new, &meeting.cell),
+        old: decision_with(old, &meeting.cell, meeting.one),
+        new: decision_with(new, &meeting.cell, meeting.other),
         cell: meeting.cell,
     }
 }
@@ -28,11 +33,11 @@ fn case_of(old: &Rules, new: &Rules, meeting: &Meeting) -> Case
 /// The cases of meetings.
 fn cases_of(
     alloc: Global,
-    old: &Rules,
-    new: &Rules,
+    old: Compared<'_>,
+    new: Compared<'_>,
     meetings: &[Meeting],
 ) -> Result<Vec<Case>, AllocError>
-    ensures { IfOk result (λ cases. cases.items ≡ map (case_of old.now new.now) meetings.now) }
+    ensures { IfOk result (λ cases. cases.items ≡ map (case_of old.entry new.entry) meetings.now) }
 {
     let mut cases = Vec::new(alloc);
     for meeting in meetings {
@@ -59,13 +64,72 @@ pub fn compare(alloc: Global, old: &Rules, new: &Rules) -> Result<Vec<Case>, Und
         other: deciding_lines(alloc, &mut other, new)?,
     };
     let met = meetings(alloc, &one, &other, both)?;
+    let cases = cases_of(alloc, Compared::Rules(old), Compared::Rules(new), &met)?;
+    Ok(cases)
+}
+
+/// The diagram of what is old.
+fn old_shown(
+    alloc: Global,
+    diagrams: &mut Diagrams,
+    old: Compared<'_>,
+) -> Result<Diagram, Uncompared>
+    ensures within { IfOk result (IsWithin diagrams.new) }
+    ensures shown { IfOk result (IsShown diagrams.new old.entry) }
+{
+    match shown(alloc, diagrams, old) {
+        Ok(diagram) => Ok(diagram),
+        Err(Unfollowed::At(place)) => Err(Uncompared::Old(place)),
+        Err(Unfollowed::Undecided(why)) => Err(Uncompared::Undecided(why)),
+    }
+}
+
+/// The diagram of what is new.
+fn new_shown(
+    alloc: Global,
+    diagrams: &mut Diagrams,
+    new: Compared<'_>,
+) -> Result<Diagram, Uncompared>
+    ensures within { IfOk result (IsWithin diagrams.new) }
+    ensures shown { IfOk result (IsShown diagrams.new new.entry) }
+{
+    match shown(alloc, diagrams, new) {
+        Ok(diagram) => Ok(diagram),
+        Err(Unfollowed::At(place)) => Err(Uncompared::New(place)),
+        Err(Unfollowed::Undecided(why)) => Err(Uncompared::Undecided(why)),
+    }
+}
+
+/// The cases of what old and new rules or programs decide for cells, as [`compare`] lists them. No line of a program decides: the
+/// decision has its value and no line.
+///
+/// # Errors
+///
+/// `Old` or `New` if a program isn't followed, with the place of the first instruction that some path meets with operands that aren't
+/// followed. `TooLarge` and `NoMemory` as for [`compare`], and `TooLarge` if too much would have to be remembered of a program.
+pub fn compare_sides(
+    alloc: Global,
+    old: Compared<'_>,
+    new: Compared<'_>,
+) -> Result<Vec<Case>, Uncompared>
+    ensures { IfOk result (λ cases. AreComparedCases old.entry new.entry cases.items) }
+{
+    laws::the_first_rule_decides();
+    let mut one = Diagrams::new(alloc)?;
+    let mut other = Diagrams::new(alloc)?;
+    let both = Both {
+        one: old_shown(alloc, &mut one, old)?,
+        other: new_shown(alloc, &mut other, new)?,
+    };
+    let met = meetings(alloc, &one, &other, both)?;
     let cases = cases_of(alloc, old, new, &met)?;
     Ok(cases)
 }
 
-/// Whether old and new rules give each cell the same value, by their cases.
+/// Whether old and new give each cell the same value, by their cases.
 pub fn give_same(cases: &[Case]) -> bool
-    ensures { (old new : Written) → AreCases old new cases.now → (IsTrue result ↔ GiveSame old new) }
+    ensures rules { (old new : Written) → AreCases old new cases.now → (IsTrue result ↔ GiveSame old new) }
+    ensures decisions { (was is : List ℕ → Decided) → AreCasesOf was is cases.now → (IsTrue result ↔ GiveOneValue was is) }
 {
     laws::the_first_rule_decides();
     have_one_value(cases)

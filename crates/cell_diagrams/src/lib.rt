@@ -3,24 +3,34 @@
 
 mod case;
 mod choosing;
+mod compared;
 mod comparing;
+mod contents;
 mod diagram;
 mod fault;
+mod following;
 mod holding;
 mod lines;
 mod meeting;
 mod met_tests;
 mod numbers;
+mod operations;
+mod program;
+mod reaching;
 mod searching;
 mod span;
 mod step;
 mod store;
 mod unused;
 mod walk;
+mod word;
+mod word_results;
+mod word_tests;
 
 pub use case::Case;
-pub use comparing::{compare, give_same};
-pub use fault::Undecided;
+pub use compared::Compared;
+pub use comparing::{compare, compare_sides, give_same};
+pub use fault::{Uncompared, Undecided};
 pub use searching::unused_rules;
 pub use store::MOST_NODES;
 pub use unused::Unused;

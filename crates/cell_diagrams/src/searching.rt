@@ -19,6 +19,13 @@ use cell_rules::{RuleLine, Rules, laws};
 use std::alloc::{AllocError, Global};
 use std::collections::BTreeSet;
 
+/// The most work of a search, in steps: one for each node there is, for each rule that is found to decide no cell, and some for each rule that
+/// is named with it. It bounds time and memory where many rules decide no cell.
+const MOST_WORK: u64 = 268_435_456;
+
+/// The work of a rule that is named with another. So at most 4,194,304 are.
+const EACH_TAKER: u64 = 64;
+
 /// The places of the lines that decide the cells that a diagram tells.
 #[tactic(auto, using(crate::proofs::Nodes::keeps_both, crate::proofs::Nodes::keeps_itself))]
 fn takers(
@@ -73,6 +80,26 @@ fn unused_at(
     }
 }
 
+// no ensures: how much work may follow says nothing of what is found
+// no edit: it has no ensures
+/// How much work may follow what was found, with this many nodes.
+///
+/// # Errors
+///
+/// `TooLarge` if there was more work than the most.
+fn spend(left: u64, nodes: usize, found: &Option<Unused>) -> Result<u64, Undecided> {
+    let Some(unused) = found else {
+        return Ok(left);
+    };
+    let work = EACH_TAKER
+        .saturating_mul(unused.takers.len() as u64)
+        .saturating_add(nodes as u64);
+    match left.checked_sub(work) {
+        Some(rest) => Ok(rest),
+        None => Err(Undecided::TooLarge),
+    }
+}
+
 /// Appends what was found.
 fn keep(unused: &mut Vec<Unused>, found: Option<Unused>) -> Result<(), AllocError>
     ensures { OnOk result (unused.new.items ≡ unused.old.items ++ option_to_list found) }
@@ -87,7 +114,8 @@ fn keep(unused: &mut Vec<Unused>, found: Option<Unused>) -> Result<(), AllocErro
 ///
 /// # Errors
 ///
-/// `TooLarge` if there are too many cases to decide, as for [`compare`](crate::compare); `NoMemory` if an allocation failed.
+/// `TooLarge` if there are too many cases to decide, as for [`compare`](crate::compare), or if the search would take too long; `NoMemory` if an
+/// allocation failed.
 pub fn unused_rules(alloc: Global, rules: &Rules) -> Result<Vec<Unused>, Undecided>
     ensures { IfOk result (λ unused. AreUnused rules.now unused.items) }
 {
@@ -96,6 +124,7 @@ pub fn unused_rules(alloc: Global, rules: &Rules) -> Result<Vec<Unused>, Undecid
     let deciders = numbers(alloc, &diagrams, deciding)?;
     let mut inside = Inside::new(alloc);
     let mut unused = Vec::new(alloc);
+    let mut left = MOST_WORK;
     for place in 0..rules.lines.len() {
         let found = unused_at(
             alloc,
@@ -106,6 +135,7 @@ pub fn unused_rules(alloc: Global, rules: &Rules) -> Result<Vec<Unused>, Undecid
             &deciders,
             &inside,
         )?;
+        left = spend(left, diagrams.count(), &found)?;
         keep(&mut unused, found)?;
         enter(&mut diagrams, rules, place, &mut inside)?;
     }

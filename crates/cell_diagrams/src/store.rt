@@ -153,6 +153,13 @@ impl Diagrams {
         self.nodes[number as usize]
     }
 
+    /// How many nodes there are.
+    pub(crate) fn count(&self) -> usize
+        ensures { result ≡ length self.now }
+    {
+        self.nodes.len()
+    }
+
     /// The first bit that a diagram asks for, 416 if it asks for none.
     pub(crate) fn top(&self, diagram: Diagram) -> u16
         requires { IsWithin self.now diagram }

@@ -1,0 +1,118 @@
+//! What is known of a machine at a place of its program.
+
+ghost use Rattle.std.specs.Prelude.{◌≡◌, IsTrue};
+
+use crate::diagram::Diagram;
+use crate::word::Bit;
+use bpf_code::Test;
+
+/// The contents of the registers and of the scratch words.
+#[derive(Clone, Copy, Debug)]
+pub(crate) struct Contents {
+    /// The bits of A, the lowest first.
+    pub a: [Bit; 32],
+    /// The bits of X.
+    pub x: [Bit; 32],
+    /// The bits of each scratch word that was written.
+    pub scratch: [Option<[Bit; 32]>; 16],
+}
+
+/// The contents when a program begins.
+pub(crate) const FIRST: Contents = Contents {
+    a: [Bit::Zero; 32],
+    x: [Bit::Zero; 32],
+    scratch: [None; 16],
+};
+
+/// Whether two bits are the same.
+fn same_bit(one: Bit, other: Bit) -> bool
+    ensures { IsTrue result → one ≡ other }
+{
+    one == other
+}
+
+/// Whether bits are the same.
+fn same_bits(one: &[Bit], other: &[Bit]) -> bool
+    ensures { IsTrue result → one.now ≡ other.now }
+{
+    match one {
+        [] => other.is_empty(),
+        [first, more @ ..] => match other {
+            [] => false,
+            [second, rest @ ..] => same_bit(*first, *second) && same_bits(more, rest),
+        },
+    }
+}
+
+/// Whether two scratch words are the same.
+fn same_word(one: Option<[Bit; 32]>, other: Option<[Bit; 32]>) -> bool
+    ensures { IsTrue result → one ≡ other }
+{
+    match one {
+        None => other.is_none(),
+        Some(first) => match other {
+            None => false,
+            Some(second) => same_bits(&first, &second),
+        },
+    }
+}
+
+/// Whether scratch words are the same.
+fn same_words(one: &[Option<[Bit; 32]>], other: &[Option<[Bit; 32]>]) -> bool
+    ensures { IsTrue result → one.now ≡ other.now }
+{
+    match one {
+        [] => other.is_empty(),
+        [first, more @ ..] => match other {
+            [] => false,
+            [second, rest @ ..] => same_word(*first, *second) && same_words(more, rest),
+        },
+    }
+}
+
+/// Whether contents are the same.
+pub(crate) fn are_same(one: &Contents, other: &Contents) -> bool
+    ensures { IsTrue result → one.now ≡ other.now }
+{
+    same_bits(&one.a, &other.a)
+        && same_bits(&one.x, &other.x)
+        && same_words(&one.scratch, &other.scratch)
+}
+
+/// What one instruction does.
+#[derive(Clone, Copy, Debug)]
+pub(crate) enum Followed {
+    /// It ends the program with this value.
+    Ends(u32),
+    /// It leads to a place with these contents.
+    Continues {
+        /// The place.
+        place: usize,
+        /// The contents there.
+        contents: Contents,
+    },
+    /// It leads to one of two places, by a test of A with a constant.
+    Branches {
+        /// The test.
+        test: Test,
+        /// The constant.
+        k: u32,
+        /// The place if the test is true.
+        one: usize,
+        /// The place if it is false.
+        other: usize,
+    },
+    /// It isn't followed.
+    Stops,
+}
+
+/// What a program gives each cell from a place on.
+#[derive(Clone, Copy, Debug)]
+pub(crate) struct Told {
+    /// The place.
+    pub place: usize,
+    /// The contents there.
+    pub contents: Contents,
+    /// The diagram of the values.
+    pub diagram: Diagram,
+}
