@@ -1,15 +1,17 @@
 """Compares `upc-lab trace` and `upc-lab list` with the reference on random inputs of `upc eval`, and `upc-lab explain` on such of
-`upc check` and `upc run`.
+`upc check` and `upc run`, and on random texts of rules.
 
     python3 -m lab UPC UPC_LAB [COUNT] [SEED]
 
 The steps of a trace are those of the reference's machine, and its other lines those of `upc eval`. A listing assembles to the
-program that is listed, and ends with the comment of its longest run. The line, the column and the path of an explanation are those of the reference. The last line is 'N passed, M failed'.
+program that is listed, and ends with the comment of its longest run. The line, the column and the path of an explanation
+are those of the reference, and so are the rules that have a hint. The last line is 'N passed, M failed'.
 """
 import re
 import sys
 
 from lab.explaining import wrong_explanation
+from lab.explaining_rules import rules_input, wrong_rules_explanation
 from lab.explaining_scripts import wrong_script_explanation
 from lab.listing import longest_comment
 from lab.tracing import TraceDialogue
@@ -17,10 +19,13 @@ from policer.decoding import decoded
 from policer.dialogue import answered
 from policer.eval_dialogue import EvalDialogue
 from policer.hexadecimal import octets_of
+from rules.__main__ import with_deep_stack
 from trials.comparing import edges_of, first_difference, input_of, of_program
 
 # First lines after which a source follows.
 FIRST_LINES = [b"source\n", b"source\r\n", b"source \t\n", b"\t source \r\n"]
+# And such after which a text of rules follows.
+RULES_LINES = [b"rules\n", b"rules\r\n", b"rules \t\n", b"\t rules \r\n"]
 
 
 def without_spelling(output):
@@ -73,11 +78,25 @@ def script_explanations(lab, count, seed):
     return failed, len(numbers)
 
 
+def rules_explanations(lab, count, seed):
+    """Compares explanations of texts of rules, and returns how many failed and how many there were."""
+    failed = 0
+    for number in range(count):
+        text, is_all, source = rules_input(seed, number)
+        ours = of_program(lab, "explain", RULES_LINES[number % len(RULES_LINES)] + text)
+        wrong = wrong_rules_explanation(text, is_all, ours, source)
+        if wrong:
+            failed += 1
+            print(f"explain, rules {number} of seed {seed}: {wrong}")
+    return failed, count
+
+
 def main(upc, lab, count="200", seed="1"):
     """Compares, and returns the exit status."""
     failed, explained = explanations(lab, int(count), seed)
     failed_scripts, scripts = script_explanations(lab, int(count), seed)
-    failed, explained = failed + failed_scripts, explained + scripts
+    failed_rules, texts = rules_explanations(lab, int(count), seed)
+    failed, explained = failed + failed_scripts + failed_rules, explained + scripts + texts
     numbers = range(-len(edges_of("eval")), int(count))
     for number in numbers:
         text = input_of("eval", seed, number)
@@ -90,4 +109,4 @@ def main(upc, lab, count="200", seed="1"):
 
 
 if __name__ == "__main__":
-    sys.exit(main(*sys.argv[1:]))
+    sys.exit(with_deep_stack(lambda: main(*sys.argv[1:])))

@@ -12,7 +12,10 @@ use Rattle.bpf_verify.specs.Faults.{FailsFirst}
 use Rattle.bpf_verify.specs.declared.fault.Fault.{Fault}
 use Rattle.bpf_verify.specs.declared.fault.Fault.TheVariants as fault
 use Rattle.lab_faults.specs.CodeReasons.{IsRest, code_sentence, code_start, numbers_text}
-use Rattle.lab_faults.specs.Explained.{ExplainsCode, ExplainsSource, ExplainsWithin, IsExplainText, IsSourceText, source_after}
+use Rattle.lab_faults.specs.Explained.{ExplainsCode, ExplainsSource, ExplainsWithin, IsExplainText, IsSourceText}
+use Rattle.lab_faults.specs.InputKinds.{rules_after, source_after}
+use Rattle.lab_rule_faults.proofs.Public.{ended-rules_explained}
+use Rattle.lab_rule_faults.specs.RulesExplained.{MayBeRulesExplained}
 use Rattle.lab_faults.specs.Hints.{hints_of}
 use Rattle.lab_faults.specs.LinesFound.{instruction_lines}
 use Rattle.lab_faults.specs.SourceReasons.{source_explanation}
@@ -99,9 +102,16 @@ some-within_answer (Some source) = some-source_answer source
 pub some-source_text : (source : List ℕ) → (text : List ℕ) × (done : Done) × IsSourceText source text done
 some-source_text source = some-within_answer (gathered most_source_octets source)
 
+some-other_answer : (octets : List ℕ) (found : Option (List ℕ))
+    → (text : List ℕ) × (done : Done) × MatchOption found (IsScriptExplained octets text done) (λ rules. MayBeRulesExplained rules text done)
+some-other_answer octets None = some-script_text octets
+some-other_answer octets (Some rules) = let ended = ended-rules_explained rules in (ended.0, Ended, ended.1)
+
 some-input_answer : (octets : List ℕ) (found : Option (List ℕ))
-    → (text : List ℕ) × (done : Done) × MatchOption found (IsScriptExplained octets text done) (λ source. IsSourceText source text done)
-some-input_answer octets None = some-script_text octets
+    → (text : List ℕ) × (done : Done)
+    × MatchOption found (MatchOption (rules_after octets) (IsScriptExplained octets text done) (λ rules. MayBeRulesExplained rules text done))
+    (λ source. IsSourceText source text done)
+some-input_answer octets None = some-other_answer octets (rules_after octets)
 some-input_answer octets (Some source) = some-source_text source
 
 pub some-explain_text : (octets : List ℕ) → (text : List ℕ) × (done : Done) × IsExplainText octets text done

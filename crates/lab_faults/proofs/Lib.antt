@@ -3,6 +3,7 @@ pub mod Chosen
 pub mod Outside
 pub mod Public
 pub mod SameFaults
-pub mod SourceFront
+pub mod WordFront
+pub mod FirstLineRead
 pub mod Walking
 pub mod TokensFound

@@ -1,4 +1,4 @@
--- The faults of sources, explained. Read the modules in this order:
+-- Inputs, explained. Read the modules in this order:
 pub mod FoundTokens
 pub mod Forms
 pub mod LinesFound
@@ -7,6 +7,7 @@ pub mod SourceReasons
 pub mod CodePaths
 pub mod CodeReasons
 pub mod Hints
+pub mod InputKinds
 pub mod Explained
 pub mod AsCheck
 pub mod inner

@@ -4,7 +4,7 @@ ghost use Rattle.std.specs.Prelude.{◌≡◌, ◌≢◌, ◌++◌, ◌⊎◌, �
 ghost use Rattle.text_io.specs.Failures.{read_failures};
 ghost use Rattle.text_io.specs.Limits.{most_line_octets};
 ghost use Rattle.text_io.specs.Words.{words_of};
-ghost use Rattle.lab_faults.specs.Explained.{PassesSource, is_source, source_after};
+ghost use Rattle.lab_faults.specs.InputKinds.{PassesFirst, after_word, is_alone};
 ghost use Rattle.lab_faults.specs.inner.FirstLines.{HoldsFirstLine};
 
 use crate::tokens::after;
@@ -14,16 +14,27 @@ use text_io::{Failed, Input, RunFault, before_return, first_feed, first_word};
 /// The maximum number of octets of a line, as in a script.
 const MOST_LINE_OCTETS: usize = 70000;
 
+/// What an input is.
+#[derive(Clone, Copy, Debug, PartialEq, Eq)]
+pub enum InputKind {
+    /// A source of assembly, after the line `source`.
+    Source,
+    /// A text of rules, after the line `rules`.
+    Rules,
+    /// A script.
+    Script,
+}
+
 /// An input that can be asked for its first line.
 pub trait Ahead: Input {
-    /// Reads the first line, if its only word is `source`, and returns whether it is. Otherwise all octets are left, although the
-    /// first line was read from the device.
+    /// Reads the first line, if its only word is `source` or `rules`, and returns what the input is. Otherwise all octets are left,
+    /// although the first line was read from the device.
     ///
     /// # Errors
     ///
     /// `ReadFailed` if the device failed, `NoMemory` if an allocation fails.
-    fn pass_source(&mut self) -> Result<bool, RunFault>
-        ensures octets { Self.is_known → IfOk result (λ found. PassesSource found (Self.rest self.old) (Self.rest self.new)) }
+    fn pass_first_line(&mut self) -> Result<InputKind, RunFault>
+        ensures octets { Self.is_known → IfOk result (λ kind. PassesFirst kind (Self.rest self.old) (Self.rest self.new)) }
         ensures reading { Self.failures self.new ≡ read_failures result (Self.failures self.old) }
         ensures fault { result ≢ Err RunFault.WriteFailed };
 }
@@ -107,43 +118,56 @@ fn look<I: Input>(input: &mut I, octets: &mut Vec<u8>) -> Result<(), RunFault>
     Ok(())
 }
 
-/// Returns whether the only word of a line is `source`.
-fn is_source(line: &[u8]) -> bool
-    ensures { result ≡ is_source (words_of line.now) }
+/// Returns whether the only word of a line is this one.
+fn is_alone(word: &[u8], line: &[u8]) -> bool
+    ensures { result ≡ is_alone word.now (words_of line.now) }
 {
     match first_word(line) {
         None => false,
-        Some((word, rest)) => word == b"source".as_slice() && first_word(rest).is_none(),
+        Some((first, rest)) => first == word && first_word(rest).is_none(),
     }
 }
 
-/// Returns whether a line of these octets is within the limit, and the only word of its content is `source`.
-fn is_source_line(octets: &[u8], content: &[u8]) -> bool
-    ensures { result ≡ (nat_le (length octets.now) most_line_octets && is_source (words_of content.now)) }
+/// Returns whether a line of these octets is within the limit, and the only word of its content is this one.
+fn is_word_line(word: &[u8], octets: &[u8], content: &[u8]) -> bool
+    ensures { result ≡ (nat_le (length octets.now) most_line_octets && is_alone word.now (words_of content.now)) }
 {
-    octets.len() <= MOST_LINE_OCTETS && is_source(content)
+    octets.len() <= MOST_LINE_OCTETS && is_alone(word, content)
 }
 
-/// Returns the number of octets of the first line and its line feed, if its only word is `source`.
-fn source_line(octets: &[u8]) -> Option<usize>
-    ensures { option_map (λ size. drop size octets.now) result ≡ source_after octets.now }
+/// Returns the number of octets of the first line and its line feed, if its only word is this one.
+fn word_line(word: &[u8], octets: &[u8]) -> Option<usize>
+    ensures { option_map (λ size. drop size octets.now) result ≡ after_word word.now octets.now }
 {
     match first_feed(octets, 0) {
         Some(at) => {
             let line = &octets[..at];
-            if is_source_line(line, before_return(line)) {
+            if is_word_line(word, line, before_return(line)) {
                 Some(at + 1)
             } else {
                 None
             }
         }
         None => {
-            if is_source_line(octets, octets) {
+            if is_word_line(word, octets, octets) {
                 Some(octets.len())
             } else {
                 None
             }
         }
+    }
+}
+
+/// Returns what an input is that begins with these octets, and how many of them its first line takes.
+fn first_line(octets: &[u8]) -> (InputKind, usize)
+    ensures { PassesFirst result.0 octets.now (drop result.1 octets.now) }
+{
+    match word_line(b"source", octets) {
+        Some(size) => (InputKind::Source, size),
+        None => match word_line(b"rules", octets) {
+            Some(size) => (InputKind::Rules, size),
+            None => (InputKind::Script, 0),
+        },
     }
 }
 
@@ -157,19 +181,15 @@ fn copied(alloc: Global, octets: &[u8]) -> Result<Vec<u8>, AllocError>
 }
 
 impl<I: Input> Ahead for LookedAt<I> {
-    fn pass_source(&mut self) -> Result<bool, RunFault> {
+    fn pass_first_line(&mut self) -> Result<InputKind, RunFault> {
         let Ok(left) = copied(self.alloc, after(&self.front, self.given)) else {
             return Err(RunFault::NoMemory);
         };
         self.front = left;
         self.given = 0;
         look(&mut self.input, &mut self.front)?;
-        match source_line(&self.front) {
-            None => Ok(false),
-            Some(size) => {
-                self.given = size;
-                Ok(true)
-            }
-        }
+        let (kind, size) = first_line(&self.front);
+        self.given = size;
+        Ok(kind)
     }
 }

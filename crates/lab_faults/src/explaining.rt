@@ -3,15 +3,16 @@
 ghost use Rattle.std.specs.Prelude.{IfOk, option_map};
 ghost use Rattle.text_io.specs.Devices.{Adds};
 ghost use Rattle.text_io.specs.Serving.{IsServed};
-ghost use Rattle.lab_faults.specs.Explained.{ExplainsCode, ExplainsSource, ExplainsWithin, IsExplainText, IsSourceText};
+ghost use Rattle.lab_faults.specs.Explained.{ExplainsCode, ExplainsSource, ExplainsWithin, IsExplainText, IsSourceText, IsWholeExplanation};
 
-use crate::ahead::Ahead;
+use crate::ahead::{Ahead, InputKind};
 use crate::code_faults::add_code_explanation;
 use crate::hints::add_hints;
 use crate::source_faults::add_source_explanation;
 use bpf_asm::{AsmFault, AsmKind, assemble};
 use bpf_code::Instr;
 use bpf_verify::first_fault;
+use lab_rule_faults::explain_rules;
 use lab_scripts::explain_script;
 use std::alloc::{AllocError, Global};
 use text_io::{Done, Input, Output, RunFault, gather, give_last};
@@ -103,8 +104,9 @@ fn explain_gathered<I: Input, O: Output>(
     }
 }
 
-/// Answers the word `source` on the first line and a source of assembly after it by the fault that `upc check` finds, and a script by
-/// the fault lines of `upc run`, each with its line, the column of the word that is wrong and a sentence. docs/LAB.md has the format.
+/// Answers the word `source` on the first line and a source of assembly after it by the fault that `upc check` finds, the word `rules`
+/// and a text of rules by the fault that `upc-lab rules` finds, and a script by the fault lines of `upc run`, each with its line, the
+/// column of the word that is wrong and a sentence. docs/LAB.md has the format.
 ///
 /// # Errors
 ///
@@ -115,11 +117,14 @@ pub fn explain_faults<I: Ahead, O: Output>(
     input: &mut I,
     output: &mut O,
 ) -> Result<Done, RunFault>
-    ensures { IsServed IsExplainText I.Input input.old input.new O.Output output.old output.new result }
+    ensures served { IsServed IsExplainText I.Input input.old input.new O.Output output.old output.new result }
+    ensures printed { I.is_known → O.is_known → IfOk result (λ done.
+        Adds (λ text. IsWholeExplanation (I.rest input.old) text done) (O.held output.old) (O.held output.new)) }
 {
-    match input.pass_source() {
+    match input.pass_first_line() {
         Err(fault) => Err(fault),
-        Ok(true) => explain_gathered(alloc, input, output),
-        Ok(false) => explain_script(alloc, input, output),
+        Ok(InputKind::Source) => explain_gathered(alloc, input, output),
+        Ok(InputKind::Rules) => explain_rules(alloc, input, output),
+        Ok(InputKind::Script) => explain_script(alloc, input, output),
     }
 }

@@ -1,4 +1,4 @@
-//! `upc-lab explain`: where a source or a script is faulty, what is wrong there, and what would be right.
+//! `upc-lab explain`: where a source, a text of rules or a script is faulty, what is wrong there, and what would be right.
 #![tactic(auto)]
 
 mod ahead;
@@ -15,7 +15,7 @@ mod source_faults;
 mod tests;
 mod tokens;
 
-pub use ahead::{Ahead, LookedAt};
+pub use ahead::{Ahead, InputKind, LookedAt};
 pub use explaining::explain_faults;
 pub use forms::{Form, Shape, Slot};
 pub use tokens::FoundToken;

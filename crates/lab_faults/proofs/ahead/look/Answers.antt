@@ -1,7 +1,7 @@
 -- A line feed ends the first line.
 use Rattle.std.proofs.Common.{◌≡◌, ◌++◌, inl, ap, sym, ◌∙◌, not, Bool, [], ◌∷◌, get_or, if◌then◌else◌}
 use Rattle.lab_faults.specs.inner.FirstLines.{has_feed}
-use Rattle.lab_faults.proofs.SourceFront.{feed_last, feed_there}
+use Rattle.lab_faults.proofs.WordFront.{feed_last, feed_there}
 use Rattle.lab_faults.proofs.ahead.look.Goals as goal
 
 pub returns-in-Some-clause-enough : goal.returns-in-Some-clause-enough

@@ -1,13 +1,16 @@
--- The input is a source after the line `source`, or a script.
-use Rattle.std.proofs.Common.{Bool, subst, rules}
+-- The input is a source after the line `source`, a text of rules after the line `rules`, or a script.
+use Rattle.std.proofs.Common.{codes, subst, rules}
 use Rattle.text_io.proofs.Public.{nothing-begins}
-use Rattle.lab_faults.specs.Explained.{IsExplainText, PassesSource}
+use Rattle.lab_faults.specs.Explained.{IsExplainText, IsSourceText, IsWholeExplanation}
+use Rattle.lab_faults.specs.InputKinds.{PassesFirst}
+use Rattle.lab_faults.specs.declared.ahead.InputKind.{InputKind}
+use Rattle.lab_rule_faults.specs.RulesExplained.{IsRulesExplained, MayBeRulesExplained}
 use Rattle.lab_faults.proofs.Answered.{some-explain_text}
-use Rattle.lab_faults.proofs.Chosen.{served_script, served_source}
+use Rattle.lab_faults.proofs.Chosen.{adds_after, rules_follow, script_printed, served_after, served_script, source_follows}
 use Rattle.lab_faults.proofs.explaining.explain_faults.Goals as goal
 
-pub returns-in-Err : goal.returns-in-Err
-returns-in-Err g c =
+pub returns-in-Err-clause-served : goal.returns-in-Err-clause-served
+returns-in-Err-clause-served g c =
     let octets = g.I.Input.rest c.args.input.now in
     record {
       text = search rules;
@@ -18,18 +21,53 @@ returns-in-Err g c =
       writing = search rules;
     }
 
-pub returns-in-Ok-true : goal.returns-in-Ok-true
-returns-in-Ok-true g c =
+pub returns-in-Ok-Source-clause-served : goal.returns-in-Ok-Source-clause-served
+returns-in-Ok-Source-clause-served g c =
     let old = g.I.Input.rest c.args.input.now in
-    let read = g.I.Input.rest c.pass_source.new.self in
-    served_source g.I.Input c.args.input.now c.pass_source.new.self c.explain_gathered.new.input g.O.Output c.args.output.now c.explain_gathered.new.output
-    c.explain_gathered.result c.in-Ok-true.ensures.reading
-    (λ known. subst (λ (b : Bool). PassesSource b old read) c.in-Ok-true.field-0-test (c.in-Ok-true.ensures.octets known)) c.explain_gathered.ensures
+    let read = g.I.Input.rest c.pass_first_line.new.self in
+    served_after g.I.Input c.args.input.now c.pass_first_line.new.self c.explain_gathered.new.input g.O.Output c.args.output.now c.explain_gathered.new.output
+    c.explain_gathered.result c.in-Ok-Source.ensures.reading (codes "source") IsSourceText (source_follows MayBeRulesExplained)
+    (λ known. subst (λ (kind : InputKind). PassesFirst kind old read) c.in-Ok-Source.field-0-is (c.in-Ok-Source.ensures.octets known)) c.explain_gathered.ensures
 
-pub returns-in-Ok-false : goal.returns-in-Ok-false
-returns-in-Ok-false g c =
+pub returns-in-Ok-Source-clause-printed : goal.returns-in-Ok-Source-clause-printed
+returns-in-Ok-Source-clause-printed g c = λ known written.
     let old = g.I.Input.rest c.args.input.now in
-    let read = g.I.Input.rest c.pass_source.new.self in
-    served_script g.I.Input c.args.input.now c.pass_source.new.self c.explain_script.new.input g.O.Output c.args.output.now c.explain_script.new.output
-    c.explain_script.result c.in-Ok-false.ensures.reading
-    (λ known. subst (λ (b : Bool). PassesSource b old read) c.in-Ok-false.field-0-test (c.in-Ok-false.ensures.octets known)) c.explain_script.ensures
+    let read = g.I.Input.rest c.pass_first_line.new.self in
+    adds_after (codes "source") IsSourceText IsWholeExplanation old read (g.O.Output.held c.args.output.now) (g.O.Output.held c.explain_gathered.new.output)
+    c.explain_gathered.result (source_follows IsRulesExplained)
+    (subst (λ (kind : InputKind). PassesFirst kind old read) c.in-Ok-Source.field-0-is (c.in-Ok-Source.ensures.octets known))
+    (c.explain_gathered.ensures.text known written)
+
+pub returns-in-Ok-Rules-clause-served : goal.returns-in-Ok-Rules-clause-served
+returns-in-Ok-Rules-clause-served g c =
+    let old = g.I.Input.rest c.args.input.now in
+    let read = g.I.Input.rest c.pass_first_line.new.self in
+    served_after g.I.Input c.args.input.now c.pass_first_line.new.self c.explain_rules.new.input g.O.Output c.args.output.now c.explain_rules.new.output
+    c.explain_rules.result c.in-Ok-Rules.ensures.reading (codes "rules") MayBeRulesExplained (rules_follow MayBeRulesExplained)
+    (λ known. (subst (λ (kind : InputKind). PassesFirst kind old read) c.in-Ok-Rules.field-0-is (c.in-Ok-Rules.ensures.octets known)).1)
+    c.explain_rules.ensures.served
+
+pub returns-in-Ok-Rules-clause-printed : goal.returns-in-Ok-Rules-clause-printed
+returns-in-Ok-Rules-clause-printed g c = λ known written.
+    let old = g.I.Input.rest c.args.input.now in
+    let read = g.I.Input.rest c.pass_first_line.new.self in
+    adds_after (codes "rules") IsRulesExplained IsWholeExplanation old read (g.O.Output.held c.args.output.now) (g.O.Output.held c.explain_rules.new.output)
+    c.explain_rules.result (rules_follow IsRulesExplained)
+    (subst (λ (kind : InputKind). PassesFirst kind old read) c.in-Ok-Rules.field-0-is (c.in-Ok-Rules.ensures.octets known)).1
+    (c.explain_rules.ensures.printed known written)
+
+pub returns-in-Ok-Script-clause-served : goal.returns-in-Ok-Script-clause-served
+returns-in-Ok-Script-clause-served g c =
+    let old = g.I.Input.rest c.args.input.now in
+    let read = g.I.Input.rest c.pass_first_line.new.self in
+    served_script g.I.Input c.args.input.now c.pass_first_line.new.self c.explain_script.new.input g.O.Output c.args.output.now c.explain_script.new.output
+    c.explain_script.result c.in-Ok-Script.ensures.reading
+    (λ known. subst (λ (kind : InputKind). PassesFirst kind old read) c.in-Ok-Script.field-0-is (c.in-Ok-Script.ensures.octets known)) c.explain_script.ensures
+
+pub returns-in-Ok-Script-clause-printed : goal.returns-in-Ok-Script-clause-printed
+returns-in-Ok-Script-clause-printed g c =
+    let old = g.I.Input.rest c.args.input.now in
+    let read = g.I.Input.rest c.pass_first_line.new.self in
+    script_printed g.I.Input c.args.input.now c.pass_first_line.new.self c.explain_script.new.input g.O.Output c.args.output.now c.explain_script.new.output
+    c.explain_script.result c.in-Ok-Script.ensures.reading IsRulesExplained
+    (λ known. subst (λ (kind : InputKind). PassesFirst kind old read) c.in-Ok-Script.field-0-is (c.in-Ok-Script.ensures.octets known)) c.explain_script.ensures

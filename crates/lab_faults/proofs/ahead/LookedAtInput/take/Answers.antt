@@ -1,6 +1,6 @@
 -- Octets of those that were looked at.
 use Rattle.std.proofs.Common.{◌≡◌, ◌≤◌, ◌∙◌, ap, arith, drop, length, take, List, ℕ}
-use Rattle.lab_faults.proofs.SourceFront.{taken}
+use Rattle.lab_faults.proofs.WordFront.{taken}
 use Rattle.lab_faults.proofs.ahead.LookedAtInput.take.Goals as goal
 
 pub returns-clause-octets : goal.returns-clause-octets

@@ -1,0 +1,11 @@
+-- Texts of rules, explained. Read the modules in this order:
+pub mod WordsFound
+pub mod Parts
+pub mod Spots
+pub mod Reasons
+pub mod RuleLines
+pub mod MeantWords
+pub mod RuleReasons
+pub mod RuleHints
+pub mod RulesExplained
+pub mod inner

@@ -1,0 +1,104 @@
+-- The explanation of a fault of a text of rules: its line, the column of the token that is wrong, and a sentence.
+use Rattle.std.specs.Prelude.{ℕ, ◌==◌, if◌then◌else◌, nat_lt, List, [], ◌∷◌, ◌++◌, codes, decimal, unwrap_or, Option, Some, None}
+use Rattle.lab_rule_faults.specs.MeantWords.{unknown_word_sentence}
+use Rattle.lab_rule_faults.specs.Parts.{part_of}
+use Rattle.lab_rule_faults.specs.Reasons.{expected, number_reason, offsets, reason, too_large_words}
+use Rattle.lab_rule_faults.specs.RuleLines.{depth_from, giving_line, rule_line_numbered, word_at}
+use Rattle.lab_rule_faults.specs.Spots.{first_spot, spot_from}
+use Rattle.lab_rule_faults.specs.WordsFound.{rule_word_octets, words_found}
+use Rattle.lab_rule_faults.specs.declared.parts.Part.{Part}
+use Rattle.lab_rule_faults.specs.declared.parts.Part.TheVariants as part
+use Rattle.lab_rule_faults.specs.declared.spots.Place.{Place}
+use Rattle.lab_rule_faults.specs.declared.spots.Place.TheVariants as here
+use Rattle.lab_rule_faults.specs.declared.spots.Spot.{Spot}
+use Rattle.lab_rule_faults.specs.declared.words_found.RuleWord.{RuleWord}
+use Rattle.lab_scripts.specs.Places.{place_words, quoted}
+use Rattle.rules_text.specs.declared.fault.RuleFault.{RuleFault}
+use Rattle.rules_text.specs.declared.fault.RuleKind.{RuleKind}
+use Rattle.rules_text.specs.declared.fault.RuleKind.TheVariants as kind
+use Rattle.upc_words.specs.FaultLines.{line}
+
+-- The sentence about a token that doesn't fit, for this reason.
+abbrev pub misfit_sentence : List ℕ → List ℕ → List ℕ
+misfit_sentence octets why = quoted octets ++ (codes " doesn't fit here; " ++ why)
+
+-- The sentence about a token that doesn't fit, or about a line that ends too early.
+abbrev pub rule_misfit_sentence : Spot → List ℕ → List ℕ
+rule_misfit_sentence spot [] = codes "the line ends too early; " ++ expected spot.defines spot.place
+rule_misfit_sentence spot (octet ∷ rest) =
+    misfit_sentence (octet ∷ rest) (reason spot.defines spot.place (part_of (octet ∷ rest)) (octet ∷ rest))
+
+-- The sentence about a word that is no number.
+abbrev pub no_rule_number_sentence : List ℕ → List ℕ
+no_rule_number_sentence word =
+    quoted word ++ codes " is no number; a number has decimal digits, or hexadecimal digits after 0x, and is at most 4294967295"
+
+-- The sentence about a number that is too large.
+abbrev pub too_large_sentence : Spot → List ℕ → List ℕ
+too_large_sentence spot octets = quoted octets ++ (too_large_words (part_of octets) ++ number_reason spot)
+
+-- The sentence about octets that aren't all in a cell.
+abbrev pub outside_sentence : Spot → List ℕ
+outside_sentence spot = codes "a cell has the octets 0 to 51; " ++ offsets spot.subject
+
+-- The sentence about a parenthesis or a block without its other end. This many parentheses are open where the test of the line ends.
+abbrev pub unbalanced_sentence : Part → ℕ → List ℕ
+unbalanced_sentence part.Right depth = codes "no `(` is open here"
+unbalanced_sentence part.Close depth = codes "no block is open here"
+unbalanced_sentence _ depth =
+    if nat_lt 0 depth then codes "this `(` isn't closed; its `)` comes before the test ends" else codes "this block isn't closed; a line `}` ends it"
+
+-- The sentence about a line that is too long.
+abbrev pub too_long_sentence : Place → List ℕ
+too_long_sentence here.NewName = codes "a name means at most 4096 tokens, and a text gives at most 4096 names"
+too_long_sentence _ = codes "a test has at most 4096 comparisons and words, and names add at most 262144 tokens to a text"
+
+-- The sentence about a name that this line gives.
+abbrev pub given_sentence : List ℕ → ℕ → List ℕ
+given_sentence name number = quoted name ++ (codes " is given by line " ++ (decimal number ++ codes "; a name is given once"))
+
+-- The sentence about a name that is taken: by the line that gives it, or by the language.
+abbrev pub taken_sentence : List ℕ → Part → Option ℕ → List ℕ
+taken_sentence name part.Name found = given_sentence name (unwrap_or found 0)
+taken_sentence name _ found = quoted name ++ codes " is a word of rules, and no name"
+
+-- The sentence about a fault of this kind on a line with this content, at a token of these octets.
+abbrev pub rule_sentence : List (List ℕ) → RuleKind → List ℕ → Spot → List ℕ → List ℕ
+rule_sentence lines kind.BadLine content spot octets = rule_misfit_sentence spot octets
+rule_sentence lines kind.BadNumber content spot octets = no_rule_number_sentence octets
+rule_sentence lines kind.TooLarge content spot octets = too_large_sentence spot octets
+rule_sentence lines kind.OutsideCell content spot octets = outside_sentence spot
+rule_sentence lines kind.AfterOtherwise content spot octets = codes "no line comes after `otherwise`"
+rule_sentence lines kind.Unbalanced content spot octets = unbalanced_sentence (part_of octets) (depth_from content 0 (words_found content))
+rule_sentence lines kind.TooDeep content spot octets = codes "at most 64 blocks and parentheses are open at once"
+rule_sentence lines kind.TooLong content spot octets = too_long_sentence spot.place
+rule_sentence lines kind.NoMemory content spot octets = []
+rule_sentence lines kind.UnknownName content spot octets = unknown_word_sentence spot octets
+rule_sentence lines kind.NameTaken content spot octets = taken_sentence octets (part_of octets) (giving_line octets 1 lines)
+
+-- The column of a token, if there is one.
+abbrev pub word_column : Option RuleWord → Option ℕ
+word_column None = None
+word_column (Some word) = Some word.column
+
+-- The octets of a token, if there is one.
+abbrev pub blamed_octets : List ℕ → Option RuleWord → List ℕ
+blamed_octets text None = []
+blamed_octets text (Some word) = rule_word_octets text word
+
+-- The explanation of a fault on a line with this content and these tokens.
+abbrev pub placed_explanation : List (List ℕ) → RuleFault → List ℕ → List RuleWord → List ℕ
+placed_explanation lines fault content words =
+    place_words fault.line (word_column (word_at fault.column words))
+    ++ line
+    (rule_sentence lines fault.kind content (spot_from content fault.column first_spot words) (blamed_octets content (word_at fault.column words)))
+
+-- The sentence about a code that is too long.
+abbrev pub long_code_sentence : List ℕ
+long_code_sentence = codes "the code of these rules has more than 4096 instructions"
+
+-- The explanation of a fault of a text of these lines. A code that is too long has no line.
+abbrev pub rule_explanation : List (List ℕ) → RuleFault → List ℕ
+rule_explanation lines fault =
+    if fault.line == 0 then line long_code_sentence
+    else placed_explanation lines fault (rule_line_numbered lines fault.line) (words_found (rule_line_numbered lines fault.line))

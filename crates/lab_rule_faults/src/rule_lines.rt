@@ -1,0 +1,125 @@
+//! The lines of a text of rules.
+
+ghost use Rattle.std.specs.Prelude.{◌≡◌, ◌-◌, IfOk};
+ghost use Rattle.bpf_asm.specs.SourceLines.{source_lines};
+ghost use Rattle.lab_rule_faults.specs.WordsFound.{words_found};
+ghost use Rattle.lab_rule_faults.specs.RuleLines.{begins_giving, depth_from, ends_test, gives, giving_line, rule_line_numbered, word_at};
+
+use crate::parts::{Part, part_of};
+use crate::words_found::{RuleWord, rule_word_octets, words_found};
+use bpf_asm::next_line;
+use std::alloc::{AllocError, Global};
+
+/// Returns the line of this number, counted from 1. It is empty if there is none.
+pub(crate) fn rule_line_numbered(text: &[u8], number: usize) -> &[u8]
+    ensures { result.now ≡ rule_line_numbered (source_lines text.now) number }
+{
+    let mut left = text;
+    let mut more = number.saturating_sub(1);
+    while let Some((line, rest)) = next_line(left) {
+        if more == 0 {
+            return line;
+        }
+        more -= 1;
+        left = rest;
+    }
+    &[]
+}
+
+/// Returns whether a line that begins with a token gives a name.
+fn begins_giving(part: Part) -> bool
+    ensures { result ≡ begins_giving part }
+{
+    match part {
+        Part::Define => true,
+        Part::Contract => true,
+        _ => false,
+    }
+}
+
+/// Returns whether a line of these tokens gives this name.
+fn gives(name: &[u8], text: &[u8], words: &[RuleWord]) -> bool
+    ensures { result ≡ gives name.now text.now words.now }
+{
+    match words {
+        [first, second, ..] => {
+            begins_giving(part_of(rule_word_octets(text, *first)))
+                && rule_word_octets(text, *second) == name
+        }
+        _ => false,
+    }
+}
+
+/// Returns whether a line gives this name.
+fn line_gives(alloc: Global, name: &[u8], line: &[u8]) -> Result<bool, AllocError>
+    ensures { IfOk result (λ does. does ≡ gives name.now line.now (words_found line.now)) }
+{
+    let words = words_found(alloc, line)?;
+    Ok(gives(name, line, &words))
+}
+
+/// Returns the number of the first line that gives this name, if one does.
+pub(crate) fn giving_line(
+    alloc: Global,
+    text: &[u8],
+    name: &[u8],
+) -> Result<Option<usize>, AllocError>
+    ensures { IfOk result (λ number. number ≡ giving_line name.now 1 (source_lines text.now)) }
+{
+    let mut left = text;
+    let mut count = 0;
+    while let Some((line, rest)) = next_line(left) {
+        if line_gives(alloc, name, line)? {
+            return Ok(Some(count + 1));
+        }
+        count += 1;
+        left = rest;
+    }
+    Ok(None)
+}
+
+/// Returns whether a test ends before a token.
+fn ends_test(part: Part) -> bool
+    ensures { result ≡ ends_test part }
+{
+    match part {
+        Part::Arrow => true,
+        Part::Open => true,
+        _ => false,
+    }
+}
+
+/// Returns how many parentheses are open where the test of a line ends.
+pub(crate) fn depth_of(text: &[u8], words: &[RuleWord]) -> usize
+    ensures { result ≡ depth_from text.now 0 words.now }
+{
+    let mut left = words;
+    let mut depth: usize = 0;
+    while let [word, rest @ ..] = left {
+        let part = part_of(rule_word_octets(text, *word));
+        if ends_test(part) {
+            return depth;
+        }
+        match part {
+            Part::Left => depth += 1,
+            Part::Right => depth = depth.saturating_sub(1),
+            _ => {}
+        }
+        left = rest;
+    }
+    depth
+}
+
+/// Returns the token in a column, if there is one.
+pub(crate) fn word_at(column: usize, words: &[RuleWord]) -> Option<RuleWord>
+    ensures { result ≡ word_at column words.now }
+{
+    let mut left = words;
+    while let [word, rest @ ..] = left {
+        if word.column == column {
+            return Some(*word);
+        }
+        left = rest;
+    }
+    None
+}
