@@ -92,7 +92,7 @@ impl Police {
         let time = u64::from_le_bytes(*record.first_chunk().unwrap());
         let Some(cell) = cell_of(record) else { exit(1) };
         let since = time.checked_sub(*self.begun.get_or_insert(time)).unwrap_or_else(|| exit(1));
-        let moment = (u128::from(since) * 1_000_000_000 >> 32) as u64 / self.tick;
+        let moment = (u128::from(since) * 1_000_000_000 + (u128::from(self.tick) << 31) >> 32) as u64 / self.tick;
         let Some(policed) = self.connections.get_mut(&key_of(cell)) else { exit(1) };
         if policed.connection.is_late(moment) {
             exit(1);
@@ -152,6 +152,10 @@ impl Police {
             }
             answers.text(b"\n");
         }
+        answers.reserve();
+        answers.text(b"# a tick is ");
+        long(answers, self.tick);
+        answers.text(b" ns\n");
         answers.give();
     }
 }

@@ -14,7 +14,7 @@ import sys
 import tempfile
 
 from captures.police_cases import Case, case_of, edges, long_case
-from captures.policing import policed
+from captures.policing import policed, tick_of
 
 # A script and a capture, and words that are refused.
 ONE = Case(b"card 1 1 1 1\n", b"", 100, None, "all")
@@ -41,7 +41,7 @@ class Program:
         """Returns what it answers to a case. Options with their default are left out where that is what is asked."""
         with open(self.setup, "wb") as it:
             it.write(case.script)
-        words = ["police"] if case.tick == 100 else ["police", "--tick", f"{case.tick}ns"]
+        words = ["police"] if case.tick in (None, 100) else ["police", "--tick", f"{case.tick}ns"]
         # The setup may come between the options.
         words += [self.setup] if case.link is None else [self.setup, f"--link={case.link}"]
         words += [] if case.lines == "all" else ["--lines", case.lines]
@@ -65,9 +65,9 @@ class Program:
 
 def wanted(program, case):
     """Returns what the program has to answer to a case."""
-    given = policed(*case)
+    given = policed(*case) if case.tick != 100 else policed(*case._replace(tick=None))
     if given is None:
-        return program.ran(["explain"], case.script)
+        return program.ran(["explain"], tick_of(case.script)[1])
     return given[0], b"", given[1]
 
 
@@ -154,7 +154,7 @@ def words_tried(program):
             output, messages, ended = program.refused(words)
             yield None if not output and messages and ended == status else f"police {words} ends with {ended}: {messages}"
     output, _, ended = program.ran(["police", "--help"], b"")
-    is_whole = all(word in output for word in (b"--tick <TIME>", b"--link <LINK>", b"--lines <", b"[default: all]", b"--threads <N>", b"[default: 2]"))
+    is_whole = all(word in output for word in (b"--tick <TIME>", b"--link <LINK>", b"--lines <", b"[default: all]", b"`tick TIME`", b"--threads <N>", b"[default: 2]"))
     yield None if is_whole and ended == 0 else f"police --help prints {output}"
 
 

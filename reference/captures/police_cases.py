@@ -19,7 +19,8 @@ from trials import cells
 from trials.numbers_at_limits import near
 from trials.scripts import Script
 
-# What `police` is asked: the script, the capture, the tick in nanoseconds, the word of a link or None, and which lines.
+# What `police` is asked: the script, the capture, the tick in nanoseconds or None, the word of a link or None, and which lines. A tick of 100
+# isn't asked for, since it is the one without any.
 Case = namedtuple("Case", "script octets tick link lines")
 
 TICKS = [1, 100, 100, 333, 1000, 10**6]
@@ -149,7 +150,20 @@ def case_of(seed, number):
     script, tick = script_of(random_), random_.choice(TICKS)
     count = random_.choice([0, 1, 10, 30, 60, 100, 200, 300])
     octets = capture_of(random_, script, tick, count)
-    return Case(script, octets, tick, link_for(random_, octets), random_.choice(LINES))
+    script, asked = with_tick(random_, script, tick)
+    return Case(script, octets, asked, link_for(random_, octets), random_.choice(LINES))
+
+
+def with_tick(random_, script, tick):
+    """Returns a script that may name its tick, and the tick that is asked for. One in thirty names another one, or none in a line `tick`."""
+    if random_.random() < 0.6:
+        return script, tick
+    odd = random_.random()
+    word = f"{tick}ns" if tick % 1000 or random_.random() < 0.5 else f"{tick // 1000}us"
+    word = random_.choice(["0us", "10", "1us 2", "7ns", "us", "18446744073709551616ns"]) if odd < 0.08 else word
+    before, after = random_.choice([("", "\n")] * 3 + [("# the tick\n\n \t", " \r\n"), ("  ", " \t\n"), ("\r\n", "\n")])
+    blank = random_.choice([" ", " ", "\t", "   "])
+    return f"{before}tick{blank}{word}{after}".encode() + script, random_.choice([None, None, None, tick])
 
 
 def long_case(seed, number):
@@ -164,6 +178,11 @@ def long_case(seed, number):
 def cell_at(ticks, header=0x00100640, flags=0, kind=3):
     """Returns a record of a cell at a moment in ticks of a microsecond. Its payload is zeros."""
     return record(-(-ticks * SECOND // 10**6) if ticks else 0, struct.pack(">I", header), kind=kind, flags=flags)
+
+
+def lossy(made):
+    """Returns a record with its loss counter at 2."""
+    return made[:12] + struct.pack(">H", 2) + made[14:]
 
 
 def full_card():
@@ -208,4 +227,10 @@ def edges():
     cases += [Case(full_card(), cell_at(0, 0x03F003F0) + cell_at(1, 0), 1000, None, "all"), Case(one + b"\n" * 10**6, ones, 1000, None, "none")]
     both = cell_at(0) + cell_at(1, flags=1) + cell_at(2, flags=2) + cell_at(3)
     cases += [Case(one, both, 1000, link, "all") for link in ("0", "1", "2", "3", "0:0", "0/0/0")]
+    # A tick in the script: alone, the same as asked for, another one, one in a line that isn't the first, and lines that name none.
+    named = [b"tick 1us\n", b"tick 1000ns\r\n", b"# a remark\n\n  tick\t1us  \n", b"tick 0ns\n", b"tick 1us 1us\n", b"tick\n", b"Tick 1us\n", b"#tick 1us\n", b"tick 1us\ntick 1us\n"]
+    cases += [Case(line + one, ones, tick, None, "all") for line in named for tick in (None, 1000, 1001)]
+    cases += [Case(one + named[0], ones, 1000, None, "all"), Case(b"tick 1us", ones, None, None, "all"), Case(b"tick" + b" " * 70_000 + b"1us\n" + one, ones, None, None, "all")]
+    # Cells after a loss.
+    cases += [Case(one, ones[:68] + lossy(cell_at(4)) + cell_at(5), 1000, None, lines) for lines in ("all", "none")]
     return cases + [Case(one, cell_at(0) + record(LAST_TIME, bytes.fromhex("00100641")), tick, None, "all") for tick in (1, 100, 10**9)]

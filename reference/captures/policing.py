@@ -1,6 +1,8 @@
 """What `upc-lab police` prints of a script and a capture, and its exit status.
 
     python3 -m captures.policing SETUP [--tick NANOSECONDS] [--link LINK] [--lines all|refused|none] < CAPTURE
+
+The first line of SETUP with words may be `tick TIME`.
 """
 import argparse
 import sys
@@ -9,7 +11,8 @@ from captures.counting import Capture
 from policer.cell import connection_of, priority_of
 from policer.faults import Fault
 from policer.run_dialogue import RunDialogue
-from policer.text_lines import asks_nothing, limited_lines, words_of
+from policer.text_lines import asks_nothing, limited_lines, raw_lines, without_return, words_of
+from sizes.contract import SizeFault, time
 
 HEADING = ("record", "moment", "vpi", "vci", "clp", "value", "verdict", "bucket", "excess")
 TABLE = ("vpi", "vci", "passed", "tagged", "discarded", "refused")
@@ -22,6 +25,21 @@ REASONS = {
     "MomentTooLate": "a moment above 2^62",
     "JournalFull": "a full journal",
 }
+
+
+def tick_of(script):
+    """Returns the nanoseconds of the tick that a script names, or None, and the script with blanks in place of that line."""
+    place = 0
+    for line, is_fed in raw_lines(script):
+        words = words_of(without_return(line, is_fed))
+        if not asks_nothing(words):
+            try:
+                named = time(words[1]) if len(words) == 2 and words[0] == b"tick" else 0
+            except SizeFault:
+                named = 0
+            return (named, script[:place] + b" " * len(line) + script[place + len(line) :]) if named else (None, script)
+        place += len(line) + 1
+    return None, script
 
 
 def card_of(script):
@@ -67,6 +85,13 @@ def row(fields):
     return "\t".join(str(field) for field in fields) + "\n"
 
 
+def run_comments(tick, capture):
+    """Returns the comments about the tick and about losses."""
+    lost = capture.marks["losses"]
+    losses = [f"# verdicts from record {lost[0]} on may be wrong: cells before it may be lost\n"] if lost else []
+    return "".join([f"# a tick is {tick} ns\n", *losses])
+
+
 class Policed:
     """The cells of a capture on a card: the lines of those that have one, and the records of those that aren't judged."""
 
@@ -101,8 +126,13 @@ class Policed:
         return "\n" * bool(self.rows) + "".join(row(it) for it in [TABLE] + counts) + "".join(comments)
 
 
-def policed(script, octets, tick, link, lines):
-    """Returns the output and the exit status, or None if `upc-lab explain` has a fault line for the script."""
+def policed(script, octets, asked, link, lines):
+    """Returns the output and the exit status, or None if `upc-lab explain` has a fault line for the script without its tick. No tick need be
+    asked for."""
+    named, script = tick_of(script)
+    if None not in (named, asked) and named != asked:
+        return f"fault tick 1 Differs {named} {asked}\n".encode(), 1
+    tick = named or asked or 100
     card = card_of(script)
     if card is None:
         return None
@@ -113,7 +143,7 @@ def policed(script, octets, tick, link, lines):
     for counted in capture.cells:
         cells.take(counted)
     # A cell of a second link ends the run at once.
-    ended = capture.several or cells.table() + capture.closing()
+    ended = capture.several or cells.table() + run_comments(tick, capture) + capture.closing()
     return (cells.cells() + ended).encode(), 1 if capture.several or capture.fault else 0
 
 
@@ -121,7 +151,7 @@ def main():
     """Prints, and returns the exit status."""
     reader = argparse.ArgumentParser(description=__doc__.split("\n", 1)[0])
     reader.add_argument("setup", type=argparse.FileType("rb"))
-    reader.add_argument("--tick", type=int, default=100)
+    reader.add_argument("--tick", type=int)
     reader.add_argument("--link")
     reader.add_argument("--lines", choices=("all", "refused", "none"), default="all")
     asked = reader.parse_args()

@@ -1,5 +1,5 @@
 """Which connections a picture shows, and in which time; and why there is no picture."""
-from captures.policing import card_of
+from captures.policing import card_of, tick_of
 from plots.levels import OtherSetup, Plan
 from plots.verdicts import OTHER, NoVerdicts, read_verdicts
 from policer.text_lines import raw_lines, words_of
@@ -30,7 +30,7 @@ def with_programs(script):
 
 def contracts_of(script):
     """Returns the contracts of each connection of a script."""
-    card = card_of(with_programs(script))
+    card = card_of(with_programs(tick_of(script)[1]))
     if card is None:
         raise OtherSetup("a line of the setup has a fault: upc-lab police says which")
     return {vc: connection.contracts for vc, connection in card.connections.items()}

@@ -6,6 +6,7 @@ use Rattle.command_line.specs.Arguments.{app_with_rules}
 use Rattle.lab_options.specs.CellsOptions.{cells_app}
 use Rattle.lab_options.specs.DifferOptions.{differ_app}
 use Rattle.lab_options.specs.FitOptions.{fit_app}
+use Rattle.lab_options.specs.ForwardOptions.{forward_app}
 use Rattle.lab_options.specs.PoliceOptions.{police_app}
 
 pub cells_is_free : is_simple_and_free cells_app ≡ true
@@ -23,3 +24,7 @@ police_is_free = refl
 pub differ_is_free : is_simple_and_free differ_app ≡ true
 unfolding differ_app app_with_rules clap_on_literals
 differ_is_free = refl
+
+pub forward_is_free : is_simple_and_free forward_app ≡ true
+unfolding forward_app app_with_rules clap_on_literals
+forward_is_free = refl

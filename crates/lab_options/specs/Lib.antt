@@ -5,5 +5,6 @@ pub mod LinkOption
 pub mod CellsOptions
 pub mod FitOptions
 pub mod PoliceOptions
+pub mod ForwardOptions
 pub mod DifferOptions
 pub mod inner

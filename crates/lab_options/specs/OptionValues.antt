@@ -1,5 +1,5 @@
 -- What the value of an option spells.
-use Rattle.std.specs.Prelude.{◌==◌, ◌^◌, if◌then◌else◌, ℕ, Bool, false, true, Option, Some, None, codes, length, option_and_then}
+use Rattle.std.specs.Prelude.{◌==◌, ◌^◌, if◌then◌else◌, ℕ, Bool, false, true, Option, Some, None, codes, length, option_and_then, option_map}
 use Rattle.std.specs.Str.{bytes_eq}
 use Rattle.clap.specs.Walk.{Text}
 use Rattle.lab_captures.specs.declared.cell_lines.CellLines.{CellLines}
@@ -16,6 +16,11 @@ positive number = if number == 0 then None else Some number
 -- The nanoseconds of a tick: a time of `upc-lab size` that isn't 0.
 abbrev pub tick_of : Option Text → Option ℕ
 tick_of text = option_and_then (λ word. option_and_then positive (duration_of word)) text
+
+-- The nanoseconds of the tick that is asked for, if one is.
+abbrev pub asked_tick_of : Option Text → Option (Option ℕ)
+asked_tick_of None = Some None
+asked_tick_of (Some word) = option_map Some (tick_of (Some word))
 
 -- An increment that a bucket can have: 1 to 2^48 ticks.
 abbrev pub fit_increment_of : Option Text → Option ℕ
@@ -66,3 +71,27 @@ pairs_of text = option_and_then pairs_named text
 -- The number of threads: 1 to 64.
 abbrev pub threads_of : Option Text → Option ℕ
 threads_of text = option_and_then (λ word. option_and_then positive (number_up_to 64 word)) text
+
+-- Whether the old and the new side are programs, as a word says it.
+abbrev pub programs_named : Text → Option (Bool × Bool)
+programs_named word =
+    if bytes_eq word (codes "old") then Some (true, false)
+    else if bytes_eq word (codes "new") then Some (false, true)
+    else if bytes_eq word (codes "both") then Some (true, true)
+    else None
+
+-- The same of the option, without which neither is one.
+abbrev pub programs_of : Option Text → Option (Bool × Bool)
+programs_of None = Some (false, false)
+programs_of (Some word) = programs_named word
+
+-- Whether a word says that records without a judged cell go on.
+abbrev pub others_named : Text → Option Bool
+others_named word =
+    if bytes_eq word (codes "pass") then Some true
+    else if bytes_eq word (codes "drop") then Some false
+    else None
+
+-- The same of the option.
+abbrev pub others_of : Option Text → Option Bool
+others_of text = option_and_then others_named text

@@ -8,15 +8,19 @@ use Rattle.command_line.specs.Arguments.{app_with_rules, argument_rule}
 use Rattle.command_line.specs.CommandLines.{argument_value}
 use Rattle.command_line.specs.declared.stop.Stop.{Stop}
 use Rattle.lab_captures.specs.declared.cell_lines.CellLines.{CellLines}
-use Rattle.lab_options.specs.CellsOptions.{link_rule, tick_rule}
+use Rattle.lab_options.specs.CellsOptions.{link_rule}
 use Rattle.lab_options.specs.OptionAnswers.{Asks, IsOptionStop}
 use Rattle.lab_options.specs.LinkOption.{link_of}
-use Rattle.lab_options.specs.OptionValues.{cell_lines_of, file_name_of, threads_of, tick_of}
+use Rattle.lab_options.specs.OptionValues.{asked_tick_of, cell_lines_of, file_name_of, threads_of}
 use Rattle.lab_options.specs.declared.police.PoliceOptions.{PoliceOptions}
 
 -- The argument SETUP, which must be given.
 abbrev pub setup_rule : Rule
 setup_rule = argument_rule (codes "SETUP") false None true
+
+-- The option `--tick TIME`. Without it the tick is the one that the setup script names.
+abbrev pub asked_tick_rule : Rule
+asked_tick_rule = argument_rule (codes "tick") true None false
 
 -- The option `--lines LINES`, whose value is all if it isn't given.
 abbrev pub lines_rule : Rule
@@ -26,15 +30,15 @@ lines_rule = argument_rule (codes "lines") true (Some (codes "all")) false
 abbrev pub threads_rule : Rule
 threads_rule = argument_rule (codes "threads") true (Some (codes "2")) false
 
--- The command `upc-lab police`: this argument and these options, the options of `cells`, and that for help, which every command has.
+-- The command `upc-lab police`: this argument and these options, the option `--link` of `cells`, and that for help, which every command has.
 unfoldable pub police_app : App
-police_app = app_with_rules (codes "upc-lab police") (setup_rule ∷ tick_rule ∷ link_rule ∷ lines_rule ∷ threads_rule ∷ [])
+police_app = app_with_rules (codes "upc-lab police") (setup_rule ∷ asked_tick_rule ∷ link_rule ∷ lines_rule ∷ threads_rule ∷ [])
 
--- What is asked for: the name of the file with the setup script, the nanoseconds of a tick, the link, if any, which cells have lines,
+-- What is asked for: the name of the file with the setup script, the nanoseconds of a tick, if any, the link, if any, which cells have lines,
 -- and the number of threads.
 pub record PoliceAsked : Type 0 where
   pub setup : Text
-  pub nanoseconds : ℕ
+  pub nanoseconds : Option ℕ
   pub link : Option Link
   pub lines : CellLines
   pub threads : ℕ
@@ -43,7 +47,7 @@ pub record PoliceAsked : Type 0 where
 abbrev pub police_asked_by : PoliceOptions → PoliceAsked
 police_asked_by options = record {
   setup = string_bytes options.setup;
-  nanoseconds = options.tick.nanoseconds;
+  nanoseconds = option_map (λ tick. tick.nanoseconds) options.tick;
   link = options.link;
   lines = options.lines;
   threads = options.threads;
@@ -58,7 +62,7 @@ police_values setup tick link lines threads =
       link = asked;
       lines = which;
       threads = number;
-    }) (threads_of threads)) (cell_lines_of lines)) (link_of link)) (tick_of tick)) (file_name_of setup)
+    }) (threads_of threads)) (cell_lines_of lines)) (link_of link)) (asked_tick_of tick)) (file_name_of setup)
 
 -- What the values of the argument and the options in the words spell.
 abbrev pub police_asked : List Text → Option PoliceAsked

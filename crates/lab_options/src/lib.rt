@@ -4,6 +4,7 @@
 mod cells;
 mod differ;
 mod fit;
+mod forward;
 pub mod laws;
 mod link;
 mod police;
@@ -12,4 +13,5 @@ mod values;
 pub use cells::{CellsOptions, cells_options};
 pub use differ::{DifferOptions, differ_options};
 pub use fit::{FitOptions, fit_options};
+pub use forward::{ForwardOptions, forward_options};
 pub use police::{PoliceOptions, police_options};

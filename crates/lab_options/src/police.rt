@@ -8,8 +8,8 @@ ghost use Rattle.lab_options.specs.inner.Answered.{AnswersValues, police_spelled
 
 use crate::link::link_of;
 use crate::values::{
-    LINK, TICK, WRONG_LINK, WRONG_TICK, cell_lines_of, setup_name_of, threads_of, tick_of,
-    wrong_value,
+    ASKED_TICK, LINK, SETUP, WRONG_LINK, WRONG_TICK, asked_tick_of, cell_lines_of, setup_name_of,
+    threads_of, wrong_value,
 };
 use captures::{Link, Tick};
 use command_line::{Argument, Options, Stop, Value, values_of_words};
@@ -21,8 +21,8 @@ use std::alloc::Global;
 pub struct PoliceOptions {
     /// The name of the file with the setup script.
     pub setup: String,
-    /// How long a tick is.
-    pub tick: Tick,
+    /// How long a tick is. Without one it is the tick that the setup script names.
+    pub tick: Option<Tick>,
     /// The link whose cells are read. Without one the cells of a capture may be of one link only.
     pub link: Option<Link>,
     /// Which cells have lines.
@@ -30,14 +30,6 @@ pub struct PoliceOptions {
     /// How many threads may work at once, 1 to 64.
     pub threads: u8,
 }
-
-const SETUP: Argument = Argument {
-    name: "SETUP",
-    value_name: None,
-    default: None,
-    required: true,
-    help: "A file with a script that opens a card and sets up connections",
-};
 
 const LINES: Argument = Argument {
     name: "lines",
@@ -58,11 +50,11 @@ const THREADS: Argument = Argument {
 const POLICE: Options = Options {
     name: "upc-lab police",
     about: "Police the ATM cells of a capture by the contracts of a setup script",
-    after_help: "Standard input is an ERF file, or pcap or pcapng with ERF records.\nExample: examples/make-capture | upc-lab police examples/police.setup --tick 1us",
-    arguments: &[SETUP, TICK, LINK, LINES, THREADS],
+    after_help: "Standard input is an ERF file, or pcap or pcapng with ERF records.\nExample: examples/make-capture | upc-lab police examples/police.setup",
+    arguments: &[SETUP, ASKED_TICK, LINK, LINES, THREADS],
 };
 
-/// Reads the words after `upc-lab police`: the name of a file, `--tick TIME`, which is 100ns if it isn't given, `--link LINK`,
+/// Reads the words after `upc-lab police`: the name of a file, `--tick TIME`, `--link LINK`,
 /// `--lines LINES`, which is all if it isn't given, and `--threads N`, which is 2 if it isn't given. The forms of help that `clap` has
 /// request help. Any other word is an error, and so are a wrong value, an empty name and words without a name.
 pub fn police_options(alloc: Global, words: Vec<String>) -> Result<PoliceOptions, Stop>
@@ -82,7 +74,7 @@ fn read(alloc: Global, values: &[Value]) -> Result<PoliceOptions, Stop>
     let Some(setup) = setup_name_of(values) else {
         return Err(wrong_value(alloc, "error: SETUP is the name of a file\n"));
     };
-    let Some(tick) = tick_of(values) else {
+    let Some(tick) = asked_tick_of(values) else {
         return Err(wrong_value(alloc, WRONG_TICK));
     };
     let Some(link) = link_of(values) else {

@@ -2,7 +2,7 @@
 
 ghost use Rattle.std.specs.Prelude.{◌≡◌, codes, option_map};
 ghost use Rattle.command_line.specs.Arguments.{text_named, texts_of};
-ghost use Rattle.lab_options.specs.OptionValues.{cell_lines_of, fit_increment_of, fit_side_of, file_name_of, file_named, pairs_of, threads_of, tick_of};
+ghost use Rattle.lab_options.specs.OptionValues.{asked_tick_of, cell_lines_of, fit_increment_of, fit_side_of, file_name_of, file_named, others_of, pairs_of, programs_of, threads_of, tick_of};
 ghost use Rattle.lab_options.specs.inner.Answered.{IsWrongValue};
 
 use captures::Tick;
@@ -20,6 +20,24 @@ pub(crate) const TICK: Argument = Argument {
     default: Some("100ns"),
     required: false,
     help: "The length of a tick: a number with ns, us, ms or s",
+};
+
+/// The option `--tick` beside a setup script, which may name a tick.
+pub(crate) const ASKED_TICK: Argument = Argument {
+    name: "tick",
+    value_name: Some("TIME"),
+    default: None,
+    required: false,
+    help: "The length of a tick: a number with ns, us, ms or s. Without it that of the line `tick TIME` in SETUP, or 100ns",
+};
+
+/// The argument SETUP.
+pub(crate) const SETUP: Argument = Argument {
+    name: "SETUP",
+    value_name: None,
+    default: None,
+    required: true,
+    help: "A file with a script that opens a card and sets up connections",
 };
 
 /// The option `--link`.
@@ -45,6 +63,16 @@ pub(crate) fn tick_of(values: &[Value]) -> Option<Tick>
 {
     let nanoseconds = duration(text_of(values, "tick")?.as_bytes())?;
     Tick::new(nanoseconds)
+}
+
+/// Returns the tick that the value of `--tick` spells, if it is given and has one. None if it is no tick.
+pub(crate) fn asked_tick_of(values: &[Value]) -> Option<Option<Tick>>
+    ensures { option_map (λ tick. option_map (λ it. it.nanoseconds) tick) result ≡ asked_tick_of (text_named (texts_of values.now) (codes "tick")) }
+{
+    match text_of(values, "tick") {
+        None => Some(None),
+        Some(_) => Some(Some(tick_of(values)?)),
+    }
 }
 
 /// Returns the increment that the value of `--increment` spells, in ticks.
@@ -118,6 +146,30 @@ pub(crate) fn threads_of(values: &[Value]) -> Option<u8>
 {
     match number(text_of(values, "threads")?.as_bytes()) {
         Some(threads) if 0 < threads && threads <= 64 => Some(threads as u8),
+        _ => None,
+    }
+}
+
+/// Returns whether the old and the new side are programs, as the value of `--program` says it.
+pub(crate) fn programs_of(values: &[Value]) -> Option<(bool, bool)>
+    ensures { result ≡ programs_of (text_named (texts_of values.now) (codes "program")) }
+{
+    match text_of(values, "program") {
+        None => Some((false, false)),
+        Some("old") => Some((true, false)),
+        Some("new") => Some((false, true)),
+        Some("both") => Some((true, true)),
+        Some(_) => None,
+    }
+}
+
+/// Returns whether records without a judged cell go on, as the value of `--others` says it.
+pub(crate) fn others_of(values: &[Value]) -> Option<bool>
+    ensures { result ≡ others_of (text_named (texts_of values.now) (codes "others")) }
+{
+    match text_of(values, "others")? {
+        "pass" => Some(true),
+        "drop" => Some(false),
         _ => None,
     }
 }

@@ -17,7 +17,7 @@ police_some : (lines : CellLines) (tick : ℕ) (link : Option Link) (script octe
 police_some lines tick link script octets text Ended explained = (text, Ended, inl (explained, refl))
 police_some lines tick link script octets text Whole explained =
     let set = set_up_some script (text, explained) in
-    let printed = some_capture_text police_rules police-total (filter_start tick link) (police_start lines set.0) octets set.2 in
+    let printed = some_capture_text police_rules police-total (filter_start tick link) (police_start lines tick set.0) octets set.2 in
     (printed.0, printed.1, inr (set.0, set.1, printed.2))
 
 -- A setup script and a capture have a text.

@@ -21,7 +21,8 @@ use Rattle.lab_police.specs.RulesFiles.{IsFaultOfRules, MayBeFaultOfRules, later
 use Rattle.lab_police.specs.RulesLines.{named_rules}
 use Rattle.lab_police.specs.SetupLaws.{PolicesEachSetup}
 use Rattle.lab_police.specs.SetupPrograms.{HasProgramsIn}
-use Rattle.lab_police.specs.SetupText.{IsSetupPoliced, MayBeSetupPoliced}
+use Rattle.lab_police.specs.SetupText.{AsAgreed, IsSetupPoliced, MayBePolicedAsAgreed, MayBeSetupPoliced}
+use Rattle.lab_police.specs.SetupTick.{agreed_tick, ticks_differ}
 use Rattle.lab_police.proofs.Completing.{FailsAt, ReplacesAt}
 
 -- ---- a text of rules may have a fault
@@ -88,7 +89,7 @@ fault_at_may None met lines texts text on is = on texts is
 fault_at_may (Some name) met lines texts text on (inl (fault, is, printed)) = inl (fault, may_be_fault (next_text texts) fault is, printed)
 fault_at_may (Some name) met lines texts text on (inr (code, program, is)) = inr (code, program, on (later_texts texts) is)
 
-fault_may : (lines : List Line) (met : ℕ) (texts : List (List ℕ)) (text : List ℕ) → HasFaultIn IsFaultOfRules met lines texts text → HasFaultIn MayBeFaultOfRules met lines texts text
+pub fault_may : (lines : List Line) (met : ℕ) (texts : List (List ℕ)) (text : List ℕ) → HasFaultIn IsFaultOfRules met lines texts text → HasFaultIn MayBeFaultOfRules met lines texts text
 fault_may [] met texts text is = is
 fault_may (line ∷ lines) met texts text is =
     fault_at_may (named_rules line) met lines texts text (λ texts is. fault_may lines (met + 1) texts text is) is
@@ -97,3 +98,15 @@ pub may_be_policed : (lines : CellLines) (tick : ℕ) (link : Option Link) (setu
     → IsSetupPoliced lines tick link setup texts octets text done → MayBeSetupPoliced lines tick link setup texts octets text done
 may_be_policed lines tick link setup texts octets text done (inl (faulty, ends)) = inl (fault_may (lines_of setup) 0 texts text faulty, ends)
 may_be_policed lines tick link setup texts octets text done (inr made) = inr made
+
+-- ---- at the tick that is agreed
+
+at_tick : (IsTextAt : ℕ → List ℕ → List ℕ → Done → Type 0) (agreed : Result ℕ (ℕ × ℕ)) (octets : List ℕ)
+    → ((tick : ℕ) → (text : List ℕ) × (done : Done) × IsTextAt tick octets text done) → (text : List ℕ) × (done : Done) × AsAgreed IsTextAt agreed octets text done
+at_tick IsTextAt (Ok tick) octets each = each tick
+at_tick IsTextAt (Err (named, asked)) octets each = (ticks_differ named asked, Ended, (refl, refl))
+
+pub polices_as_agreed : (lines : CellLines) (named asked : Option ℕ) (link : Option Link) (setup : List ℕ) (texts : List (List ℕ)) (octets : List ℕ)
+    → (text : List ℕ) × (done : Done) × MayBePolicedAsAgreed lines named asked link setup texts octets text done
+polices_as_agreed lines named asked link setup texts octets =
+    at_tick (λ tick. MayBeSetupPoliced lines tick link setup texts) (agreed_tick named asked) octets (λ tick. polices_each lines tick link setup texts octets)

@@ -14,4 +14,5 @@ pub mod Digits
 pub mod WholeLines
 pub mod LinesKept
 pub mod EachCapture
+pub mod PolicedLemmas
 pub mod Public

@@ -24,6 +24,7 @@ use Rattle.upc_cell.specs.declared.vc.Vc.{Vc}
 use Rattle.lab_police.specs.ConnectionCounts.{counts_heading, counts_lines}
 use Rattle.lab_police.specs.NotJudgedCells.{not_judged_after, not_judged_lines}
 use Rattle.lab_police.specs.PoliceLines.{excess_of_answer, has_line, police_line, verdict_heading}
+use Rattle.lab_police.specs.RunComments.{run_comments}
 use Rattle.lab_police.specs.PoliceText.{PoliceWorld, after_cell, policed_text, connection_of_cell, police_closes, police_gap, police_rules}
 use Rattle.lab_police.specs.declared.not_judged.NotJudged.{NotJudged}
 use Rattle.lab_police.specs.declared.police.PoliceRun.{PoliceRun}
@@ -71,6 +72,7 @@ polices_by before core given vc counted begun not_judged old new arrives named a
         after_cell world number on.0 on.2,
         record {
           lines = shown.lines;
+          tick = shown.tick;
           agrees = on.4;
           begun = adds.written ∙ ap (λ b. b || has_line before.lines given) shown.begun ∙ ap (λ (lines : CellLines). world.begun || has_line lines given) shown.lines
               ∙ ap (λ (a : Answer). world.begun || has_line world.lines a) same;
@@ -88,27 +90,30 @@ polices_never before after core counted old arrives =
     ([], sym (append-nil old), λ world led shown. let on = arrives world.card led shown.agrees in let no = on.1 in cc)
 
 -- The parts of the end, one after another.
-joined : (old gap heading counts cells closing : List ℕ) → (((old ++ gap) ++ (heading ++ counts)) ++ cells) ++ closing
-    ≡ old ++ (gap ++ (heading ++ (counts ++ (cells ++ closing))))
-joined old gap heading counts cells closing =
-    append_assoc ((old ++ gap) ++ (heading ++ counts)) cells closing
-    ∙ append_assoc (old ++ gap) (heading ++ counts) (cells ++ closing)
-    ∙ append_assoc old gap ((heading ++ counts) ++ (cells ++ closing))
-    ∙ ap (λ xs. old ++ (gap ++ xs)) (append_assoc heading counts (cells ++ closing))
+joined : (old gap heading counts cells comments closing : List ℕ) → ((((old ++ gap) ++ (heading ++ counts)) ++ cells) ++ comments) ++ closing
+    ≡ old ++ (gap ++ (heading ++ (counts ++ (cells ++ (comments ++ closing)))))
+joined old gap heading counts cells comments closing =
+    append_assoc (((old ++ gap) ++ (heading ++ counts)) ++ cells) comments closing
+    ∙ append_assoc ((old ++ gap) ++ (heading ++ counts)) cells (comments ++ closing)
+    ∙ append_assoc (old ++ gap) (heading ++ counts) (cells ++ (comments ++ closing))
+    ∙ append_assoc old gap ((heading ++ counts) ++ (cells ++ (comments ++ closing)))
+    ∙ ap (λ xs. old ++ (gap ++ xs)) (append_assoc heading counts (cells ++ (comments ++ closing)))
 
 -- The end of a capture.
-pub closes_by : (run : PoliceRun) (world : PoliceWorld) (passed : PassedOver) (ending : Option Fault) (old one two three new : List ℕ) → ShowsPolice run world
+pub closes_by : (run : PoliceRun) (world : PoliceWorld) (passed : PassedOver) (ending : Option Fault) (old one two three four new : List ℕ) → ShowsPolice run world
     → one ≡ old ++ police_gap run.begun → two ≡ one ++ (counts_heading ++ counts_lines world.card.world) → three ≡ two ++ not_judged_lines run.not_judged
-    → new ≡ three ++ closing_lines passed ending → new ≡ old ++ police_closes world passed ending
-closes_by run world passed ending old one two three new shown first second third last =
+    → four ≡ three ++ run_comments run.tick.nanoseconds passed → new ≡ four ++ closing_lines passed ending → new ≡ old ++ police_closes world passed ending
+closes_by run world passed ending old one two three four new shown first second third fourth last =
     let gap = police_gap run.begun in
     let counts = counts_lines world.card.world in
     let closing = closing_lines passed ending in
-    let Closes : Bool → NotJudged → List ℕ = λ begun cells. old ++ (police_gap begun ++ (counts_heading ++ (counts ++ (not_judged_lines cells ++ closing)))) in
-    last ∙ ap (λ xs. xs ++ closing) (third ∙ ap (λ xs. xs ++ not_judged_lines run.not_judged)
-    (second ∙ ap (λ xs. xs ++ (counts_heading ++ counts)) first))
-    ∙ joined old gap counts_heading counts (not_judged_lines run.not_judged) closing
-    ∙ ap (λ b. Closes b run.not_judged) shown.begun ∙ ap (λ (cells : NotJudged). Closes world.begun cells) shown.not_judged
+    let Closes : Bool → NotJudged → ℕ → List ℕ = λ begun cells tick.
+    old ++ (police_gap begun ++ (counts_heading ++ (counts ++ (not_judged_lines cells ++ (run_comments tick passed ++ closing))))) in
+    last ∙ ap (λ xs. xs ++ closing) (fourth ∙ ap (λ xs. xs ++ run_comments run.tick.nanoseconds passed) (third ∙ ap (λ xs. xs ++ not_judged_lines run.not_judged)
+    (second ∙ ap (λ xs. xs ++ (counts_heading ++ counts)) first)))
+    ∙ joined old gap counts_heading counts (not_judged_lines run.not_judged) (run_comments run.tick.nanoseconds passed) closing
+    ∙ ap (λ b. Closes b run.not_judged run.tick.nanoseconds) shown.begun ∙ ap (λ (cells : NotJudged). Closes world.begun cells run.tick.nanoseconds) shown.not_judged
+    ∙ ap (λ tick. Closes world.begun world.not_judged tick) shown.tick
 
 -- A text of a capture by the card that a script leads to is a text of `police`.
 module _ {Source Sink : Type 0} (I : InputView Source) (O : OutputView Sink) (source source' : Source) (sink sink' : Sink) (result : Result Done RunFault) where

@@ -8,13 +8,18 @@ use Rattle.text_io.specs.declared.ending.Done.{Done}
 use Rattle.lab_police.specs.FilesRead.{AreTextsForFiles, IsTextForFile, octets_of_name, octets_of_names}
 use Rattle.lab_police.specs.RulesFiles.{octets_of_text, octets_of_texts}
 use Rattle.lab_police.specs.declared.shared_text.SharedText.{SharedText}
-use Rattle.lab_police.specs.SetupText.{IsSetupPoliced, MayBeSetupPoliced}
+use Rattle.lab_police.specs.SetupText.{IsSetupPoliced, MayBePolicedAsAgreed, MayBeSetupPoliced}
 use Rattle.lab_police.proofs.Existence as existence
 
 -- A setup script, texts of rules and a capture have a text.
 pub some_setup_text : (lines : CellLines) (tick : ℕ) (link : Option Link) (setup : List ℕ) (texts : List (List ℕ)) (octets : List ℕ)
     → (text : List ℕ) × (done : Done) × MayBeSetupPoliced lines tick link setup texts octets text done
 some_setup_text = existence.polices_each
+
+-- The same at the tick that is agreed.
+pub some_agreed_text : (lines : CellLines) (named asked : Option ℕ) (link : Option Link) (setup : List ℕ) (texts : List (List ℕ)) (octets : List ℕ)
+    → (text : List ℕ) × (done : Done) × MayBePolicedAsAgreed lines named asked link setup texts octets text done
+some_agreed_text = existence.polices_as_agreed
 
 -- A text by the rules as they are is one where the code of any rules may be reported as too long.
 pub setup_text_may_be : (lines : CellLines) (tick : ℕ) (link : Option Link) (setup : List ℕ) (texts : List (List ℕ)) (octets text : List ℕ) (done : Done)

@@ -2,6 +2,7 @@
 pub mod PoliceLines
 pub mod NotJudgedCells
 pub mod ConnectionCounts
+pub mod RunComments
 pub mod PoliceText
 pub mod PoliceLaws
 pub mod RulesLines
@@ -10,6 +11,8 @@ pub mod SetupPrograms
 pub mod FaultyRules
 pub mod FilesRead
 pub mod FileNames
+pub mod SetupTick
 pub mod SetupText
 pub mod SetupLaws
+pub mod PolicedCards
 pub mod inner

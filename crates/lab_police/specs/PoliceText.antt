@@ -25,19 +25,22 @@ use Rattle.upc_run.specs.RunText.{Arrives, Card, IsLed, TakesCommand, run_rules}
 use Rattle.upc_script.specs.ScriptCommands.{cut}
 use Rattle.lab_police.specs.ConnectionCounts.{counts_heading, counts_lines}
 use Rattle.lab_police.specs.NotJudgedCells.{all_judged, not_judged_after, not_judged_lines}
+use Rattle.lab_police.specs.RunComments.{run_comments}
 use Rattle.lab_police.specs.PoliceLines.{excess_of_answer, has_line, police_line, verdict_heading}
 use Rattle.lab_police.specs.declared.not_judged.NotJudged.{NotJudged}
 
--- The state of a run: which cells have lines, the card, whether the heading of the lines was written, and the cells that were not judged.
+-- The state of a run: which cells have lines, the nanoseconds of a tick, the card, whether the heading of the lines was written, and the cells
+-- that were not judged.
 pub record PoliceWorld : Type 0 where
   pub lines : CellLines
+  pub tick : ℕ
   pub card : Card
   pub begun : Bool
   pub not_judged : NotJudged
 
 -- The state at first.
-abbrev pub police_start : CellLines → Card → PoliceWorld
-police_start lines card = record { lines = lines; card = card; begun = false; not_judged = all_judged }
+abbrev pub police_start : CellLines → ℕ → Card → PoliceWorld
+police_start lines tick card = record { lines = lines; tick = tick; card = card; begun = false; not_judged = all_judged }
 
 -- The connection that the cell's header names, read at the card's side.
 abbrev pub connection_of_cell : Card → List ℕ → Vc
@@ -96,7 +99,7 @@ police_gap begun = if begun then codes "\n" else []
 abbrev pub police_closes : PoliceWorld → PassedOver → Option Fault → List ℕ
 police_closes world passed ending =
     police_gap world.begun ++ (counts_heading ++ (counts_lines world.card.world
-    ++ (not_judged_lines world.not_judged ++ closing_lines passed ending)))
+    ++ (not_judged_lines world.not_judged ++ (run_comments world.tick passed ++ closing_lines passed ending))))
 
 -- The rules of `police`.
 abbrev pub police_rules : CellRules PoliceWorld
@@ -113,4 +116,4 @@ pub record IsSetUpBy (script : List ℕ) (card : Card) : Type 0 where
 abbrev pub IsPoliceText : CellLines → ℕ → Option Link → List ℕ → List ℕ → List ℕ → Done → Type 0
 IsPoliceText lines tick link script octets text done =
     (IsScriptExplained script text Ended × (done ≡ Ended))
-    ⊎ ((card : Card) × IsSetUpBy script card × IsCaptureText police_rules (filter_start tick link) (police_start lines card) octets text done)
+    ⊎ ((card : Card) × IsSetUpBy script card × IsCaptureText police_rules (filter_start tick link) (police_start lines tick card) octets text done)

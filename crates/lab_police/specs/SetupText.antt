@@ -1,6 +1,6 @@
 -- The text of `police` for a setup script with files of rules. If the rules of a line have a fault, it is about the first such line, and
 -- nothing is policed. Otherwise the cells of the capture are policed by the script with its programs.
-use Rattle.std.specs.Prelude.{◌≡◌, ◌⊎◌, ℕ, List, Option}
+use Rattle.std.specs.Prelude.{◌≡◌, ◌⊎◌, ℕ, List, Option, Result, Ok, Err}
 use Rattle.captures.specs.declared.link.Link.{Link}
 use Rattle.lab_captures.specs.declared.cell_lines.CellLines.{CellLines}
 use Rattle.lab_police.specs.PoliceText.{IsPoliceText}
@@ -9,6 +9,7 @@ use Rattle.text_io.specs.declared.ending.Done.TheVariants.{Ended}
 use Rattle.lab_police.specs.FaultyRules.{HasFaultyRules}
 use Rattle.lab_police.specs.RulesFiles.{IsFaultOfRules, MayBeFaultOfRules}
 use Rattle.lab_police.specs.SetupPrograms.{HasPrograms}
+use Rattle.lab_police.specs.SetupTick.{agreed_tick, ticks_differ}
 
 -- The text for a setup script, the texts of its files of rules and a whole capture, and how the run ends. `IsFault` says which line is the
 -- fault line of a text of rules.
@@ -25,3 +26,17 @@ IsSetupPoliced = IsSetupPolicedBy IsFaultOfRules
 -- fails, what was written is the beginning of one.
 abbrev pub MayBeSetupPoliced : CellLines → ℕ → Option Link → List ℕ → List (List ℕ) → List ℕ → List ℕ → Done → Type 0
 MayBeSetupPoliced = IsSetupPolicedBy MayBeFaultOfRules
+
+-- The text for a run with the tick that is agreed: the text at that tick, or the answer about two ticks that differ.
+abbrev pub AsAgreed : (ℕ → List ℕ → List ℕ → Done → Type 0) → Result ℕ (ℕ × ℕ) → List ℕ → List ℕ → Done → Type 0
+AsAgreed IsTextAt (Ok tick) octets text done = IsTextAt tick octets text done
+AsAgreed IsTextAt (Err (named, asked)) octets text done = (text ≡ ticks_differ named asked) × (done ≡ Ended)
+
+-- The text for a setup script that names this tick, if it names one, the texts of its files of rules, and a whole capture, where this tick is
+-- asked for, if one is; and how the run ends.
+abbrev pub IsPolicedAsAgreed : CellLines → Option ℕ → Option ℕ → Option Link → List ℕ → List (List ℕ) → List ℕ → List ℕ → Done → Type 0
+IsPolicedAsAgreed lines named asked link setup texts = AsAgreed (λ tick. IsSetupPoliced lines tick link setup texts) (agreed_tick named asked)
+
+-- The same, but that the code of any rules may be reported as too long.
+abbrev pub MayBePolicedAsAgreed : CellLines → Option ℕ → Option ℕ → Option Link → List ℕ → List (List ℕ) → List ℕ → List ℕ → Done → Type 0
+MayBePolicedAsAgreed lines named asked link setup texts = AsAgreed (λ tick. MayBeSetupPoliced lines tick link setup texts) (agreed_tick named asked)

@@ -7,3 +7,4 @@ pub mod PoliceShown
 pub mod PoliceTotal
 pub mod ScriptLine
 pub mod Expansion
+pub mod Ticks

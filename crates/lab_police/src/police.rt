@@ -17,6 +17,7 @@ ghost use Rattle.lab_police.specs.inner.PoliceShown.{AddsCell};
 use crate::cell_lines::{add_line, has_line};
 use crate::connection_counts::add_counts;
 use crate::not_judged::{NotJudged, add_not_judged};
+use crate::run_comments::add_run_comments;
 use crate::setting_up::{SetUp, set_up};
 use captures::{Fault, Link, Tick};
 use card_core::{Core, DeskFault, Judgement, Unjudged};
@@ -85,7 +86,7 @@ fn arrive_after_cut(
 
 /// Takes all steps of a cell at the port and returns its answer. If its connection's journal is full, the connection is cut first.
 #[inline(always)]
-fn arrive_with_room(
+pub(crate) fn arrive_with_room(
     core: &mut Core,
     cell: &Cell,
     moment: u64,
@@ -193,11 +194,24 @@ fn add_gap(answers: &mut Vec<u8>, begun: bool) -> Result<(), AllocError>
     Ok(())
 }
 
+/// What is chosen for a run of `police`.
+#[derive(Clone, Copy, Debug)]
+pub struct PoliceChoice {
+    /// How many threads may work at once.
+    pub threads: usize,
+    /// Which cells have lines.
+    pub lines: CellLines,
+    /// The link whose cells are read. Without one the cells of a capture may be of one link only.
+    pub link: Option<Link>,
+}
+
 /// A run of `police`.
 #[derive(Drop)]
 pub(crate) struct PoliceRun {
     /// Which cells have lines.
     lines: CellLines,
+    /// How long a tick is.
+    tick: Tick,
     core: Core,
     /// Whether the heading was written.
     begun: bool,
@@ -251,6 +265,7 @@ impl CellFollower for PoliceRun {
         add_gap(answers, self.begun)?;
         add_counts(answers, &self.core)?;
         add_not_judged(answers, &self.not_judged)?;
+        add_run_comments(answers, self.tick, passed)?;
         add_closing(answers, passed, ending)
     }
 
@@ -274,9 +289,9 @@ pub fn write_faults<O: Output>(output: &mut O, mut text: Vec<u8>) -> Result<Done
 
 /// Polices the cells of a capture by a card that a setup script opens. A script with a fault is explained, and nothing is policed. Cells
 /// count, and have their moments, as in `upc-lab cells`. A connection whose journal is full is cut, so that any number of cells is judged.
-/// `lines` chooses the cells that have lines; a table has the counts of each connection. docs/LAB.md has the format.
+/// A table has the counts of each connection. docs/LAB.md has the format.
 ///
-/// With `threads` above 1, records are read on one thread while the cells of earlier ones are judged on another, as in
+/// With more than one thread, records are read on one thread while the cells of earlier ones are judged on another, as in
 /// [`follow_cells`]. The output is the same.
 ///
 /// Memory is bounded: that of the card, and that of [`follow_cells`].
@@ -287,28 +302,36 @@ pub fn write_faults<O: Output>(output: &mut O, mut text: Vec<u8>) -> Result<Done
 /// allocation fails. The output is then a prefix of the text.
 pub fn police_capture<R: Threads, I: Input + Send, O: Output>(
     rt: &R,
-    threads: usize,
     alloc: Global,
     setup: &[u8],
-    lines: CellLines,
+    choice: PoliceChoice,
     tick: Tick,
-    link: Option<Link>,
     input: &mut I,
     output: &mut O,
 ) -> Result<Done, RunFault>
-    ensures { IsServed (IsPoliceText lines tick.nanoseconds link setup.now) I.Input input.old input.new O.Output output.old output.new result }
+    ensures { IsServed (IsPoliceText choice.lines tick.nanoseconds choice.link setup.now) I.Input input.old input.new O.Output output.old output.new result }
 {
     match set_up(alloc, setup) {
         Err(_) => Err(RunFault::NoMemory),
         Ok(SetUp::Faulty(text)) => write_faults(output, text),
         Ok(SetUp::Ready(core)) => {
             let mut run = PoliceRun {
-                lines,
+                lines: choice.lines,
+                tick,
                 core,
                 begun: false,
                 not_judged: NotJudged::none(),
             };
-            follow_cells(rt, threads, alloc, tick, link, input, output, &mut run)
+            follow_cells(
+                rt,
+                choice.threads,
+                alloc,
+                tick,
+                choice.link,
+                input,
+                output,
+                &mut run,
+            )
         }
     }
 }

@@ -1,16 +1,16 @@
 //! The cells of a capture, policed by a setup script with files of rules.
 
-ghost use Rattle.std.specs.Prelude.{IfOk};
+ghost use Rattle.std.specs.Prelude.{IfOk, option_map};
 ghost use Rattle.text_io.specs.Devices.{Adds};
 ghost use Rattle.text_io.specs.Serving.{IsServed};
 ghost use Rattle.lab_police.specs.RulesFiles.{octets_of_texts};
-ghost use Rattle.lab_police.specs.SetupText.{IsSetupPoliced, MayBeSetupPoliced};
+ghost use Rattle.lab_police.specs.SetupText.{IsPolicedAsAgreed, IsSetupPoliced, MayBePolicedAsAgreed, MayBeSetupPoliced};
 
 use crate::expanding::{Expanded, expand_setup};
-use crate::police::{police_capture, write_faults};
+use crate::police::{PoliceChoice, police_capture, write_faults};
+use crate::setup_tick::{add_ticks_differ, agreed_tick};
 use crate::shared_text::SharedText;
-use captures::{Link, Tick};
-use lab_captures::CellLines;
+use captures::Tick;
 use std::alloc::Global;
 use std::thread::Threads;
 use text_io::{Done, Input, Output, RunFault};
@@ -29,30 +29,63 @@ use text_io::{Done, Input, Output, RunFault};
 /// allocation fails. The output is then a prefix of the text.
 pub fn police_setup<R: Threads, I: Input + Send, O: Output>(
     rt: &R,
-    threads: usize,
     alloc: Global,
     setup: &[u8],
     texts: &[SharedText],
-    lines: CellLines,
+    choice: PoliceChoice,
     tick: Tick,
-    link: Option<Link>,
     input: &mut I,
     output: &mut O,
 ) -> Result<Done, RunFault>
-    ensures served { IsServed (MayBeSetupPoliced lines tick.nanoseconds link setup.now (octets_of_texts texts.now))
+    ensures served { IsServed (MayBeSetupPoliced choice.lines tick.nanoseconds choice.link setup.now (octets_of_texts texts.now))
         I.Input input.old input.new O.Output output.old output.new result }
     ensures policed { I.is_known → O.is_known → IfOk result (λ done.
-        Adds (λ text. IsSetupPoliced lines tick.nanoseconds link setup.now (octets_of_texts texts.now) (I.rest input.old) text done)
+        Adds (λ text. IsSetupPoliced choice.lines tick.nanoseconds choice.link setup.now (octets_of_texts texts.now) (I.rest input.old) text done)
         (O.held output.old) (O.held output.new)) }
 {
     match expand_setup(alloc, setup, texts) {
         Err(_) => Err(RunFault::NoMemory),
         Ok(Expanded::Faulty(text)) => write_faults(output, text),
-        Ok(Expanded::Itself) => police_capture(
-            rt, threads, alloc, setup, lines, tick, link, input, output,
-        ),
-        Ok(Expanded::Replaced(script)) => police_capture(
-            rt, threads, alloc, &script, lines, tick, link, input, output,
-        ),
+        Ok(Expanded::Itself) => police_capture(rt, alloc, setup, choice, tick, input, output),
+        Ok(Expanded::Replaced(script)) => {
+            police_capture(rt, alloc, &script, choice, tick, input, output)
+        }
+    }
+}
+
+/// Polices the cells of a capture, as [`police_setup`] does, with the tick that the setup script names or the one that was asked for. If they
+/// differ, the output is the fault line about them, and no cell is policed. `setup` is the script without its tick
+/// ([`take_tick`](crate::take_tick)).
+///
+/// # Errors
+///
+/// Those of [`police_setup`].
+pub fn police_as_agreed<R: Threads, I: Input + Send, O: Output>(
+    rt: &R,
+    alloc: Global,
+    setup: &[u8],
+    texts: &[SharedText],
+    choice: PoliceChoice,
+    named: Option<Tick>,
+    asked: Option<Tick>,
+    input: &mut I,
+    output: &mut O,
+) -> Result<Done, RunFault>
+    ensures served { IsServed (MayBePolicedAsAgreed choice.lines (option_map (λ tick. tick.nanoseconds) named) (option_map (λ tick. tick.nanoseconds) asked)
+        choice.link setup.now (octets_of_texts texts.now)) I.Input input.old input.new O.Output output.old output.new result }
+    ensures policed { I.is_known → O.is_known → IfOk result (λ done.
+        Adds (λ text. IsPolicedAsAgreed choice.lines (option_map (λ tick. tick.nanoseconds) named) (option_map (λ tick. tick.nanoseconds) asked)
+        choice.link setup.now (octets_of_texts texts.now) (I.rest input.old) text done)
+        (O.held output.old) (O.held output.new)) }
+{
+    match agreed_tick(named, asked) {
+        Ok(tick) => police_setup(rt, alloc, setup, texts, choice, tick, input, output),
+        Err(ticks) => {
+            let mut text = Vec::new(alloc);
+            match add_ticks_differ(&mut text, ticks) {
+                Ok(()) => write_faults(output, text),
+                Err(_) => Err(RunFault::NoMemory),
+            }
+        }
     }
 }

@@ -1,3 +1,4 @@
 pub mod LabChoosing
 pub mod Texts
 pub mod Differing
+pub mod Forwarding

@@ -1,18 +1,19 @@
 -- Each subcommand has an answer to every input.
-use Rattle.std.proofs.Common.{ℕ, List}
+use Rattle.std.proofs.Common.{ℕ, List, Option, option_map}
 use Rattle.text_io.specs.declared.ending.Done.{Done}
 use Rattle.lab_captures.proofs.Public.{fixed_total, some_capture_text, some_cells_text}
 use Rattle.lab_captures.specs.CellFilter.{filter_start}
 use Rattle.lab_differ.proofs.Public.{some-differ_text, some-unused_text}
 use Rattle.lab_faults.proofs.Public.{some-explain_text}
+use Rattle.lab_forward.proofs.Public.{some_agreed_records}
 use Rattle.lab_fit.specs.FitText.{fit_closes, fit_rules, fit_start, fit_steps}
 use Rattle.lab_programs.proofs.Public.{some-list_text, some-trace_text}
 use Rattle.lab_rules.proofs.Public.{some-asm_text, some-rules_text, some-why_text}
-use Rattle.lab_police.proofs.Public.{some_setup_text}
+use Rattle.lab_police.proofs.Public.{some_agreed_text}
 use Rattle.lab_sizes.proofs.Public.{some-sizes_text}
-use Rattle.upc_lab.specs.LabText.{IsAskedText, IsLabText}
+use Rattle.upc_lab.specs.LabText.{IsAskedText, IsLabText, others_asked}
 use Rattle.upc_lab.specs.declared.choice.Asked.{Asked}
-use Rattle.upc_lab.specs.declared.choice.Asked.TheVariants.{Plain, Cells, Fit, Police, Differ}
+use Rattle.upc_lab.specs.declared.choice.Asked.TheVariants.{Plain, Cells, Fit, Police, Differ, Forward}
 use Rattle.upc_lab.specs.declared.choice.Subcommand.{Subcommand}
 use Rattle.upc_lab.specs.declared.choice.Subcommand.TheVariants as lab
 
@@ -26,13 +27,15 @@ some-lab_text lab.Trace octets = some-trace_text octets
 some-lab_text lab.Size octets = some-sizes_text octets
 some-lab_text lab.Explain octets = some-explain_text octets
 
-pub some-asked_text : (asked : Asked) (setup : List ℕ) (rules : List (List ℕ)) (old octets : List ℕ)
-    → (answer : List ℕ) × (done : Done) × IsAskedText setup rules old asked octets answer done
-some-asked_text (Plain subcommand) setup rules old octets = some-lab_text subcommand octets
-some-asked_text (Cells options) setup rules old octets = some_cells_text options.tick.nanoseconds options.link octets
-some-asked_text (Police options) setup rules old octets =
-    some_setup_text options.lines options.tick.nanoseconds options.link setup rules octets
-some-asked_text (Fit options) setup rules old octets =
+pub some-asked_text : (asked : Asked) (setup : List ℕ) (tick : Option ℕ) (rules : List (List ℕ)) (old octets : List ℕ)
+    → (answer : List ℕ) × (done : Done) × IsAskedText setup tick rules old asked octets answer done
+some-asked_text (Plain subcommand) setup tick rules old octets = some-lab_text subcommand octets
+some-asked_text (Cells options) setup tick rules old octets = some_cells_text options.tick.nanoseconds options.link octets
+some-asked_text (Police options) setup tick rules old octets =
+    some_agreed_text options.lines tick (option_map (λ it. it.nanoseconds) options.tick) options.link setup rules octets
+some-asked_text (Fit options) setup tick rules old octets =
     some_capture_text fit_rules (fixed_total fit_steps fit_closes) (filter_start options.tick.nanoseconds options.link)
     (fit_start options.increment options.side) octets tt
-some-asked_text (Differ options) setup rules old octets = some-differ_text options.all old octets
+some-asked_text (Forward options) setup tick rules old octets =
+    some_agreed_records (others_asked options.others) tick (option_map (λ it. it.nanoseconds) options.tick) options.link setup rules octets
+some-asked_text (Differ options) setup tick rules old octets = some-differ_text options.all old octets

@@ -3,7 +3,7 @@ use Rattle.std.specs.Prelude.{ℕ, ◌==◌, Bool, ◌&&◌, if◌then◌else◌
 use Rattle.text_io.specs.declared.ending.RunFault.{RunFault}
 use Rattle.text_io.specs.declared.ending.RunFault.TheVariants.{ReadFailed, WriteFailed, NoMemory}
 use Rattle.upc_lab.specs.declared.choice.Asked.{Asked}
-use Rattle.upc_lab.specs.declared.choice.Asked.TheVariants.{Plain, Cells, Fit, Police, Differ}
+use Rattle.upc_lab.specs.declared.choice.Asked.TheVariants.{Plain, Cells, Fit, Police, Differ, Forward}
 use Rattle.upc_lab.specs.declared.choice.Subcommand.{Subcommand}
 use Rattle.upc_lab.specs.declared.choice.Subcommand.TheVariants as lab
 
@@ -51,4 +51,5 @@ asked_notice (Plain subcommand) = lab_notice subcommand
 asked_notice (Cells options) = codes "upc-lab cells: reading a capture from the terminal, to its end"
 asked_notice (Fit options) = codes "upc-lab fit: reading a capture from the terminal, to its end"
 asked_notice (Police options) = codes "upc-lab police: reading a capture from the terminal, to its end"
+asked_notice (Forward options) = codes "upc-lab forward: reading a capture from the terminal, to its end"
 asked_notice (Differ options) = codes "upc-lab differ: reading rules from the terminal, to its end"

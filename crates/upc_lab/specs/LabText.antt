@@ -1,20 +1,24 @@
 -- The output of each subcommand of `upc-lab`.
-use Rattle.std.specs.Prelude.{ℕ, List}
+use Rattle.std.specs.Prelude.{ℕ, if◌then◌else◌, Bool, List, Option, option_map}
 use Rattle.lab_captures.specs.CellsText.{IsCellsText}
 use Rattle.lab_differ.specs.DifferText.{IsDifferAnswer}
 use Rattle.lab_differ.specs.UnusedText.{IsUnusedAnswer}
 use Rattle.lab_fit.specs.FitText.{IsFitText}
 use Rattle.lab_faults.specs.Explained.{IsExplainText}
+use Rattle.lab_forward.specs.AgreedForward.{MayBeForwardedAsAgreed}
+use Rattle.lab_forward.specs.Reporting.{HasText}
+use Rattle.lab_forward.specs.declared.others.Others.{Others}
+use Rattle.lab_forward.specs.declared.others.Others.TheVariants.{Pass, Drop}
 use Rattle.lab_programs.specs.ListedProgram.{IsListText}
 use Rattle.lab_programs.specs.Trace.{IsTraceText}
 use Rattle.lab_rules.specs.AsmText.{MayBeAsmText}
 use Rattle.lab_rules.specs.RulesText.{MayBeRulesText}
 use Rattle.lab_rules.specs.WhyText.{MayBeWhyText}
-use Rattle.lab_police.specs.SetupText.{MayBeSetupPoliced}
+use Rattle.lab_police.specs.SetupText.{MayBePolicedAsAgreed}
 use Rattle.lab_sizes.specs.SizeText.{IsSizesText}
 use Rattle.text_io.specs.declared.ending.Done.{Done}
 use Rattle.upc_lab.specs.declared.choice.Asked.{Asked}
-use Rattle.upc_lab.specs.declared.choice.Asked.TheVariants.{Plain, Cells, Fit, Police, Differ}
+use Rattle.upc_lab.specs.declared.choice.Asked.TheVariants.{Plain, Cells, Fit, Police, Differ, Forward}
 use Rattle.upc_lab.specs.declared.choice.Subcommand.{Subcommand}
 use Rattle.upc_lab.specs.declared.choice.Subcommand.TheVariants as lab
 
@@ -29,11 +33,17 @@ IsLabText lab.Trace = IsTraceText
 IsLabText lab.Size = IsSizesText
 IsLabText lab.Explain = IsExplainText
 
--- The output for the octets of the files that the words name, which are a setup script, files of rules and an old text of rules, and for a
--- whole input, and how the run ends. Only `police` has the first two, and only `differ` the last.
-abbrev pub IsAskedText : List ℕ → List (List ℕ) → List ℕ → Asked → List ℕ → List ℕ → Done → Type 0
-IsAskedText setup rules old (Plain subcommand) = IsLabText subcommand
-IsAskedText setup rules old (Cells options) = IsCellsText options.tick.nanoseconds options.link
-IsAskedText setup rules old (Police options) = MayBeSetupPoliced options.lines options.tick.nanoseconds options.link setup rules
-IsAskedText setup rules old (Fit options) = IsFitText options.increment options.tick.nanoseconds options.link options.side
-IsAskedText setup rules old (Differ options) = IsDifferAnswer options.all old
+-- What becomes of other records.
+abbrev pub others_asked : Bool → Others
+others_asked others = if others then Pass else Drop
+
+-- The output for the octets of the files that the words name, which are a setup script, with the tick that it names, files of rules and an old
+-- text of rules, and for a whole input, and how the run ends. Only `police` and `forward` have the first three, and only `differ` the last.
+abbrev pub IsAskedText : List ℕ → Option ℕ → List (List ℕ) → List ℕ → Asked → List ℕ → List ℕ → Done → Type 0
+IsAskedText setup tick rules old (Plain subcommand) = IsLabText subcommand
+IsAskedText setup tick rules old (Cells options) = IsCellsText options.tick.nanoseconds options.link
+IsAskedText setup tick rules old (Police options) = MayBePolicedAsAgreed options.lines tick (option_map (λ asked. asked.nanoseconds) options.tick) options.link setup rules
+IsAskedText setup tick rules old (Fit options) = IsFitText options.increment options.tick.nanoseconds options.link options.side
+IsAskedText setup tick rules old (Forward options) = HasText (MayBeForwardedAsAgreed (others_asked options.others) tick
+    (option_map (λ asked. asked.nanoseconds) options.tick) options.link setup rules)
+IsAskedText setup tick rules old (Differ options) = IsDifferAnswer options.all old

@@ -1,6 +1,6 @@
 -- The subcommand of `upc-lab` that the command line names, and the errors of the command line, by clap's definitions for a simple
 -- command.
-use Rattle.std.specs.Prelude.{◌≡◌, List, [], ◌∷◌, ◌++◌, Bool, Option, Some, None, true, false, MatchBool, drop, codes, map}
+use Rattle.std.specs.Prelude.{◌≡◌, List, [], ◌∷◌, ◌++◌, Option, Some, None, true, if◌then◌else◌, drop, codes, map}
 use Rattle.std.specs.Str.{bytes_eq}
 use Rattle.clap.specs.Walk.{Text}
 use Rattle.clap.specs.Simple.{App}
@@ -12,11 +12,14 @@ use Rattle.command_line.specs.declared.stop.Stop.{Stop}
 use Rattle.lab_options.specs.CellsOptions.{AsksCells, IsCellsStop, cells_asked_by}
 use Rattle.lab_options.specs.DifferOptions.{AsksDiffer, IsDifferStop, differ_asked_by}
 use Rattle.lab_options.specs.FitOptions.{AsksFit, IsFitStop, asked_by}
+use Rattle.lab_options.specs.ForwardOptions.{AsksForward, IsForwardStop, forward_asked_by}
 use Rattle.lab_options.specs.PoliceOptions.{AsksPolice, IsPoliceStop, police_asked_by}
 use Rattle.upc_lab.specs.declared.choice.Asked.{Asked}
-use Rattle.upc_lab.specs.declared.choice.Asked.TheVariants.{Plain, Cells, Fit, Police, Differ}
+use Rattle.upc_lab.specs.declared.choice.Asked.TheVariants.{Plain, Cells, Fit, Police, Differ, Forward}
 use Rattle.upc_lab.specs.declared.choice.Subcommand.{Subcommand}
 use Rattle.upc_lab.specs.declared.choice.Subcommand.TheVariants as lab
+use Rattle.upc_lab.specs.declared.help_words.WithOptions.{WithOptions}
+use Rattle.upc_lab.specs.declared.help_words.WithOptions.TheVariants as own
 
 -- The name of each subcommand without options: those for rules, those for programs, that for contracts, and that for faults.
 abbrev pub lab_subcommands : List (Text × Subcommand)
@@ -24,11 +27,12 @@ lab_subcommands =
     (codes "rules", lab.Rules) ∷ (codes "why", lab.Why) ∷ (codes "asm", lab.Asm) ∷ (codes "unused", lab.Unused) ∷ (codes "list", lab.List)
     ∷ (codes "trace", lab.Trace) ∷ (codes "size", lab.Size) ∷ (codes "explain", lab.Explain) ∷ []
 
--- Each subcommand of the command. Those with options, which mean nothing here, have a command of their own: words that begin with `cells`,
--- `fit`, `police` or `differ` are read by it.
+-- Each subcommand of the command. Those with options, which mean nothing here, have a command of their own: words that begin with the name of
+-- one are read by it.
 abbrev pub lab_table : List (Text × Option Subcommand)
 lab_table =
-    map (λ row. (row.0, Some row.1)) lab_subcommands ++ (codes "cells", None) ∷ (codes "fit", None) ∷ (codes "police", None) ∷ (codes "differ", None) ∷ []
+    map (λ row. (row.0, Some row.1)) lab_subcommands ++ (codes "cells", None) ∷ (codes "fit", None) ∷ (codes "police", None)
+    ∷ (codes "forward", None) ∷ (codes "differ", None) ∷ []
 
 -- The command `upc-lab`: these subcommands, of which it wants one, and no option except those for help and the version.
 unfoldable pub lab_app : App
@@ -42,46 +46,40 @@ lab_faults_in = kinds_in lab_app
 abbrev pub NamesLab : List Text → Subcommand → Type 0
 NamesLab = NamesRow lab_subcommands
 
--- The first word is this one.
-abbrev pub begins_with : Text → List Text → Bool
-begins_with name [] = false
-begins_with name (word ∷ words) = bytes_eq word name
+-- The subcommand with options that has this name.
+abbrev pub with_options_named : Text → Option WithOptions
+with_options_named name =
+    if bytes_eq name (codes "cells") then Some own.Cells
+    else if bytes_eq name (codes "fit") then Some own.Fit
+    else if bytes_eq name (codes "police") then Some own.Police
+    else if bytes_eq name (codes "forward") then Some own.Forward
+    else if bytes_eq name (codes "differ") then Some own.Differ
+    else None
 
--- The first word is `cells`.
-abbrev pub begins_cells : List Text → Bool
-begins_cells = begins_with (codes "cells")
+-- The subcommand with options with whose name the words begin, if they do.
+abbrev pub begun_by : List Text → Option WithOptions
+begun_by [] = None
+begun_by (word ∷ words) = with_options_named word
 
--- The first word is `fit`.
-abbrev pub begins_fit : List Text → Bool
-begins_fit = begins_with (codes "fit")
-
--- The first word is `police`.
-abbrev pub begins_police : List Text → Bool
-begins_police = begins_with (codes "police")
-
--- The first word is `differ`.
-abbrev pub begins_differ : List Text → Bool
-begins_differ = begins_with (codes "differ")
-
--- The words ask for this: after `cells`, `fit`, `police` and `differ` there are their options, and other words name a subcommand without
+-- The words ask for this: after the name of a subcommand with options there are its options, and other words name a subcommand without
 -- options.
 abbrev pub AsksLab : List Text → Asked → Type 0
-AsksLab words (Plain subcommand) =
-    (begins_cells words ≡ false) × (begins_fit words ≡ false) × (begins_police words ≡ false) × (begins_differ words ≡ false) × NamesLab words subcommand
-AsksLab words (Cells options) =
-    (begins_cells words ≡ true) × AsksCells (drop 1 words) (cells_asked_by options)
-AsksLab words (Fit options) =
-    (begins_cells words ≡ false) × (begins_fit words ≡ true) × AsksFit (drop 1 words) (asked_by options)
-AsksLab words (Police options) =
-    (begins_cells words ≡ false) × (begins_fit words ≡ false) × (begins_police words ≡ true)
-    × AsksPolice (drop 1 words) (police_asked_by options)
-AsksLab words (Differ options) =
-    (begins_cells words ≡ false) × (begins_fit words ≡ false) × (begins_police words ≡ false) × (begins_differ words ≡ true)
-    × AsksDiffer (drop 1 words) (differ_asked_by options)
+AsksLab words (Plain subcommand) = (begun_by words ≡ None) × NamesLab words subcommand
+AsksLab words (Cells options) = (begun_by words ≡ Some own.Cells) × AsksCells (drop 1 words) (cells_asked_by options)
+AsksLab words (Fit options) = (begun_by words ≡ Some own.Fit) × AsksFit (drop 1 words) (asked_by options)
+AsksLab words (Police options) = (begun_by words ≡ Some own.Police) × AsksPolice (drop 1 words) (police_asked_by options)
+AsksLab words (Forward options) = (begun_by words ≡ Some own.Forward) × AsksForward (drop 1 words) (forward_asked_by options)
+AsksLab words (Differ options) = (begun_by words ≡ Some own.Differ) × AsksDiffer (drop 1 words) (differ_asked_by options)
+
+-- The Stops that the words of such a subcommand may give, or those of any other words.
+abbrev pub IsStopOf : Option WithOptions → List Text → Stop → Type 0
+IsStopOf None words stop = StopsAt (lab_faults_in words) stop
+IsStopOf (Some own.Cells) words stop = IsCellsStop (drop 1 words) stop
+IsStopOf (Some own.Fit) words stop = IsFitStop (drop 1 words) stop
+IsStopOf (Some own.Police) words stop = IsPoliceStop (drop 1 words) stop
+IsStopOf (Some own.Forward) words stop = IsForwardStop (drop 1 words) stop
+IsStopOf (Some own.Differ) words stop = IsDifferStop (drop 1 words) stop
 
 -- The Stops that words may give. NoMemory is always allowed.
 abbrev pub IsLabStop : List Text → Stop → Type 0
-IsLabStop words stop = MatchBool (begins_cells words) (IsCellsStop (drop 1 words) stop)
-    (MatchBool (begins_fit words) (IsFitStop (drop 1 words) stop)
-    (MatchBool (begins_police words) (IsPoliceStop (drop 1 words) stop)
-    (MatchBool (begins_differ words) (IsDifferStop (drop 1 words) stop) (StopsAt (lab_faults_in words) stop))))
+IsLabStop words stop = IsStopOf (begun_by words) words stop

@@ -5,6 +5,7 @@ pub mod LabMessages
 pub mod FailureLines
 pub mod ShownNames
 pub mod Comparison
+pub mod ForwardRun
 pub mod SetupFile
 pub mod Progress
 pub mod inner

@@ -13,12 +13,16 @@ use Rattle.command_line.specs.Invocation.{CarriesOut, IsStatusFor}
 use Rattle.command_line.specs.Messages.{IsIdle, WritesMessage}
 use Rattle.lab_differ.specs.DifferText.{IsDifferText}
 use Rattle.lab_differ.specs.UnusedText.{IsUnusedText}
+use Rattle.lab_forward.specs.AgreedForward.{IsForwardedAsAgreed, MayBeForwardedAsAgreed}
+use Rattle.lab_forward.specs.Reporting.{ReportedTexts}
 use Rattle.lab_options.specs.declared.differ.DifferOptions.{DifferOptions}
+use Rattle.lab_options.specs.declared.forward.ForwardOptions.{ForwardOptions}
 use Rattle.upc_lab.specs.Comparison.{CarriesFinding}
-use Rattle.upc_lab.specs.LabText.{IsAskedText}
+use Rattle.upc_lab.specs.ForwardRun.{CarriesForward}
+use Rattle.upc_lab.specs.LabText.{IsAskedText, others_asked}
 use Rattle.upc_lab.specs.ShownNames.{shown_name}
 use Rattle.upc_lab.specs.declared.choice.Asked.{Asked}
-use Rattle.upc_lab.specs.declared.choice.Asked.TheVariants.{Plain, Cells, Fit, Police, Differ}
+use Rattle.upc_lab.specs.declared.choice.Asked.TheVariants.{Plain, Cells, Fit, Police, Differ, Forward}
 use Rattle.upc_lab.specs.declared.choice.Subcommand.{Subcommand}
 use Rattle.upc_lab.specs.declared.choice.Subcommand.TheVariants as lab
 use Rattle.upc_lab.specs.declared.setup_file.SetupFiles.{SetupFiles}
@@ -27,6 +31,7 @@ use Rattle.upc_lab.specs.declared.setup_file.Unreadable.{Unreadable}
 -- The name of the file with the setup script, if the words name one.
 abbrev pub setup_name : Result Asked Stop → Option (List ℕ)
 setup_name (Ok (Police options)) = Some (string_bytes options.setup)
+setup_name (Ok (Forward options)) = Some (string_bytes options.setup)
 setup_name _ = None
 
 -- What `differ` is asked for, if the words ask for it.
@@ -35,8 +40,19 @@ differ_in (Ok (Plain subcommand)) = None
 differ_in (Ok (Cells options)) = None
 differ_in (Ok (Fit options)) = None
 differ_in (Ok (Police options)) = None
+differ_in (Ok (Forward options)) = None
 differ_in (Ok (Differ options)) = Some options
 differ_in (Err stop) = None
+
+-- What `forward` is asked for, if the words ask for it.
+abbrev pub forward_in : Result Asked Stop → Option ForwardOptions
+forward_in (Ok (Plain subcommand)) = None
+forward_in (Ok (Cells options)) = None
+forward_in (Ok (Fit options)) = None
+forward_in (Ok (Police options)) = None
+forward_in (Ok (Forward options)) = Some options
+forward_in (Ok (Differ options)) = None
+forward_in (Err stop) = None
 
 -- Whether this is `unused`.
 abbrev pub is_unused : Subcommand → Bool
@@ -55,6 +71,7 @@ asks_unused (Ok (Plain subcommand)) = is_unused subcommand
 asks_unused (Ok (Cells options)) = false
 asks_unused (Ok (Fit options)) = false
 asks_unused (Ok (Police options)) = false
+asks_unused (Ok (Forward options)) = false
 asks_unused (Ok (Differ options)) = false
 asks_unused (Err stop) = false
 
@@ -93,23 +110,44 @@ IsUnreadableShown shown unreadable =
 abbrev pub unreadable_message : Unreadable → List ℕ
 unreadable_message unreadable = if length unreadable.line.items == 0 then plain_unreadable_line else unreadable.line.items
 
+-- The nanoseconds of the tick that the setup script names, if it names one.
+abbrev pub tick_in_files : SetupFiles → Option ℕ
+tick_in_files files = option_map (λ tick. tick.nanoseconds) files.tick
+
 -- The octets of the file of rules of each line, in order.
 abbrev pub rules_in_files : SetupFiles → List (List ℕ)
 rules_in_files files = octets_of_texts files.rules.items
 
--- The effect of the program for words that don't ask for `differ`.
+-- The effect of the program for words that ask for neither `differ` nor `forward`.
 abbrev pub CarriesPlain : {Source Sink Errors : Type 0} → (RunFault → List ℕ) → Result Asked Stop → SetupFiles
     → InputView Source → Source → Source → OutputView Sink → Sink → Sink → OutputView Errors → Errors → Errors → ℕ → Type 0
 CarriesPlain message chosen files I input input' O output output' E errors errors' status = MatchBool (asks_unused chosen)
     (CarriesFinding message IsUnusedText I input input' O output output' E errors errors' status)
-    (CarriesOut message (IsAskedText files.script.items (rules_in_files files) files.old.items) chosen I input input' O output output' E errors errors' status)
+    (CarriesOut message (IsAskedText files.script.items (tick_in_files files) (rules_in_files files) files.old.items) chosen I input input' O output output' E errors errors' status)
+
+-- What is written for what is asked of `forward`, with these files, and what is reported.
+abbrev pub ForwardsAsked : SetupFiles → ForwardOptions → ReportedTexts
+ForwardsAsked files options = IsForwardedAsAgreed (others_asked options.others) (tick_in_files files)
+    (option_map (λ asked. asked.nanoseconds) options.tick) options.link files.script.items (rules_in_files files)
+
+-- The same, but that the code of any rules may be reported as too long.
+abbrev pub MayForwardAsked : SetupFiles → ForwardOptions → ReportedTexts
+MayForwardAsked files options = MayBeForwardedAsAgreed (others_asked options.others) (tick_in_files files)
+    (option_map (λ asked. asked.nanoseconds) options.tick) options.link files.script.items (rules_in_files files)
+
+-- The effect of the program for words that don't ask for `differ`.
+abbrev pub CarriesOther : {Source Sink Errors : Type 0} → (RunFault → List ℕ) → Result Asked Stop → SetupFiles
+    → InputView Source → Source → Source → OutputView Sink → Sink → Sink → OutputView Errors → Errors → Errors → ℕ → Type 0
+CarriesOther message chosen files I input input' O output output' E errors errors' status = MatchOption (forward_in chosen)
+    (CarriesPlain message chosen files I input input' O output output' E errors errors' status)
+    (λ options. CarriesForward message (ForwardsAsked files options) (MayForwardAsked files options) I input input' O output output' E errors errors' status)
 
 -- The effect of the program for its words and for the octets of the files that they name, which were read, with these messages for
 -- failures.
 abbrev pub CarriesWith : {Source Sink Errors : Type 0} → (RunFault → List ℕ) → Result Asked Stop → SetupFiles
     → InputView Source → Source → Source → OutputView Sink → Sink → Sink → OutputView Errors → Errors → Errors → ℕ → Type 0
 CarriesWith message chosen files I input input' O output output' E errors errors' status = MatchOption (differ_in chosen)
-    (CarriesPlain message chosen files I input input' O output output' E errors errors' status)
+    (CarriesOther message chosen files I input input' O output output' E errors errors' status)
     (λ options. CarriesFinding message (IsDifferText options.all files.old.items) I input input' O output output' E errors errors' status)
 
 -- The same, for files that may not have been read. If a file

@@ -1,16 +1,16 @@
 //! What the words of the command line ask for.
 
-ghost use Rattle.std.specs.Prelude.{◌≡◌, [], false, Err, IfErr, IfOk, IsOkAnd, IsSome, IsSomeAnd, Some, drop, map};
+ghost use Rattle.std.specs.Prelude.{◌≡◌, [], Err, IfErr, IfOk, IsOkAnd, IsSome, IsSomeAnd, None, Some, drop, map};
 ghost use Rattle.std.specs.String.{string_bytes};
 ghost use Rattle.command_line.specs.Stopping.{StopsAt};
-ghost use Rattle.upc_lab.specs.LabWords.{AsksLab, IsLabStop, NamesLab, begins_cells, begins_differ, begins_fit, begins_police, begins_with, lab_faults_in};
+ghost use Rattle.upc_lab.specs.LabWords.{AsksLab, IsLabStop, NamesLab, begun_by, lab_faults_in};
 ghost use Rattle.upc_lab.specs.declared.choice.Asked.{Asked as TheAsked};
 
-use crate::help_words::{help_on, with_options_shown};
+use crate::help_words::{WithOptions, begun_by, help_on, with_options_shown};
 use command_line::{Program, Row, Stop, VERSION, row_of_words};
 use lab_options::{
-    CellsOptions, DifferOptions, FitOptions, PoliceOptions, cells_options, differ_options,
-    fit_options, police_options,
+    CellsOptions, DifferOptions, FitOptions, ForwardOptions, PoliceOptions, cells_options,
+    differ_options, fit_options, forward_options, police_options,
 };
 use std::alloc::Global;
 
@@ -46,8 +46,10 @@ pub enum Asked {
     Fit(FitOptions),
     /// Print the verdicts on the cells of a capture.
     Police(PoliceOptions),
-    /// Print for which cells two texts of rules differ.
+    /// Print for which cells two texts of rules or programs differ.
     Differ(DifferOptions),
+    /// Write the records of a capture whose cells pass.
+    Forward(ForwardOptions),
 }
 
 /// The program, without its subcommands.
@@ -60,7 +62,7 @@ const LAB: Program = Program {
 };
 
 /// Its subcommands. One with options has a command of its own in place of a subcommand here.
-const SUBCOMMANDS: [Row<Option<Subcommand>>; 12] = [
+const SUBCOMMANDS: [Row<Option<Subcommand>>; 13] = [
     Row {
         name: "rules",
         about: "Compile rules for cells and print the octets of their program",
@@ -130,63 +132,60 @@ const SUBCOMMANDS: [Row<Option<Subcommand>>; 12] = [
         means: None,
     },
     Row {
+        name: "forward",
+        about: "Write the records of a capture whose cells pass by the contracts of a setup script",
+        example: Some("It has options: `upc-lab forward --help` lists them"),
+        means: None,
+    },
+    Row {
         name: "differ",
-        about: "Compare two texts of rules, and print for which cells their values differ",
+        about: "Compare two texts of rules or programs, and print for which cells their values differ",
         example: Some("It has options: `upc-lab differ --help` lists them"),
         means: None,
     },
 ];
 
-/// Reads the words after the program's name: `cells`, `fit`, `police` or `differ` and its options, or the name of another subcommand. The forms of
+/// Reads the words after the program's name: the name of a subcommand with options and these, or the name of another subcommand. The forms of
 /// help that `clap` has request help. Any other word, any further word and no word is an error. As everywhere in `clap`, `--` ends the
 /// options and isn't a word itself, so it may be last.
 pub fn choose(alloc: Global, words: Vec<String>) -> Result<Asked, Stop>
     ensures asked { IfOk result (AsksLab (map string_bytes words.items)) }
-    // Words that begin with another word than `cells`, `fit`, `police` and `differ` are read without an error if and only if clap finds none in them.
-    ensures faultless { begins_cells (map string_bytes words.items) ≡ false → begins_fit (map string_bytes words.items) ≡ false
-        → begins_police (map string_bytes words.items) ≡ false → begins_differ (map string_bytes words.items) ≡ false → IfOk result (λ _. lab_faults_in (map string_bytes words.items) ≡ []) }
+    // Words that begin with no name of a subcommand with options are read without an error if and only if clap finds none in them.
+    ensures faultless { begun_by (map string_bytes words.items) ≡ None → IfOk result (λ _. lab_faults_in (map string_bytes words.items) ≡ []) }
     ensures stopped { IfErr result (IsLabStop (map string_bytes words.items)) }
-    ensures taken { begins_cells (map string_bytes words.items) ≡ false → begins_fit (map string_bytes words.items) ≡ false
-        → begins_police (map string_bytes words.items) ≡ false → begins_differ (map string_bytes words.items) ≡ false → lab_faults_in (map string_bytes words.items) ≡ [] → IfErr result (λ stop. stop ≡ Stop.NoMemory) }
+    ensures taken { begun_by (map string_bytes words.items) ≡ None → lab_faults_in (map string_bytes words.items) ≡ []
+        → IfErr result (λ stop. stop ≡ Stop.NoMemory) }
     ensures granted { (asked : TheAsked) → AsksLab (map string_bytes words.items) asked
         → IfErr result (λ stop. stop ≡ Stop.NoMemory) }
 {
-    if begins_with(words.as_slice(), b"cells") {
-        match cells_options(alloc, without_first(words)) {
+    match begun_by(words.as_slice()) {
+        Some(WithOptions::Cells) => match cells_options(alloc, without_first(words)) {
             Ok(options) => Ok(Asked::Cells(options)),
             Err(stop) => Err(stop),
-        }
-    } else if begins_with(words.as_slice(), b"fit") {
-        match fit_options(alloc, without_first(words)) {
+        },
+        Some(WithOptions::Fit) => match fit_options(alloc, without_first(words)) {
             Ok(options) => Ok(Asked::Fit(options)),
             Err(stop) => Err(stop),
-        }
-    } else if begins_with(words.as_slice(), b"police") {
-        match police_options(alloc, without_first(words)) {
+        },
+        Some(WithOptions::Police) => match police_options(alloc, without_first(words)) {
             Ok(options) => Ok(Asked::Police(options)),
             Err(stop) => Err(stop),
-        }
-    } else if begins_with(words.as_slice(), b"differ") {
-        match differ_options(alloc, without_first(words)) {
+        },
+        Some(WithOptions::Forward) => match forward_options(alloc, without_first(words)) {
+            Ok(options) => Ok(Asked::Forward(options)),
+            Err(stop) => Err(stop),
+        },
+        Some(WithOptions::Differ) => match differ_options(alloc, without_first(words)) {
             Ok(options) => Ok(Asked::Differ(options)),
             Err(stop) => Err(stop),
+        },
+        None => {
+            let subject = help_on(words.as_slice());
+            match choose_plain(alloc, words) {
+                Ok(subcommand) => Ok(Asked::Plain(subcommand)),
+                Err(stop) => Err(with_options_shown(alloc, subject, stop)),
+            }
         }
-    } else {
-        let subject = help_on(words.as_slice());
-        match choose_plain(alloc, words) {
-            Ok(subcommand) => Ok(Asked::Plain(subcommand)),
-            Err(stop) => Err(with_options_shown(alloc, subject, stop)),
-        }
-    }
-}
-
-/// Returns whether the first word is this one.
-fn begins_with(words: &[String], name: &[u8]) -> bool
-    ensures { result ≡ begins_with name.now (map string_bytes words.now) }
-{
-    match words {
-        [word, ..] => word.as_bytes() == name,
-        [] => false,
     }
 }
 
@@ -200,12 +199,9 @@ fn without_first(mut words: Vec<String>) -> Vec<String>
     words
 }
 
-/// Reads words that begin with none of `cells`, `fit`, `police` and `differ`: the name of a subcommand without options.
+/// Reads words that begin with no name of a subcommand with options: the name of one without.
 fn choose_plain(alloc: Global, words: Vec<String>) -> Result<Subcommand, Stop>
-    requires cells { begins_cells (map string_bytes words.items) ≡ false }
-    requires fit { begins_fit (map string_bytes words.items) ≡ false }
-    requires police { begins_police (map string_bytes words.items) ≡ false }
-    requires differ { begins_differ (map string_bytes words.items) ≡ false }
+    requires { begun_by (map string_bytes words.items) ≡ None }
     ensures asked { IfOk result (NamesLab (map string_bytes words.items)) }
     ensures faultless { IfOk result (λ _. lab_faults_in (map string_bytes words.items) ≡ []) }
     ensures stopped { IfErr result (StopsAt (lab_faults_in (map string_bytes words.items))) }

@@ -1,45 +1,66 @@
-//! Help on a subcommand with options: `upc-lab help NAME` prints what `upc-lab NAME --help` prints.
+//! The subcommands with options, and the help on them: `upc-lab help NAME` prints what `upc-lab NAME --help` prints.
 
-ghost use Rattle.std.specs.Prelude.{◌≡◌};
+ghost use Rattle.std.specs.Prelude.{◌≡◌, map};
+ghost use Rattle.std.specs.String.{string_bytes};
 ghost use Rattle.clap.specs.Kinds.{Kinds};
 ghost use Rattle.command_line.specs.Stopping.{StopsAt};
+ghost use Rattle.upc_lab.specs.LabWords.{begun_by, with_options_named};
 
 use command_line::Stop;
-use lab_options::{cells_options, differ_options, fit_options, police_options};
+use lab_options::{cells_options, differ_options, fit_options, forward_options, police_options};
 use std::alloc::Global;
 
 /// A subcommand with options.
-#[derive(Clone, Copy)]
-pub(crate) enum WithOptions {
+#[derive(Clone, Copy, Debug, PartialEq, Eq)]
+pub enum WithOptions {
     /// `cells`.
     Cells,
     /// `fit`.
     Fit,
     /// `police`.
     Police,
+    /// `forward`.
+    Forward,
     /// `differ`.
     Differ,
 }
 
-/// Returns the subcommand with options on which the words `help NAME` ask for help.
-pub(crate) fn help_on(words: &[String]) -> Option<WithOptions> {
-    let [help, name] = words else {
-        return None;
-    };
-    if help.as_bytes() != b"help".as_slice() {
-        return None;
-    }
-    let name = name.as_bytes();
+/// Returns the subcommand with options that has this name.
+fn with_options_named(name: &[u8]) -> Option<WithOptions>
+    ensures { result ≡ with_options_named name.now }
+{
     if name == b"cells".as_slice() {
         Some(WithOptions::Cells)
     } else if name == b"fit".as_slice() {
         Some(WithOptions::Fit)
     } else if name == b"police".as_slice() {
         Some(WithOptions::Police)
+    } else if name == b"forward".as_slice() {
+        Some(WithOptions::Forward)
     } else if name == b"differ".as_slice() {
         Some(WithOptions::Differ)
     } else {
         None
+    }
+}
+
+/// Returns the subcommand with options with whose name the words begin, if they do.
+pub(crate) fn begun_by(words: &[String]) -> Option<WithOptions>
+    ensures { result ≡ begun_by (map string_bytes words.now) }
+{
+    match words {
+        [word, ..] => with_options_named(word.as_bytes()),
+        [] => None,
+    }
+}
+
+/// Returns the subcommand with options on which the words `help NAME` ask for help.
+pub(crate) fn help_on(words: &[String]) -> Option<WithOptions> {
+    match words {
+        [help, name] if help.as_bytes() == b"help".as_slice() => {
+            with_options_named(name.as_bytes())
+        }
+        _ => None,
     }
 }
 
@@ -72,6 +93,7 @@ fn own_help(alloc: Global, subject: Option<WithOptions>) -> Option<Stop> {
         WithOptions::Cells => cells_options(alloc, words).err(),
         WithOptions::Fit => fit_options(alloc, words).err(),
         WithOptions::Police => police_options(alloc, words).err(),
+        WithOptions::Forward => forward_options(alloc, words).err(),
         WithOptions::Differ => differ_options(alloc, words).err(),
     }
 }

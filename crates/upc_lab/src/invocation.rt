@@ -1,19 +1,21 @@
 //! Runs the program over three devices and returns its exit status.
 
-ghost use Rattle.std.specs.Prelude.{◌≡◌, Result, option_map};
+ghost use Rattle.std.specs.Prelude.{◌≡◌, IfErr, OnOk, Result, option_map};
 ghost use Rattle.text_io.specs.Serving.{IsServed};
 ghost use Rattle.command_line.specs.ExitStatus.{status_of};
 ghost use Rattle.command_line.specs.Invocation.{CarriesOut, IsStatusFor};
-ghost use Rattle.command_line.specs.Messages.{Reports};
+ghost use Rattle.command_line.specs.Messages.{Reports, WritesMessage};
 ghost use Rattle.lab_differ.specs.DifferText.{IsDifferText};
 ghost use Rattle.lab_differ.specs.Findings.{ended_by};
 ghost use Rattle.lab_differ.specs.UnusedText.{IsUnusedText};
 ghost use Rattle.lab_differ.specs.declared.finding.Finding.{Finding as Found};
+ghost use Rattle.text_io.specs.declared.ending.Done.{Done as TheDone};
 ghost use Rattle.text_io.specs.declared.ending.RunFault.{RunFault as Failed};
 ghost use Rattle.upc_lab.specs.Comparison.{CarriesFinding, finding_status};
+ghost use Rattle.upc_lab.specs.ForwardRun.{CarriesForward};
 ghost use Rattle.upc_lab.specs.LabMessages.{lab_failure_line, shell_status_of};
-ghost use Rattle.upc_lab.specs.LabText.{IsAskedText, IsLabText};
-ghost use Rattle.upc_lab.specs.SetupFile.{CarriesAllOut, CarriesPlain, CarriesWith, IsStatusIn, asks_unused, differ_in, rules_in_files};
+ghost use Rattle.upc_lab.specs.LabText.{IsAskedText, IsLabText, others_asked};
+ghost use Rattle.upc_lab.specs.SetupFile.{CarriesAllOut, CarriesOther, CarriesPlain, CarriesWith, ForwardsAsked, IsStatusIn, MayForwardAsked, asks_unused, differ_in, forward_in, rules_in_files, tick_in_files};
 
 use crate::choice::{Asked, Subcommand};
 use crate::reason::Reasoned;
@@ -23,8 +25,9 @@ use lab_captures::cells_of_capture;
 use lab_differ::{Finding, compare_texts, ended_by, unused_in_text};
 use lab_faults::{Ahead, explain_faults};
 use lab_fit::fit_capture;
-use lab_options::DifferOptions;
-use lab_police::police_setup;
+use lab_forward::{Others, forward_as_agreed};
+use lab_options::{DifferOptions, ForwardOptions};
+use lab_police::{PoliceChoice, police_as_agreed};
 use lab_programs::{list_program, trace_cells};
 use lab_rules::{assemble_rules, compile_rules, decide_cells};
 use lab_sizes::size_contracts;
@@ -101,6 +104,13 @@ fn run_plain<I: Ahead, O: Output>(
 /// How many threads may work at once where no option says so.
 const THREADS: usize = 2;
 
+/// Returns what becomes of other records.
+fn others_asked(others: bool) -> Others
+    ensures { result ≡ others_asked others }
+{
+    if others { Others::Pass } else { Others::Drop }
+}
+
 /// Runs what was asked for over the whole input, with the files that the words name.
 fn run<R: Threads, I: Ahead + Send, O: Output>(
     rt: &R,
@@ -110,7 +120,7 @@ fn run<R: Threads, I: Ahead + Send, O: Output>(
     input: &mut I,
     output: &mut O,
 ) -> Result<Done, RunFault>
-    ensures { IsServed (IsAskedText files.now.script.items (rules_in_files files.now) files.now.old.items asked.now) I.Input input.old input.new O.Output output.old output.new result }
+    ensures { IsServed (IsAskedText files.now.script.items (tick_in_files files.now) (rules_in_files files.now) files.now.old.items asked.now) I.Input input.old input.new O.Output output.old output.new result }
 {
     match asked {
         Asked::Plain(subcommand) => run_plain(alloc, *subcommand, input, output),
@@ -134,17 +144,32 @@ fn run<R: Threads, I: Ahead + Send, O: Output>(
             input,
             output,
         ),
-        Asked::Police(options) => police_setup(
+        Asked::Police(options) => police_as_agreed(
             rt,
-            usize::from(options.threads),
             alloc,
             files.script.as_slice(),
             files.rules.as_slice(),
-            options.lines,
+            PoliceChoice {
+                threads: usize::from(options.threads),
+                lines: options.lines,
+                link: options.link,
+            },
+            files.tick,
+            options.tick,
+            input,
+            output,
+        ),
+        Asked::Forward(options) => forward_as_agreed(
+            alloc,
+            files.script.as_slice(),
+            files.rules.as_slice(),
+            others_asked(options.others),
+            files.tick,
             options.tick,
             options.link,
             input,
             output,
+            &mut Vec::new(alloc),
         ),
         Asked::Differ(options) => {
             ended_by(compare_texts(alloc, files.old.as_slice(), options.all, input, output))
@@ -251,7 +276,7 @@ fn carry_out_with<R: Threads, I: Ahead + Reasoned + Send, O: Output + Reasoned, 
 ) -> u8
     ensures carried { I.is_known → O.is_known → E.is_known → CarriesOut
         (lab_failure_line (I.message input.new) (O.message output.new) (O.is_closed output.new))
-        (IsAskedText files.now.script.items (rules_in_files files.now) files.now.old.items) chosen.now I.Input input.old input.new O.Output output.old output.new E.Output errors.old errors.new result }
+        (IsAskedText files.now.script.items (tick_in_files files.now) (rules_in_files files.now) files.now.old.items) chosen.now I.Input input.old input.new O.Output output.old output.new E.Output errors.old errors.new result }
     ensures status { IsStatusFor chosen.now result }
 {
     match chosen {
@@ -271,7 +296,7 @@ fn carry_out_with<R: Threads, I: Ahead + Reasoned + Send, O: Output + Reasoned, 
     }
 }
 
-/// Does what words that don't ask for `differ` ask for, and returns the exit status. `unused` has one of its own.
+/// Does what words that ask for neither `differ` nor `forward` ask for, and returns the exit status. `unused` has one of its own.
 fn carry_out_plain<R: Threads, I: Ahead + Reasoned + Send, O: Output + Reasoned, E: Output>(
     rt: &R,
     alloc: Global,
@@ -290,6 +315,89 @@ fn carry_out_plain<R: Threads, I: Ahead + Reasoned + Send, O: Output + Reasoned,
         carry_out_unused(alloc, input, output, errors)
     } else {
         carry_out_with(rt, alloc, chosen, files, input, output, errors)
+    }
+}
+
+/// Returns what the words ask of `forward`, if they do.
+fn forward_in(chosen: &Result<Asked, Stop>) -> Option<&ForwardOptions>
+    ensures { option_map (λ options. options.now) result ≡ forward_in chosen.now }
+{
+    match chosen {
+        Ok(Asked::Forward(options)) => Some(options),
+        _ => None,
+    }
+}
+
+/// Writes what is reported of a run, or the message for a failed one, and returns the exit status.
+fn report_run<I: Reasoned, O: Reasoned, E: Output>(
+    ended: Result<Done, RunFault>,
+    said: &[u8],
+    input: &I,
+    output: &O,
+    errors: &mut E,
+) -> u8
+    ensures status { result ≡ status_of ended }
+    ensures ok { E.is_known → OnOk ended (WritesMessage E.Output errors.old errors.new said.now) }
+    ensures failed { E.is_known → IfErr ended (λ fault. WritesMessage E.Output errors.old errors.new
+        (lab_failure_line (I.message input.now) (O.message output.now) (O.is_closed output.now) fault)) }
+{
+    match ended {
+        Ok(_) => write_message(errors, said),
+        Err(fault) => write_message(errors, line_of(fault, input, output)),
+    }
+    status(&ended)
+}
+
+/// Writes the records of the capture that go on, and then what is reported of the run to the error output, and returns the exit status. A failure
+/// gets a message.
+fn carry_out_forward<I: Ahead + Reasoned, O: Output + Reasoned, E: Output>(
+    alloc: Global,
+    options: &ForwardOptions,
+    files: &SetupFiles,
+    input: &mut I,
+    output: &mut O,
+    errors: &mut E,
+) -> u8
+    ensures carried { I.is_known → O.is_known → E.is_known → CarriesForward
+        (lab_failure_line (I.message input.new) (O.message output.new) (O.is_closed output.new))
+        (ForwardsAsked files.now options.now) (MayForwardAsked files.now options.now)
+        I.Input input.old input.new O.Output output.old output.new E.Output errors.old errors.new result }
+    ensures status { (ended : Result TheDone Failed) × (result ≡ status_of ended) }
+{
+    let mut said = Vec::new(alloc);
+    let ended = forward_as_agreed(
+        alloc,
+        files.script.as_slice(),
+        files.rules.as_slice(),
+        others_asked(options.others),
+        files.tick,
+        options.tick,
+        options.link,
+        input,
+        output,
+        &mut said,
+    );
+    report_run(ended, &said, input, output, errors)
+}
+
+/// Does what words that don't ask for `differ` ask for, and returns the exit status. `forward` has one of its own.
+fn carry_out_other<R: Threads, I: Ahead + Reasoned + Send, O: Output + Reasoned, E: Output>(
+    rt: &R,
+    alloc: Global,
+    chosen: &Result<Asked, Stop>,
+    files: &SetupFiles,
+    input: &mut I,
+    output: &mut O,
+    errors: &mut E,
+) -> u8
+    ensures carried { I.is_known → O.is_known → E.is_known → CarriesOther
+        (lab_failure_line (I.message input.new) (O.message output.new) (O.is_closed output.new))
+        chosen.now files.now I.Input input.old input.new O.Output output.old output.new E.Output errors.old errors.new result }
+    ensures status { IsStatusFor chosen.now result }
+{
+    match forward_in(chosen) {
+        Some(options) => carry_out_forward(alloc, options, files, input, output, errors),
+        None => carry_out_plain(rt, alloc, chosen, files, input, output, errors),
     }
 }
 
@@ -317,7 +425,7 @@ fn carry_out_read<R: Threads, I: Ahead + Reasoned + Send, O: Output + Reasoned, 
             output,
             errors,
         ),
-        None => carry_out_plain(rt, alloc, chosen, files, input, output, errors),
+        None => carry_out_other(rt, alloc, chosen, files, input, output, errors),
     }
 }
 

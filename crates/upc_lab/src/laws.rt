@@ -1,12 +1,12 @@
 //! Laws of the definitions. Each function does nothing; its contract is the law.
 
-ghost use Rattle.std.specs.Prelude.{ℕ, List};
+ghost use Rattle.std.specs.Prelude.{ℕ, List, Option};
 ghost use Rattle.text_io.specs.declared.ending.Done.{Done as TheDone};
 ghost use Rattle.upc_lab.specs.LabText.{IsAskedText};
 ghost use Rattle.upc_lab.specs.declared.choice.Asked.{Asked as TheAsked};
 
-/// Each subcommand, with any options, any setup script, any files of rules and any old rules, has an answer to every input.
+/// Each subcommand, with any options, any setup script and tick, any files of rules and any old rules, has an answer to every input.
 pub fn each_input_has_an_answer()
-    ensures { (asked : TheAsked) (setup : List ℕ) (rules : List (List ℕ)) (old octets : List ℕ)
-        → (answer : List ℕ) × (done : TheDone) × IsAskedText setup rules old asked octets answer done }
+    ensures { (asked : TheAsked) (setup : List ℕ) (tick : Option ℕ) (rules : List (List ℕ)) (old octets : List ℕ)
+        → (answer : List ℕ) × (done : TheDone) × IsAskedText setup tick rules old asked octets answer done }
 {}

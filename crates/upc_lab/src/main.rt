@@ -21,10 +21,10 @@ pub use lab_differ::{Finding, compare_texts, unused_in_text};
 pub use lab_faults::{LookedAt, explain_faults};
 pub use lab_fit::fit_capture;
 pub use lab_options::{
-    CellsOptions, DifferOptions, FitOptions, PoliceOptions, cells_options, differ_options,
-    fit_options, police_options,
+    CellsOptions, DifferOptions, FitOptions, ForwardOptions, PoliceOptions, cells_options,
+    differ_options, fit_options, forward_options, police_options,
 };
-pub use lab_police::police_setup;
+pub use lab_police::police_as_agreed;
 pub use lab_programs::{list_program, trace_cells};
 pub use lab_rules::{assemble_rules, compile_rules, decide_cells};
 pub use lab_sizes::size_contracts;

@@ -16,6 +16,7 @@ pub fn awaited(asked: &Asked) -> &'static str
         Asked::Cells(_) => "upc-lab cells: reading a capture from the terminal, to its end",
         Asked::Fit(_) => "upc-lab fit: reading a capture from the terminal, to its end",
         Asked::Police(_) => "upc-lab police: reading a capture from the terminal, to its end",
+        Asked::Forward(_) => "upc-lab forward: reading a capture from the terminal, to its end",
         Asked::Differ(_) => "upc-lab differ: reading rules from the terminal, to its end",
     }
 }

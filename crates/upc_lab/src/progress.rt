@@ -19,7 +19,7 @@ pub fn reads_capture(chosen: &Result<Asked, Stop>) -> bool
     ensures { result ≡ reads_capture chosen.now }
 {
     match chosen {
-        Ok(Asked::Cells(_) | Asked::Fit(_) | Asked::Police(_)) => true,
+        Ok(Asked::Cells(_) | Asked::Fit(_) | Asked::Police(_) | Asked::Forward(_)) => true,
         Ok(Asked::Plain(_) | Asked::Differ(_)) | Err(_) => false,
     }
 }

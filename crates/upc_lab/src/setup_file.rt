@@ -9,8 +9,9 @@ ghost use Rattle.upc_lab.specs.SetupFile.{IsUnreadable, IsUnreadableSetup, IsUnr
 use crate::choice::Asked;
 use crate::file_names::{add_shown_name, name_given};
 use crate::reason::in_words;
+use captures::Tick;
 use command_line::{CommandLine, Stop};
-use lab_police::{SharedText, files_read};
+use lab_police::{SharedText, files_read, take_tick};
 use std::alloc::{AllocError, Global};
 use std::collections::BTreeMap;
 use std::fs::File;
@@ -34,8 +35,10 @@ const PART: u64 = 65536;
 /// The octets of the files that the words name.
 #[derive(Debug, Drop)]
 pub struct SetupFiles {
-    /// The octets of the setup script, as far as they were read.
+    /// The octets of the setup script, as far as they were read, without the tick that it names.
     pub script: Vec<u8>,
+    /// The tick that the setup script names, if it names one.
+    pub tick: Option<Tick>,
     /// The octets of the file of rules that each line `rules NAME` of the script names, in order. Lines that name the same file share them.
     pub rules: Vec<SharedText>,
     /// The octets of the old text of rules, as far as they were read.
@@ -51,6 +54,7 @@ impl SetupFiles {
     {
         SetupFiles {
             script: Vec::new(alloc),
+            tick: None,
             rules: Vec::new(alloc),
             old: Vec::new(alloc),
         }
@@ -311,13 +315,15 @@ fn read_files<R: Files + AllocGlobal>(rt: &R, name: &[u8]) -> Result<SetupFiles,
     let Ok(setup) = str::from_utf8(name) else {
         return Err(Unreadable::not_utf8(rt.alloc(), name));
     };
-    let script = octets_or_message(rt.alloc(), name, read_script(rt, setup))?;
+    let mut script = octets_or_message(rt.alloc(), name, read_script(rt, setup))?;
+    let tick = take_tick(&mut script);
     let Ok(files) = files_read(rt.alloc(), &script) else {
         return Err(Unreadable::without_reason(rt.alloc()));
     };
     let rules = read_all_rules(rt, setup, &files)?;
     Ok(SetupFiles {
         script,
+        tick,
         rules,
         old: Vec::new(rt.alloc()),
     })
@@ -361,6 +367,7 @@ fn read_old_file<R: Files + AllocGlobal>(rt: &R, name: &[u8]) -> Result<SetupFil
     let old = octets_or_message(rt.alloc(), name, read_text(rt, path))?;
     Ok(SetupFiles {
         script: Vec::new(rt.alloc()),
+        tick: None,
         rules: Vec::new(rt.alloc()),
         old,
     })
@@ -402,6 +409,7 @@ pub fn read_setup<R: Files + AllocGlobal, C: CommandLine>(
 {
     match chosen {
         Ok(Asked::Police(options)) => read_shown(rt, line, options.setup.as_str()),
+        Ok(Asked::Forward(options)) => read_shown(rt, line, options.setup.as_str()),
         Ok(Asked::Differ(options)) => read_old_shown(rt, line, options.old.as_str()),
         _ => Ok(SetupFiles::none(rt.alloc())),
     }

@@ -64,6 +64,7 @@ fn chosen_by(alloc: Global, line: &str) -> Result<Result<Asked, Stop>, AllocErro
 fn no_files(alloc: Global) -> SetupFiles {
     SetupFiles {
         script: Vec::new(alloc),
+        tick: None,
         rules: Vec::new(alloc),
         old: Vec::new(alloc),
     }

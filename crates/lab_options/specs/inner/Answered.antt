@@ -7,6 +7,7 @@ use Rattle.command_line.specs.declared.stop.Stop.TheVariants.{Help, Words, NoMem
 use Rattle.lab_options.specs.CellsOptions.{CellsAsked, cells_values}
 use Rattle.lab_options.specs.DifferOptions.{DifferAsked, differ_values}
 use Rattle.lab_options.specs.FitOptions.{FitAsked, fit_values}
+use Rattle.lab_options.specs.ForwardOptions.{ForwardAsked, forward_values}
 use Rattle.lab_options.specs.PoliceOptions.{PoliceAsked, police_values}
 
 -- No request for help or the version.
@@ -37,4 +38,9 @@ police_spelled texts = police_values (text_named texts (codes "SETUP")) (text_na
 
 -- What named values of `differ` spell.
 abbrev pub differ_spelled : List (Text × Option Text) → Option DifferAsked
-differ_spelled texts = differ_values (text_named texts (codes "OLD")) (text_named texts (codes "lines"))
+differ_spelled texts = differ_values (text_named texts (codes "OLD")) (text_named texts (codes "lines")) (text_named texts (codes "program"))
+
+-- What named values of `forward` spell.
+abbrev pub forward_spelled : List (Text × Option Text) → Option ForwardAsked
+forward_spelled texts = forward_values (text_named texts (codes "SETUP")) (text_named texts (codes "tick")) (text_named texts (codes "link"))
+    (text_named texts (codes "others"))

@@ -14,6 +14,7 @@ use Rattle.lab_police.specs.inner.ExcessLeft.{LeavesConnection}
 -- The run has what the state has.
 pub record ShowsPolice (run : PoliceRun) (world : PoliceWorld) : Type 0 where
   pub lines : run.lines ≡ world.lines
+  pub tick : run.tick.nanoseconds ≡ world.tick
   pub agrees : CoreAgrees run.core world.card.world
   pub begun : run.begun ≡ world.begun
   pub not_judged : run.not_judged ≡ world.not_judged

@@ -8,11 +8,11 @@ use Rattle.upc_lab.proofs.choice.choose.Goals as goal
 pub returns-in-Err-choose_plain-clause-granted : goal.returns-in-Err-choose_plain-clause-granted
 returns-in-Err-choose_plain-clause-granted c = λ asked h.
     c.with_options_shown.ensures.memory
-    (granted_plain (map string_bytes c.args.words.items) c.in-Err-choose_plain.stop asked (search rules) (search rules) (search rules) (search rules)
+    (granted_plain (map string_bytes c.args.words.items) c.in-Err-choose_plain.stop asked (search rules)
     c.in-Err-choose_plain.ensures.granted h)
 
 pub returns-in-Err-choose_plain-clause-stopped : goal.returns-in-Err-choose_plain-clause-stopped
 returns-in-Err-choose_plain-clause-stopped c =
     let words = map string_bytes c.args.words.items in
-    stopped_plain words c.with_options_shown.result (search rules) (search rules) (search rules) (search rules)
+    stopped_plain words c.with_options_shown.result (search rules)
     (c.with_options_shown.ensures.alike (lab_faults_in words) c.in-Err-choose_plain.ensures.stopped)

@@ -12,14 +12,14 @@ row_of_words-requires c = lab_is_plain
 pub subcommand_of-requires : goal.subcommand_of-requires
 unfolding lab_app
 subcommand_of-requires c =
-    row_is_plain (map string_bytes c.args.words.items) c.row_of_words.result c.requires.cells c.requires.fit c.requires.police c.requires.differ
+    row_is_plain (map string_bytes c.args.words.items) c.row_of_words.result c.requires
     c.row_of_words.ensures.faultless c.row_of_words.ensures.asked
 
 pub returns : goal.returns
 unfolding lab_app
 returns c =
     let row = c.row_of_words.ensures in
-    let all = answers (map string_bytes c.args.words.items) c.row_of_words.result c.subcommand_of.result c.requires.cells c.requires.fit c.requires.police c.requires.differ
+    let all = answers (map string_bytes c.args.words.items) c.row_of_words.result c.subcommand_of.result c.requires
     row.faultless row.asked row.stopped row.taken row.granted c.subcommand_of.ensures.named c.subcommand_of.ensures.stopped in
     record {
       asked = all.asked;

@@ -13,4 +13,4 @@ pub returns-in-Some-clause-status : goal.returns-in-Some-clause-status
 returns-in-Some-clause-status g c = differ_status c.args.chosen.now c.in-Some.options.now c.carry_out_differ.result (sym c.in-Some.ensures) c.carry_out_differ.ensures.status
 
 pub returns-in-None-clause-carried : goal.returns-in-None-clause-carried
-returns-in-None-clause-carried g c = λ known written shown. rw (sym c.in-None.ensures) (c.carry_out_plain.ensures.carried known written shown)
+returns-in-None-clause-carried g c = λ known written shown. rw (sym c.in-None.ensures) (c.carry_out_other.ensures.carried known written shown)

@@ -1,0 +1,9 @@
+pub mod Frames
+pub mod SomeForwarding
+pub mod StepLemmas
+pub mod ForwardProgress
+pub mod WholeForwarding
+pub mod ForwardTexts
+pub mod AgreedTexts
+pub mod Public
+pub mod Conforming

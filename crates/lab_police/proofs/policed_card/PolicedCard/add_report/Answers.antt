@@ -1,0 +1,10 @@
+use Rattle.lab_captures.proofs.Public.{on_done}
+use Rattle.lab_police.proofs.PolicedLemmas.{reports_by}
+use Rattle.lab_police.proofs.policed_card.PolicedCard.add_report.Goals as goal
+
+pub returns : goal.returns
+returns c = λ world shown.
+    on_done c.add_closing.result _ _ c.add_closing.ensures
+    (λ grew. reports_by c.args.self.now world c.args.passed.now c.args.ending c.args.report.now.items c.add_counts.new.answers.items
+    c.add_not_judged.new.answers.items c.add_run_comments.new.answers.items c.add_closing.new.answers.items shown (c.in_ok-add_counts.ensures world.card.world shown.agrees)
+    c.in_ok-add_not_judged.ensures c.in_ok-add_run_comments.ensures grew)
