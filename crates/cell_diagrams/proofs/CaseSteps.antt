@@ -13,7 +13,7 @@ use Rattle.cell_rules.specs.declared.rules.RuleLine.TheVariants.{Rule, Block, En
 use Rattle.cell_rules.specs.declared.rules.Rules.{Rules}
 use Rattle.cell_rules.specs.declared.test.Test.{Test}
 use Rattle.cell_diagrams.specs.CellNumbers.{octets_number}
-use Rattle.cell_diagrams.specs.Cases.{IsCase, IsCaseOf, AreCasesApart, AreInOrder, AreCases, AreCasesOf, GiveOneValue, GiveSame}
+use Rattle.cell_diagrams.specs.Cases.{IsCaseOf, AreCasesApart, AreInOrder, AreCases, AreCasesOf, GiveOneValue, GiveSame}
 use Rattle.cell_diagrams.specs.ComparedCases.{SaysDecisions}
 use Rattle.cell_diagrams.specs.inner.Lines.{line_number, deciding_line}
 use Rattle.cell_diagrams.specs.inner.Meetings.{has_pair, IsLeast, ArePairsApart, AreMeetingsInOrder, AreMeetings}
@@ -265,7 +265,7 @@ same_values law old new cases result e are = (
       sym (law old cell).value
       ∙ (ap (λ (d : Decision). d.value) (sym found.old_is) ∙ (same ∙ (ap (λ (d : Decision). d.value) found.new_is ∙ (law new cell).value))),
   λ same.
-      let all : All HasOneValue cases = All-weaker (IsCase old new) HasOneValue (λ case is.
+      let all : All HasOneValue cases = All-weaker (IsCaseOf (decision_of old) (decision_of new)) HasOneValue (λ case is.
       ap (λ (d : Decision). d.value) (sym is.old_is)
       ∙ ((law old case.cell).value ∙ (same case.cell is.cell ∙ (sym (law new case.cell).value ∙ ap (λ (d : Decision). d.value) is.new_is)))) cases are.all in
       e ∙ have_all cases all,

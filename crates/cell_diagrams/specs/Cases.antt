@@ -42,10 +42,6 @@ pub record AreCasesOf (was is : List ℕ → Decision) (cases : List Case) : Typ
   pub apart : AreCasesApart cases
   pub ordered : AreInOrder cases
 
--- A case of what old and new rules decide.
-abbrev pub IsCase : Rules → Rules → Case → Type 0
-IsCase old new case = IsCaseOf (decision_of old) (decision_of new) case
-
 -- The cases of what they decide.
 abbrev pub AreCases : Rules → Rules → List Case → Type 0
 AreCases old new cases = AreCasesOf (decision_of old) (decision_of new) cases

@@ -15,10 +15,10 @@ use Rattle.text_io.specs.Printing.{IsFront}
 use Rattle.text_io.specs.declared.ending.Done.{Done}
 use Rattle.text_io.specs.declared.ending.Done.TheVariants.{Ended}
 use Rattle.text_io.specs.declared.ending.RunFault.{RunFault}
-use Rattle.lab_forward.specs.JudgeRules.{ClosesReport, JudgeRules, JudgesEachCell, OfEachWorld}
+use Rattle.lab_forward.specs.JudgeRules.{ClosesReport, JudgeRules, JudgesEachCell, OfEachJudgeWorld}
 use Rattle.lab_forward.specs.declared.others.Others.{Others}
 use Rattle.lab_forward.specs.declared.stepping.ForwardReading.{ForwardReading}
-use Rattle.lab_forward.specs.inner.ForwardSteps.{Advances, AdvancesToEnd, CameTo, ForwardsHere, ForwardsSomehow, at_state}
+use Rattle.lab_forward.specs.inner.ForwardSteps.{ForwardsOn, ForwardsToEnd, ForwardedTo, ForwardsHere, ForwardsSomehow, at_state}
 use Rattle.lab_forward.proofs.SomeForwarding.{octets_some}
 
 -- No octets follow.
@@ -34,7 +34,7 @@ here_some rules total others reading world octets sound =
 -- At first nothing was read or written.
 pub run_begun : {World : Type 0} (rules : JudgeRules World) (others : Others) (shown : World → Type 0) (reading : ForwardReading) (Known Held : Type 0)
     (rest before waiting : List ℕ) → waiting ≡ []
-    → CameTo rules others shown shown reading reading Known Held rest rest before before waiting
+    → ForwardedTo rules others shown shown reading reading Known Held rest rest before before waiting
 run_begun rules others shown reading Known Held rest before waiting none = λ first sound is_shown. record {
   present = first;
   sound = sound;
@@ -48,10 +48,10 @@ run_begun rules others shown reading Known Held rest before waiting none = λ fi
 -- After a step.
 pub run_advanced : {World : Type 0} {rules : JudgeRules World} {others : Others} {shown0 shown : World → Type 0} {reading0 reading : ForwardReading}
     {Known Held : Type 0} {rest0 rest before now waiting : List ℕ} (shown' : World → Type 0) (reading' : ForwardReading) (own new : List ℕ)
-    → CameTo rules others shown0 shown reading0 reading Known Held rest0 rest before now waiting
+    → ForwardedTo rules others shown0 shown reading0 reading Known Held rest0 rest before now waiting
     → reading.window ≡ own ++ reading'.window
-    → OfEachWorld rules shown (λ world. Advances rules others reading world reading' shown' waiting new)
-    → CameTo rules others shown0 shown' reading0 reading' Known Held rest0 rest before now new
+    → OfEachJudgeWorld rules shown (λ world. ForwardsOn rules others reading world reading' shown' waiting new)
+    → ForwardedTo rules others shown0 shown' reading0 reading' Known Held rest0 rest before now new
 run_advanced {rules = rules} {others = others} {reading0 = reading0} {reading = reading} {Known = Known} {Held = Held} {rest0 = rest0} {rest = rest} {before = before}
     {now = now} {waiting = waiting} shown' reading' own new goes cut advances = λ first sound is_shown.
     let at = goes first sound is_shown in
@@ -68,8 +68,8 @@ run_advanced {rules = rules} {others = others} {reading0 = reading0} {reading = 
 -- After some octets are written.
 pub run_given : {World : Type 0} {rules : JudgeRules World} {others : Others} {shown0 shown : World → Type 0} {reading0 reading : ForwardReading}
     {Known Held : Type 0} {rest0 rest before now waiting : List ℕ} (now' waiting' : List ℕ)
-    → CameTo rules others shown0 shown reading0 reading Known Held rest0 rest before now waiting → (Held → WritesPrefix now now' waiting waiting')
-    → CameTo rules others shown0 shown reading0 reading Known Held rest0 rest before now' waiting'
+    → ForwardedTo rules others shown0 shown reading0 reading Known Held rest0 rest before now waiting → (Held → WritesPrefix now now' waiting waiting')
+    → ForwardedTo rules others shown0 shown reading0 reading Known Held rest0 rest before now' waiting'
 run_given {rules = rules} {others = others} {reading0 = reading0} {reading = reading} {Known = Known} {Held = Held} {rest0 = rest0} {rest = rest} {before = before}
     {now = now} {waiting = waiting} now' waiting' goes gives = λ first sound is_shown.
     let at = goes first sound is_shown in
@@ -84,10 +84,10 @@ run_given {rules = rules} {others = others} {reading0 = reading0} {reading = rea
 -- After more octets are read and all that waited is written.
 pub run_refilled : {World : Type 0} {rules : JudgeRules World} {others : Others} {shown0 shown : World → Type 0} {reading0 reading : ForwardReading}
     {Known Held : Type 0} {rest0 rest before now waiting : List ℕ} (reading' : ForwardReading) (rest' now' waiting' : List ℕ)
-    → CameTo rules others shown0 shown reading0 reading Known Held rest0 rest before now waiting
+    → ForwardedTo rules others shown0 shown reading0 reading Known Held rest0 rest before now waiting
     → reading' ≡ record reading { window = reading'.window } → take (length reading.window) reading'.window ≡ reading.window
     → (Known → reading.window ++ rest ≡ reading'.window ++ rest') → (Held → WritesPrefix now now' waiting waiting')
-    → CameTo rules others shown0 shown reading0 reading' Known Held rest0 rest' before now' waiting'
+    → ForwardedTo rules others shown0 shown reading0 reading' Known Held rest0 rest' before now' waiting'
 run_refilled {rules = rules} {others = others} {reading0 = reading0} {reading = reading} {Known = Known} {Held = Held} {rest0 = rest0} {rest = rest} {before = before}
     {now = now} {waiting = waiting} reading' rest' now' waiting' goes kept front same gives = λ first sound is_shown.
     let at = goes first sound is_shown in
@@ -113,9 +113,9 @@ run_refilled {rules = rules} {others = others} {reading0 = reading0} {reading = 
 -- Where nothing more is written, what was written and what waited are the text of the whole. So far nothing was reported.
 pub run_text : {World : Type 0} {rules : JudgeRules World} {others : Others} {shown0 shown : World → Type 0} {reading0 reading : ForwardReading}
     {Known Held : Type 0} {rest0 rest before now waiting : List ℕ} (now' said0 said said' : List ℕ) (done : Done) → said ≡ said0
-    → CameTo rules others shown0 shown reading0 reading Known Held rest0 rest before now waiting → Known → Held → now' ≡ now ++ waiting
-    → OfEachWorld rules shown (λ world. (last : List ℕ) × (said' ≡ said ++ last) × ForwardsHere rules others reading world last (reading.window ++ rest) [] done)
-    → OfEachWorld rules shown0 (λ first. (last : List ℕ) × (said' ≡ said0 ++ last)
+    → ForwardedTo rules others shown0 shown reading0 reading Known Held rest0 rest before now waiting → Known → Held → now' ≡ now ++ waiting
+    → OfEachJudgeWorld rules shown (λ world. (last : List ℕ) × (said' ≡ said ++ last) × ForwardsHere rules others reading world last (reading.window ++ rest) [] done)
+    → OfEachJudgeWorld rules shown0 (λ first. (last : List ℕ) × (said' ≡ said0 ++ last)
     × Adds (λ text. ForwardsHere rules others reading0 first last (reading0.window ++ rest0) text done) before now')
 run_text {rules = rules} {others = others} {reading0 = reading0} {reading = reading} {Known = Known} {Held = Held} {rest0 = rest0} {rest = rest} {before = before}
     {now = now} {waiting = waiting} now' said0 said said' done silent goes known held gives ends = λ first sound is_shown.
@@ -130,10 +130,10 @@ run_text {rules = rules} {others = others} {reading0 = reading0} {reading = read
 -- At the end of the input.
 pub last_text : {World : Type 0} (result : Result Done RunFault) (rules : JudgeRules World) (others : Others) (shown0 shown : World → Type 0)
     (reading0 reading : ForwardReading) (Known Held : Type 0) (rest0 rest before now now' waiting said0 said said' : List ℕ) → said ≡ said0
-    → CameTo rules others shown0 shown reading0 reading Known Held rest0 rest before now waiting → Known → Held → rest ≡ [] → OnOk result (now' ≡ now ++ waiting)
-    → IfOk result (λ done. OfEachWorld rules shown (λ world. (last : List ℕ) × (said' ≡ said ++ last)
+    → ForwardedTo rules others shown0 shown reading0 reading Known Held rest0 rest before now waiting → Known → Held → rest ≡ [] → OnOk result (now' ≡ now ++ waiting)
+    → IfOk result (λ done. OfEachJudgeWorld rules shown (λ world. (last : List ℕ) × (said' ≡ said ++ last)
     × ForwardsHere rules others reading world last reading.window [] done))
-    → IfOk result (λ done. OfEachWorld rules shown0 (λ first. (last : List ℕ) × (said' ≡ said0 ++ last)
+    → IfOk result (λ done. OfEachJudgeWorld rules shown0 (λ first. (last : List ℕ) × (said' ≡ said0 ++ last)
     × Adds (λ text. ForwardsHere rules others reading0 first last (reading0.window ++ rest0) text done) before now'))
 last_text (Ok done) rules others shown0 shown reading0 reading Known Held rest0 rest before now now' waiting said0 said said' silent goes known held none gives ends =
     run_text now' said0 said said' done silent goes known held gives
@@ -145,8 +145,8 @@ last_text (Err fault) rules others shown0 shown reading0 reading Known Held rest
 -- A prefix of what waited gives a prefix of a text.
 pub run_front : {World : Type 0} {rules : JudgeRules World} {others : Others} {shown0 shown : World → Type 0} {reading0 reading : ForwardReading}
     {Known Held : Type 0} {rest0 rest before now waiting : List ℕ} (now' : List ℕ) → JudgesEachCell rules
-    → CameTo rules others shown0 shown reading0 reading Known Held rest0 rest before now waiting → Known → Held → IsPart now now' waiting
-    → OfEachWorld rules shown0 (λ first. Adds (IsFront (ForwardsSomehow rules others reading0 first (reading0.window ++ rest0))) before now')
+    → ForwardedTo rules others shown0 shown reading0 reading Known Held rest0 rest before now waiting → Known → Held → IsPart now now' waiting
+    → OfEachJudgeWorld rules shown0 (λ first. Adds (IsFront (ForwardsSomehow rules others reading0 first (reading0.window ++ rest0))) before now')
 run_front {rules = rules} {others = others} {reading0 = reading0} {reading = reading} {Known = Known} {Held = Held} {rest0 = rest0} {rest = rest} {before = before}
     {now = now} {waiting = waiting} now' total goes known held part = λ first sound is_shown.
     let at = goes first sound is_shown in
@@ -158,9 +158,9 @@ run_front {rules = rules} {others = others} {reading0 = reading0} {reading = rea
 -- What was read has a text with this end.
 pub run_enough : {World : Type 0} {rules : JudgeRules World} {others : Others} {shown0 shown : World → Type 0} {reading0 reading : ForwardReading}
     {Known Held : Type 0} {rest0 rest before now waiting : List ℕ} (done : Done)
-    → CameTo rules others shown0 shown reading0 reading Known Held rest0 rest before now waiting → Known
-    → OfEachWorld rules shown (λ world. (last : List ℕ) × ForwardsHere rules others reading world last (reading.window ++ []) [] done)
-    → OfEachWorld rules shown0 (λ first. HasRead (ForwardsSomehow rules others reading0 first) reading0.window rest0 rest done)
+    → ForwardedTo rules others shown0 shown reading0 reading Known Held rest0 rest before now waiting → Known
+    → OfEachJudgeWorld rules shown (λ world. (last : List ℕ) × ForwardsHere rules others reading world last (reading.window ++ []) [] done)
+    → OfEachJudgeWorld rules shown0 (λ first. HasRead (ForwardsSomehow rules others reading0 first) reading0.window rest0 rest done)
 run_enough {rules = rules} {others = others} {reading0 = reading0} {reading = reading} {Known = Known} {Held = Held} {rest0 = rest0} {rest = rest} {before = before}
     {now = now} {waiting = waiting} done goes known ends = λ first sound is_shown.
     let at = goes first sound is_shown in
@@ -171,13 +171,13 @@ run_enough {rules = rules} {others = others} {reading0 = reading0} {reading = re
 
 -- A step that ends the run.
 pub said_at_end : {World : Type 0} {rules : JudgeRules World} {others : Others} {shown : World → Type 0} {reading : ForwardReading} {said said' : List ℕ} (rest : List ℕ)
-    → OfEachWorld rules shown (λ world. AdvancesToEnd rules others reading world said said')
-    → OfEachWorld rules shown (λ world. (last : List ℕ) × (said' ≡ said ++ last) × ForwardsHere rules others reading world last (reading.window ++ rest) [] Ended)
+    → OfEachJudgeWorld rules shown (λ world. ForwardsToEnd rules others reading world said said')
+    → OfEachJudgeWorld rules shown (λ world. (last : List ℕ) × (said' ≡ said ++ last) × ForwardsHere rules others reading world last (reading.window ++ rest) [] Ended)
 said_at_end rest ends = λ world sound is_shown. let end = ends world sound is_shown in (end.last, end.grew, end.ends rest)
 
 pub enough_at_end : {World : Type 0} {rules : JudgeRules World} {others : Others} {shown : World → Type 0} {reading : ForwardReading} {said said' : List ℕ}
-    → OfEachWorld rules shown (λ world. AdvancesToEnd rules others reading world said said')
-    → OfEachWorld rules shown (λ world. (last : List ℕ) × ForwardsHere rules others reading world last (reading.window ++ []) [] Ended)
+    → OfEachJudgeWorld rules shown (λ world. ForwardsToEnd rules others reading world said said')
+    → OfEachJudgeWorld rules shown (λ world. (last : List ℕ) × ForwardsHere rules others reading world last (reading.window ++ []) [] Ended)
 enough_at_end ends = λ world sound is_shown. let end = ends world sound is_shown in (end.last, end.ends [])
 
 -- The end of the input.
@@ -186,7 +186,7 @@ pub said_at_last : {World : Type 0} (rules : JudgeRules World) (others : Others)
     → passed ≡ (filter_state reading.filter).passed → octets ≡ reading.window → first_frame reading.reader.format reading.reader.at reading.window ≡ None
     → (first_frame reading.reader.format reading.reader.at octets ≡ None → EndsReading reading.reader.format reading.reader.at octets ending)
     → done ≡ done_at ending
-    → OfEachWorld rules shown (λ world. (last : List ℕ) × (said' ≡ said ++ last) × ForwardsHere rules others reading world last reading.window [] done)
+    → OfEachJudgeWorld rules shown (λ world. (last : List ℕ) × (said' ≡ said ++ last) × ForwardsHere rules others reading world last reading.window [] done)
 said_at_last rules others shown reading octets passed ending done said said' closes is same unfinished ends how = λ world sound is_shown.
     let at_end : EndsReading reading.reader.format reading.reader.at reading.window ending =
     subst (λ (xs : List ℕ). EndsReading reading.reader.format reading.reader.at xs ending) same

@@ -22,14 +22,14 @@ use Rattle.text_io.specs.declared.ending.RunFault.{RunFault}
 use Rattle.text_io.specs.declared.ending.RunFault.TheVariants.{NoMemory}
 use Rattle.lab_forward.specs.ForwardText.{IsForwarded, IsSetupForwarded, MayBeSetupForwarded, forward_rules}
 use Rattle.lab_forward.specs.Forwarding.{forward_start}
-use Rattle.lab_forward.specs.Reporting.{HasText, IsServedWithReport, ReportedTexts, Reports}
+use Rattle.lab_forward.specs.Reporting.{HasReportedText, IsServedWithReport, ReportedTexts, ReportsText}
 use Rattle.lab_forward.specs.declared.others.Others.{Others}
 use Rattle.lab_forward.specs.inner.ForwardTotal.{forward-total}
 use Rattle.lab_forward.proofs.SomeForwarding.{capture_some}
 use Rattle.lab_forward.proofs.WholeForwarding.{served_nothing, served_report}
 
 forwards_some : (others : Others) (tick : ℕ) (link : Option Link) (script octets text : List ℕ) (done : Done) → IsScriptExplained script text done
-    → (text : List ℕ) × (done : Done) × HasText (IsForwarded others tick link script) octets text done
+    → (text : List ℕ) × (done : Done) × HasReportedText (IsForwarded others tick link script) octets text done
 forwards_some others tick link script octets text Ended explained = ([], Ended, (text, inl (refl, explained, refl)))
 forwards_some others tick link script octets text Whole explained =
     let set = set_up_some script (text, explained) in
@@ -38,21 +38,21 @@ forwards_some others tick link script octets text Whole explained =
 
 -- For each script and capture something is forwarded.
 pub some_forwarded : (others : Others) (tick : ℕ) (link : Option Link) (script octets : List ℕ)
-    → (text : List ℕ) × (done : Done) × HasText (IsForwarded others tick link script) octets text done
+    → (text : List ℕ) × (done : Done) × HasReportedText (IsForwarded others tick link script) octets text done
 some_forwarded others tick link script octets =
     let explained = some-script_text script in
     forwards_some others tick link script octets explained.0 explained.1 explained.2
 
 setup_some : (others : Others) (tick : ℕ) (link : Option Link) (setup : List ℕ) (texts : List (List ℕ)) (octets text : List ℕ) (done : Done)
     → MayBeSetupPoliced lines.Nothing tick link setup texts octets text done
-    → (text : List ℕ) × (done : Done) × HasText (MayBeSetupForwarded others tick link setup texts) octets text done
+    → (text : List ℕ) × (done : Done) × HasReportedText (MayBeSetupForwarded others tick link setup texts) octets text done
 setup_some others tick link setup texts octets text done (inl (faulty, ends)) = ([], Ended, (text, inl (refl, faulty, refl)))
 setup_some others tick link setup texts octets text done (inr (script, made, printed)) =
     let some = some_forwarded others tick link script octets in (some.0, some.1, (some.2.0, inr (script, made, some.2.1)))
 
 -- So it is for each setup with files of rules.
 pub some_setup_forwarded : (others : Others) (tick : ℕ) (link : Option Link) (setup : List ℕ) (texts : List (List ℕ)) (octets : List ℕ)
-    → (text : List ℕ) × (done : Done) × HasText (MayBeSetupForwarded others tick link setup texts) octets text done
+    → (text : List ℕ) × (done : Done) × HasReportedText (MayBeSetupForwarded others tick link setup texts) octets text done
 some_setup_forwarded others tick link setup texts octets =
     let policed = polices_each lines.Nothing tick link setup texts octets in
     setup_some others tick link setup texts octets policed.0 policed.1 policed.2
@@ -69,7 +69,7 @@ module _ {Source Sink : Type 0} (I : InputView Source) (O : OutputView Sink) (so
   pub served_wider : (IsText IsWanted : ReportedTexts) → ((octets text report : List ℕ) (done : Done) → IsText octets text report done → IsWanted octets text report done)
       → IsServedWithReport IsText I source source' O sink sink' said said' result → IsServedWithReport IsWanted I source source' O sink sink' said said' result
   served_wider IsText IsWanted is by = record {
-    served = served_as I O source source' sink sink' result (HasText IsText) (HasText IsWanted)
+    served = served_as I O source source' sink sink' result (HasReportedText IsText) (HasReportedText IsWanted)
         (λ octets text done has. (has.0, is octets text has.0 done has.1)) by.served;
     reported = λ ki ko. IfOk-weaker result _ _
         (λ done adds. (adds.0, adds.1, (adds.2.0, adds.2.1, is (I.rest source) adds.2.0 adds.0 done adds.2.2))) (by.reported ki ko);
@@ -77,7 +77,7 @@ module _ {Source Sink : Type 0} (I : InputView Source) (O : OutputView Sink) (so
 
 -- A faulty setup, whose explanation is reported.
 pub faults_served : {Source Sink : Type 0} (I : InputView Source) (O : OutputView Sink) (source : Source) (sink : Sink) (said said' text : List ℕ)
-    (result : Result Done RunFault) (IsText : ReportedTexts) → ((octets : List ℕ) → (text : List ℕ) × (done : Done) × HasText IsText octets text done)
+    (result : Result Done RunFault) (IsText : ReportedTexts) → ((octets : List ℕ) → (text : List ℕ) × (done : Done) × HasReportedText IsText octets text done)
     → ((octets : List ℕ) → IsText octets [] text Ended)
     → IfOk result (λ done. done ≡ Ended) → OnOk result (said' ≡ said ++ text) → OnErr result (result ≡ Err NoMemory)
     → IsServedWithReport IsText I source source O sink sink said said' result
@@ -99,7 +99,7 @@ faulty_setup others tick link setup texts text (inr (script, made, explained)) o
 -- If it is reported, nothing is written.
 pub faults_reported : {Source Sink : Type 0} (I : InputView Source) (O : OutputView Sink) (source : Source) (sink : Sink) (said said' text : List ℕ)
     (result : Result Done RunFault) (IsText : ReportedTexts) → ((octets : List ℕ) → IsText octets [] text Ended)
-    → IfOk result (λ done. done ≡ Ended) → OnOk result (said' ≡ said ++ text) → Reports IsText I source O sink sink said said' result
+    → IfOk result (λ done. done ≡ Ended) → OnOk result (said' ≡ said ++ text) → ReportsText IsText I source O sink sink said said' result
 faults_reported I O source sink said said' text (Ok done) IsText is ended grew =
     λ ki ko. (text, grew, ([], sym (append-nil (O.held sink)), subst (λ d. IsText (I.rest source) [] text d) (sym ended) (is (I.rest source))))
 faults_reported I O source sink said said' text (Err fault) IsText is ended grew = λ ki ko. tt

@@ -16,11 +16,11 @@ use Rattle.lab_captures.specs.declared.filter.Filtered.TheVariants.{Counts, Pass
 use Rattle.text_io.specs.declared.ending.Done.{Done}
 use Rattle.text_io.specs.declared.machine.Turn.TheVariants.{GoesOn, Ends}
 use Rattle.lab_forward.specs.Forwarding.{ForwardState, WritesFiltered, WritesFrame}
-use Rattle.lab_forward.specs.JudgeRules.{JudgeRules, JudgesEachCell, OfEachWorld}
+use Rattle.lab_forward.specs.JudgeRules.{JudgeRules, JudgesEachCell, OfEachJudgeWorld}
 use Rattle.lab_forward.specs.declared.others.Others.{Others}
 use Rattle.lab_forward.specs.declared.stepping.ForwardReading.{ForwardReading}
 use Rattle.lab_forward.specs.declared.stepping.Going.TheVariants as going
-use Rattle.lab_forward.specs.inner.ForwardSteps.{Advances, AdvancesToEnd, CameSoFar, ForwardsHere, TurnsAtRecord, at_state}
+use Rattle.lab_forward.specs.inner.ForwardSteps.{ForwardsOn, ForwardsToEnd, ForwardedSoFar, ForwardsHere, TurnsAtRecord, at_state}
 use Rattle.lab_forward.proofs.Frames.{frame_before, some_frames}
 
 -- A frame leads to sound worlds.
@@ -56,7 +56,7 @@ frame_leads rules others before after world next given whole here own takes is w
 pub advances_passed : {World : Type 0} (rules : JudgeRules World) (others : Others) (shown : World → Type 0) (before after : ForwardReading) (passage : Passage)
     (own : ℕ) (old : List ℕ) → TakesFrame before.reader before.window (Err passage) own after.reader
     → filter_state after.filter ≡ filter_passage (filter_state before.filter) passage → after.window ≡ drop own before.window
-    → OfEachWorld rules shown (λ world. Advances rules others before world after shown old old)
+    → OfEachJudgeWorld rules shown (λ world. ForwardsOn rules others before world after shown old old)
 advances_passed {World = World} rules others shown before after passage own old takes passes cut = λ world sound is_shown.
     let going : ForwardState World → Result (ForwardState World) (List ℕ) = λ state. Ok state in
     let writes : WritesFrame rules others (at_state (filter_state before.filter) world) (Err passage)
@@ -79,7 +79,7 @@ pub advances_record : {World : Type 0} (rules : JudgeRules World) → JudgesEach
     → whole ≡ octets_of_first (first_frame before.reader.format before.reader.at before.window)
     → TurnsAtRecord rules others shown (filter_state before.filter) record_read whole GoesOn (filter_state after.filter) shown' old new said said'
     → after.window ≡ drop own before.window
-    → OfEachWorld rules shown (λ world. Advances rules others before world after shown' old new)
+    → OfEachJudgeWorld rules shown (λ world. ForwardsOn rules others before world after shown' old new)
 advances_record rules total others shown shown' before after record_read whole own old new said said' takes is turns cut = λ world sound is_shown.
     let on = turns.1 world sound is_shown in
     record {
@@ -98,7 +98,7 @@ pub ends_record : {World : Type 0} (rules : JudgeRules World) (others : Others) 
     → TakesFrame before.reader before.window (Ok record_read) own reader
     → whole ≡ octets_of_first (first_frame before.reader.format before.reader.at before.window)
     → TurnsAtRecord rules others shown (filter_state before.filter) record_read whole Ends filter' shown' old new said said'
-    → OfEachWorld rules shown (λ world. AdvancesToEnd rules others before world said said')
+    → OfEachJudgeWorld rules shown (λ world. ForwardsToEnd rules others before world said said')
 ends_record rules others shown shown' before reader filter' record_read whole own old new said said' takes is turns = λ world sound is_shown.
     let on = turns.1 world sound is_shown in
     record {
@@ -116,8 +116,8 @@ ends_record rules others shown shown' before reader filter' record_read whole ow
 -- A fault.
 pub ends_fault : {World : Type 0} (rules : JudgeRules World) (others : Others) (shown : World → Type 0) (before : ForwardReading) (reader : Reader)
     (fault : Fault) (said said' : List ℕ) → ComesNext before.reader before.window (Broken fault) reader
-    → OfEachWorld rules shown (λ world. said' ≡ said ++ rules.closes world (filter_state before.filter).passed (Some fault))
-    → OfEachWorld rules shown (λ world. AdvancesToEnd rules others before world said said')
+    → OfEachJudgeWorld rules shown (λ world. said' ≡ said ++ rules.closes world (filter_state before.filter).passed (Some fault))
+    → OfEachJudgeWorld rules shown (λ world. ForwardsToEnd rules others before world said said')
 ends_fault rules others shown before reader fault said said' next closes = λ world sound is_shown. record {
   last = rules.closes world (filter_state before.filter).passed (Some fault);
   grew = closes world sound is_shown;
@@ -126,7 +126,7 @@ ends_fault rules others shown before reader fault said said' next closes = λ wo
 
 -- How far the reading came by a frame.
 pub came_on : (before after : ForwardReading) (given : Result Record Passage) (own : ℕ) → TakesFrame before.reader before.window given own after.reader
-    → after.window ≡ drop own before.window → CameSoFar going.On before after
+    → after.window ≡ drop own before.window → ForwardedSoFar going.On before after
 came_on before after given own takes cut =
     let long = length-take-le own before.window takes.within in (
       take own before.window,

@@ -24,7 +24,7 @@ use Rattle.text_io.specs.declared.ending.RunFault.{RunFault}
 use Rattle.text_io.proofs.Public.{nothing-begins}
 use Rattle.lab_forward.specs.Forwarding.{ForwardState, ForwardsCapture, ForwardsOctets, ForwardsOpened}
 use Rattle.lab_forward.specs.JudgeRules.{JudgeRules, JudgesEachCell}
-use Rattle.lab_forward.specs.Reporting.{HasText, IsServedWithReport, ReportedTexts}
+use Rattle.lab_forward.specs.Reporting.{HasReportedText, IsServedWithReport, ReportedTexts}
 use Rattle.lab_forward.specs.declared.others.Others.{Others}
 use Rattle.lab_forward.specs.declared.stepping.ForwardReading.{ForwardReading}
 use Rattle.lab_forward.specs.inner.ForwardSteps.{ForwardsHere, ForwardsSomehow, at_state}
@@ -75,7 +75,7 @@ pub opened_enough : {World : Type 0} (rules : JudgeRules World) (others : Others
     → opening_of window ≡ Opened format → reading.reader.format ≡ format → reading.reader.count ≡ 0 → reading.reader.at ≡ format_start format
     → reading.window ≡ drop (format_start format) window → whole ≡ window ++ rest0
     → HasRead (ForwardsSomehow rules others reading world) reading.window rest0 rest done
-    → TakesEnough (λ octets. (text : List ℕ) × HasText (ForwardsCapture rules others (at_state (filter_state reading.filter) world)) octets text done) most_ahead whole rest
+    → TakesEnough (λ octets. (text : List ℕ) × HasReportedText (ForwardsCapture rules others (at_state (filter_state reading.filter) world)) octets text done) most_ahead whole rest
 opened_enough rules others world reading format whole window rest0 rest done is formats counts places dropped all read =
     let none : length {A = ℕ} [] ≤ most_ahead = omega arith in (
       window ++ read.0,
@@ -95,13 +95,13 @@ served_from rules others filter start world I O source source' sink sink' said s
 
 module _ {Source Sink : Type 0} (I : InputView Source) (O : OutputView Sink) (source source' : Source) (sink : Sink) (said said' : List ℕ) where
   -- A call that failed before it wrote anything.
-  pub served_nothing : (IsText : ReportedTexts) (fault : RunFault) → ((text : List ℕ) × (done : Done) × HasText IsText (I.rest source) text done)
+  pub served_nothing : (IsText : ReportedTexts) (fault : RunFault) → ((text : List ℕ) × (done : Done) × HasReportedText IsText (I.rest source) text done)
       → I.failures source' ≡ read_failures {T = Done} (Err fault) (I.failures source) → O.failures sink ≡ write_failures {T = Done} (Err fault) (O.failures sink)
       → IsServedWithReport IsText I source source' O sink sink said said' (Err fault)
   served_nothing IsText fault some reads writes = record {
     served = record {
       text = λ ki ko. tt;
-      front = λ ki ko. nothing-begins (HasText IsText (I.rest source)) (O.held sink) some;
+      front = λ ki ko. nothing-begins (HasReportedText IsText (I.rest source)) (O.held sink) some;
       left = λ ki. tt;
       whole = λ ki same. cc;
       reading = reads;
@@ -119,7 +119,7 @@ module _ {Source Sink : Type 0} (I : InputView Source) (O : OutputView Sink) (so
     served = record {
       text = λ ki ko. ([], sym (append-nil (O.held sink)), (report, is ki));
       front = λ ki ko. tt;
-      left = λ ki. all_needed (HasText IsText) (I.rest source) near (I.rest source') [] done (all ki) (report, here);
+      left = λ ki. all_needed (HasReportedText IsText) (I.rest source) near (I.rest source') [] done (all ki) (report, here);
       whole = λ ki same. ends ki (let it : done ≡ Whole = cc in it);
       reading = calm;
       writing = refl;
@@ -129,6 +129,6 @@ module _ {Source Sink : Type 0} (I : InputView Source) (O : OutputView Sink) (so
 
 -- Any file is forwarded somehow.
 pub some_text : {World : Type 0} (rules : JudgeRules World) → JudgesEachCell rules → (others : Others) (state : ForwardState World) (octets : List ℕ)
-    → rules.is_sound state.world → (text : List ℕ) × (done : Done) × HasText (ForwardsCapture rules others state) octets text done
+    → rules.is_sound state.world → (text : List ℕ) × (done : Done) × HasReportedText (ForwardsCapture rules others state) octets text done
 some_text rules total others state octets sound =
     let some = capture_some rules total others state octets sound in (some.0, some.2, (some.1, some.3))

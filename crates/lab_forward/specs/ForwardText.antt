@@ -5,7 +5,7 @@ use Rattle.captures.specs.declared.link.Link.{Link}
 use Rattle.lab_captures.specs.declared.counted.CountedCell.{CountedCell}
 use Rattle.lab_police.specs.FaultyRules.{HasFaultyRules}
 use Rattle.lab_police.specs.PoliceText.{IsSetUpBy}
-use Rattle.lab_police.specs.PolicedCards.{PolicedWorld, PolicesCell, policed_report, policed_start}
+use Rattle.lab_police.specs.PolicedCards.{PolicedWorld, PolicesOneCell, policed_report, policed_start}
 use Rattle.lab_police.specs.RulesFiles.{IsFaultOfRules, MayBeFaultOfRules}
 use Rattle.lab_police.specs.SetupPrograms.{HasPrograms}
 use Rattle.lab_scripts.specs.ScriptText.{IsScriptExplained}
@@ -30,7 +30,7 @@ onward_by None = Stays
 
 -- A cell arrives at the card, and goes on by its verdict.
 abbrev pub GoesByVerdict : PolicedWorld → CountedCell → Onward → PolicedWorld → Type 0
-GoesByVerdict before counted onward after = (verdict : Option Verdict) × PolicesCell before counted verdict after × (onward ≡ onward_by verdict)
+GoesByVerdict before counted onward after = (verdict : Option Verdict) × PolicesOneCell before counted verdict after × (onward ≡ onward_by verdict)
 
 -- The rules of `forward`.
 abbrev pub forward_rules : JudgeRules PolicedWorld

@@ -23,14 +23,14 @@ pub record JudgesEachCell {World : Type 0} (rules : JudgeRules World) : Type 0 w
       → (onward : Onward) × (after : World) × rules.steps before counted onward after
 
 -- This holds for each sound world that is shown.
-abbrev pub OfEachWorld : {World : Type 0} → JudgeRules World → (World → Type 0) → (World → Type 0) → Type 0
-OfEachWorld {World = World} rules shown IsSo = (world : World) → rules.is_sound world → shown world → IsSo world
+abbrev pub OfEachJudgeWorld : {World : Type 0} → JudgeRules World → (World → Type 0) → (World → Type 0) → Type 0
+OfEachJudgeWorld {World = World} rules shown IsSo = (world : World) → rules.is_sound world → shown world → IsSo world
 
 -- From each world that was shown, the cell may go on so, and lead to a world that is shown afterwards.
 abbrev pub JudgesCell : {World : Type 0} → JudgeRules World → (World → Type 0) → CountedCell → Onward → (World → Type 0) → Type 0
 JudgesCell {World = World} rules shown counted onward shown' =
-    OfEachWorld rules shown (λ world. (after : World) × shown' after × rules.steps world counted onward after)
+    OfEachJudgeWorld rules shown (λ world. (after : World) × shown' after × rules.steps world counted onward after)
 
 -- The report grew by the one at the end of the capture, or at its fault, in each world that is shown.
 abbrev pub ClosesReport : {World : Type 0} → JudgeRules World → (World → Type 0) → PassedOver → Option Fault → List ℕ → List ℕ → Type 0
-ClosesReport rules shown passed ending old new = OfEachWorld rules shown (λ world. new ≡ old ++ rules.closes world passed ending)
+ClosesReport rules shown passed ending old new = OfEachJudgeWorld rules shown (λ world. new ≡ old ++ rules.closes world passed ending)

@@ -12,13 +12,13 @@ abbrev pub ReportedTexts : Type 1
 ReportedTexts = List ℕ → List ℕ → List ℕ → Done → Type 0
 
 -- The text of octets, with some report.
-abbrev pub HasText : ReportedTexts → List ℕ → List ℕ → Done → Type 0
-HasText IsText octets text done = (report : List ℕ) × IsText octets text report done
+abbrev pub HasReportedText : ReportedTexts → List ℕ → List ℕ → Done → Type 0
+HasReportedText IsText octets text done = (report : List ℕ) × IsText octets text report done
 
 -- If the result is Ok, the output grew by a text of the whole input, and the report by what is reported of it.
-abbrev pub Reports : ReportedTexts → {Source : Type 0} → InputView Source → Source → {Sink : Type 0} → OutputView Sink → Sink → Sink → List ℕ → List ℕ
+abbrev pub ReportsText : ReportedTexts → {Source : Type 0} → InputView Source → Source → {Sink : Type 0} → OutputView Sink → Sink → Sink → List ℕ → List ℕ
     → Result Done RunFault → Type 0
-Reports IsText I source O sink sink' said said' result = I.is_known → O.is_known → IfOk result (λ done. (report : List ℕ) × (said' ≡ said ++ report)
+ReportsText IsText I source O sink sink' said said' result = I.is_known → O.is_known → IfOk result (λ done. (report : List ℕ) × (said' ≡ said ++ report)
     × Adds (λ text. IsText (I.rest source) text report done) (O.held sink) (O.held sink'))
 
 -- The call answered the input by its text, and reported of it, or failed after a prefix of the text. `said` is the report before the call, and
@@ -27,5 +27,5 @@ pub record IsServedWithReport (IsText : ReportedTexts)
     {Source : Type 0} (I : InputView Source) (source source' : Source)
     {Sink : Type 0} (O : OutputView Sink) (sink sink' : Sink)
     (said said' : List ℕ) (result : Result Done RunFault) : Type 0 where
-  pub served : IsServed (HasText IsText) I source source' O sink sink' result
-  pub reported : Reports IsText I source O sink sink' said said' result
+  pub served : IsServed (HasReportedText IsText) I source source' O sink sink' result
+  pub reported : ReportsText IsText I source O sink sink' said said' result

@@ -5,7 +5,7 @@ ghost use Rattle.text_io.specs.Serving.{IsServed};
 ghost use Rattle.lab_police.specs.RulesFiles.{octets_of_texts};
 ghost use Rattle.lab_police.specs.SetupTick.{ticks_differ};
 ghost use Rattle.lab_forward.specs.AgreedForward.{IsForwardedAsAgreed, MayBeForwardedAsAgreed};
-ghost use Rattle.lab_forward.specs.Reporting.{HasText, Reports};
+ghost use Rattle.lab_forward.specs.Reporting.{HasReportedText, ReportsText};
 
 use crate::forward::forward_setup;
 use crate::others::Others;
@@ -45,10 +45,10 @@ pub fn forward_as_agreed<I: Input, O: Output>(
     output: &mut O,
     report: &mut Vec<u8>,
 ) -> Result<Done, RunFault>
-    ensures served { IsServed (HasText (MayBeForwardedAsAgreed others (option_map (λ tick. tick.nanoseconds) named)
+    ensures served { IsServed (HasReportedText (MayBeForwardedAsAgreed others (option_map (λ tick. tick.nanoseconds) named)
         (option_map (λ tick. tick.nanoseconds) asked) link setup.now (octets_of_texts texts.now)))
         I.Input input.old input.new O.Output output.old output.new result }
-    ensures reported { Reports (IsForwardedAsAgreed others (option_map (λ tick. tick.nanoseconds) named)
+    ensures reported { ReportsText (IsForwardedAsAgreed others (option_map (λ tick. tick.nanoseconds) named)
         (option_map (λ tick. tick.nanoseconds) asked) link setup.now (octets_of_texts texts.now))
         I.Input input.old O.Output output.old output.new report.old.items report.new.items result }
 {

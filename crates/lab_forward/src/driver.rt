@@ -6,7 +6,7 @@ ghost use Rattle.lab_captures.specs.inner.Progress.{HasRead};
 ghost use Rattle.text_io.specs.Devices.{Adds, IsPart};
 ghost use Rattle.text_io.specs.Failures.{read_failures, write_failures};
 ghost use Rattle.text_io.specs.Printing.{IsFront};
-ghost use Rattle.lab_forward.specs.JudgeRules.{OfEachWorld};
+ghost use Rattle.lab_forward.specs.JudgeRules.{OfEachJudgeWorld};
 ghost use Rattle.lab_forward.specs.inner.ForwardSteps.{ForwardsHere, ForwardsSomehow};
 
 use crate::judge::{CellJudge, judges_each_cell};
@@ -16,7 +16,7 @@ use lab_captures::done_at;
 use std::alloc::Global;
 use text_io::{Done, Input, Output, RunFault, give_if_enough, give_last, refill};
 
-/// Reports the end of the input, where the octets that wait are no whole frame, and writes the last records.
+/// ReportsText the end of the input, where the octets that wait are no whole frame, and writes the last records.
 fn finish<O: Output, J: CellJudge>(
     others: Others,
     output: &mut O,
@@ -26,7 +26,7 @@ fn finish<O: Output, J: CellJudge>(
     report: &mut Vec<u8>,
 ) -> Result<Done, RunFault>
     requires { first_frame reading.now.reader.format reading.now.reader.at reading.now.window ≡ None }
-    ensures said { IfOk result (λ done. OfEachWorld J.rules (J.shows judge.now) (λ world. (said : List ℕ)
+    ensures said { IfOk result (λ done. OfEachJudgeWorld J.rules (J.shows judge.now) (λ world. (said : List ℕ)
         × (report.new.items ≡ report.old.items ++ said)
         × ForwardsHere J.rules others reading.now world said reading.now.window [] done)) }
     ensures given { O.is_known → OnOk result (O.held output.new ≡ O.held output.old ++ written.old.items) }
@@ -52,14 +52,14 @@ pub(crate) fn forward_on<I: Input, O: Output, J: CellJudge>(
     report: &mut Vec<u8>,
 ) -> Result<Done, RunFault>
     requires { length reading.window ≤ 524288 }
-    ensures text { I.is_known → O.is_known → IfOk result (λ done. OfEachWorld J.rules (J.shows judge.old) (λ first. (said : List ℕ)
+    ensures text { I.is_known → O.is_known → IfOk result (λ done. OfEachJudgeWorld J.rules (J.shows judge.old) (λ first. (said : List ℕ)
         × (report.new.items ≡ report.old.items ++ said)
         × Adds (λ text. ForwardsHere J.rules others reading first said (reading.window ++ I.rest input.old) text done)
         (O.held output.old) (O.held output.new))) }
-    ensures front { I.is_known → O.is_known → OnErr result (OfEachWorld J.rules (J.shows judge.old) (λ first.
+    ensures front { I.is_known → O.is_known → OnErr result (OfEachJudgeWorld J.rules (J.shows judge.old) (λ first.
         Adds (IsFront (ForwardsSomehow J.rules others reading first (reading.window ++ I.rest input.old)))
         (O.held output.old) (O.held output.new))) }
-    ensures left { I.is_known → IfOk result (λ done. OfEachWorld J.rules (J.shows judge.old) (λ first.
+    ensures left { I.is_known → IfOk result (λ done. OfEachJudgeWorld J.rules (J.shows judge.old) (λ first.
         HasRead (ForwardsSomehow J.rules others reading first) reading.window (I.rest input.old) (I.rest input.new) done)) }
     ensures whole { I.is_known → result ≡ Ok Done.Whole → I.rest input.new ≡ [] }
     ensures read { I.failures input.new ≡ read_failures result (I.failures input.old) }

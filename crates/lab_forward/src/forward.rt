@@ -4,7 +4,7 @@ ghost use Rattle.std.specs.Prelude.{◌≡◌, ◌++◌, IfOk, OnOk, OnErr, Err}
 ghost use Rattle.text_io.specs.Serving.{IsServed};
 ghost use Rattle.lab_police.specs.RulesFiles.{octets_of_texts};
 ghost use Rattle.lab_forward.specs.ForwardText.{IsForwarded, IsSetupForwarded, MayBeSetupForwarded};
-ghost use Rattle.lab_forward.specs.Reporting.{HasText, IsServedWithReport, Reports};
+ghost use Rattle.lab_forward.specs.Reporting.{HasReportedText, IsServedWithReport, ReportsText};
 
 use crate::forwarding::forward_cells;
 use crate::others::Others;
@@ -85,9 +85,9 @@ pub fn forward_setup<I: Input, O: Output>(
     output: &mut O,
     report: &mut Vec<u8>,
 ) -> Result<Done, RunFault>
-    ensures served { IsServed (HasText (MayBeSetupForwarded others tick.nanoseconds link setup.now (octets_of_texts texts.now)))
+    ensures served { IsServed (HasReportedText (MayBeSetupForwarded others tick.nanoseconds link setup.now (octets_of_texts texts.now)))
         I.Input input.old input.new O.Output output.old output.new result }
-    ensures reported { Reports (IsSetupForwarded others tick.nanoseconds link setup.now (octets_of_texts texts.now))
+    ensures reported { ReportsText (IsSetupForwarded others tick.nanoseconds link setup.now (octets_of_texts texts.now))
         I.Input input.old O.Output output.old output.new report.old.items report.new.items result }
 {
     match open_setup(alloc, setup, texts, tick) {

@@ -1,7 +1,7 @@
 //! The records of a whole capture that go on.
 
 ghost use Rattle.lab_forward.specs.Forwarding.{ForwardsCapture, forward_start};
-ghost use Rattle.lab_forward.specs.JudgeRules.{OfEachWorld};
+ghost use Rattle.lab_forward.specs.JudgeRules.{OfEachJudgeWorld};
 ghost use Rattle.lab_forward.specs.Reporting.{IsServedWithReport};
 
 use crate::driver::forward_on;
@@ -33,7 +33,7 @@ pub fn forward_cells<I: Input, O: Output, J: CellJudge>(
     judge: &mut J,
     report: &mut Vec<u8>,
 ) -> Result<Done, RunFault>
-    ensures { OfEachWorld J.rules (J.shows judge.old) (λ world.
+    ensures { OfEachJudgeWorld J.rules (J.shows judge.old) (λ world.
         IsServedWithReport (ForwardsCapture J.rules others (forward_start tick.nanoseconds link world))
         I.Input input.old input.new O.Output output.old output.new report.old.items report.new.items result) }
 {

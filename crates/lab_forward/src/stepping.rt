@@ -3,8 +3,8 @@
 ghost use Rattle.std.specs.Prelude.{◌≡◌, ◌≢◌, ◌≤◌, List, ℕ, Ok, IfOk, length};
 ghost use Rattle.captures.specs.RecordContent.{IsContent};
 ghost use Rattle.lab_captures.specs.CellFilter.{filter_state};
-ghost use Rattle.lab_forward.specs.JudgeRules.{OfEachWorld};
-ghost use Rattle.lab_forward.specs.inner.ForwardSteps.{Advances, AdvancesToEnd, CameSoFar, TurnsAtRecord};
+ghost use Rattle.lab_forward.specs.JudgeRules.{OfEachJudgeWorld};
+ghost use Rattle.lab_forward.specs.inner.ForwardSteps.{ForwardsOn, ForwardsToEnd, ForwardedSoFar, TurnsAtRecord};
 
 use crate::judge::{CellJudge, judges_each_cell};
 use crate::others::Others;
@@ -80,13 +80,13 @@ impl ForwardReading {
         written: &mut Vec<u8>,
         report: &mut Vec<u8>,
     ) -> Result<Going, AllocError>
-        ensures goes_on { IfOk result (λ going. going ≢ Going.Ended → OfEachWorld J.rules (J.shows judge.old) (λ world.
-            Advances J.rules others self.old world self.new (J.shows judge.new) written.old.items written.new.items)) }
+        ensures goes_on { IfOk result (λ going. going ≢ Going.Ended → OfEachJudgeWorld J.rules (J.shows judge.old) (λ world.
+            ForwardsOn J.rules others self.old world self.new (J.shows judge.new) written.old.items written.new.items)) }
         ensures silent { IfOk result (λ going. going ≢ Going.Ended → report.new.items ≡ report.old.items) }
-        ensures ends { IfOk result (λ going. going ≡ Going.Ended → OfEachWorld J.rules (J.shows judge.old) (λ world.
-            AdvancesToEnd J.rules others self.old world report.old.items report.new.items)) }
+        ensures ends { IfOk result (λ going. going ≡ Going.Ended → OfEachJudgeWorld J.rules (J.shows judge.old) (λ world.
+            ForwardsToEnd J.rules others self.old world report.old.items report.new.items)) }
         ensures same { IfOk result (λ going. going ≡ Going.Ended → written.new.items ≡ written.old.items) }
-        ensures came { IfOk result (λ going. CameSoFar going self.old self.new) }
+        ensures came { IfOk result (λ going. ForwardedSoFar going self.old self.new) }
     {
         judges_each_cell(judge);
         let octets = self.window.octets();

@@ -11,7 +11,7 @@ use Rattle.upc_run.specs.RunText.{IsLed}
 use Rattle.lab_police.specs.ConnectionCounts.{counts_heading, counts_lines}
 use Rattle.lab_police.specs.NotJudgedCells.{not_judged_after, not_judged_lines}
 use Rattle.lab_police.specs.RunComments.{run_comments}
-use Rattle.lab_police.specs.PolicedCards.{PolicedWorld, PolicesCell, ShowsPoliced, policed_report, verdict_given}
+use Rattle.lab_police.specs.PolicedCards.{PolicedWorld, PolicesOneCell, ShowsPoliced, policed_report, verdict_given}
 use Rattle.lab_police.specs.declared.not_judged.NotJudged.{NotJudged}
 use Rattle.lab_police.specs.declared.policed_card.PolicedCard.{PolicedCard}
 use Rattle.lab_police.specs.inner.CardArrival.{ArrivesWithRoom}
@@ -21,7 +21,7 @@ pub polices_cell : (before : PolicedCard) (core : CoreView) (given : Answer) (co
     → ArrivesWithRoom before.core counted.cell counted.moment (Some given) core
     → not_judged ≡ not_judged_after before.not_judged counted.number given → verdict ≡ verdict_given given
     → (world : PolicedWorld) → IsLed world.card → ShowsPoliced before world
-    → (after : PolicedWorld) × ShowsPoliced (record before { core = core; not_judged = not_judged }) after × PolicesCell world counted verdict after
+    → (after : PolicedWorld) × ShowsPoliced (record before { core = core; not_judged = not_judged }) after × PolicesOneCell world counted verdict after
 polices_cell before core given counted not_judged verdict arrives counts gives world led shown =
     let on = arrives world.card led shown.agrees in
     let same : given ≡ on.0 = let e : Some given ≡ Some on.0 = on.1 in cc in
@@ -42,7 +42,7 @@ polices_cell before core given counted not_judged verdict arrives counts gives w
 pub polices_no_cell : (before after : PolicedCard) (core : CoreView) (counted : CountedCell) (verdict : Option Verdict)
     → ArrivesWithRoom before.core counted.cell counted.moment None core
     → (world : PolicedWorld) → IsLed world.card → ShowsPoliced before world
-    → (next : PolicedWorld) × ShowsPoliced after next × PolicesCell world counted verdict next
+    → (next : PolicedWorld) × ShowsPoliced after next × PolicesOneCell world counted verdict next
 polices_no_cell before after core counted verdict arrives world led shown =
     let on = arrives world.card led shown.agrees in let no = on.1 in cc
 

@@ -39,7 +39,7 @@ verdict_given (Judged line number moment value program verdict leaving) = Some v
 verdict_given _ = None
 
 -- A cell arrives at the card as in `police`, with this verdict.
-pub record PolicesCell (before : PolicedWorld) (counted : CountedCell) (verdict : Option Verdict) (after : PolicedWorld) : Type 0 where
+pub record PolicesOneCell (before : PolicedWorld) (counted : CountedCell) (verdict : Option Verdict) (after : PolicedWorld) : Type 0 where
   pub given : Answer
   pub taken : TakesCellWithRoom before.card counted.cell counted.moment given after.card
   pub verdict_is : verdict ≡ verdict_given given
@@ -66,9 +66,9 @@ pub record IsOpenedBy (tick : ℕ) (script : List ℕ) (policed : PolicedCard) :
   pub shown : ShowsPoliced policed (policed_start tick card)
 
 -- What a script leads to.
-abbrev pub OpensCard : ℕ → List ℕ → OpenedCard → Type 0
-OpensCard tick script (Faulty text) = IsScriptExplained script text.items Ended
-OpensCard tick script (Ready policed) = IsOpenedBy tick script policed
+abbrev pub OpensPolicedCard : ℕ → List ℕ → OpenedCard → Type 0
+OpensPolicedCard tick script (Faulty text) = IsScriptExplained script text.items Ended
+OpensPolicedCard tick script (Ready policed) = IsOpenedBy tick script policed
 
 -- What a script with files of rules leads to.
 abbrev pub OpensSetup : ℕ → List ℕ → List (List ℕ) → OpenedCard → Type 0

@@ -1,11 +1,13 @@
 -- The tick that a setup script may name, `tick TIME` on its first line with words, and the tick of a run.
 use Rattle.std.specs.Prelude.{◌+◌, ◌==◌, if◌then◌else◌, ℕ, List, [], ◌∷◌, ◌++◌, codes, decimal, drop, length, replicate, take, Option, Some, None, option_and_then, option_map, Result, Ok, Err}
 use Rattle.std.specs.Str.{bytes_eq}
+use Rattle.captures.specs.declared.clock.Tick.{Tick}
 use Rattle.lab_rules.specs.AsmText.{whole_line}
 use Rattle.lab_sizes.specs.SizeWords.{duration_of}
 use Rattle.text_io.specs.Lines.{Line, lines_of, line_content}
 use Rattle.text_io.specs.Words.{is_silent, words_of}
 use Rattle.upc_words.specs.FaultLines.{line}
+use Rattle.lab_police.specs.declared.setup_tick.TicksDiffer.{TicksDiffer}
 
 -- A time that isn't 0, in nanoseconds.
 abbrev pub some_time : ℕ → Option ℕ
@@ -58,6 +60,11 @@ agreed_tick None None = Ok 100
 agreed_tick (Some named) None = Ok named
 agreed_tick None (Some asked) = Ok asked
 agreed_tick (Some named) (Some asked) = if named == asked then Ok named else Err (named, asked)
+
+-- The nanoseconds of the tick, or of both ticks that differ.
+abbrev pub agreed_nanoseconds : Result Tick TicksDiffer → Result ℕ (ℕ × ℕ)
+agreed_nanoseconds (Ok tick) = Ok tick.nanoseconds
+agreed_nanoseconds (Err ticks) = Err (ticks.named, ticks.asked)
 
 -- The answer if the script names one tick, and another was asked for, both in nanoseconds.
 abbrev pub ticks_differ : ℕ → ℕ → List ℕ

@@ -3,7 +3,7 @@
 ghost use Rattle.std.specs.Prelude.{◌≡◌, ◌++◌, List, ℕ, IfOk, OnOk};
 ghost use Rattle.card_core.specs.Sections.{answer_to};
 ghost use Rattle.upc_run.specs.RunText.{IsLed};
-ghost use Rattle.lab_police.specs.PolicedCards.{OpensCard, OpensSetup, PolicedWorld, PolicesCell, ShowsPoliced, policed_report, verdict_given};
+ghost use Rattle.lab_police.specs.PolicedCards.{OpensPolicedCard, OpensSetup, PolicedWorld, PolicesOneCell, ShowsPoliced, policed_report, verdict_given};
 ghost use Rattle.lab_police.specs.RulesFiles.{octets_of_texts};
 
 use crate::connection_counts::add_counts;
@@ -56,7 +56,7 @@ impl PolicedCard {
     /// An allocation failed.
     pub fn judge(&mut self, counted: &CountedCell) -> Result<Option<Verdict>, AllocError>
         ensures { IfOk result (λ verdict. (before : PolicedWorld) → IsLed before.card → ShowsPoliced self.old before
-            → (after : PolicedWorld) × ShowsPoliced self.new after × PolicesCell before counted.now verdict after) }
+            → (after : PolicedWorld) × ShowsPoliced self.new after × PolicesOneCell before counted.now verdict after) }
     {
         let Some(decision) = arrive_with_room(&mut self.core, &counted.cell, counted.moment)? else {
             return Ok(None);
@@ -90,7 +90,7 @@ impl PolicedCard {
 ///
 /// An allocation failed.
 pub fn open_card(alloc: Global, script: &[u8], tick: Tick) -> Result<OpenedCard, AllocError>
-    ensures { IfOk result (OpensCard tick.nanoseconds script.now) }
+    ensures { IfOk result (OpensPolicedCard tick.nanoseconds script.now) }
 {
     match set_up(alloc, script)? {
         SetUp::Faulty(text) => Ok(OpenedCard::Faulty(text)),

@@ -3,8 +3,8 @@
 ghost use Rattle.std.specs.Prelude.{◌≡◌, ◌≤◌, ◌+◌, ◌++◌, length, OnOk, IfSome, option_map};
 ghost use Rattle.text_io.specs.Lines.{lines_of};
 ghost use Rattle.text_io.specs.Words.{is_silent, words_of};
-ghost use Rattle.lab_police.specs.SetupTick.{agreed_tick, line_tick, setup_tick, tick_line_in, tick_time, ticks_differ, without_tick};
-ghost use Rattle.lab_police.specs.inner.Ticks.{agreed_nanoseconds, place_and_size};
+ghost use Rattle.lab_police.specs.SetupTick.{agreed_nanoseconds, agreed_tick, line_tick, setup_tick, tick_line_in, tick_time, ticks_differ, without_tick};
+ghost use Rattle.lab_police.specs.inner.Ticks.{place_and_size};
 
 use crate::script_lines::next_line;
 use captures::Tick;

@@ -77,9 +77,9 @@ rule_sentence lines kind.UnknownName content spot octets = unknown_word_sentence
 rule_sentence lines kind.NameTaken content spot octets = taken_sentence octets (part_of octets) (giving_line octets 1 lines)
 
 -- The column of a token, if there is one.
-abbrev pub word_column : Option RuleWord → Option ℕ
-word_column None = None
-word_column (Some word) = Some word.column
+abbrev pub rule_word_column : Option RuleWord → Option ℕ
+rule_word_column None = None
+rule_word_column (Some word) = Some word.column
 
 -- The octets of a token, if there is one.
 abbrev pub blamed_octets : List ℕ → Option RuleWord → List ℕ
@@ -89,7 +89,7 @@ blamed_octets text (Some word) = rule_word_octets text word
 -- The explanation of a fault on a line with this content and these tokens.
 abbrev pub placed_explanation : List (List ℕ) → RuleFault → List ℕ → List RuleWord → List ℕ
 placed_explanation lines fault content words =
-    place_words fault.line (word_column (word_at fault.column words))
+    place_words fault.line (rule_word_column (word_at fault.column words))
     ++ line
     (rule_sentence lines fault.kind content (spot_from content fault.column first_spot words) (blamed_octets content (word_at fault.column words)))
 

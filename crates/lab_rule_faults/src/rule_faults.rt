@@ -4,7 +4,7 @@ ghost use Rattle.std.specs.Prelude.{◌≡◌, ◌++◌, [], codes, OnOk};
 ghost use Rattle.lab_scripts.specs.Places.{quoted};
 ghost use Rattle.bpf_asm.specs.SourceLines.{source_lines};
 ghost use Rattle.lab_rule_faults.specs.WordsFound.{words_found};
-ghost use Rattle.lab_rule_faults.specs.RuleReasons.{rule_misfit_sentence, word_column, given_sentence, misfit_sentence, no_rule_number_sentence, blamed_octets, outside_sentence, placed_explanation, rule_explanation, rule_sentence, taken_sentence, too_large_sentence, too_long_sentence, unbalanced_sentence};
+ghost use Rattle.lab_rule_faults.specs.RuleReasons.{rule_misfit_sentence, rule_word_column, given_sentence, misfit_sentence, no_rule_number_sentence, blamed_octets, outside_sentence, placed_explanation, rule_explanation, rule_sentence, taken_sentence, too_large_sentence, too_long_sentence, unbalanced_sentence};
 
 use crate::meant_words::add_unknown;
 use crate::parts::{Part, part_of};
@@ -191,8 +191,8 @@ fn add_sentence(
 }
 
 /// Returns the column of a token, if there is one.
-fn word_column(word: Option<RuleWord>) -> Option<usize>
-    ensures { result ≡ word_column word }
+fn rule_word_column(word: Option<RuleWord>) -> Option<usize>
+    ensures { result ≡ rule_word_column word }
 {
     match word {
         Some(word) => Some(word.column),
@@ -224,7 +224,7 @@ fn add_placed(
 {
     let words = words_found(alloc, content)?;
     let blamed = word_at(fault.column, &words);
-    add_place(answers, fault.line, word_column(blamed))?;
+    add_place(answers, fault.line, rule_word_column(blamed))?;
     let spot = spot_before(content, fault.column, &words);
     let octets = blamed_octets(content, blamed);
     add_sentence(

@@ -8,7 +8,7 @@ use Rattle.text_io.specs.declared.ending.Done.{Done}
 use Rattle.text_io.specs.declared.ending.RunFault.{RunFault}
 use Rattle.command_line.specs.ExitStatus.{status_of}
 use Rattle.command_line.specs.Messages.{WritesMessage}
-use Rattle.lab_forward.specs.Reporting.{HasText, ReportedTexts}
+use Rattle.lab_forward.specs.Reporting.{HasReportedText, ReportedTexts}
 
 -- After a run the output grew by a text of the whole input, and what is reported with it was written to the error output. After a failed run
 -- only the message of its fault was.
@@ -23,5 +23,5 @@ pub record CarriesForward {Source Sink Errors : Type 0} (message : RunFault → 
     (input input' : Source) (O : OutputView Sink) (output output' : Sink) (E : OutputView Errors) (errors errors' : Errors) (status : ℕ) : Type 0 where
   pub ended : Result Done RunFault
   pub status_is : status ≡ status_of ended
-  pub served : IsServed (HasText MayBeText) I input input' O output output' ended
+  pub served : IsServed (HasReportedText MayBeText) I input input' O output output' ended
   pub reports : ReportsRun message IsText I input O output output' E errors errors' ended

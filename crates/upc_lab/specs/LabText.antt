@@ -6,7 +6,7 @@ use Rattle.lab_differ.specs.UnusedText.{IsUnusedAnswer}
 use Rattle.lab_fit.specs.FitText.{IsFitText}
 use Rattle.lab_faults.specs.Explained.{IsExplainText}
 use Rattle.lab_forward.specs.AgreedForward.{MayBeForwardedAsAgreed}
-use Rattle.lab_forward.specs.Reporting.{HasText}
+use Rattle.lab_forward.specs.Reporting.{HasReportedText}
 use Rattle.lab_forward.specs.declared.others.Others.{Others}
 use Rattle.lab_forward.specs.declared.others.Others.TheVariants.{Pass, Drop}
 use Rattle.lab_programs.specs.ListedProgram.{IsListText}
@@ -44,6 +44,6 @@ IsAskedText setup tick rules old (Plain subcommand) = IsLabText subcommand
 IsAskedText setup tick rules old (Cells options) = IsCellsText options.tick.nanoseconds options.link
 IsAskedText setup tick rules old (Police options) = MayBePolicedAsAgreed options.lines tick (option_map (λ asked. asked.nanoseconds) options.tick) options.link setup rules
 IsAskedText setup tick rules old (Fit options) = IsFitText options.increment options.tick.nanoseconds options.link options.side
-IsAskedText setup tick rules old (Forward options) = HasText (MayBeForwardedAsAgreed (others_asked options.others) tick
+IsAskedText setup tick rules old (Forward options) = HasReportedText (MayBeForwardedAsAgreed (others_asked options.others) tick
     (option_map (λ asked. asked.nanoseconds) options.tick) options.link setup rules)
 IsAskedText setup tick rules old (Differ options) = IsDifferAnswer options.all old

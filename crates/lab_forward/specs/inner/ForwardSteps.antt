@@ -9,7 +9,7 @@ use Rattle.text_io.specs.declared.ending.Done.TheVariants.{Ended}
 use Rattle.text_io.specs.declared.machine.Turn.{Turn}
 use Rattle.text_io.specs.declared.machine.Turn.TheVariants.{GoesOn, Ends}
 use Rattle.lab_forward.specs.Forwarding.{ForwardState, ForwardsOctets, WritesFrame}
-use Rattle.lab_forward.specs.JudgeRules.{JudgeRules, OfEachWorld}
+use Rattle.lab_forward.specs.JudgeRules.{JudgeRules, OfEachJudgeWorld}
 use Rattle.lab_forward.specs.declared.others.Others.{Others}
 use Rattle.lab_forward.specs.declared.stepping.ForwardReading.{ForwardReading}
 use Rattle.lab_forward.specs.declared.stepping.Going.{Going}
@@ -32,15 +32,15 @@ ForwardsSomehow rules others reading world octets text done = (report : List ℕ
 abbrev pub TurnsAtRecord : {World : Type 0} → JudgeRules World → Others → (World → Type 0) → FilterState → Record → List ℕ → Turn → FilterState → (World → Type 0)
     → List ℕ → List ℕ → List ℕ → List ℕ → Type 0
 TurnsAtRecord {World = World} rules others shown filter record_read octets GoesOn filter' shown' old new said said' =
-    (said' ≡ said) × OfEachWorld rules shown (λ world. (here : List ℕ) × (after : World) × (new ≡ old ++ here) × shown' after
+    (said' ≡ said) × OfEachJudgeWorld rules shown (λ world. (here : List ℕ) × (after : World) × (new ≡ old ++ here) × shown' after
     × WritesFrame rules others (at_state filter world) (Ok record_read) octets here (Ok (at_state filter' after)))
 TurnsAtRecord rules others shown filter record_read octets Ends filter' shown' old new said said' =
-    (new ≡ old) × OfEachWorld rules shown (λ world. (last : List ℕ) × (said' ≡ said ++ last)
+    (new ≡ old) × OfEachJudgeWorld rules shown (λ world. (last : List ℕ) × (said' ≡ said ++ last)
     × WritesFrame rules others (at_state filter world) (Ok record_read) octets [] (Err last))
 
 -- From this world, what was written grew by a text that leads to a sound world that is shown. Any text for the octets that wait after it
 -- completes a text for those that waited before it.
-pub record Advances {World : Type 0} (rules : JudgeRules World) (others : Others) (before : ForwardReading) (world : World) (after : ForwardReading)
+pub record ForwardsOn {World : Type 0} (rules : JudgeRules World) (others : Others) (before : ForwardReading) (world : World) (after : ForwardReading)
     (shown : World → Type 0) (old new : List ℕ) : Type 0 where
   pub here : List ℕ
   pub grew : new ≡ old ++ here
@@ -51,22 +51,22 @@ pub record Advances {World : Type 0} (rules : JudgeRules World) (others : Others
       → ForwardsHere rules others before world report (before.window ++ more) (here ++ text) done
 
 -- From this world, nothing more is written, whatever follows, and the run ends. The report grew by what is reported then.
-pub record AdvancesToEnd {World : Type 0} (rules : JudgeRules World) (others : Others) (before : ForwardReading) (world : World) (said said' : List ℕ) : Type 0 where
+pub record ForwardsToEnd {World : Type 0} (rules : JudgeRules World) (others : Others) (before : ForwardReading) (world : World) (said said' : List ℕ) : Type 0 where
   pub last : List ℕ
   pub grew : said' ≡ said ++ last
   pub ends : (more : List ℕ) → ForwardsHere rules others before world last (before.window ++ more) [] Ended
 
 -- How far the reading came: by one frame, or to where more octets are wanted.
-abbrev pub CameSoFar : Going → ForwardReading → ForwardReading → Type 0
-CameSoFar going.On before after =
+abbrev pub ForwardedSoFar : Going → ForwardReading → ForwardReading → Type 0
+ForwardedSoFar going.On before after =
     (own : List ℕ) × (before.window ≡ own ++ after.window) × (0 < length own) × (after.reader.at ≡ before.reader.at + length own) × (after.reader.at < 2 ^ 64)
-CameSoFar going.Wants before after =
+ForwardedSoFar going.Wants before after =
     (after.window ≡ before.window) × (after.reader.at ≡ before.reader.at)
     × (first_frame after.reader.format after.reader.at after.window ≡ None) × (length after.window < 131072)
-CameSoFar going.Ended before after = Unit {0}
+ForwardedSoFar going.Ended before after = Unit {0}
 
 -- The run reached a sound world that is shown, and so far from the world in which it began.
-pub record Reaches {World : Type 0} (rules : JudgeRules World) (others : Others) (shown : World → Type 0) (reading0 reading : ForwardReading)
+pub record ReachesForward {World : Type 0} (rules : JudgeRules World) (others : Others) (shown : World → Type 0) (reading0 reading : ForwardReading)
     (first : World) (Known Held : Type 0) (rest0 rest before now waiting : List ℕ) : Type 0 where
   pub present : World
   pub sound : rules.is_sound present
@@ -75,7 +75,7 @@ pub record Reaches {World : Type 0} (rules : JudgeRules World) (others : Others)
       Known Held reading0.window rest0 reading.window rest before now waiting
 
 -- So far the run came from each sound world that was shown at first.
-abbrev pub CameTo : {World : Type 0} → JudgeRules World → Others → (World → Type 0) → (World → Type 0) → ForwardReading → ForwardReading
+abbrev pub ForwardedTo : {World : Type 0} → JudgeRules World → Others → (World → Type 0) → (World → Type 0) → ForwardReading → ForwardReading
     → Type 0 → Type 0 → List ℕ → List ℕ → List ℕ → List ℕ → List ℕ → Type 0
-CameTo rules others shown0 shown reading0 reading Known Held rest0 rest before now waiting = OfEachWorld rules shown0
-    (λ first. Reaches rules others shown reading0 reading first Known Held rest0 rest before now waiting)
+ForwardedTo rules others shown0 shown reading0 reading Known Held rest0 rest before now waiting = OfEachJudgeWorld rules shown0
+    (λ first. ReachesForward rules others shown reading0 reading first Known Held rest0 rest before now waiting)

@@ -7,7 +7,7 @@ use Rattle.lab_police.specs.RulesFiles.{octets_of_texts}
 use Rattle.lab_police.specs.SetupTick.{agreed_tick, ticks_differ}
 use Rattle.lab_forward.specs.AgreedForward.{ForwardsAsAgreed, IsForwardedAsAgreed, MayBeForwardedAsAgreed}
 use Rattle.lab_forward.specs.ForwardText.{IsSetupForwarded, MayBeSetupForwarded}
-use Rattle.lab_forward.specs.Reporting.{HasText, ReportedTexts, Reports}
+use Rattle.lab_forward.specs.Reporting.{HasReportedText, ReportedTexts, ReportsText}
 use Rattle.lab_forward.proofs.AgreedTexts.{some_forwarded_as_agreed}
 use Rattle.lab_forward.proofs.ForwardTexts.{faults_reported, faults_served}
 use Rattle.lab_forward.proofs.agreed.forward_as_agreed.Goals as goal
@@ -18,13 +18,13 @@ nanoseconds_of tick = option_map (λ (tick : Tick). tick.nanoseconds) tick
 pub returns-in-Ok-clause-served : goal.returns-in-Ok-clause-served
 returns-in-Ok-clause-served g c =
     subst (λ (agreed : Result ℕ (ℕ × ℕ)). IsServed
-    (HasText (ForwardsAsAgreed (λ tick. MayBeSetupForwarded c.args.others tick c.args.link c.args.setup.now (octets_of_texts c.args.texts.now)) agreed))
+    (HasReportedText (ForwardsAsAgreed (λ tick. MayBeSetupForwarded c.args.others tick c.args.link c.args.setup.now (octets_of_texts c.args.texts.now)) agreed))
     g.I.Input c.args.input.now c.forward_setup.new.input g.O.Output c.args.output.now c.forward_setup.new.output c.forward_setup.result)
     c.in-Ok.ensures c.forward_setup.ensures.served
 
 pub returns-in-Ok-clause-reported : goal.returns-in-Ok-clause-reported
 returns-in-Ok-clause-reported g c =
-    subst (λ (agreed : Result ℕ (ℕ × ℕ)). Reports
+    subst (λ (agreed : Result ℕ (ℕ × ℕ)). ReportsText
     (ForwardsAsAgreed (λ tick. IsSetupForwarded c.args.others tick c.args.link c.args.setup.now (octets_of_texts c.args.texts.now)) agreed)
     g.I.Input c.args.input.now g.O.Output c.args.output.now c.forward_setup.new.output c.args.report.now.items c.forward_setup.new.report.items c.forward_setup.result)
     c.in-Ok.ensures c.forward_setup.ensures.reported

@@ -8,7 +8,7 @@ use Rattle.lab_captures.proofs.Progresses.{if_done, if_given, on_fault}
 use Rattle.lab_forward.specs.declared.stepping.ForwardReading.{ForwardReading}
 use Rattle.lab_forward.specs.declared.stepping.Going.{Going}
 use Rattle.lab_forward.specs.declared.stepping.Going.TheVariants as going
-use Rattle.lab_forward.specs.inner.ForwardSteps.{CameSoFar, ForwardsHere}
+use Rattle.lab_forward.specs.inner.ForwardSteps.{ForwardedSoFar, ForwardsHere}
 use Rattle.lab_forward.proofs.ForwardProgress.{enough_at_end, last_text, run_advanced, run_begun, run_enough, run_front, run_given, run_refilled, run_text, said_at_end}
 use Rattle.lab_forward.proofs.driver.forward_on.Goals as goal
 
@@ -56,7 +56,7 @@ returns-in-Ok-Ended-clause-left g c = λ ki.
 pub returns-then-is_err-clause-front : goal.returns-then-is_err-clause-front
 returns-then-is_err-clause-front g c = λ ki ko.
     let j = g.J.CellJudge in
-    let came = subst (λ (going : Going). CameSoFar going c.loop-written.reading c.step.new.self) c.in-Ok-On.field-0-is c.in-Ok-On.ensures.came in
+    let came = subst (λ (going : Going). ForwardedSoFar going c.loop-written.reading c.step.new.self) c.in-Ok-On.field-0-is c.in-Ok-On.ensures.came in
     let on = run_advanced (j.shows c.step.new.judge) c.step.new.self came.0 c.step.new.written.items c.loop-written.invariant.goes came.1
     (c.in-Ok-On.ensures.goes_on (λ ended. let bad : going.On ≡ going.Ended = sym c.in-Ok-On.field-0-is ∙ ended in cc)) in
     run_front (g.O.Output.held c.give_if_enough.new.output) c.judges_each_cell.ensures on ki ko
@@ -65,7 +65,7 @@ returns-then-is_err-clause-front g c = λ ki ko.
 pub loop-written-preserved-else-is_err : goal.loop-written-preserved-else-is_err
 loop-written-preserved-else-is_err g c =
     let j = g.J.CellJudge in
-    let came = subst (λ (going : Going). CameSoFar going c.loop-written.reading c.step.new.self) c.in-Ok-On.field-0-is c.in-Ok-On.ensures.came in
+    let came = subst (λ (going : Going). ForwardedSoFar going c.loop-written.reading c.step.new.self) c.in-Ok-On.field-0-is c.in-Ok-On.ensures.came in
     let cut = ap (λ (xs : List ℕ). length xs) came.1 in
     let on = run_advanced (j.shows c.step.new.judge) c.step.new.self came.0 c.step.new.written.items c.loop-written.invariant.goes came.1
     (c.in-Ok-On.ensures.goes_on (λ ended. let bad : going.On ≡ going.Ended = sym c.in-Ok-On.field-0-is ∙ ended in cc)) in
@@ -83,7 +83,7 @@ loop-written-preserved-else-is_err g c =
 pub returns-in-Err-refill-clause-front : goal.returns-in-Err-refill-clause-front
 returns-in-Err-refill-clause-front g c = λ ki ko.
     let j = g.J.CellJudge in
-    let came = subst (λ (going : Going). CameSoFar going c.loop-written.reading c.step.new.self) c.in-Ok-Wants.field-0-is c.in-Ok-Wants.ensures.came in
+    let came = subst (λ (going : Going). ForwardedSoFar going c.loop-written.reading c.step.new.self) c.in-Ok-Wants.field-0-is c.in-Ok-Wants.ensures.came in
     let on = run_advanced (j.shows c.step.new.judge) c.step.new.self [] c.step.new.written.items c.loop-written.invariant.goes (sym came.0)
     (c.in-Ok-Wants.ensures.goes_on (λ ended. let bad : going.Wants ≡ going.Ended = sym c.in-Ok-Wants.field-0-is ∙ ended in cc)) in
     run_front (g.O.Output.held c.refill.new.output) c.judges_each_cell.ensures on ki ko (c.in-Err-refill.ensures.front ko)
@@ -96,7 +96,7 @@ loop-written-preserved g c =
     let now = g.O.Output.held c.loop-written.output in
     let now' = g.O.Output.held c.refill.new.output in
     let rest' = g.I.Input.rest c.refill.new.input in
-    let came = subst (λ (going : Going). CameSoFar going c.loop-written.reading c.step.new.self) c.in-Ok-Wants.field-0-is c.in-Ok-Wants.ensures.came in
+    let came = subst (λ (going : Going). ForwardedSoFar going c.loop-written.reading c.step.new.self) c.in-Ok-Wants.field-0-is c.in-Ok-Wants.ensures.came in
     let on = run_advanced (j.shows c.step.new.judge) reading [] c.step.new.written.items c.loop-written.invariant.goes (sym came.0)
     (c.in-Ok-Wants.ensures.goes_on (λ ended. let bad : going.Wants ≡ going.Ended = sym c.in-Ok-Wants.field-0-is ∙ ended in cc)) in
     record {
@@ -117,7 +117,7 @@ returns-in-Ok-eq0-clause-text g c = λ ki ko.
     let now = g.O.Output.held c.loop-written.output in
     let now' = g.O.Output.held c.refill.new.output in
     let rest' = g.I.Input.rest c.refill.new.input in
-    let came = subst (λ (going : Going). CameSoFar going c.loop-written.reading c.step.new.self) c.in-Ok-Wants.field-0-is c.in-Ok-Wants.ensures.came in
+    let came = subst (λ (going : Going). ForwardedSoFar going c.loop-written.reading c.step.new.self) c.in-Ok-Wants.field-0-is c.in-Ok-Wants.ensures.came in
     let on = run_advanced (j.shows c.step.new.judge) reading [] c.step.new.written.items c.loop-written.invariant.goes (sym came.0)
     (c.in-Ok-Wants.ensures.goes_on (λ ended. let bad : going.Wants ≡ going.Ended = sym c.in-Ok-Wants.field-0-is ∙ ended in cc)) in
     let last = run_refilled reading' rest' now' c.refill.new.answers.items on refl c.in-Ok-eq0.ensures.front_octets c.in-Ok-eq0.ensures.octets
@@ -137,7 +137,7 @@ returns-in-Ok-eq0-clause-front g c = λ ki ko.
     let now = g.O.Output.held c.loop-written.output in
     let now' = g.O.Output.held c.refill.new.output in
     let rest' = g.I.Input.rest c.refill.new.input in
-    let came = subst (λ (going : Going). CameSoFar going c.loop-written.reading c.step.new.self) c.in-Ok-Wants.field-0-is c.in-Ok-Wants.ensures.came in
+    let came = subst (λ (going : Going). ForwardedSoFar going c.loop-written.reading c.step.new.self) c.in-Ok-Wants.field-0-is c.in-Ok-Wants.ensures.came in
     let on = run_advanced (j.shows c.step.new.judge) reading [] c.step.new.written.items c.loop-written.invariant.goes (sym came.0)
     (c.in-Ok-Wants.ensures.goes_on (λ ended. let bad : going.Wants ≡ going.Ended = sym c.in-Ok-Wants.field-0-is ∙ ended in cc)) in
     let last = run_refilled reading' rest' now' c.refill.new.answers.items on refl c.in-Ok-eq0.ensures.front_octets c.in-Ok-eq0.ensures.octets
@@ -153,7 +153,7 @@ returns-in-Ok-eq0-clause-left g c = λ ki.
     let now = g.O.Output.held c.loop-written.output in
     let now' = g.O.Output.held c.refill.new.output in
     let rest' = g.I.Input.rest c.refill.new.input in
-    let came = subst (λ (going : Going). CameSoFar going c.loop-written.reading c.step.new.self) c.in-Ok-Wants.field-0-is c.in-Ok-Wants.ensures.came in
+    let came = subst (λ (going : Going). ForwardedSoFar going c.loop-written.reading c.step.new.self) c.in-Ok-Wants.field-0-is c.in-Ok-Wants.ensures.came in
     let on = run_advanced (j.shows c.step.new.judge) reading [] c.step.new.written.items c.loop-written.invariant.goes (sym came.0)
     (c.in-Ok-Wants.ensures.goes_on (λ ended. let bad : going.Wants ≡ going.Ended = sym c.in-Ok-Wants.field-0-is ∙ ended in cc)) in
     let last = run_refilled reading' rest' now' c.refill.new.answers.items on refl c.in-Ok-eq0.ensures.front_octets c.in-Ok-eq0.ensures.octets

@@ -1,7 +1,7 @@
 -- Loop invariant: from each world that was shown at first, what was written, what waits to be written, and any text for what is left, from a world that is
 -- shown, are a text for the whole. Nothing was reported.
 use Rattle.std.proofs.Common.{◌≡◌, ◌-◌, ◌*◌, ◌^◌, ◌≤◌, ◌<◌, length}
-use Rattle.lab_forward.specs.inner.ForwardSteps.{CameTo}
+use Rattle.lab_forward.specs.inner.ForwardSteps.{ForwardedTo}
 use Rattle.lab_forward.proofs.driver.forward_on.Given as goal
 
 abbrev pub invariant-loop-written : goal.invariant-loop-written
@@ -13,7 +13,7 @@ invariant-loop-written g l =
       read : g.I.Input.failures l.input ≡ g.I.Input.failures l.fn.input;
       written : g.O.Output.failures l.output ≡ g.O.Output.failures l.fn.output;
       silent : l.report.items ≡ l.fn.report.items;
-      goes : CameTo j.rules l.fn.others (j.shows l.fn.judge) (j.shows l.judge) l.fn.reading l.reading g.I.Input.is_known g.O.Output.is_known
+      goes : ForwardedTo j.rules l.fn.others (j.shows l.fn.judge) (j.shows l.judge) l.fn.reading l.reading g.I.Input.is_known g.O.Output.is_known
           (g.I.Input.rest l.fn.input) (g.I.Input.rest l.input) (g.O.Output.held l.fn.output) (g.O.Output.held l.output) l.written.items;
     }
 

@@ -1,6 +1,6 @@
 -- The report is that of the script's faults, or what is forwarded is that of the capture.
 use Rattle.std.proofs.Common.{List, ℕ, inl, inr, refl, subst, sym}
-use Rattle.lab_police.specs.PolicedCards.{IsOpenedBy, OpensCard, policed_start}
+use Rattle.lab_police.specs.PolicedCards.{IsOpenedBy, OpensPolicedCard, policed_start}
 use Rattle.lab_police.specs.declared.policed_card.OpenedCard.{OpenedCard}
 use Rattle.lab_scripts.specs.ScriptText.{IsScriptExplained}
 use Rattle.text_io.specs.declared.ending.Done.TheVariants.{Ended}
@@ -24,7 +24,7 @@ returns-in-Ok-Faulty g c =
     let script = c.args.script.now in
     let tick = c.args.tick.nanoseconds in
     let explained : IsScriptExplained script c.in-Ok-Faulty.text.items Ended =
-    subst (λ (o : OpenedCard). OpensCard tick script o) c.in-Ok-Faulty.field-0-is c.in-Ok-Faulty.ensures in
+    subst (λ (o : OpenedCard). OpensPolicedCard tick script o) c.in-Ok-Faulty.field-0-is c.in-Ok-Faulty.ensures in
     let text = c.deref.result.now in
     let told : IsScriptExplained script text Ended = subst (λ (xs : List ℕ). IsScriptExplained script xs Ended) (sym c.deref.ensures.value) explained in
     faults_served g.I.Input g.O.Output c.args.input.now c.args.output.now c.args.report.now.items c.report_faults.new.report.items text c.report_faults.result
@@ -35,7 +35,7 @@ pub returns-in-Ok-Ready : goal.returns-in-Ok-Ready
 returns-in-Ok-Ready g c =
     let script = c.args.script.now in
     let tick = c.args.tick.nanoseconds in
-    let opened : IsOpenedBy tick script c.in-Ok-Ready.policed = subst (λ (o : OpenedCard). OpensCard tick script o) c.in-Ok-Ready.field-0-is c.in-Ok-Ready.ensures in
+    let opened : IsOpenedBy tick script c.in-Ok-Ready.policed = subst (λ (o : OpenedCard). OpensPolicedCard tick script o) c.in-Ok-Ready.field-0-is c.in-Ok-Ready.ensures in
     let first = policed_start tick opened.card in
     served_wider g.I.Input g.O.Output c.args.input.now c.forward_cells.new.input c.args.output.now c.forward_cells.new.output c.args.report.now.items
     c.forward_cells.new.report.items c.forward_cells.result
