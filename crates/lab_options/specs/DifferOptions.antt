@@ -1,4 +1,4 @@
--- The argument and the options of `upc-lab differ`.
+-- The argument and the option of `upc-lab differ`.
 use Rattle.std.specs.Prelude.{Bool, List, [], ◌∷◌, Option, Some, None, codes, false, option_and_then, option_map, true}
 use Rattle.std.specs.String.{string_bytes}
 use Rattle.clap.specs.Simple.{App}
@@ -7,7 +7,7 @@ use Rattle.command_line.specs.Arguments.{app_with_rules, argument_rule}
 use Rattle.command_line.specs.CommandLines.{argument_value}
 use Rattle.command_line.specs.declared.stop.Stop.{Stop}
 use Rattle.lab_options.specs.OptionAnswers.{Asks, IsOptionStop}
-use Rattle.lab_options.specs.OptionValues.{file_name_of, pairs_of, programs_of}
+use Rattle.lab_options.specs.OptionValues.{pairs_of, file_name_of}
 use Rattle.lab_options.specs.declared.differ.DifferOptions.{DifferOptions}
 
 -- The argument OLD, which must be given.
@@ -18,38 +18,26 @@ old_rule = argument_rule (codes "OLD") false None true
 abbrev pub pairs_rule : Rule
 pairs_rule = argument_rule (codes "lines") true (Some (codes "changed")) false
 
--- The option `--program WHICH`.
-abbrev pub program_rule : Rule
-program_rule = argument_rule (codes "program") true None false
-
--- The command `upc-lab differ`: this argument and these options, and that for help, which every command has.
+-- The command `upc-lab differ`: this argument and this option, and that for help, which every command has.
 unfoldable pub differ_app : App
-differ_app = app_with_rules (codes "upc-lab differ") (old_rule ∷ pairs_rule ∷ program_rule ∷ [])
+differ_app = app_with_rules (codes "upc-lab differ") (old_rule ∷ pairs_rule ∷ [])
 
--- What is asked for: the name of the file with the old rules, whether pairs of lines whose values agree are listed too, and whether the old
--- and the new side are programs.
+-- What is asked for: the name of the file with the old rules, and whether pairs of lines whose values agree are listed too.
 pub record DifferAsked : Type 0 where
   pub old : Text
   pub all : Bool
-  pub programs : Bool × Bool
 
 -- What options of `differ` ask for.
 abbrev pub differ_asked_by : DifferOptions → DifferAsked
-differ_asked_by options = record { old = string_bytes options.old; all = options.all; programs = (options.old_is_program, options.new_is_program) }
+differ_asked_by options = record { old = string_bytes options.old; all = options.all }
 
 -- What these values spell, if each spells something.
-abbrev pub differ_values : Option Text → Option Text → Option Text → Option DifferAsked
-differ_values old pairs programs =
-    option_and_then (λ name. option_and_then (λ all. option_map (λ which. record {
-      old = name;
-      all = all;
-      programs = which;
-    }) (programs_of programs)) (pairs_of pairs)) (file_name_of old)
+abbrev pub differ_values : Option Text → Option Text → Option DifferAsked
+differ_values old pairs = option_and_then (λ name. option_map (λ all. record { old = name; all = all }) (pairs_of pairs)) (file_name_of old)
 
--- What the values of the argument and the options in the words spell.
+-- What the values of the argument and the option in the words spell.
 abbrev pub differ_asked : List Text → Option DifferAsked
 differ_asked words = differ_values (argument_value differ_app words (codes "OLD")) (argument_value differ_app words (codes "lines"))
-    (argument_value differ_app words (codes "program"))
 
 -- The words have no error for clap, and ask for this.
 abbrev pub AsksDiffer : List Text → DifferAsked → Type 0

@@ -72,19 +72,6 @@ pairs_of text = option_and_then pairs_named text
 abbrev pub threads_of : Option Text → Option ℕ
 threads_of text = option_and_then (λ word. option_and_then positive (number_up_to 64 word)) text
 
--- Whether the old and the new side are programs, as a word says it.
-abbrev pub programs_named : Text → Option (Bool × Bool)
-programs_named word =
-    if bytes_eq word (codes "old") then Some (true, false)
-    else if bytes_eq word (codes "new") then Some (false, true)
-    else if bytes_eq word (codes "both") then Some (true, true)
-    else None
-
--- The same of the option, without which neither is one.
-abbrev pub programs_of : Option Text → Option (Bool × Bool)
-programs_of None = Some (false, false)
-programs_of (Some word) = programs_named word
-
 -- Whether a word says that records without a judged cell go on.
 abbrev pub others_named : Text → Option Bool
 others_named word =

@@ -6,7 +6,7 @@ ghost use Rattle.command_line.specs.Arguments.{texts_of};
 ghost use Rattle.lab_options.specs.DifferOptions.{AsksDiffer, DifferAsked, IsDifferStop, differ_asked_by};
 ghost use Rattle.lab_options.specs.inner.Answered.{AnswersValues, differ_spelled};
 
-use crate::values::{old_name_of, pairs_of, programs_of, wrong_value};
+use crate::values::{old_name_of, pairs_of, wrong_value};
 use command_line::{Argument, Options, Stop, Value, values_of_words};
 use std::alloc::Global;
 
@@ -17,10 +17,6 @@ pub struct DifferOptions {
     pub old: String,
     /// Whether pairs of lines whose values agree are listed too.
     pub all: bool,
-    /// Whether the old side is a program in hexadecimal.
-    pub old_is_program: bool,
-    /// Whether the new side is one.
-    pub new_is_program: bool,
 }
 
 const OLD: Argument = Argument {
@@ -28,7 +24,7 @@ const OLD: Argument = Argument {
     value_name: None,
     default: None,
     required: true,
-    help: "A file with the rules or the program before the change",
+    help: "A file with the rules before the change",
 };
 
 const PAIRS: Argument = Argument {
@@ -39,22 +35,14 @@ const PAIRS: Argument = Argument {
     help: "The pairs of lines that are listed: changed, whose values differ, or all that aren't the same line",
 };
 
-const PROGRAM: Argument = Argument {
-    name: "program",
-    value_name: Some("WHICH"),
-    default: None,
-    required: false,
-    help: "What is a program in hexadecimal in place of rules: old, new or both",
-};
-
 const DIFFER: Options = Options {
     name: "upc-lab differ",
-    about: "Compare two texts of rules or programs, and print for which cells their values differ",
-    after_help: "Standard input is the rules or the program after the change.\nExample: upc-lab differ examples/customer.rules < examples/customer-changed.rules",
-    arguments: &[OLD, PAIRS, PROGRAM],
+    about: "Compare two texts of rules, and print for which cells their values differ",
+    after_help: "Standard input is the rules after the change.\nExample: upc-lab differ examples/customer.rules < examples/customer-changed.rules",
+    arguments: &[OLD, PAIRS],
 };
 
-/// Reads the words after `upc-lab differ`: the name of a file, and `--lines LINES`, which is changed if it isn't given, and `--program WHICH`. The forms of help
+/// Reads the words after `upc-lab differ`: the name of a file, and `--lines LINES`, which is changed if it isn't given. The forms of help
 /// that `clap` has request help. Any other word is an error, and so are a wrong value, an empty name and words without a name.
 pub fn differ_options(alloc: Global, words: Vec<String>) -> Result<DifferOptions, Stop>
     ensures asked { IfOk result (λ options. AsksDiffer (map string_bytes words.items) (differ_asked_by options)) }
@@ -76,21 +64,10 @@ fn read(alloc: Global, values: &[Value]) -> Result<DifferOptions, Stop>
     let Some(all) = pairs_of(values) else {
         return Err(wrong_value(alloc, "error: the value of '--lines' is changed or all\n"));
     };
-    let Some((old_is_program, new_is_program)) = programs_of(values) else {
-        return Err(wrong_value(
-            alloc,
-            "error: the value of '--program' is old, new or both\n",
-        ));
-    };
     let Ok(old) = String::from_str(alloc, old) else {
         return Err(Stop::NoMemory);
     };
-    Ok(DifferOptions {
-        old,
-        all,
-        old_is_program,
-        new_is_program,
-    })
+    Ok(DifferOptions { old, all })
 }
 
 fn answer_to(alloc: Global, found: Result<Vec<Value>, Stop>) -> Result<DifferOptions, Stop>

@@ -2,7 +2,7 @@
 
 ghost use Rattle.std.specs.Prelude.{◌≡◌, codes, option_map};
 ghost use Rattle.command_line.specs.Arguments.{text_named, texts_of};
-ghost use Rattle.lab_options.specs.OptionValues.{asked_tick_of, cell_lines_of, fit_increment_of, fit_side_of, file_name_of, file_named, others_of, pairs_of, programs_of, threads_of, tick_of};
+ghost use Rattle.lab_options.specs.OptionValues.{asked_tick_of, cell_lines_of, fit_increment_of, fit_side_of, file_name_of, file_named, others_of, pairs_of, threads_of, tick_of};
 ghost use Rattle.lab_options.specs.inner.Answered.{IsWrongValue};
 
 use captures::Tick;
@@ -147,19 +147,6 @@ pub(crate) fn threads_of(values: &[Value]) -> Option<u8>
     match number(text_of(values, "threads")?.as_bytes()) {
         Some(threads) if 0 < threads && threads <= 64 => Some(threads as u8),
         _ => None,
-    }
-}
-
-/// Returns whether the old and the new side are programs, as the value of `--program` says it.
-pub(crate) fn programs_of(values: &[Value]) -> Option<(bool, bool)>
-    ensures { result ≡ programs_of (text_named (texts_of values.now) (codes "program")) }
-{
-    match text_of(values, "program") {
-        None => Some((false, false)),
-        Some("old") => Some((true, false)),
-        Some("new") => Some((false, true)),
-        Some("both") => Some((true, true)),
-        Some(_) => None,
     }
 }
 

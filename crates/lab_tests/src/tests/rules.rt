@@ -2,4 +2,5 @@
 
 mod comparisons;
 mod faults;
+mod programs;
 mod values;
