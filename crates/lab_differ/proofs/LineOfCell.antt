@@ -2,7 +2,7 @@
 use Rattle.std.proofs.Common.{◌≡◌, ◌≢◌, ℕ, zero, suc, ◌<◌, ◌==◌, ◌||◌, not, nat_lt, Bool, true, false, if◌then◌else◌, List, [], ◌∷◌, ◌++◌, length, get_or, Some, None, Result, Ok, inl, inr, refl, sym, ap, subst, ◌∙◌, arith, append_assoc}
 use Rattle.std.proofs.lemmas.Bool.{eqb-true}
 use Rattle.std.proofs.lemmas.List.Elements.{All-contains}
-use Rattle.cell_diagrams.specs.Cases.{GiveSame, IsCase}
+use Rattle.cell_diagrams.specs.Cases.{GiveSame, IsCaseOf}
 use Rattle.cell_diagrams.specs.declared.case.Case.{Case}
 use Rattle.cell_rules.specs.Decisions.{decision_of}
 use Rattle.cell_rules.specs.declared.deciding.Decision.{Decision}
@@ -123,7 +123,7 @@ line_of_cell lines old octets answer was is finding text said old_is new_is cell
     let decided = decided_from lines old octets answer was is finding text said old_is new_is in
     let found = decided.are_cases.each cell there in
     let case = found.case in
-    let is_case : IsCase decided.was decided.is case = All-contains (IsCase decided.was decided.is) decided.cases case decided.are_cases.all found.is_among in
+    let is_case : IsCaseOf (decision_of decided.was) (decision_of decided.is) case = All-contains (IsCaseOf (decision_of decided.was) (decision_of decided.is)) decided.cases case decided.are_cases.all found.is_among in
     let was_cell : case.old ≡ rules_decide was.rules cell = found.old_is ∙ read_decides decided.was was.rules cell decided.old_read in
     let is_cell : case.new ≡ rules_decide is.rules cell = found.new_is ∙ read_decides decided.is is.rules cell decided.new_read in
     let values : case.old.value ≢ case.new.value = λ e.

@@ -2,7 +2,7 @@
 use Rattle.std.proofs.Common.{◌≡◌, ℕ, ◌≤◌, Bool, List, [], ◌∷◌, ◌++◌, Option, Some, None, Result, Ok, Err, inl, inr, refl, sym, ap, subst, ◌∙◌, arith}
 use Rattle.std.specs.List.{Contains}
 use Rattle.std.proofs.lemmas.List.Elements.{All-contains}
-use Rattle.cell_diagrams.specs.Cases.{AreCases, AreInOrder, GiveSame, IsCase}
+use Rattle.cell_diagrams.specs.Cases.{AreCases, AreInOrder, GiveSame, IsCaseOf}
 use Rattle.cell_diagrams.specs.CellNumbers.{octets_number}
 use Rattle.cell_diagrams.specs.declared.case.Case.{Case}
 use Rattle.cell_rules.specs.Decisions.{decision_of}
@@ -80,9 +80,9 @@ ascending_cases (first ∷ more) are = (are.0, ascending_cases more are.1)
 module _ (was is was' is' : Rules) (old_same : rules_read was ≡ rules_read was') (new_same : rules_read is ≡ rules_read is') where
   case_among : (cases others : List Case) → AreCases was is cases → AreCases was' is' others → (case : Case) → Contains cases case → Contains others case
   case_among cases others are also case there =
-      let one : IsCase was is case = All-contains (IsCase was is) cases case are.all there in
+      let one : IsCaseOf (decision_of was) (decision_of is) case = All-contains (IsCaseOf (decision_of was) (decision_of is)) cases case are.all there in
       let found = also.each case.cell one.cell in
-      let two : IsCase was' is' found.case = All-contains (IsCase was' is') others found.case also.all found.is_among in
+      let two : IsCaseOf (decision_of was') (decision_of is') found.case = All-contains (IsCaseOf (decision_of was') (decision_of is')) others found.case also.all found.is_among in
       let old : found.case.old ≡ case.old = found.old_is ∙ (sym (decide_same was was' case.cell old_same) ∙ one.old_is) in
       let new : found.case.new ≡ case.new = found.new_is ∙ (sym (decide_same is is' case.cell new_same) ∙ one.new_is) in
       let le = two.least case.cell one.cell (sym found.old_is) (sym found.new_is) in

@@ -127,12 +127,12 @@ fn fit_wants_an_increment(rt: HostRuntime) -> Result<(), Fail> {
 
 #[test]
 fn police_wants_a_file(rt: HostRuntime) -> Result<(), Fail> {
-    for (line, setup, nanoseconds, link, lines, threads) in [
-        ("a.setup", "a.setup", 100, None, CellLines::All, 2),
+    for (line, setup, tick, link, lines, threads) in [
+        ("a.setup", "a.setup", None, None, CellLines::All, 2),
         (
             "--tick 1us b --lines refused",
             "b",
-            1000,
+            Tick::new(1000),
             None,
             CellLines::Refused,
             2,
@@ -140,7 +140,7 @@ fn police_wants_a_file(rt: HostRuntime) -> Result<(), Fail> {
         (
             "--lines=none --threads=64 --link=3 -- --tick",
             "--tick",
-            100,
+            None,
             Some(plain(3)),
             CellLines::Nothing,
             64,
@@ -148,13 +148,12 @@ fn police_wants_a_file(rt: HostRuntime) -> Result<(), Fail> {
         (
             "--threads 1 --lines all /tmp/c",
             "/tmp/c",
-            100,
+            None,
             None,
             CellLines::All,
             1,
         ),
     ] {
-        let tick = Tick::new(nanoseconds).expect(&rt, "a tick");
         let answer = police_options(rt.alloc(), words_of(rt.alloc(), line)?);
         assert!(rt;
             matches!(&answer, Ok(found) if found.setup.as_str() == setup

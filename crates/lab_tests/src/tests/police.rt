@@ -3,7 +3,7 @@
 use super::link::record_of;
 use captures::Tick;
 use lab_captures::CellLines;
-use lab_police::police_capture;
+use lab_police::{PoliceChoice, police_capture};
 use std::alloc::{AllocError, Global};
 use std::test::Fail;
 use std::thread::Threads;
@@ -28,12 +28,14 @@ fn policed(
     let mut sink = WriterOutput::new(Vec::new(alloc));
     let done = police_capture(
         rt,
-        threads,
         alloc,
         setup,
-        lines,
+        PoliceChoice {
+            threads,
+            lines,
+            link: None,
+        },
         tick,
-        None,
         &mut source,
         &mut sink,
     )?;
@@ -78,7 +80,8 @@ fn cells_by_hand(rt: HostRuntime) -> Result<(), Fail> {
 \n\
 vpi\tvci\tpassed\ttagged\tdiscarded\trefused\n\
 1\t5\t3\t0\t1\t0\n\
-# 1 not judged: no connection; first record 4\n"
+# 1 not judged: no connection; first record 4\n\
+# a tick is 1000000000 ns\n"
             .as_slice()
     );
     Ok(())

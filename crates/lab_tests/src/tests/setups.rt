@@ -3,7 +3,7 @@
 use super::link::record_of;
 use captures::Tick;
 use lab_captures::CellLines;
-use lab_police::{SharedText, files_read, police_setup};
+use lab_police::{PoliceChoice, SharedText, files_read, police_setup};
 use std::alloc::{AllocError, Global};
 use std::test::Fail;
 use std::thread::Threads;
@@ -53,13 +53,15 @@ fn policed(
     let mut sink = WriterOutput::new(Vec::new(alloc));
     let done = police_setup(
         rt,
-        1,
         alloc,
         setup,
         texts,
-        CellLines::All,
+        PoliceChoice {
+            threads: 1,
+            lines: CellLines::All,
+            link: None,
+        },
         tick,
-        None,
         &mut source,
         &mut sink,
     )?;
@@ -120,7 +122,8 @@ fn two_programs_by_hand(rt: HostRuntime) -> Result<(), Fail> {
 \n\
 vpi\tvci\tpassed\ttagged\tdiscarded\trefused\n\
 1\t5\t1\t0\t0\t0\n\
-1\t6\t0\t0\t0\t1\n"
+1\t6\t0\t0\t0\t1\n\
+# a tick is 1000000000 ns\n"
             .as_slice()
     );
     Ok(())
