@@ -173,8 +173,8 @@ impl Reader {
 
     // no ensures: a caller only decides by it which copy of its code reads the record
     // no edit: it has no ensures
-    /// Whether these octets begin with a record as most are: in an ERF file, of type 3, without extension headers, an error or a loss. A copy of
-    /// the code that reads on only then lacks the cases that can't occur.
+    /// Whether these octets begin with a record as most are: in an ERF file, of type 3, without extension headers, an error or a loss. From a
+    /// copy of the code for them alone the compiler may drop cases that can't occur.
     #[inline(always)]
     pub fn is_usual(&self, octets: &[u8]) -> bool {
         match self.format {

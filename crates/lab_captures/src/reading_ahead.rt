@@ -114,7 +114,7 @@ impl ReadingAhead {
         self.step(cells, most)
     }
 
-    /// The same, by one of two copies of the code: a usual record needs half of it.
+    /// The same, by one of two copies of the code: from that for usual records the compiler may drop cases that can't occur.
     #[inline(always)]
     fn step_either(
         &mut self,

@@ -1,15 +1,15 @@
 //! One step of a run: a frame is read, and its record written if it goes on.
 
-ghost use Rattle.std.specs.Prelude.{◌≡◌, ◌≢◌, ◌≤◌, List, ℕ, Ok, IfOk, length};
+ghost use Rattle.std.specs.Prelude.{◌≡◌, ◌≢◌, ◌≤◌, List, ℕ, Ok, IfOk, OnOk, Some, length};
 ghost use Rattle.captures.specs.RecordContent.{IsContent};
 ghost use Rattle.lab_captures.specs.CellFilter.{filter_state};
-ghost use Rattle.lab_forward.specs.JudgeRules.{OfEachJudgeWorld};
+ghost use Rattle.lab_forward.specs.JudgeRules.{ClosesReport, OfEachJudgeWorld};
 ghost use Rattle.lab_forward.specs.inner.ForwardSteps.{ForwardsOn, ForwardsToEnd, ForwardedSoFar, TurnsAtRecord};
 
 use crate::judge::{CellJudge, judges_each_cell};
 use crate::others::Others;
 use crate::record_writing::{add_cell_record, add_other_record};
-use captures::{Next, Reader, Record};
+use captures::{Fault, Next, Reader, Record};
 use lab_captures::{CellFilter, CountedCell, Filtered, WINDOW_ROOM, add_several};
 use std::alloc::AllocError;
 use text_io::{Turn, Window};
@@ -71,6 +71,19 @@ fn forward_record<J: CellJudge>(
     }
 }
 
+/// Reports a fault of the capture. It is apart from the step for a record, which has no room for what was passed over.
+#[inline(never)]
+fn close_at<J: CellJudge>(
+    judge: &J,
+    filter: &CellFilter,
+    fault: Fault,
+    report: &mut Vec<u8>,
+) -> Result<(), AllocError>
+    ensures { OnOk result (ClosesReport J.rules (J.shows judge.now) (filter_state filter.now).passed (Some fault) report.old.items report.new.items) }
+{
+    judge.close(&filter.passed(), Some(fault), report)
+}
+
 impl ForwardReading {
     /// Reads the next frame of the octets that wait, and writes its record if it goes on.
     pub(crate) fn step<J: CellJudge>(
@@ -94,7 +107,7 @@ impl ForwardReading {
         match self.reader.next(octets) {
             Next::Unfinished => Ok(Going::Wants),
             Next::Broken(fault) => {
-                judge.close(&self.filter.passed(), Some(fault), report)?;
+                close_at(judge, &self.filter, fault, report)?;
                 Ok(Going::Ended)
             }
             Next::Passed(passage, own) => {

@@ -5,22 +5,19 @@ use Rattle.captures.specs.Reading.{ComesNext}
 use Rattle.captures.specs.RecordOctets.{octets_of_first}
 use Rattle.captures.specs.declared.reader.Next.TheVariants.{Broken, Passed, Taken}
 use Rattle.lab_captures.specs.CellFilter.{filter_state}
-use Rattle.lab_captures.specs.declared.passed.PassedOver.{PassedOver}
 use Rattle.text_io.specs.declared.machine.Turn.{Turn}
-use Rattle.lab_forward.specs.JudgeRules.{ClosesReport}
 use Rattle.lab_forward.specs.declared.stepping.ForwardReading.{ForwardReading}
 use Rattle.lab_forward.specs.inner.ForwardSteps.{TurnsAtRecord}
 use Rattle.lab_forward.proofs.StepLemmas.{advances_passed, advances_record, came_on, ends_fault, ends_record}
 use Rattle.lab_forward.proofs.stepping.ForwardReading.step.Goals as goal
 
-pub returns-in_ok-close-in-Broken-clause-ends : goal.returns-in_ok-close-in-Broken-clause-ends
-returns-in_ok-close-in-Broken-clause-ends g c = λ ended.
+pub returns-in_ok-close_at-in-Broken-clause-ends : goal.returns-in_ok-close_at-in-Broken-clause-ends
+returns-in_ok-close_at-in-Broken-clause-ends g c = λ ended.
     let j = g.J.CellJudge in
     let before = c.args.self.now in
-    ends_fault j.rules c.args.others (j.shows c.args.judge.now) before c.next.new.self c.in-Broken.fault c.args.report.now.items c.close.new.report.items
+    ends_fault j.rules c.args.others (j.shows c.args.judge.now) before c.next.new.self c.in-Broken.fault c.args.report.now.items c.close_at.new.report.items
     (subst (λ (octets : List ℕ). ComesNext before.reader octets (Broken c.in-Broken.fault) c.next.new.self) c.octets-octets.ensures c.in-Broken.ensures)
-    (subst (λ (passed : PassedOver). ClosesReport j.rules (j.shows c.args.judge.now) passed (Some c.in-Broken.fault)
-    c.args.report.now.items c.close.new.report.items) c.passed.ensures c.in_ok-close-in-Broken.ensures)
+    c.in_ok-close_at-in-Broken.ensures
 
 pub returns-in-Passed-clause-goes_on : goal.returns-in-Passed-clause-goes_on
 returns-in-Passed-clause-goes_on g c = λ going.
