@@ -31,13 +31,13 @@ def written(path, lines):
 
 
 def ran(words, given, to, wanted=0):
-    """Runs a program on a file. Returns its seconds."""
+    """Runs a program on a file. Returns its seconds. What it says is shown if it ends otherwise than is wanted."""
     with open(given, "rb") as text, open(to, "wb") as answers:
         begun = time.perf_counter()
-        status = subprocess.run(words, stdin=text, stdout=answers).returncode
+        run = subprocess.run(words, stdin=text, stdout=answers, stderr=subprocess.PIPE)
         took = time.perf_counter() - begun
-    if status != wanted:
-        sys.exit(f"bench: {' '.join(words)} ended with {status}")
+    if run.returncode != wanted:
+        sys.exit(f"bench: {' '.join(words)} ended with {run.returncode}: {run.stderr.decode(errors='replace')}")
     return took
 
 
@@ -46,7 +46,7 @@ def memory_of(words, given):
     that has ended counts the one that started it, too."""
     most = 0
     with open(given, "rb") as text:
-        process = subprocess.Popen(words, stdin=text, stdout=subprocess.DEVNULL)
+        process = subprocess.Popen(words, stdin=text, stdout=subprocess.DEVNULL, stderr=subprocess.DEVNULL)
         while process.poll() is None:
             try:
                 is_started = os.readlink(f"/proc/{process.pid}/exe") == os.path.realpath(words[0])
