@@ -1,11 +1,14 @@
 -- Commands with arguments, and the values that their words give them.
-use Rattle.std.specs.Prelude.{Bool, if◌then◌else◌, List, [], ◌∷◌, Option, Some, None, is_some, find, fold, map, option_and_then, option_map}
+use Rattle.std.specs.Prelude.{Bool, false, true, if◌then◌else◌, List, [], ◌∷◌, Option, Some, None, find, fold, map, option_and_then, option_map}
 use Rattle.std.specs.Str.{bytes_eq}
 use Rattle.std.specs.String.{string_bytes}
 use Rattle.clap.specs.Simple.{App, new_app, new_rule, with_rule}
 use Rattle.clap.specs.Walk.{Rule, Text}
+use Rattle.clap.specs.declared.builder.action.ArgAction.TheVariants.{SetTrue}
 use Rattle.command_line.specs.CommandLines.{argument_value}
 use Rattle.command_line.specs.declared.arguments.Argument.{Argument}
+use Rattle.command_line.specs.declared.arguments.Form.{Form}
+use Rattle.command_line.specs.declared.arguments.Form.TheVariants.{Word, Valued, Flag}
 use Rattle.command_line.specs.declared.arguments.Options.{Options}
 use Rattle.command_line.specs.declared.arguments.Value.{Value}
 
@@ -23,14 +26,29 @@ argument_rule name is_option default required = record (new_rule name) {
   required = required;
 }
 
+-- The option `--NAME`, which has no value of its own: clap reads `true` if it is given, and `false` otherwise.
+abbrev pub flag_rule : Text → Rule
+flag_rule name = record (new_rule name) {
+  long = Some name;
+  action = Some SetTrue;
+}
+
 -- The command with these arguments, and the option for help, which every command has.
 unfoldable pub app_with_rules : Text → List Rule → App
 app_with_rules name rules = fold with_rule (new_app name) rules
 
+-- The rule of an argument in this form.
+abbrev pub rule_in_form : Form → Text → Option Text → Bool → Rule
+rule_in_form Word name default required = argument_rule name false default required
+rule_in_form (Valued value_name) name default required = argument_rule name true default required
+rule_in_form Flag name default required = record (flag_rule name) {
+  defaults = default_values default;
+  required = required;
+}
+
 -- The rule of an argument.
 abbrev pub rule_of_argument : Argument → Rule
-rule_of_argument argument =
-    argument_rule argument.name.now (is_some argument.value_name) (option_map (λ text. text.now) argument.default) argument.required
+rule_of_argument argument = rule_in_form argument.form argument.name.now (option_map (λ text. text.now) argument.default) argument.required
 
 -- The command with these options.
 abbrev pub app_of_options : Options → App

@@ -13,16 +13,27 @@ ghost use Rattle.command_line.specs.Stopping.{StopsAt};
 
 use crate::line::line_of;
 use crate::stop::{Stop, stop_for};
-use clap::{Arg, ArgMatches, Command, Error};
+use clap::{Arg, ArgAction, ArgMatches, Command, Error};
 use std::alloc::{AllocError, Global};
+
+/// The form of an argument.
+#[derive(Clone, Copy)]
+pub enum Form {
+    /// A word that isn't an option.
+    Word,
+    /// An option with a value, `--NAME VALUE`. This is what help calls the value.
+    Valued(&'static str),
+    /// An option without a value, `--NAME`. What is read as its value is `true` if it is given, and `false` otherwise.
+    Flag,
+}
 
 /// An argument of a command.
 #[derive(Clone, Copy)]
 pub struct Argument {
     /// Its name.
     pub name: &'static str,
-    /// Of an option, `--NAME VALUE`: what help calls its value. None of a word that isn't an option.
-    pub value_name: Option<&'static str>,
+    /// Whether it is an option, and whether that has a value.
+    pub form: Form,
     /// Its value if it isn't given.
     pub default: Option<&'static str>,
     /// Whether it must be given.
@@ -140,9 +151,10 @@ fn arg_of<'a>(alloc: Global, argument: &Argument) -> Arg<'a>
     let arg = Arg::new(alloc, argument.name)
         .required(argument.required)
         .help(argument.help);
-    let arg = match argument.value_name {
-        Some(value_name) => arg.long(argument.name).value_name(value_name),
-        None => arg,
+    let arg = match argument.form {
+        Form::Word => arg,
+        Form::Valued(value_name) => arg.long(argument.name).value_name(value_name),
+        Form::Flag => arg.long(argument.name).action(ArgAction::SetTrue),
     };
     match argument.default {
         Some(value) => arg.default_value(value),

@@ -13,7 +13,7 @@ mod version;
 mod word_sources;
 mod words;
 
-pub use arguments::{Argument, Options, Value, text_of, values_of_words};
+pub use arguments::{Argument, Form, Options, Value, text_of, values_of_words};
 pub use choice::{Choice, choose};
 pub use exit::status;
 pub use messages::write_message;
