@@ -30,9 +30,9 @@ OVER_LIMIT = "fault script 5 TooLong\n"
 LONG_CODE = "fault rules 8 TooLong 0 0\n"
 
 
-def answered(program, text, subcommand="rules"):
-    """Returns what a subcommand of the program answers to a text, and its status. It prints no message."""
-    run = subprocess.run([program, subcommand], input=text, stdout=subprocess.PIPE, stderr=subprocess.PIPE, check=False)
+def answered(program, text, *words):
+    """Returns what a subcommand of the program answers to a text, that of `rules` if no words say another, and its status. It prints no message."""
+    run = subprocess.run([program, *(words or ["rules"])], input=text, stdout=subprocess.PIPE, stderr=subprocess.PIPE, check=False)
     return run.stdout.decode() + run.stderr.decode(), run.returncode
 
 
@@ -55,18 +55,27 @@ def shown(decision):
     return f"otherwise value {value}\n" if number is None else f"line {number} value {value}\n"
 
 
+def counted(reader, decisions):
+    """Returns the answer of `why --count` to cells that were decided so: a line for each rule, in order, and one for the others."""
+    decided = [number for number, _ in decisions]
+    numbers = [line[3] for line in reader.rules if line[0] == "rule"]
+    rules = "".join(f"line {number} cells {decided.count(number)}\n" for number in numbers)
+    return f"{rules}otherwise cells {decided.count(None)}\n"
+
+
 def wanted_of_why(program, text, after, random_source):
-    """Returns the cells after a text of rules and what follows it, the answer of `why` that is wanted, and its status."""
+    """Returns the cells after a text of rules and what follows it, the answers of `why` and of `why --count` that are wanted, and their status."""
     if len(text) > MOST_OCTETS:
-        return [], OVER_LIMIT, 1
+        return [], OVER_LIMIT, OVER_LIMIT, 1
     try:
         reader = read_rules(text)
     except Fault as fault:
-        return [], fault.shown(), 1
+        return [], fault.shown(), fault.shown(), 1
     if may_be_too_long(reader) and answered(program, text)[0] == LONG_CODE:
-        return [], LONG_CODE, 1
+        return [], LONG_CODE, LONG_CODE, 1
     cells = cells_for(reader, random_source) if after else []
-    return cells, "".join(shown(decision_of(reader, cell)) for cell in cells), 0
+    decisions = [decision_of(reader, cell) for cell in cells]
+    return cells, "".join(shown(decision) for decision in decisions), counted(reader, decisions), 0
 
 
 def difference_of_why(program, text, random_source):
@@ -77,11 +86,14 @@ def difference_of_why(program, text, random_source):
         text += b"\n"
     if random_source.random() < 0.02:
         text, after = text + b"cells # " + b"." * (MOST_LINE_OCTETS - 7) + b"\n", b""
-    cells, wanted, status = wanted_of_why(program, text, after, random_source)
-    lines = "".join(f"{cell.hex()}\n" for cell in cells)
-    answer, ended = answered(program, text + after + lines.encode(), "why")
+    cells, wanted, counts, status = wanted_of_why(program, text, after, random_source)
+    octets = text + after + "".join(f"{cell.hex()}\n" for cell in cells).encode()
+    answer, ended = answered(program, octets, "why")
+    if answer == wanted and ended == status:
+        is_counted = answered(program, octets, "why", "--count") == (counts, status)
+        return None if is_counted else f"the counts are not {counts!r}"
     if answer == wanted:
-        return None if ended == status else f"the status {ended} of why"
+        return f"the status {ended} of why"
     at = next((at for at, (one, other) in enumerate(zip(answer.split("\n"), wanted.split("\n"))) if one != other), 0)
     return f"{answer.split(chr(10))[at]!r} and not {wanted.split(chr(10))[at]!r}" + (f" on {cells[at].hex()}" if at < len(cells) else "")
 

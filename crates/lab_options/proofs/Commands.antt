@@ -8,6 +8,7 @@ use Rattle.lab_options.specs.DifferOptions.{differ_app}
 use Rattle.lab_options.specs.FitOptions.{fit_app}
 use Rattle.lab_options.specs.ForwardOptions.{forward_app}
 use Rattle.lab_options.specs.PoliceOptions.{police_app}
+use Rattle.lab_options.specs.WhyOptions.{why_app}
 
 pub cells_is_free : is_simple_and_free cells_app ≡ true
 unfolding cells_app app_with_rules clap_on_literals
@@ -28,3 +29,7 @@ differ_is_free = refl
 pub forward_is_free : is_simple_and_free forward_app ≡ true
 unfolding forward_app app_with_rules clap_on_literals
 forward_is_free = refl
+
+pub why_is_free : is_simple_and_free why_app ≡ true
+unfolding why_app app_with_rules clap_on_literals
+why_is_free = refl

@@ -7,4 +7,5 @@ pub mod FitOptions
 pub mod PoliceOptions
 pub mod ForwardOptions
 pub mod DifferOptions
+pub mod WhyOptions
 pub mod inner

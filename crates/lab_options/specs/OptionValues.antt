@@ -82,3 +82,8 @@ others_named word =
 -- The same of the option.
 abbrev pub others_of : Option Text → Option Bool
 others_of text = option_and_then others_named text
+
+-- Whether an option without a value is given. clap's text of it is `true` then.
+abbrev pub is_given : Option Text → Bool
+is_given None = false
+is_given (Some text) = bytes_eq text (codes "true")

@@ -7,7 +7,7 @@ ghost use Rattle.lab_options.specs.DifferOptions.{AsksDiffer, DifferAsked, IsDif
 ghost use Rattle.lab_options.specs.inner.Answered.{AnswersValues, differ_spelled};
 
 use crate::values::{old_name_of, pairs_of, wrong_value};
-use command_line::{Argument, Options, Stop, Value, values_of_words};
+use command_line::{Argument, Form, Options, Stop, Value, values_of_words};
 use std::alloc::Global;
 
 /// What `upc-lab differ` should do.
@@ -21,7 +21,7 @@ pub struct DifferOptions {
 
 const OLD: Argument = Argument {
     name: "OLD",
-    value_name: None,
+    form: Form::Word,
     default: None,
     required: true,
     help: "A file with the rules before the change",
@@ -29,7 +29,7 @@ const OLD: Argument = Argument {
 
 const PAIRS: Argument = Argument {
     name: "lines",
-    value_name: Some("LINES"),
+    form: Form::Valued("LINES"),
     default: Some("changed"),
     required: false,
     help: "The pairs of lines that are listed: changed, whose values differ, or all that aren't the same line",

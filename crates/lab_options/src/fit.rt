@@ -11,7 +11,7 @@ use crate::values::{
     LINK, TICK, WRONG_LINK, WRONG_TICK, fit_increment_of, fit_side_of, tick_of, wrong_value,
 };
 use captures::{Link, Tick};
-use command_line::{Argument, Options, Stop, Value, values_of_words};
+use command_line::{Argument, Form, Options, Stop, Value, values_of_words};
 use std::alloc::Global;
 use upc_cell::Side;
 
@@ -30,7 +30,7 @@ pub struct FitOptions {
 
 const INCREMENT: Argument = Argument {
     name: "increment",
-    value_name: Some("T"),
+    form: Form::Valued("T"),
     default: None,
     required: true,
     help: "The increment of the bucket: the ticks from cell to cell at the agreed rate",
@@ -38,7 +38,7 @@ const INCREMENT: Argument = Argument {
 
 const SIDE: Argument = Argument {
     name: "side",
-    value_name: Some("SIDE"),
+    form: Form::Valued("SIDE"),
     default: Some("uni"),
     required: false,
     help: "Where headers are read: uni, or nni between nodes",

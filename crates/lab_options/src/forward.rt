@@ -12,7 +12,7 @@ use crate::values::{
     wrong_value,
 };
 use captures::{Link, Tick};
-use command_line::{Argument, Options, Stop, Value, values_of_words};
+use command_line::{Argument, Form, Options, Stop, Value, values_of_words};
 use std::alloc::Global;
 
 /// What `upc-lab forward` should do.
@@ -30,7 +30,7 @@ pub struct ForwardOptions {
 
 const OTHERS: Argument = Argument {
     name: "others",
-    value_name: Some("OTHERS"),
+    form: Form::Valued("OTHERS"),
     default: Some("pass"),
     required: false,
     help: "Whether records without a cell of the link go on: pass or drop",

@@ -9,9 +9,11 @@ pub mod laws;
 mod link;
 mod police;
 mod values;
+mod why;
 
 pub use cells::{CellsOptions, cells_options};
 pub use differ::{DifferOptions, differ_options};
 pub use fit::{FitOptions, fit_options};
 pub use forward::{ForwardOptions, forward_options};
 pub use police::{PoliceOptions, police_options};
+pub use why::{WhyOptions, why_options};

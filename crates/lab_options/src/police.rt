@@ -12,7 +12,7 @@ use crate::values::{
     threads_of, wrong_value,
 };
 use captures::{Link, Tick};
-use command_line::{Argument, Options, Stop, Value, values_of_words};
+use command_line::{Argument, Form, Options, Stop, Value, values_of_words};
 use lab_captures::CellLines;
 use std::alloc::Global;
 
@@ -33,7 +33,7 @@ pub struct PoliceOptions {
 
 const LINES: Argument = Argument {
     name: "lines",
-    value_name: Some("LINES"),
+    form: Form::Valued("LINES"),
     default: Some("all"),
     required: false,
     help: "The cells that have lines: all, refused or none",
@@ -41,7 +41,7 @@ const LINES: Argument = Argument {
 
 const THREADS: Argument = Argument {
     name: "threads",
-    value_name: Some("N"),
+    form: Form::Valued("N"),
     default: Some("2"),
     required: false,
     help: "1 reads and judges in turn, 2 or more at the same time",

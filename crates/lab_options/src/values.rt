@@ -2,11 +2,11 @@
 
 ghost use Rattle.std.specs.Prelude.{◌≡◌, codes, option_map};
 ghost use Rattle.command_line.specs.Arguments.{text_named, texts_of};
-ghost use Rattle.lab_options.specs.OptionValues.{asked_tick_of, cell_lines_of, fit_increment_of, fit_side_of, file_name_of, file_named, others_of, pairs_of, threads_of, tick_of};
+ghost use Rattle.lab_options.specs.OptionValues.{asked_tick_of, cell_lines_of, fit_increment_of, fit_side_of, file_name_of, file_named, is_given, others_of, pairs_of, threads_of, tick_of};
 ghost use Rattle.lab_options.specs.inner.Answered.{IsWrongValue};
 
 use captures::Tick;
-use command_line::{Argument, Stop, Value, text_of};
+use command_line::{Argument, Form, Stop, Value, text_of};
 use lab_captures::CellLines;
 use lab_sizes::duration;
 use std::alloc::Global;
@@ -16,7 +16,7 @@ use upc_script::number;
 /// The option `--tick`.
 pub(crate) const TICK: Argument = Argument {
     name: "tick",
-    value_name: Some("TIME"),
+    form: Form::Valued("TIME"),
     default: Some("100ns"),
     required: false,
     help: "The length of a tick: a number with ns, us, ms or s",
@@ -25,7 +25,7 @@ pub(crate) const TICK: Argument = Argument {
 /// The option `--tick` beside a setup script, which may name a tick.
 pub(crate) const ASKED_TICK: Argument = Argument {
     name: "tick",
-    value_name: Some("TIME"),
+    form: Form::Valued("TIME"),
     default: None,
     required: false,
     help: "The length of a tick: a number with ns, us, ms or s. Without it that of the line `tick TIME` in SETUP, or 100ns",
@@ -34,7 +34,7 @@ pub(crate) const ASKED_TICK: Argument = Argument {
 /// The argument SETUP.
 pub(crate) const SETUP: Argument = Argument {
     name: "SETUP",
-    value_name: None,
+    form: Form::Word,
     default: None,
     required: true,
     help: "A file with a script that opens a card and sets up connections",
@@ -43,7 +43,7 @@ pub(crate) const SETUP: Argument = Argument {
 /// The option `--link`.
 pub(crate) const LINK: Argument = Argument {
     name: "link",
-    value_name: Some("LINK"),
+    form: Form::Valued("LINK"),
     default: None,
     required: false,
     help: "Only the cells of this link, as 0, 0/2/5, 1:0 or 1:0/2/5",
@@ -158,6 +158,16 @@ pub(crate) fn others_of(values: &[Value]) -> Option<bool>
         "pass" => Some(true),
         "drop" => Some(false),
         _ => None,
+    }
+}
+
+/// Returns whether `--count` is given.
+pub(crate) fn is_count_given(values: &[Value]) -> bool
+    ensures { result ≡ is_given (text_named (texts_of values.now) (codes "count")) }
+{
+    match text_of(values, "count") {
+        Some(text) => text == "true",
+        None => false,
     }
 }
 

@@ -10,3 +10,4 @@ pub mod CommentsPut
 pub mod RulesTaken
 pub mod Places
 pub mod WhyAnswers
+pub mod CountLines

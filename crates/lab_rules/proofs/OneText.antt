@@ -19,7 +19,7 @@ use Rattle.lab_rules.specs.RulesLaws.{RulesHaveOneText}
 use Rattle.lab_rules.specs.AsmText.{whole_line}
 use Rattle.lab_rules.specs.RulesText.{PrintsRules}
 use Rattle.lab_rules.specs.WhyLaws.{RulesBeginTheInput, WhyHasOneText}
-use Rattle.lab_rules.specs.WhyText.{PrintsDecisions, is_cells_line, lines_after, rules_before, rules_of_why, why_rules}
+use Rattle.lab_rules.specs.WhyText.{PrintsDecisions, first_world, is_cells_line, lines_after, rules_before, rules_of_why, why_rules}
 use Rattle.upc_programs.specs.Check.{accepted_text}
 
 never_both : {A : Type 0} (rules : RulesRead) (fault : RuleFault) (found : Result RulesRead RuleFault) → found ≡ Ok rules → found ≡ Err fault → A
@@ -76,17 +76,18 @@ functional = record {
 same_numbered : (one other : NumberedRead) (found : Result NumberedRead RuleFault) → found ≡ Ok one → found ≡ Ok other → one ≡ other
 same_numbered one other found e f = cc
 
-decisions_one : (cells : List Line) → IsOne (PrintsDecisions cells)
-decisions_one cells text answer other done finish (inl x) (inl y) =
+decisions_one : (counts : Bool) (cells : List Line) → IsOne (PrintsDecisions counts cells)
+decisions_one counts cells text answer other done finish (inl x) (inl y) =
     let same : x.0 ≡ y.0 = same_numbered x.0 y.0 (numbered_in text) x.1 y.1 in
-    one-text why_rules functional cells 0 y.0 answer other done finish (subst (λ (n : NumberedRead). Prints why_rules 0 n cells answer done) same x.3) y.3
-decisions_one cells text answer other done finish (inl x) (inr y) = never_faulty text other finish x.2.code x.2.of_text x.2.within y
-decisions_one cells text answer other done finish (inr x) (inl y) = never_faulty text answer done y.2.code y.2.of_text y.2.within x
-decisions_one cells text answer other done finish (inr x) (inr y) = one_faulty text answer other done finish x y
+    one-text why_rules functional cells 0 (first_world counts y.0) answer other done finish
+    (subst (λ (n : NumberedRead). Prints why_rules 0 (first_world counts n) cells answer done) same x.3) y.3
+decisions_one counts cells text answer other done finish (inl x) (inr y) = never_faulty text other finish x.2.code x.2.of_text x.2.within y
+decisions_one counts cells text answer other done finish (inr x) (inl y) = never_faulty text answer done y.2.code y.2.of_text y.2.within x
+decisions_one counts cells text answer other done finish (inr x) (inr y) = one_faulty text answer other done finish x y
 
 pub why_one_text : WhyHasOneText
-why_one_text octets answer other done finish x y =
-    answers_one (PrintsDecisions (lines_after (lines_of octets))) (rules_of_why octets) answer other done finish (decisions_one (lines_after (lines_of octets))) x y
+why_one_text counts octets answer other done finish x y =
+    answers_one (PrintsDecisions counts (lines_after (lines_of octets))) (rules_of_why octets) answer other done finish (decisions_one counts (lines_after (lines_of octets))) x y
 
 -- ---- the text of the rules is the beginning
 

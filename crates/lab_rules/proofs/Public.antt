@@ -1,5 +1,5 @@
 -- Lemmas for other crates.
-use Rattle.std.proofs.Common.{ℕ, List}
+use Rattle.std.proofs.Common.{ℕ, Bool, List}
 use Rattle.text_io.specs.declared.ending.Done.{Done}
 use Rattle.lab_rules.specs.RulesText.{MayBeRulesText}
 use Rattle.lab_rules.specs.WhyText.{MayBeWhyText}
@@ -13,7 +13,7 @@ pub some-rules_text : (octets : List ℕ) → (answer : List ℕ) × (done : Don
 some-rules_text = answering.some-answer Octets
 
 -- Every input has an answer of `why`, or its code may be too long.
-pub some-why_text : (octets : List ℕ) → (answer : List ℕ) × (done : Done) × MayBeWhyText octets answer done
+pub some-why_text : (counts : Bool) (octets : List ℕ) → (answer : List ℕ) × (done : Done) × MayBeWhyText counts octets answer done
 some-why_text = why.some-why_text
 
 -- Every input has an answer of `asm`, or its code may be too long.

@@ -6,6 +6,7 @@ pub mod RulesLaws
 pub mod CommentLines
 pub mod AsmText
 pub mod AsmLaws
+pub mod CountText
 pub mod WhyText
 pub mod WhyLaws
 pub mod inner

@@ -1,5 +1,5 @@
 -- What is proved of the texts that `upc-lab why` prints.
-use Rattle.std.specs.Prelude.{◌≡◌, ℕ, List, ◌++◌}
+use Rattle.std.specs.Prelude.{◌≡◌, ℕ, Bool, List, ◌++◌}
 use Rattle.text_io.specs.Lines.{lines_of}
 use Rattle.text_io.specs.declared.ending.Done.{Done}
 use Rattle.lab_rules.specs.WhyText.{IsWhyText, rules_before}
@@ -8,7 +8,7 @@ use Rattle.lab_rules.specs.WhyText.{IsWhyText, rules_before}
 abbrev pub RulesBeginTheInput : Type 0
 RulesBeginTheInput = (octets : List ℕ) → (more : List ℕ) × (octets ≡ rules_before (lines_of octets) ++ more)
 
--- An input has one text, with one end.
+-- An input has one text, with one end, whether cells are counted or not.
 abbrev pub WhyHasOneText : Type 0
 WhyHasOneText =
-    (octets answer other : List ℕ) (done finish : Done) → IsWhyText octets answer done → IsWhyText octets other finish → (answer ≡ other) × (done ≡ finish)
+    (counts : Bool) (octets answer other : List ℕ) (done finish : Done) → IsWhyText counts octets answer done → IsWhyText counts octets other finish → (answer ≡ other) × (done ≡ finish)

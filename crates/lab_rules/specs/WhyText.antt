@@ -1,6 +1,7 @@
 -- The output of `upc-lab why`. The lines before the line `cells` are a text of rules, and each line after it is a cell. The answer to a
--- cell is the line of the rule that decides it, and its value.
-use Rattle.std.specs.Prelude.{◌≡◌, ◌⊎◌, ◌≤◌, ℕ, ◌==◌, ◌&&◌, nat_le, Bool, false, if◌then◌else◌, List, [], ◌∷◌, ◌++◌, length, codes, decimal, slice_index, Option, Some, None, Ok}
+-- cell is the line of the rule that decides it, and its value. With `--count` cells have no answer, and at the end of the input each rule
+-- has a line that says how many of them it decided.
+use Rattle.std.specs.Prelude.{◌≡◌, ◌⊎◌, ◌≤◌, ℕ, ◌==◌, ◌&&◌, nat_le, Bool, false, if◌then◌else◌, List, [], ◌∷◌, ◌++◌, length, codes, decimal, Option, Some, None, Result, Ok, Err}
 use Rattle.std.specs.Str.{bytes_eq}
 use Rattle.bpf_code.specs.declared.instr.Instr.{Instr}
 use Rattle.cell_rules.specs.declared.deciding.Decision.{Decision}
@@ -17,6 +18,7 @@ use Rattle.text_io.specs.declared.ending.Done.TheVariants.{Whole}
 use Rattle.upc_words.specs.FaultLines.{line, bad_line, bad_hex, too_long, wrong_length}
 use Rattle.upc_words.specs.Hexadecimal.{octets_of_digits, cell_of_octets}
 use Rattle.lab_rules.specs.AsmText.{whole_line}
+use Rattle.lab_rules.specs.CountText.{counts_text, decider_text}
 use Rattle.lab_rules.specs.RulesAnswers.{AnswersBy, AreRulesOf, PrintsFault, PrintsLongCode, most_rules_octets}
 
 -- The words say that cells follow.
@@ -48,11 +50,6 @@ abbrev pub lines_after : List Line → List Line
 lines_after [] = []
 lines_after (line ∷ lines) = if is_cells_line line then lines else lines_after lines
 
--- The line of the rule that decides, or `otherwise`.
-abbrev pub decider_text : List ℕ → Option ℕ → List ℕ
-decider_text numbers None = codes "otherwise"
-decider_text numbers (Some place) = codes "line " ++ decimal (slice_index numbers place)
-
 -- The value, which ends the answer's line.
 abbrev pub value_text : ℕ → List ℕ
 value_text value = line (codes " value " ++ decimal value)
@@ -61,37 +58,63 @@ value_text value = line (codes " value " ++ decimal value)
 abbrev pub decision_text : List ℕ → Decision → List ℕ
 decision_text numbers decision = decider_text numbers decision.line ++ value_text decision.value
 
--- The answer to octets on a cell line.
-abbrev pub cell_octets_text : NumberedRead → List ℕ → List ℕ
-cell_octets_text numbered octets =
-    if length octets == 52 then decision_text numbered.numbers (rules_decide numbered.rules octets) else wrong_length (length octets)
+-- The cell that octets are, or the answer to another number of octets.
+abbrev pub cell_octets_read : List ℕ → Result (List ℕ) (List ℕ)
+cell_octets_read octets = if length octets == 52 then Ok octets else Err (wrong_length (length octets))
 
--- The answer to a word of a cell line, by the octets that it spells.
-abbrev pub cell_word_text : NumberedRead → Option (List ℕ) → List ℕ
-cell_word_text numbered None = bad_hex
-cell_word_text numbered (Some octets) = cell_octets_text numbered (cell_of_octets octets)
+-- The cell of a word, by the octets that it spells.
+abbrev pub cell_word_read : Option (List ℕ) → Result (List ℕ) (List ℕ)
+cell_word_read None = Err bad_hex
+cell_word_read (Some octets) = cell_octets_read (cell_of_octets octets)
 
--- The answer to a cell line, which has one hexadecimal word.
-abbrev pub cell_text : NumberedRead → List (List ℕ) → List ℕ
-cell_text numbered [] = bad_line
-cell_text numbered (word ∷ []) = cell_word_text numbered (octets_of_digits word)
-cell_text numbered (word ∷ other ∷ words) = bad_line
+-- The cell of a line with words, which is one hexadecimal word.
+abbrev pub cell_words_read : List (List ℕ) → Result (List ℕ) (List ℕ)
+cell_words_read [] = Err bad_line
+cell_words_read (word ∷ []) = cell_word_read (octets_of_digits word)
+cell_words_read (word ∷ other ∷ words) = Err bad_line
 
--- The answer to a line after the line `cells`. A line without words and a comment have an empty answer.
-abbrev pub why_text : NumberedRead → List (List ℕ) → List ℕ
-why_text numbered words = if is_silent words then [] else cell_text numbered words
+-- The cell of a line after the line `cells`, or the answer to a line without one. That of a line without words and of a comment is empty.
+abbrev pub cell_line_read : List (List ℕ) → Result (List ℕ) (List ℕ)
+cell_line_read words = if is_silent words then Err [] else cell_words_read words
 
--- The answer to a line after the line `cells`, by these rules. They stay as they are.
-abbrev pub WhySteps : NumberedRead → List ℕ → List ℕ → Option NumberedRead → Type 0
-WhySteps numbered content here next = (here ≡ why_text numbered (words_of content)) × (next ≡ Some numbered)
+-- What the answers depend on: the rules, whether cells are counted, and the places of the rules that decided the cells so far, the last
+-- cell's first. They stay as they are but for these.
+pub record WhyWorld : Type 0 where
+  pub numbered : NumberedRead
+  pub counts : Bool
+  pub decided : List (Option ℕ)
+
+-- The world before the first cell.
+abbrev pub first_world : Bool → NumberedRead → WhyWorld
+first_world counts numbered = record { numbered = numbered; counts = counts; decided = [] }
+
+-- The answer to a line after the line `cells`. A cell that is counted has none.
+abbrev pub why_text : NumberedRead → Bool → Result (List ℕ) (List ℕ) → List ℕ
+why_text numbered counts (Ok cell) = if counts then [] else decision_text numbered.numbers (rules_decide numbered.rules cell)
+why_text numbered counts (Err answer) = answer
+
+-- The world after such a line.
+abbrev pub world_after_line : WhyWorld → Result (List ℕ) (List ℕ) → WhyWorld
+world_after_line world (Ok cell) = record world { decided = (rules_decide world.numbered.rules cell).line ∷ world.decided }
+world_after_line world (Err answer) = world
+
+-- The answer to a line after the line `cells`, and the next world.
+abbrev pub WhySteps : WhyWorld → List ℕ → List ℕ → Option WhyWorld → Type 0
+WhySteps world content here next =
+    (here ≡ why_text world.numbered world.counts (cell_line_read (words_of content)))
+    × (next ≡ Some (world_after_line world (cell_line_read (words_of content))))
+
+-- The answer to the end of the input: the counts, if cells are counted.
+abbrev pub counts_at_end : WhyWorld → List ℕ
+counts_at_end world = if world.counts then counts_text world.numbered world.decided else []
 
 -- The end of the input.
-abbrev pub WhyCloses : NumberedRead → List ℕ → Done → Type 0
-WhyCloses numbered here done = (here ≡ []) × (done ≡ Whole)
+abbrev pub WhyCloses : WhyWorld → List ℕ → Done → Type 0
+WhyCloses world here done = (here ≡ counts_at_end world) × (done ≡ Whole)
 
 -- The rules of `why` for the lines after the line `cells`.
-abbrev pub why_rules : Rules NumberedRead
-why_rules = record { steps = WhySteps; closes = WhyCloses; too_long = too_long; is_sound = λ numbered. Unit {0} }
+abbrev pub why_rules : Rules WhyWorld
+why_rules = record { steps = WhySteps; closes = WhyCloses; too_long = too_long; is_sound = λ world. Unit {0} }
 
 -- The code that is defined for the text isn't too long: it has at most 4096 instructions.
 pub record HasCode (text : List ℕ) : Type 0 where
@@ -101,20 +124,20 @@ pub record HasCode (text : List ℕ) : Type 0 where
 
 -- The answers to lines of cells by the rules of a text, or its fault. The code isn't needed to decide cells, but a text of rules is one that
 -- can be compiled.
-abbrev pub PrintsDecisions : List Line → List ℕ → List ℕ → Done → Type 0
-PrintsDecisions cells text answer done =
-    ((numbered : NumberedRead) × (numbered_in text ≡ Ok numbered) × HasCode text × Prints why_rules 0 numbered cells answer done)
+abbrev pub PrintsDecisions : Bool → List Line → List ℕ → List ℕ → Done → Type 0
+PrintsDecisions counts cells text answer done =
+    ((numbered : NumberedRead) × (numbered_in text ≡ Ok numbered) × HasCode text × Prints why_rules 0 (first_world counts numbered) cells answer done)
     ⊎ PrintsFault text answer done
 
 -- The text of the rules that come before the cells of an input, if it is within the limit of texts of rules.
 abbrev pub rules_of_why : List ℕ → Option (List ℕ)
 rules_of_why octets = gathered most_rules_octets (rules_before (lines_of octets))
 
--- The output for a whole input, and how the run ends.
-abbrev pub IsWhyText : List ℕ → List ℕ → Done → Type 0
-IsWhyText octets answer done = AnswersBy (PrintsDecisions (lines_after (lines_of octets))) (rules_of_why octets) answer done
+-- The output for a whole input, and how the run ends. `counts` says whether cells are counted in place of answered.
+abbrev pub IsWhyText : Bool → List ℕ → List ℕ → Done → Type 0
+IsWhyText counts octets answer done = AnswersBy (PrintsDecisions counts (lines_after (lines_of octets))) (rules_of_why octets) answer done
 
 -- The same, but that the code of any rules may be reported as too long. Every input has such an output, so if a device fails,
 -- what was written is the beginning of one.
-abbrev pub MayBeWhyText : List ℕ → List ℕ → Done → Type 0
-MayBeWhyText octets answer done = IsWhyText octets answer done ⊎ (AreRulesOf (rules_of_why octets) × PrintsLongCode answer done)
+abbrev pub MayBeWhyText : Bool → List ℕ → List ℕ → Done → Type 0
+MayBeWhyText counts octets answer done = IsWhyText counts octets answer done ⊎ (AreRulesOf (rules_of_why octets) × PrintsLongCode answer done)

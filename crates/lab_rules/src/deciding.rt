@@ -1,7 +1,6 @@
 //! `upc-lab why`: the line of rules that decides each cell.
 
-ghost use Rattle.std.specs.Prelude.{◌≡◌, ◌++◌, IfOk, MatchOption, OnOk, Ok, option_map, slice_index};
-ghost use Rattle.rules_text.specs.DecisionsRead.{rules_decide};
+ghost use Rattle.std.specs.Prelude.{◌≡◌, ◌++◌, [], IfOk, IfSome, MatchOption, OnOk, Ok, is_some, option_map, slice_index};
 ghost use Rattle.rules_text.specs.NumberedText.{numbered_read};
 ghost use Rattle.rules_text.specs.TextOfRules.{numbered_in};
 ghost use Rattle.text_io.specs.Devices.{Adds};
@@ -10,10 +9,13 @@ ghost use Rattle.text_io.specs.Words.{words_of};
 ghost use Rattle.text_io.specs.declared.ending.Done.TheVariants.{Ended};
 ghost use Rattle.upc_words.specs.Hexadecimal.{octets_of_digits};
 ghost use Rattle.lab_rules.specs.RulesAnswers.{AnswersBy, PrintsFault};
-ghost use Rattle.lab_rules.specs.WhyText.{HasCode, IsWhyText, MayBeWhyText, cell_word_text, decider_text, decision_text, value_text, why_rules, why_text};
+ghost use Rattle.lab_rules.specs.CountText.{decider_text};
+ghost use Rattle.lab_rules.specs.WhyText.{HasCode, IsWhyText, MayBeWhyText, cell_line_read, cell_word_read, decision_text, value_text};
+ghost use Rattle.lab_rules.specs.inner.Counted.{AnswersLine, AreCounts, IsLineRead};
 ghost use Rattle.lab_rules.specs.inner.Places.{FindsRules};
 
 use crate::before_cells::read_rules_before;
+use crate::counting::Counts;
 use crate::decider::Decider;
 use crate::fault_lines::add_rule_fault;
 use cell_rules::Decision;
@@ -40,7 +42,7 @@ pub(crate) fn number_at(numbers: &[usize], place: usize) -> usize
 
 /// Appends the line of the rule that decides, or `otherwise`.
 #[tactic(auto, using(std::proofs::lemmas::List::append_assoc))]
-fn add_decider(
+pub(crate) fn add_decider(
     answers: &mut Vec<u8>,
     numbers: &[usize],
     line: Option<usize>,
@@ -80,72 +82,98 @@ fn add_decision(
     add_value(answers, decision.value)
 }
 
-/// Answers a cell with the line that decides it.
-fn answer_cell(decider: &Decider, cell: &Cell, answers: &mut Vec<u8>) -> Result<(), AllocError>
-    ensures { OnOk result (answers.new.items ≡ answers.old.items
-        ++ decision_text decider.now.numbered.numbers.items (rules_decide (numbered_read decider.now.numbered).rules cell.now)) }
-{
-    let decision = decider.decide(cell);
-    add_decision(answers, &decider.numbered.numbers, decision)
-}
-
-/// Answers a cell line of one word.
-fn answer_word(
+/// Reads a word of a cell line, or appends the answer to one that is no cell.
+fn cell_in_word(
     alloc: Global,
-    decider: &Decider,
     word: &[u8],
     answers: &mut Vec<u8>,
-) -> Result<(), AllocError>
-    ensures { OnOk result (answers.new.items ≡ answers.old.items ++ cell_word_text (numbered_read decider.now.numbered) (octets_of_digits word.now)) }
+) -> Result<Option<Cell>, AllocError>
+    ensures { IfOk result (IsLineRead (cell_word_read (octets_of_digits word.now)) answers.old.items answers.new.items) }
 {
     match cell_of_word(alloc, word)? {
-        CellWord::OfCell(cell) => answer_cell(decider, &cell, answers),
-        CellWord::OfOthers(count) => add_wrong_length(answers, count),
-        CellWord::NoDigits => add_bad_hex(answers),
+        CellWord::OfCell(cell) => return Ok(Some(cell)),
+        CellWord::OfOthers(count) => add_wrong_length(answers, count)?,
+        CellWord::NoDigits => add_bad_hex(answers)?,
+    }
+    Ok(None)
+}
+
+/// Reads a line after the line `cells`, or appends the answer to one without a cell.
+fn cell_in_line(
+    alloc: Global,
+    line: &[u8],
+    answers: &mut Vec<u8>,
+) -> Result<Option<Cell>, AllocError>
+    ensures { IfOk result (IsLineRead (cell_line_read (words_of line.now)) answers.old.items answers.new.items) }
+{
+    match line_words(line) {
+        LineWords::One(word) => return cell_in_word(alloc, word, answers),
+        LineWords::Silent => {}
+        LineWords::Several => add_bad_line(answers)?,
+    }
+    Ok(None)
+}
+
+/// The subcommand as a machine, after the line `cells`.
+#[derive(Drop)]
+pub(crate) struct Deciding {
+    /// Where it allocates.
+    pub alloc: Global,
+    /// The rules.
+    pub decider: Decider,
+    /// The counts, if cells are counted.
+    pub counts: Option<Counts>,
+}
+
+/// Counts a cell, or answers it with the line that decides it.
+fn answer_cell(
+    deciding: &mut Deciding,
+    cell: &Cell,
+    answers: &mut Vec<u8>,
+) -> Result<(), AllocError>
+    ensures { OnOk result (AnswersLine deciding.old deciding.new (Ok cell.now) answers.old.items answers.new.items) }
+{
+    let decision = deciding.decider.decide(cell);
+    match &mut deciding.counts {
+        Some(counts) => counts.count(decision.line),
+        None => add_decision(answers, &deciding.decider.numbered.numbers, decision),
     }
 }
 
 /// Answers a line after the line `cells`.
 fn answer_line(
-    alloc: Global,
-    decider: &Decider,
+    deciding: &mut Deciding,
     line: &[u8],
     answers: &mut Vec<u8>,
 ) -> Result<(), AllocError>
-    ensures { OnOk result (answers.new.items ≡ answers.old.items ++ why_text (numbered_read decider.now.numbered) (words_of line.now)) }
+    ensures { OnOk result (AnswersLine deciding.old deciding.new (cell_line_read (words_of line.now)) answers.old.items answers.new.items) }
 {
-    match line_words(line) {
-        LineWords::Silent => Ok(()),
-        LineWords::One(word) => answer_word(alloc, decider, word, answers),
-        LineWords::Several => add_bad_line(answers),
+    match cell_in_line(deciding.alloc, line, answers)? {
+        Some(cell) => answer_cell(deciding, &cell, answers),
+        None => Ok(()),
     }
 }
 
-/// The subcommand as a machine, after the line `cells`.
-#[derive(Drop)]
-struct Deciding {
-    alloc: Global,
-    decider: Decider,
-}
-
 impl Machine for Deciding {
-    ghost use Rattle.rules_text.specs.NumberedText.{numbered_read};
-    ghost use Rattle.rules_text.specs.TextOfRules.{NumberedRead};
-    ghost use Rattle.lab_rules.specs.WhyText.{why_rules};
+    ghost use Rattle.lab_rules.specs.WhyText.{WhyWorld, why_rules};
+    ghost use Rattle.lab_rules.specs.inner.Counted.{ShowsWhy};
     ghost use Rattle.lab_rules.specs.inner.WhyTotal.{why-total};
 
-    ghost World = { NumberedRead };
+    ghost World = { WhyWorld };
 
-    ghost shows = { λ deciding numbered. numbered ≡ numbered_read deciding.decider.numbered };
+    ghost shows = { ShowsWhy };
 
     ghost rules = { why_rules };
 
     fn answer(&mut self, line: &[u8], answers: &mut Vec<u8>) -> Result<Turn, AllocError> {
-        answer_line(self.alloc, &self.decider, line, answers)?;
+        answer_line(self, line, answers)?;
         Ok(Turn::GoesOn)
     }
 
-    fn close(&self, _answers: &mut Vec<u8>) -> Result<Done, AllocError> {
+    fn close(&self, answers: &mut Vec<u8>) -> Result<Done, AllocError> {
+        if let Some(counts) = &self.counts {
+            counts.add_to(answers, &self.decider.numbered)?;
+        }
         Ok(Done::Whole)
     }
 
@@ -200,8 +228,20 @@ fn found_decider(
     }
 }
 
+/// Counts of no cell, if cells are counted.
+fn counts_if(alloc: Global, count: bool) -> Option<Counts>
+    ensures asked { is_some result ≡ count }
+    ensures empty { IfSome result (AreCounts []) }
+{
+    if count {
+        return Some(Counts::new(alloc));
+    }
+    None
+}
+
 /// Answers an input. The lines before the line `cells` are a text of rules, within its limits; docs/RULES.md has it. Each line after it is a
-/// cell, and its answer is the line of the rule that decides it, and its value. A text with a fault is answered by the fault.
+/// cell, and its answer is the line of the rule that decides it, and its value. If cells are counted they have no answer, and at the end each
+/// rule has a line with the number of cells that it decided. A text with a fault is answered by the fault.
 ///
 /// # Errors
 ///
@@ -209,12 +249,13 @@ fn found_decider(
 /// allocation fails. The output is then a prefix of the text.
 pub fn decide_cells<I: Input, O: Output>(
     alloc: Global,
+    count: bool,
     input: &mut I,
     output: &mut O,
 ) -> Result<Done, RunFault>
-    ensures served { IsServed MayBeWhyText I.Input input.old input.new O.Output output.old output.new result }
+    ensures served { IsServed (MayBeWhyText count) I.Input input.old input.new O.Output output.old output.new result }
     ensures printed { I.is_known → O.is_known → IfOk result (λ done.
-        Adds (λ answer. IsWhyText (I.rest input.old) answer done) (O.held output.old) (O.held output.new)) }
+        Adds (λ answer. IsWhyText count (I.rest input.old) answer done) (O.held output.old) (O.held output.new)) }
 {
     let found = match read_rules_before(alloc, input) {
         Ok(found) => found,
@@ -225,7 +266,12 @@ pub fn decide_cells<I: Input, O: Output>(
         Err(_) => Err(RunFault::NoMemory),
         Ok(None) => give_last(output, &mut answers, Done::Ended),
         Ok(Some(decider)) => {
-            let mut deciding = Deciding { alloc, decider };
+            let counts = counts_if(alloc, count);
+            let mut deciding = Deciding {
+                alloc,
+                decider,
+                counts,
+            };
             answer_lines(alloc, input, output, &mut deciding)
         }
     }

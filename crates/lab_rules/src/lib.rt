@@ -6,6 +6,7 @@ mod answering;
 mod assembling;
 mod before_cells;
 mod compiling;
+mod counting;
 mod decider;
 mod deciding;
 mod fault_lines;

@@ -1,7 +1,6 @@
 -- What the words of `upc-lab` ask for.
 use Rattle.std.proofs.Common.{if◌then◌else◌, drop, ◌≡◌, ◌∙◌, Bool, ap, codes, cond, find, map, refl, subst, sym, true, false, inl, inr, List, [], ◌∷◌, ◌++◌, Option, Some, None, IfErr, IfOk, IsOkAnd, IsSome, IsSomeAnd, Ok, Err, option_map, Result}
 use Rattle.std.specs.Str.{bytes_eq}
-use Rattle.std.proofs.lemmas.Slice.Eq.{bytes_eq-Decides}
 use Rattle.clap.specs.Walk.{Text, is_empty}
 use Rattle.clap.proofs.OnLiterals.{clap_on_literals}
 use Rattle.command_line.specs.CommandLines.{kinds_in}
@@ -10,9 +9,9 @@ use Rattle.command_line.specs.Stopping.{StopsAt}
 use Rattle.command_line.specs.Subcommands.{IsEnd, NamesIn, NamesRow, app_with, meaning_in, with_name}
 use Rattle.command_line.specs.declared.stop.Stop.{Stop}
 use Rattle.command_line.specs.declared.stop.Stop.TheVariants.{NoMemory}
-use Rattle.upc_lab.specs.LabWords.{AsksLab, IsLabStop, IsStopOf, NamesLab, begun_by, lab_app, lab_faults_in, lab_subcommands, lab_table, with_options_named}
+use Rattle.upc_lab.specs.LabWords.{AsksLab, IsLabStop, IsStopOf, NamesLab, begun_by, lab_app, lab_faults_in, lab_subcommands, lab_table, own_subcommands, with_options_named}
 use Rattle.upc_lab.specs.declared.choice.Asked.{Asked}
-use Rattle.upc_lab.specs.declared.choice.Asked.TheVariants.{Plain, Cells, Fit, Police, Differ, Forward}
+use Rattle.upc_lab.specs.declared.choice.Asked.TheVariants.{Plain, Why, Cells, Fit, Police, Differ, Forward}
 use Rattle.upc_lab.specs.declared.choice.Subcommand.{Subcommand}
 use Rattle.upc_lab.specs.declared.help_words.WithOptions.{WithOptions}
 use Rattle.upc_lab.specs.declared.help_words.WithOptions.TheVariants as own
@@ -42,16 +41,13 @@ abbrev lab_named : Text → Option Subcommand
 lab_named = meaning_in lab_subcommands
 
 abbrev own_rows : List (Text × Option Subcommand)
-own_rows = (codes "cells", None) ∷ (codes "fit", None) ∷ (codes "police", None) ∷ (codes "forward", None) ∷ (codes "differ", None) ∷ []
+own_rows = map (λ row. (row.0, None)) own_subcommands
+
+abbrev no_subcommand : Option Subcommand
+no_subcommand = None
 
 abbrev no_meaning : Option (Option Subcommand)
 no_meaning = None
-
-abbrev own_row : Text → Text × Option Subcommand
-own_row name = (name, None)
-
-abbrev meaning_of : Option (Text × Option Subcommand) → Option (Option Subcommand)
-meaning_of row = option_map (λ row. row.1) row
 
 -- The first, or if there is none the second.
 abbrev or_other : {X : Type 0} → Option X → Option X → Option X
@@ -70,44 +66,19 @@ joined (row ∷ rows) more name = go (bytes_eq row.0 name) (joined rows more nam
     go true e = refl
     go false e = e
 
--- Texts are equal either way round.
-turned : (name own : Text) → bytes_eq name own ≡ bytes_eq own name
-turned name own = go (bytes_eq name own) (bytes_eq own name) refl refl
-  where
-    go : (one other : Bool) → bytes_eq name own ≡ one → bytes_eq own name ≡ other → one ≡ other
-    go true true e f = refl
-    go false false e f = refl
-    go true false e f =
-        let is : bytes_eq own name ≡ true = (bytes_eq-Decides own name).1 (sym ((bytes_eq-Decides name own).0 e)) in
-        let bad : true ≡ false = sym is ∙ f in cc
-    go false true e f =
-        let is : bytes_eq name own ≡ true = (bytes_eq-Decides name own).1 (sym ((bytes_eq-Decides own name).0 f)) in
-        let bad : true ≡ false = sym is ∙ e in cc
-
--- The subcommand that is named, by the tests of its name.
-abbrev named_by : Bool → Bool → Bool → Bool → Bool → Option WithOptions
-named_by cells fit police forward differ =
-    if cells then Some own.Cells else if fit then Some own.Fit else if police then Some own.Police else if forward then Some own.Forward else if differ then Some own.Differ else None
-
 -- A name that is none of theirs is not in one of their rows.
-no_own_row : (name : Text) → with_options_named name ≡ None → meaning_in own_rows name ≡ None
-no_own_row name none =
-    go (bytes_eq (codes "cells") name) (bytes_eq (codes "fit") name) (bytes_eq (codes "police") name) (bytes_eq (codes "forward") name) (bytes_eq (codes "differ") name)
-    (ap (λ b. named_by b (bytes_eq (codes "fit") name) (bytes_eq (codes "police") name) (bytes_eq (codes "forward") name) (bytes_eq (codes "differ") name)) (sym (turned name (codes "cells")))
-    ∙ ap (λ b. named_by (bytes_eq name (codes "cells")) b (bytes_eq (codes "police") name) (bytes_eq (codes "forward") name) (bytes_eq (codes "differ") name)) (sym (turned name (codes "fit")))
-    ∙ ap (λ b. named_by (bytes_eq name (codes "cells")) (bytes_eq name (codes "fit")) b (bytes_eq (codes "forward") name) (bytes_eq (codes "differ") name)) (sym (turned name (codes "police")))
-    ∙ ap (λ b. named_by (bytes_eq name (codes "cells")) (bytes_eq name (codes "fit")) (bytes_eq name (codes "police")) b (bytes_eq (codes "differ") name)) (sym (turned name (codes "forward")))
-    ∙ ap (λ b. named_by (bytes_eq name (codes "cells")) (bytes_eq name (codes "fit")) (bytes_eq name (codes "police")) (bytes_eq name (codes "forward")) b) (sym (turned name (codes "differ")))
-    ∙ none)
+not_in_rows : (rows : List (Text × WithOptions)) (name : Text) → meaning_in rows name ≡ None → meaning_in (map (λ row. (row.0, None)) rows) name ≡ no_meaning
+not_in_rows [] name none = refl
+not_in_rows (row ∷ rows) name none = go (bytes_eq row.0 name) none (not_in_rows rows name)
   where
-    go : (cells fit police forward differ : Bool) → named_by cells fit police forward differ ≡ None
-        → meaning_of (cond cells (Some (own_row (codes "cells"))) (cond fit (Some (own_row (codes "fit"))) (cond police (Some (own_row (codes "police"))) (cond forward (Some (own_row (codes "forward"))) (cond differ (Some (own_row (codes "differ"))) None))))) ≡ no_meaning
-    go false false false false false none = refl
-    go true fit police forward differ none = cc
-    go false true police forward differ none = cc
-    go false false true forward differ none = cc
-    go false false false true differ none = cc
-    go false false false false true none = cc
+    go : (same : Bool) → option_map (λ row. row.1) (cond same (Some row) (find (λ row. bytes_eq row.0 name) rows)) ≡ None
+        → (meaning_in rows name ≡ None → meaning_in (map (λ row. (row.0, None)) rows) name ≡ no_meaning)
+        → option_map (λ row. row.1) (cond same (Some (row.0, no_subcommand)) (find (λ row. bytes_eq row.0 name) (map (λ row. (row.0, None)) rows))) ≡ no_meaning
+    go true none later = cc
+    go false none later = later none
+
+no_own_row : (name : Text) → with_options_named name ≡ None → meaning_in own_rows name ≡ no_meaning
+no_own_row name none = not_in_rows own_subcommands name none
 
 plain_row : (found : Option Subcommand) (meaning : Option Subcommand) → or_other (option_map Some found) None ≡ Some meaning
     → (subcommand : Subcommand) × (meaning ≡ Some subcommand) × (found ≡ Some subcommand)
@@ -178,6 +149,7 @@ answers words (Err stop) answer plain none h stopped taken granted named ended =
 pub granted_plain : (words : List Text) (stop : Stop) (asked : Asked) → begun_by words ≡ None
     → ((subcommand : Subcommand) → NamesLab words subcommand → stop ≡ NoMemory) → AsksLab words asked → stop ≡ NoMemory
 granted_plain words stop (Plain subcommand) plain granted h = granted subcommand h.1
+granted_plain words stop (Why options) plain granted h = let bad : Some own.Why ≡ None = sym h.0 ∙ plain in cc
 granted_plain words stop (Cells options) plain granted h = let bad : Some own.Cells ≡ None = sym h.0 ∙ plain in cc
 granted_plain words stop (Fit options) plain granted h = let bad : Some own.Fit ≡ None = sym h.0 ∙ plain in cc
 granted_plain words stop (Police options) plain granted h = let bad : Some own.Police ≡ None = sym h.0 ∙ plain in cc

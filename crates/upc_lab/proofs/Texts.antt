@@ -13,13 +13,12 @@ use Rattle.lab_police.proofs.Public.{some_agreed_text}
 use Rattle.lab_sizes.proofs.Public.{some-sizes_text}
 use Rattle.upc_lab.specs.LabText.{IsAskedText, IsLabText, others_asked}
 use Rattle.upc_lab.specs.declared.choice.Asked.{Asked}
-use Rattle.upc_lab.specs.declared.choice.Asked.TheVariants.{Plain, Cells, Fit, Police, Differ, Forward}
+use Rattle.upc_lab.specs.declared.choice.Asked.TheVariants.{Plain, Why, Cells, Fit, Police, Differ, Forward}
 use Rattle.upc_lab.specs.declared.choice.Subcommand.{Subcommand}
 use Rattle.upc_lab.specs.declared.choice.Subcommand.TheVariants as lab
 
 some-lab_text : (chosen : Subcommand) (octets : List ℕ) → (answer : List ℕ) × (done : Done) × IsLabText chosen octets answer done
 some-lab_text lab.Rules octets = some-rules_text octets
-some-lab_text lab.Why octets = some-why_text octets
 some-lab_text lab.Asm octets = some-asm_text octets
 some-lab_text lab.Unused octets = some-unused_text octets
 some-lab_text lab.List octets = some-list_text octets
@@ -30,6 +29,7 @@ some-lab_text lab.Explain octets = some-explain_text octets
 pub some-asked_text : (asked : Asked) (setup : List ℕ) (tick : Option ℕ) (rules : List (List ℕ)) (old octets : List ℕ)
     → (answer : List ℕ) × (done : Done) × IsAskedText setup tick rules old asked octets answer done
 some-asked_text (Plain subcommand) setup tick rules old octets = some-lab_text subcommand octets
+some-asked_text (Why options) setup tick rules old octets = some-why_text options.count octets
 some-asked_text (Cells options) setup tick rules old octets = some_cells_text options.tick.nanoseconds options.link octets
 some-asked_text (Police options) setup tick rules old octets =
     some_agreed_text options.lines tick (option_map (λ it. it.nanoseconds) options.tick) options.link setup rules octets

@@ -3,7 +3,7 @@ use Rattle.std.specs.Prelude.{ℕ, ◌==◌, Bool, ◌&&◌, if◌then◌else◌
 use Rattle.text_io.specs.declared.ending.RunFault.{RunFault}
 use Rattle.text_io.specs.declared.ending.RunFault.TheVariants.{ReadFailed, WriteFailed, NoMemory}
 use Rattle.upc_lab.specs.declared.choice.Asked.{Asked}
-use Rattle.upc_lab.specs.declared.choice.Asked.TheVariants.{Plain, Cells, Fit, Police, Differ, Forward}
+use Rattle.upc_lab.specs.declared.choice.Asked.TheVariants.{Plain, Why, Cells, Fit, Police, Differ, Forward}
 use Rattle.upc_lab.specs.declared.choice.Subcommand.{Subcommand}
 use Rattle.upc_lab.specs.declared.choice.Subcommand.TheVariants as lab
 
@@ -22,7 +22,6 @@ shell_status_of status closed = if closed && (status == 3) then 141 else status
 -- The name of a subcommand.
 abbrev pub lab_name_of : Subcommand → List ℕ
 lab_name_of lab.Rules = codes "rules"
-lab_name_of lab.Why = codes "why"
 lab_name_of lab.Asm = codes "asm"
 lab_name_of lab.Unused = codes "unused"
 lab_name_of lab.List = codes "list"
@@ -33,7 +32,6 @@ lab_name_of lab.Explain = codes "explain"
 -- What a subcommand waits for.
 abbrev pub lab_input_of : Subcommand → List ℕ
 lab_input_of lab.Rules = codes "reading rules from the terminal, to its end"
-lab_input_of lab.Why = codes "reading rules, a line `cells` and cells from the terminal, to its end"
 lab_input_of lab.Asm = codes "reading rules from the terminal, to its end"
 lab_input_of lab.Unused = codes "reading rules from the terminal, to its end"
 lab_input_of lab.List = codes "reading a program from the terminal, to its end"
@@ -48,6 +46,7 @@ lab_notice subcommand = codes "upc-lab " ++ lab_name_of subcommand ++ codes ": "
 -- The notice for what was asked.
 abbrev pub asked_notice : Asked → List ℕ
 asked_notice (Plain subcommand) = lab_notice subcommand
+asked_notice (Why options) = codes "upc-lab why: reading rules, a line `cells` and cells from the terminal, to its end"
 asked_notice (Cells options) = codes "upc-lab cells: reading a capture from the terminal, to its end"
 asked_notice (Fit options) = codes "upc-lab fit: reading a capture from the terminal, to its end"
 asked_notice (Police options) = codes "upc-lab police: reading a capture from the terminal, to its end"

@@ -18,14 +18,13 @@ use Rattle.lab_police.specs.SetupText.{MayBePolicedAsAgreed}
 use Rattle.lab_sizes.specs.SizeText.{IsSizesText}
 use Rattle.text_io.specs.declared.ending.Done.{Done}
 use Rattle.upc_lab.specs.declared.choice.Asked.{Asked}
-use Rattle.upc_lab.specs.declared.choice.Asked.TheVariants.{Plain, Cells, Fit, Police, Differ, Forward}
+use Rattle.upc_lab.specs.declared.choice.Asked.TheVariants.{Plain, Why, Cells, Fit, Police, Differ, Forward}
 use Rattle.upc_lab.specs.declared.choice.Subcommand.{Subcommand}
 use Rattle.upc_lab.specs.declared.choice.Subcommand.TheVariants as lab
 
 -- The output of a subcommand without options for a whole input, and how the run ends.
 abbrev pub IsLabText : Subcommand → List ℕ → List ℕ → Done → Type 0
 IsLabText lab.Rules = MayBeRulesText
-IsLabText lab.Why = MayBeWhyText
 IsLabText lab.Asm = MayBeAsmText
 IsLabText lab.Unused = IsUnusedAnswer
 IsLabText lab.List = IsListText
@@ -41,6 +40,7 @@ others_asked others = if others then Pass else Drop
 -- text of rules, and for a whole input, and how the run ends. Only `police` and `forward` have the first three, and only `differ` the last.
 abbrev pub IsAskedText : List ℕ → Option ℕ → List (List ℕ) → List ℕ → Asked → List ℕ → List ℕ → Done → Type 0
 IsAskedText setup tick rules old (Plain subcommand) = IsLabText subcommand
+IsAskedText setup tick rules old (Why options) = MayBeWhyText options.count
 IsAskedText setup tick rules old (Cells options) = IsCellsText options.tick.nanoseconds options.link
 IsAskedText setup tick rules old (Police options) = MayBePolicedAsAgreed options.lines tick (option_map (λ asked. asked.nanoseconds) options.tick) options.link setup rules
 IsAskedText setup tick rules old (Fit options) = IsFitText options.increment options.tick.nanoseconds options.link options.side

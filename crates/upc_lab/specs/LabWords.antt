@@ -1,21 +1,21 @@
 -- The subcommand of `upc-lab` that the command line names, and the errors of the command line, by clap's definitions for a simple
 -- command.
-use Rattle.std.specs.Prelude.{◌≡◌, List, [], ◌∷◌, ◌++◌, Option, Some, None, true, if◌then◌else◌, drop, codes, map}
-use Rattle.std.specs.Str.{bytes_eq}
+use Rattle.std.specs.Prelude.{◌≡◌, List, [], ◌∷◌, ◌++◌, Option, Some, None, true, drop, codes, map}
 use Rattle.clap.specs.Walk.{Text}
 use Rattle.clap.specs.Simple.{App}
 use Rattle.clap.specs.Kinds.{Kinds}
 use Rattle.command_line.specs.CommandLines.{kinds_in}
 use Rattle.command_line.specs.Stopping.{StopsAt}
-use Rattle.command_line.specs.Subcommands.{NamesRow, app_with, row_names}
+use Rattle.command_line.specs.Subcommands.{NamesRow, app_with, meaning_in, row_names}
 use Rattle.command_line.specs.declared.stop.Stop.{Stop}
 use Rattle.lab_options.specs.CellsOptions.{AsksCells, IsCellsStop, cells_asked_by}
 use Rattle.lab_options.specs.DifferOptions.{AsksDiffer, IsDifferStop, differ_asked_by}
 use Rattle.lab_options.specs.FitOptions.{AsksFit, IsFitStop, asked_by}
 use Rattle.lab_options.specs.ForwardOptions.{AsksForward, IsForwardStop, forward_asked_by}
 use Rattle.lab_options.specs.PoliceOptions.{AsksPolice, IsPoliceStop, police_asked_by}
+use Rattle.lab_options.specs.WhyOptions.{AsksWhy, IsWhyStop, why_asked_by}
 use Rattle.upc_lab.specs.declared.choice.Asked.{Asked}
-use Rattle.upc_lab.specs.declared.choice.Asked.TheVariants.{Plain, Cells, Fit, Police, Differ, Forward}
+use Rattle.upc_lab.specs.declared.choice.Asked.TheVariants.{Plain, Why, Cells, Fit, Police, Differ, Forward}
 use Rattle.upc_lab.specs.declared.choice.Subcommand.{Subcommand}
 use Rattle.upc_lab.specs.declared.choice.Subcommand.TheVariants as lab
 use Rattle.upc_lab.specs.declared.help_words.WithOptions.{WithOptions}
@@ -24,15 +24,20 @@ use Rattle.upc_lab.specs.declared.help_words.WithOptions.TheVariants as own
 -- The name of each subcommand without options: those for rules, those for programs, that for contracts, and that for faults.
 abbrev pub lab_subcommands : List (Text × Subcommand)
 lab_subcommands =
-    (codes "rules", lab.Rules) ∷ (codes "why", lab.Why) ∷ (codes "asm", lab.Asm) ∷ (codes "unused", lab.Unused) ∷ (codes "list", lab.List)
+    (codes "rules", lab.Rules) ∷ (codes "asm", lab.Asm) ∷ (codes "unused", lab.Unused) ∷ (codes "list", lab.List)
     ∷ (codes "trace", lab.Trace) ∷ (codes "size", lab.Size) ∷ (codes "explain", lab.Explain) ∷ []
+
+-- The name of each subcommand with options.
+abbrev pub own_subcommands : List (Text × WithOptions)
+own_subcommands =
+    (codes "why", own.Why) ∷ (codes "cells", own.Cells) ∷ (codes "fit", own.Fit) ∷ (codes "police", own.Police)
+    ∷ (codes "forward", own.Forward) ∷ (codes "differ", own.Differ) ∷ []
 
 -- Each subcommand of the command. Those with options, which mean nothing here, have a command of their own: words that begin with the name of
 -- one are read by it.
 abbrev pub lab_table : List (Text × Option Subcommand)
 lab_table =
-    map (λ row. (row.0, Some row.1)) lab_subcommands ++ (codes "cells", None) ∷ (codes "fit", None) ∷ (codes "police", None)
-    ∷ (codes "forward", None) ∷ (codes "differ", None) ∷ []
+    map (λ row. (row.0, Some row.1)) lab_subcommands ++ map (λ row. (row.0, None)) own_subcommands
 
 -- The command `upc-lab`: these subcommands, of which it wants one, and no option except those for help and the version.
 unfoldable pub lab_app : App
@@ -48,13 +53,7 @@ NamesLab = NamesRow lab_subcommands
 
 -- The subcommand with options that has this name.
 abbrev pub with_options_named : Text → Option WithOptions
-with_options_named name =
-    if bytes_eq name (codes "cells") then Some own.Cells
-    else if bytes_eq name (codes "fit") then Some own.Fit
-    else if bytes_eq name (codes "police") then Some own.Police
-    else if bytes_eq name (codes "forward") then Some own.Forward
-    else if bytes_eq name (codes "differ") then Some own.Differ
-    else None
+with_options_named = meaning_in own_subcommands
 
 -- The subcommand with options with whose name the words begin, if they do.
 abbrev pub begun_by : List Text → Option WithOptions
@@ -65,6 +64,7 @@ begun_by (word ∷ words) = with_options_named word
 -- options.
 abbrev pub AsksLab : List Text → Asked → Type 0
 AsksLab words (Plain subcommand) = (begun_by words ≡ None) × NamesLab words subcommand
+AsksLab words (Why options) = (begun_by words ≡ Some own.Why) × AsksWhy (drop 1 words) (why_asked_by options)
 AsksLab words (Cells options) = (begun_by words ≡ Some own.Cells) × AsksCells (drop 1 words) (cells_asked_by options)
 AsksLab words (Fit options) = (begun_by words ≡ Some own.Fit) × AsksFit (drop 1 words) (asked_by options)
 AsksLab words (Police options) = (begun_by words ≡ Some own.Police) × AsksPolice (drop 1 words) (police_asked_by options)
@@ -74,6 +74,7 @@ AsksLab words (Differ options) = (begun_by words ≡ Some own.Differ) × AsksDif
 -- The Stops that the words of such a subcommand may give, or those of any other words.
 abbrev pub IsStopOf : Option WithOptions → List Text → Stop → Type 0
 IsStopOf None words stop = StopsAt (lab_faults_in words) stop
+IsStopOf (Some own.Why) words stop = IsWhyStop (drop 1 words) stop
 IsStopOf (Some own.Cells) words stop = IsCellsStop (drop 1 words) stop
 IsStopOf (Some own.Fit) words stop = IsFitStop (drop 1 words) stop
 IsStopOf (Some own.Police) words stop = IsPoliceStop (drop 1 words) stop

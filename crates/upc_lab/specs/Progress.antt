@@ -4,11 +4,12 @@ use Rattle.text_io.specs.declared.device.Output.{Ghosts as OutputView}
 use Rattle.command_line.specs.declared.stop.Stop.{Stop}
 use Rattle.command_line.specs.Messages.{WritesMessage}
 use Rattle.upc_lab.specs.declared.choice.Asked.{Asked}
-use Rattle.upc_lab.specs.declared.choice.Asked.TheVariants.{Plain, Cells, Fit, Police, Differ, Forward}
+use Rattle.upc_lab.specs.declared.choice.Asked.TheVariants.{Plain, Why, Cells, Fit, Police, Differ, Forward}
 
 -- The words ask for a subcommand that reads a capture.
 abbrev pub reads_capture : Result Asked Stop → Bool
 reads_capture (Ok (Plain subcommand)) = false
+reads_capture (Ok (Why options)) = false
 reads_capture (Ok (Cells options)) = true
 reads_capture (Ok (Fit options)) = true
 reads_capture (Ok (Police options)) = true

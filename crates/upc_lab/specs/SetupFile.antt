@@ -22,7 +22,7 @@ use Rattle.upc_lab.specs.ForwardRun.{CarriesForward}
 use Rattle.upc_lab.specs.LabText.{IsAskedText, others_asked}
 use Rattle.upc_lab.specs.ShownNames.{shown_name}
 use Rattle.upc_lab.specs.declared.choice.Asked.{Asked}
-use Rattle.upc_lab.specs.declared.choice.Asked.TheVariants.{Plain, Cells, Fit, Police, Differ, Forward}
+use Rattle.upc_lab.specs.declared.choice.Asked.TheVariants.{Plain, Why, Cells, Fit, Police, Differ, Forward}
 use Rattle.upc_lab.specs.declared.choice.Subcommand.{Subcommand}
 use Rattle.upc_lab.specs.declared.choice.Subcommand.TheVariants as lab
 use Rattle.upc_lab.specs.declared.setup_file.SetupFiles.{SetupFiles}
@@ -37,6 +37,7 @@ setup_name _ = None
 -- What `differ` is asked for, if the words ask for it.
 abbrev pub differ_in : Result Asked Stop → Option DifferOptions
 differ_in (Ok (Plain subcommand)) = None
+differ_in (Ok (Why options)) = None
 differ_in (Ok (Cells options)) = None
 differ_in (Ok (Fit options)) = None
 differ_in (Ok (Police options)) = None
@@ -47,6 +48,7 @@ differ_in (Err stop) = None
 -- What `forward` is asked for, if the words ask for it.
 abbrev pub forward_in : Result Asked Stop → Option ForwardOptions
 forward_in (Ok (Plain subcommand)) = None
+forward_in (Ok (Why options)) = None
 forward_in (Ok (Cells options)) = None
 forward_in (Ok (Fit options)) = None
 forward_in (Ok (Police options)) = None
@@ -58,7 +60,6 @@ forward_in (Err stop) = None
 abbrev pub is_unused : Subcommand → Bool
 is_unused lab.Unused = true
 is_unused lab.Rules = false
-is_unused lab.Why = false
 is_unused lab.Asm = false
 is_unused lab.List = false
 is_unused lab.Trace = false
@@ -68,6 +69,7 @@ is_unused lab.Explain = false
 -- Whether the words ask for `unused`.
 abbrev pub asks_unused : Result Asked Stop → Bool
 asks_unused (Ok (Plain subcommand)) = is_unused subcommand
+asks_unused (Ok (Why options)) = false
 asks_unused (Ok (Cells options)) = false
 asks_unused (Ok (Fit options)) = false
 asks_unused (Ok (Police options)) = false

@@ -9,8 +9,8 @@ ghost use Rattle.upc_lab.specs.declared.choice.Asked.{Asked as TheAsked};
 use crate::help_words::{WithOptions, begun_by, help_on, with_options_shown};
 use command_line::{Program, Row, Stop, VERSION, row_of_words};
 use lab_options::{
-    CellsOptions, DifferOptions, FitOptions, ForwardOptions, PoliceOptions, cells_options,
-    differ_options, fit_options, forward_options, police_options,
+    CellsOptions, DifferOptions, FitOptions, ForwardOptions, PoliceOptions, WhyOptions,
+    cells_options, differ_options, fit_options, forward_options, police_options, why_options,
 };
 use std::alloc::Global;
 
@@ -19,8 +19,6 @@ use std::alloc::Global;
 pub enum Subcommand {
     /// Compile a text of rules, and print the octets of their program.
     Rules,
-    /// Read a text of rules and then cells, and print which rule decides each cell.
-    Why,
     /// Compile a text of rules, and print the source of their program.
     Asm,
     /// Print which rules of a text decide no cell.
@@ -40,6 +38,8 @@ pub enum Subcommand {
 pub enum Asked {
     /// Run a subcommand without options.
     Plain(Subcommand),
+    /// Read a text of rules and then cells, and print which rule decides each cell.
+    Why(WhyOptions),
     /// Print the cells of a capture as lines of a script.
     Cells(CellsOptions),
     /// Print the least limit of each connection of a capture.
@@ -68,14 +68,6 @@ const SUBCOMMANDS: [Row<Option<Subcommand>>; 13] = [
         about: "Compile rules for cells and print the octets of their program",
         example: Some("Example: printf 'vpi 1 and vci 32..127 -> 1\\n' | upc-lab rules"),
         means: Some(Subcommand::Rules),
-    },
-    Row {
-        name: "why",
-        about: "Read rules, a line `cells` and cells, and print which rule decides each",
-        example: Some(
-            "Example: (cat examples/customer.rules; echo cells; tail -n +2 examples/customer.eval) | upc-lab why",
-        ),
-        means: Some(Subcommand::Why),
     },
     Row {
         name: "asm",
@@ -112,6 +104,12 @@ const SUBCOMMANDS: [Row<Option<Subcommand>>; 13] = [
         about: "Explain the faults of a script, or after a line `source` that of a source of assembly",
         example: Some("Example: upc-lab explain < examples/desk-refusals.run"),
         means: Some(Subcommand::Explain),
+    },
+    Row {
+        name: "why",
+        about: "Read rules, a line `cells` and cells, and print which rule decides each",
+        example: Some("It has an option: `upc-lab why --help` lists it"),
+        means: None,
     },
     Row {
         name: "cells",
@@ -159,6 +157,10 @@ pub fn choose(alloc: Global, words: Vec<String>) -> Result<Asked, Stop>
         → IfErr result (λ stop. stop ≡ Stop.NoMemory) }
 {
     match begun_by(words.as_slice()) {
+        Some(WithOptions::Why) => match why_options(alloc, without_first(words)) {
+            Ok(options) => Ok(Asked::Why(options)),
+            Err(stop) => Err(stop),
+        },
         Some(WithOptions::Cells) => match cells_options(alloc, without_first(words)) {
             Ok(options) => Ok(Asked::Cells(options)),
             Err(stop) => Err(stop),

@@ -7,12 +7,16 @@ ghost use Rattle.command_line.specs.Stopping.{StopsAt};
 ghost use Rattle.upc_lab.specs.LabWords.{begun_by, with_options_named};
 
 use command_line::Stop;
-use lab_options::{cells_options, differ_options, fit_options, forward_options, police_options};
+use lab_options::{
+    cells_options, differ_options, fit_options, forward_options, police_options, why_options,
+};
 use std::alloc::Global;
 
 /// A subcommand with options.
 #[derive(Clone, Copy, Debug, PartialEq, Eq)]
 pub enum WithOptions {
+    /// `why`.
+    Why,
     /// `cells`.
     Cells,
     /// `fit`.
@@ -29,15 +33,17 @@ pub enum WithOptions {
 fn with_options_named(name: &[u8]) -> Option<WithOptions>
     ensures { result ≡ with_options_named name.now }
 {
-    if name == b"cells".as_slice() {
+    if b"why".as_slice() == name {
+        Some(WithOptions::Why)
+    } else if b"cells".as_slice() == name {
         Some(WithOptions::Cells)
-    } else if name == b"fit".as_slice() {
+    } else if b"fit".as_slice() == name {
         Some(WithOptions::Fit)
-    } else if name == b"police".as_slice() {
+    } else if b"police".as_slice() == name {
         Some(WithOptions::Police)
-    } else if name == b"forward".as_slice() {
+    } else if b"forward".as_slice() == name {
         Some(WithOptions::Forward)
-    } else if name == b"differ".as_slice() {
+    } else if b"differ".as_slice() == name {
         Some(WithOptions::Differ)
     } else {
         None
@@ -90,6 +96,7 @@ fn own_help(alloc: Global, subject: Option<WithOptions>) -> Option<Stop> {
         return Some(Stop::NoMemory);
     }
     match subject {
+        WithOptions::Why => why_options(alloc, words).err(),
         WithOptions::Cells => cells_options(alloc, words).err(),
         WithOptions::Fit => fit_options(alloc, words).err(),
         WithOptions::Police => police_options(alloc, words).err(),

@@ -91,7 +91,6 @@ fn run_plain<I: Ahead, O: Output>(
 {
     match subcommand {
         Subcommand::Rules => compile_rules(alloc, input, output),
-        Subcommand::Why => decide_cells(alloc, input, output),
         Subcommand::Asm => assemble_rules(alloc, input, output),
         Subcommand::Unused => ended_by(unused_in_text(alloc, input, output)),
         Subcommand::List => list_program(alloc, input, output),
@@ -124,6 +123,7 @@ fn run<R: Threads, I: Ahead + Send, O: Output>(
 {
     match asked {
         Asked::Plain(subcommand) => run_plain(alloc, *subcommand, input, output),
+        Asked::Why(options) => decide_cells(alloc, options.count, input, output),
         Asked::Cells(options) => cells_of_capture(
             rt,
             THREADS,

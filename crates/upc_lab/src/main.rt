@@ -21,8 +21,8 @@ pub use lab_differ::{Finding, compare_texts, unused_in_text};
 pub use lab_faults::{LookedAt, explain_faults};
 pub use lab_fit::fit_capture;
 pub use lab_options::{
-    CellsOptions, DifferOptions, FitOptions, ForwardOptions, PoliceOptions, cells_options,
-    differ_options, fit_options, forward_options, police_options,
+    CellsOptions, DifferOptions, FitOptions, ForwardOptions, PoliceOptions, WhyOptions,
+    cells_options, differ_options, fit_options, forward_options, police_options, why_options,
 };
 pub use lab_police::police_as_agreed;
 pub use lab_programs::{list_program, trace_cells};

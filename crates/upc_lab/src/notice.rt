@@ -13,6 +13,9 @@ pub fn awaited(asked: &Asked) -> &'static str
 {
     match asked {
         Asked::Plain(subcommand) => notice_of(*subcommand),
+        Asked::Why(_) => {
+            "upc-lab why: reading rules, a line `cells` and cells from the terminal, to its end"
+        }
         Asked::Cells(_) => "upc-lab cells: reading a capture from the terminal, to its end",
         Asked::Fit(_) => "upc-lab fit: reading a capture from the terminal, to its end",
         Asked::Police(_) => "upc-lab police: reading a capture from the terminal, to its end",
@@ -28,8 +31,6 @@ fn notice_of(subcommand: Subcommand) -> &'static str
 {
     match subcommand {
         Subcommand::Rules => "upc-lab rules: reading rules from the terminal, to its end",
-        Subcommand::Why =>
-            "upc-lab why: reading rules, a line `cells` and cells from the terminal, to its end",
         Subcommand::Asm => "upc-lab asm: reading rules from the terminal, to its end",
         Subcommand::Unused => "upc-lab unused: reading rules from the terminal, to its end",
         Subcommand::List => "upc-lab list: reading a program from the terminal, to its end",

@@ -20,7 +20,7 @@ pub fn reads_capture(chosen: &Result<Asked, Stop>) -> bool
 {
     match chosen {
         Ok(Asked::Cells(_) | Asked::Fit(_) | Asked::Police(_) | Asked::Forward(_)) => true,
-        Ok(Asked::Plain(_) | Asked::Differ(_)) | Err(_) => false,
+        Ok(Asked::Plain(_) | Asked::Why(_) | Asked::Differ(_)) | Err(_) => false,
     }
 }
 

@@ -9,6 +9,7 @@ use Rattle.lab_options.specs.DifferOptions.{DifferAsked, differ_values}
 use Rattle.lab_options.specs.FitOptions.{FitAsked, fit_values}
 use Rattle.lab_options.specs.ForwardOptions.{ForwardAsked, forward_values}
 use Rattle.lab_options.specs.PoliceOptions.{PoliceAsked, police_values}
+use Rattle.lab_options.specs.WhyOptions.{WhyAsked, why_values}
 
 -- No request for help or the version.
 abbrev pub IsWrongValue : Stop → Type 0
@@ -44,3 +45,7 @@ differ_spelled texts = differ_values (text_named texts (codes "OLD")) (text_name
 abbrev pub forward_spelled : List (Text × Option Text) → Option ForwardAsked
 forward_spelled texts = forward_values (text_named texts (codes "SETUP")) (text_named texts (codes "tick")) (text_named texts (codes "link"))
     (text_named texts (codes "others"))
+
+-- What named values of `why` spell.
+abbrev pub why_spelled : List (Text × Option Text) → Option WhyAsked
+why_spelled texts = why_values (text_named texts (codes "count"))

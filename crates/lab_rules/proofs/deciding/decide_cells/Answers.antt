@@ -1,5 +1,5 @@
 -- The text of the rules, and then their fault or the answers to the cells.
-use Rattle.std.proofs.Common.{◌≡◌, ◌∙◌, option_map, inl, refl, rules, ap}
+use Rattle.std.proofs.Common.{◌≡◌, ◌∙◌, option_map, inl, refl, sym, rules, ap}
 use Rattle.std.proofs.lemmas.Result.{IfOk-weaker, on_err_weaker}
 use Rattle.rules_text.specs.NumberedText.{numbered_read}
 use Rattle.text_io.specs.Devices.{Adds}
@@ -7,7 +7,7 @@ use Rattle.text_io.specs.Failures.{read_failures}
 use Rattle.text_io.specs.declared.ending.Done.TheVariants.{Ended, Whole}
 use Rattle.text_io.proofs.Public.{at-done, at-fault, at-given, at-result, nothing-begins}
 use Rattle.lab_rules.specs.RulesAnswers.{AnswersBy, PrintsFault}
-use Rattle.lab_rules.specs.WhyText.{IsWhyText, MayBeWhyText}
+use Rattle.lab_rules.specs.WhyText.{IsWhyText, MayBeWhyText, first_world}
 use Rattle.lab_rules.specs.inner.Places.{FindsRules}
 use Rattle.lab_rules.proofs.WhyAnswers.{decided_added, decided_begun, decided_enough, decided_may, fault_added, fault_begun, faulty_enough, some-why_text}
 use Rattle.lab_rules.proofs.deciding.decide_cells.Goals as goal
@@ -17,7 +17,7 @@ returns-in-Err-clause-served g c =
     let octets = g.I.Input.rest c.args.input.now in
     record {
       text = search rules;
-      front = λ _ _. nothing-begins (MayBeWhyText octets) (g.O.Output.held c.args.output.now) (some-why_text octets);
+      front = λ _ _. nothing-begins (MayBeWhyText c.args.count octets) (g.O.Output.held c.args.output.now) (some-why_text c.args.count octets);
       left = search rules;
       whole = search rules;
       reading = search rules;
@@ -29,7 +29,7 @@ returns-in-Err-found_decider-clause-served g c =
     let octets = g.I.Input.rest c.args.input.now in
     record {
       text = search rules;
-      front = λ _ _. nothing-begins (MayBeWhyText octets) (g.O.Output.held c.args.output.now) (some-why_text octets);
+      front = λ _ _. nothing-begins (MayBeWhyText c.args.count octets) (g.O.Output.held c.args.output.now) (some-why_text c.args.count octets);
       left = search rules;
       whole = search rules;
       reading = search rules;
@@ -45,12 +45,12 @@ returns-in-Ok-None-clause-served g c =
     let found = option_map (λ text. text.items) c.in-Ok.found in
     let answers = c.found_decider.new.answers.items in
     let added : Adds (λ answer. AnswersBy PrintsFault found answer Ended) c.new-answers.result.items answers = rw c.in-Ok-None.field-0-is at c.in-Ok-None.ensures in
-    let is : g.I.Input.is_known → IsWhyText before answers Ended =
-    λ known. fault_added found before after c.new-answers.result.items answers (c.in-Ok.ensures.taken known) c.new-answers.ensures.items added in
+    let is : g.I.Input.is_known → IsWhyText c.args.count before answers Ended =
+    λ known. fault_added c.args.count found before after c.new-answers.result.items answers (c.in-Ok.ensures.taken known) c.new-answers.ensures.items added in
     record {
       text = λ known held_known. at-given c.give_last.result Ended _ _ c.give_last.ensures.done (c.give_last.ensures.given held_known) (λ given. (answers, given, inl (is known)));
-      front = λ known held_known. at-fault c.give_last.result _ _ (c.give_last.ensures.front held_known) (fault_begun before held held' answers (is known));
-      left = λ known. at-done c.give_last.result Ended _ c.give_last.ensures.done (faulty_enough found before after (c.in-Ok.ensures.taken known) added.0 Ended added.2);
+      front = λ known held_known. at-fault c.give_last.result _ _ (c.give_last.ensures.front held_known) (fault_begun c.args.count before held held' answers (is known));
+      left = λ known. at-done c.give_last.result Ended _ c.give_last.ensures.done (faulty_enough c.args.count found before after (c.in-Ok.ensures.taken known) added.0 Ended added.2);
       whole = λ known e. let no : Whole ≡ Ended = at-result c.give_last.result _ Whole e c.give_last.ensures.done in absurd (cc);
       reading = search rules;
       writing = search rules;
@@ -64,7 +64,7 @@ returns-in-Ok-None-clause-printed g c = λ known held_known.
     let answers = c.found_decider.new.answers.items in
     let added : Adds (λ answer. AnswersBy PrintsFault found answer Ended) c.new-answers.result.items answers = rw c.in-Ok-None.field-0-is at c.in-Ok-None.ensures in
     at-given c.give_last.result Ended _ _ c.give_last.ensures.done (c.give_last.ensures.given held_known)
-    (λ given. (answers, given, fault_added found before after c.new-answers.result.items answers (c.in-Ok.ensures.taken known) c.new-answers.ensures.items added))
+    (λ given. (answers, given, fault_added c.args.count found before after c.new-answers.result.items answers (c.in-Ok.ensures.taken known) c.new-answers.ensures.items added))
 
 pub returns-clause-served : goal.returns-clause-served
 returns-clause-served g c =
@@ -79,13 +79,13 @@ returns-clause-served g c =
     let finds : FindsRules found numbered = answered.1 in
     record {
       text = λ known held_known. IfOk-weaker c.answer_lines.result _ _
-          (λ done each. decided_may found before after (c.in-Ok.ensures.taken known) numbered finds held held' done (each numbered tt refl))
+          (λ done each. decided_may c.args.count found before after (c.in-Ok.ensures.taken known) numbered finds held held' done (each (first_world c.args.count numbered) tt (refl, sym c.counts_if-counts.ensures.asked, c.counts_if-counts.ensures.empty)))
           (c.answer_lines.ensures.text known held_known);
       front = λ known held_known. on_err_weaker c.answer_lines.result
-          (λ each. decided_begun found before after (c.in-Ok.ensures.taken known) numbered finds held held' (each numbered tt refl))
+          (λ each. decided_begun c.args.count found before after (c.in-Ok.ensures.taken known) numbered finds held held' (each (first_world c.args.count numbered) tt (refl, sym c.counts_if-counts.ensures.asked, c.counts_if-counts.ensures.empty)))
           (c.answer_lines.ensures.front known held_known);
       left = λ known. IfOk-weaker c.answer_lines.result _ _
-          (λ done each. decided_enough found before after (c.in-Ok.ensures.taken known) numbered left done finds (each numbered tt refl))
+          (λ done each. decided_enough c.args.count found before after (c.in-Ok.ensures.taken known) numbered left done finds (each (first_world c.args.count numbered) tt (refl, sym c.counts_if-counts.ensures.asked, c.counts_if-counts.ensures.empty)))
           (c.answer_lines.ensures.left known);
       whole = c.answer_lines.ensures.whole;
       reading = c.answer_lines.ensures.reading ∙ ap (read_failures c.answer_lines.result) c.in-Ok.ensures.reading;
@@ -102,5 +102,5 @@ returns-clause-printed g c = λ known held_known.
     let numbered = numbered_read c.in-Ok-Some.decider.numbered in
     let answered = rw c.in-Ok-Some.field-0-is at c.in-Ok-Some.ensures in
     IfOk-weaker c.answer_lines.result _ _
-    (λ done each. decided_added found before after (c.in-Ok.ensures.taken known) numbered answered.1 held held' done (each numbered tt refl))
+    (λ done each. decided_added c.args.count found before after (c.in-Ok.ensures.taken known) numbered answered.1 held held' done (each (first_world c.args.count numbered) tt (refl, sym c.counts_if-counts.ensures.asked, c.counts_if-counts.ensures.empty)))
     (c.answer_lines.ensures.text known held_known)
