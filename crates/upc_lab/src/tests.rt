@@ -119,21 +119,29 @@ fn rules_are_comments_of_their_source(rt: HostRuntime) -> Result<(), Fail> {
 
 #[test]
 fn cells_are_answered_by_the_lines_that_decide_them(rt: HostRuntime) -> Result<(), Fail> {
-    for (octets, status, written) in [
+    for (line, octets, status, written) in [
         (
+            "why",
             b"# one\nclp 1 -> 7\ncells # two\n00000001\n\n00000000\n".as_slice(),
             0,
             b"line 2 value 7\notherwise value 0\n".as_slice(),
         ),
-        (b"cells\nno\n", 0, b"fault script 3 BadHex\n"),
-        (b"any -> 7", 0, b""),
         (
+            "why --count",
+            b"vpi 1 {\nclp 1 -> 7\n}\ncells\n00100001\n00000001\n00100001\n",
+            0,
+            b"line 2 cells 2\notherwise cells 1\n",
+        ),
+        ("why", b"cells\nno\n", 0, b"fault script 3 BadHex\n"),
+        ("why", b"any -> 7", 0, b""),
+        (
+            "why",
             b"any > 7\ncells\n00000001\n",
             1,
             b"fault rules 1 BadLine 1 5\n",
         ),
     ] {
-        let left = run_words(&rt, rt.alloc(), "why", octets, 1000, 1000)?;
+        let left = run_words(&rt, rt.alloc(), line, octets, 1000, 1000)?;
         assert_eq!(rt; (left.status, left.written.as_slice()), (status, written));
     }
     Ok(())
@@ -166,6 +174,7 @@ fn a_subcommand_is_chosen_by_its_name_alone(rt: HostRuntime) -> Result<(), Fail>
         ("rules --", true),
         ("why", true),
         ("why --", true),
+        ("why --count", true),
         ("asm", true),
         ("list", true),
         ("trace", true),
