@@ -4,7 +4,7 @@ use Rattle.std.specs.Prelude.{ℕ, ◌==◌, ◌&&◌, ◌||◌, not, Bool, if�
 use Rattle.hex.specs.Hex.{encode_lower}
 use Rattle.cell_diagrams.specs.declared.case.Case.{Case}
 use Rattle.cell_rules.specs.declared.deciding.Decision.{Decision}
-use Rattle.lab_rules.specs.WhyText.{decider_text}
+use Rattle.lab_rules.specs.CountText.{decider_text}
 use Rattle.rules_text.specs.TextOfRules.{NumberedRead}
 use Rattle.upc_cell.specs.Header.{gfc_of, vci_of, pti_of, clp_of}
 use Rattle.upc_cell.specs.Side.{vpi_at}

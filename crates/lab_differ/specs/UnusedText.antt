@@ -4,7 +4,7 @@ use Rattle.cell_diagrams.specs.UnusedRules.{AreUnused}
 use Rattle.cell_diagrams.specs.declared.unused.Unused.{Unused}
 use Rattle.cell_rules.specs.declared.rules.Rules.{Rules}
 use Rattle.lab_rules.specs.RulesAnswers.{most_rules_octets}
-use Rattle.lab_rules.specs.WhyText.{decider_text}
+use Rattle.lab_rules.specs.CountText.{decider_text}
 use Rattle.rules_text.specs.RulesRead.{rules_read}
 use Rattle.rules_text.specs.TextOfRules.{NumberedRead}
 use Rattle.text_io.specs.Gathered.{gathered}

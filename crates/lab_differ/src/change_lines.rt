@@ -2,7 +2,7 @@
 
 ghost use Rattle.std.specs.Prelude.{◌≡◌, ◌++◌, codes, slice_index, OnOk};
 ghost use Rattle.hex.specs.Hex.{encode_lower};
-ghost use Rattle.lab_rules.specs.WhyText.{decider_text};
+ghost use Rattle.lab_rules.specs.CountText.{decider_text};
 ghost use Rattle.rules_text.specs.NumberedText.{numbered_read};
 ghost use Rattle.upc_cell.specs.Header.{clp_of};
 ghost use Rattle.upc_words.specs.FaultLines.{line};

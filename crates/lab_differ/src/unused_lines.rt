@@ -1,7 +1,7 @@
 //! The lines of rules that decide no cell.
 
 ghost use Rattle.std.specs.Prelude.{◌≡◌, ◌++◌, Some, OnOk};
-ghost use Rattle.lab_rules.specs.WhyText.{decider_text};
+ghost use Rattle.lab_rules.specs.CountText.{decider_text};
 ghost use Rattle.lab_differ.specs.UnusedText.{more_rules_text, rule_text, taken_by_text, takers_text, unused_line, unused_lines, unused_text};
 
 use crate::change_lines::add_decider;

@@ -43,9 +43,6 @@ lab_named = meaning_in lab_subcommands
 abbrev own_rows : List (Text × Option Subcommand)
 own_rows = map (λ row. (row.0, None)) own_subcommands
 
-abbrev no_subcommand : Option Subcommand
-no_subcommand = None
-
 abbrev no_meaning : Option (Option Subcommand)
 no_meaning = None
 
@@ -66,15 +63,24 @@ joined (row ∷ rows) more name = go (bytes_eq row.0 name) (joined rows more nam
     go true e = refl
     go false e = e
 
+abbrev own_meaning : Option (Text × WithOptions) → Option WithOptions
+own_meaning row = option_map (λ row. row.1) row
+
+abbrev meaning_of : Option (Text × Option Subcommand) → Option (Option Subcommand)
+meaning_of row = option_map (λ row. row.1) row
+
+abbrev row_without : Text → Text × Option Subcommand
+row_without name = (name, None)
+
 -- A name that is none of theirs is not in one of their rows.
 not_in_rows : (rows : List (Text × WithOptions)) (name : Text) → meaning_in rows name ≡ None → meaning_in (map (λ row. (row.0, None)) rows) name ≡ no_meaning
 not_in_rows [] name none = refl
 not_in_rows (row ∷ rows) name none = go (bytes_eq row.0 name) none (not_in_rows rows name)
   where
-    go : (same : Bool) → option_map (λ row. row.1) (cond same (Some row) (find (λ row. bytes_eq row.0 name) rows)) ≡ None
+    go : (same : Bool) → own_meaning (cond same (Some row) (find (λ row. bytes_eq row.0 name) rows)) ≡ None
         → (meaning_in rows name ≡ None → meaning_in (map (λ row. (row.0, None)) rows) name ≡ no_meaning)
-        → option_map (λ row. row.1) (cond same (Some (row.0, no_subcommand)) (find (λ row. bytes_eq row.0 name) (map (λ row. (row.0, None)) rows))) ≡ no_meaning
-    go true none later = cc
+        → meaning_of (cond same (Some (row_without row.0)) (find (λ row. bytes_eq row.0 name) (map (λ row. (row.0, None)) rows))) ≡ no_meaning
+    go true none later = absurd (cc)
     go false none later = later none
 
 no_own_row : (name : Text) → with_options_named name ≡ None → meaning_in own_rows name ≡ no_meaning
