@@ -6,6 +6,8 @@ pub mod NameTables
 pub mod NamesAdded
 pub mod Values
 pub mod GrammarReads
+pub mod TestBeginnings
+pub mod GrammarCovers
 pub mod Chains
 pub mod DecisionsSame
 pub mod StatementNumbers

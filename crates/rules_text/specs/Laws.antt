@@ -10,7 +10,7 @@ use Rattle.rules_text.specs.DecisionsRead.{rules_decide}
 use Rattle.rules_text.specs.LineGrammar.{LineContext, nothing_read, line_statement}
 use Rattle.rules_text.specs.Names.{NameRead, rule_form}
 use Rattle.rules_text.specs.RuleGrammar.{TestFits, TestForm, test_count, test_tokens, test_written}
-use Rattle.rules_text.specs.RulesRead.{LineRead, block_line, rule_line}
+use Rattle.rules_text.specs.RulesRead.{LineRead, TestRead, block_line, rule_line}
 use Rattle.rules_text.specs.RuleTokens.{RuleFound, RuleToken, arrow_mark, open_brace, rule_tokens}
 use Rattle.rules_text.specs.Subjects.{value_read}
 use Rattle.rules_text.specs.TextOfRules.{NumberedRead, formed_statement, numbered_in, rules_in, statement_from}
@@ -33,6 +33,35 @@ HeadsAreReadAsTheyAreWritten =
     → TestFits context context.blocks test → test_count test ≤ 4096 → context.blocks < 64
     → map (λ it. it.token) found ≡ test_tokens test ++ (open_brace ∷ [])
     → statement_from context number nothing_read 1 found ≡ Ok (line_statement (block_line (test_written test)))
+
+-- These tokens are those of a test of the grammar that means this test, `->` and a token that is this value.
+pub record IsRuleWritten (tokens : List RuleToken) (read : TestRead) (value : ℕ) : Type 0 where
+  pub test : TestForm
+  pub token : RuleToken
+  pub tokens_are : tokens ≡ test_tokens test ++ (arrow_mark ∷ token ∷ [])
+  pub test_is : read ≡ test_written test
+  pub value_is : value_read token ≡ Ok value
+
+-- These tokens are those of a test of the grammar that means this test, and `{`.
+pub record IsHeadWritten (tokens : List RuleToken) (read : TestRead) : Type 0 where
+  pub test : TestForm
+  pub tokens_are : tokens ≡ test_tokens test ++ (open_brace ∷ [])
+  pub test_is : read ≡ test_written test
+
+-- No other line is a rule: one that is read as a rule has the tokens of a test of the grammar that means the test of the rule, `->` and a
+-- token that is its value.
+abbrev pub OnlyWrittenRulesAreRead : Type 0
+OnlyWrittenRulesAreRead =
+    (context : LineContext) (number : ℕ) (found : List RuleFound) (read : TestRead) (value : ℕ)
+    → statement_from context number nothing_read 1 found ≡ Ok (line_statement (rule_line read value))
+    → IsRuleWritten (map (λ it. it.token) found) read value
+
+-- The same of the head of a block.
+abbrev pub OnlyWrittenHeadsAreRead : Type 0
+OnlyWrittenHeadsAreRead =
+    (context : LineContext) (number : ℕ) (found : List RuleFound) (read : TestRead)
+    → statement_from context number nothing_read 1 found ≡ Ok (line_statement (block_line read))
+    → IsHeadWritten (map (λ it. it.token) found) read
 
 -- The source line of this number, counted from 1, is read as this line of rules.
 abbrev pub IsLineReadAt : List ℕ → ℕ → LineRead → Type 0

@@ -10,9 +10,10 @@ use Rattle.rules_text.specs.RuleTokens.{RuleToken, number_word, bad_number, refu
 use Rattle.rules_text.specs.declared.fault.RuleKind.{RuleKind}
 use Rattle.rules_text.specs.declared.fault.RuleKind.TheVariants.{BadLine, BadNumber, TooLarge, OutsideCell}
 
--- The header field of a name. Between nodes of the network there is no GFC.
+-- The header field of a name. Between nodes of the network there is no GFC, and octets are no field of the header.
 abbrev pub header_read : Side → FieldRead → Result FieldRead RuleKind
 header_read Nni gfc_field = Err BadLine
+header_read side (octets_field size at) = Err BadLine
 header_read side field = Ok field
 
 -- The largest offset of octets that are wholly in a cell.

@@ -1,7 +1,7 @@
 //! Laws of the definition of texts of rules. Each is the contract of a function that does nothing.
 
 ghost use Rattle.rules_text.specs.NameLaws.{LinesAddWhatNamesMean, RoomIsNoLimitWithin};
-ghost use Rattle.rules_text.specs.Laws.{CodeGivesWhatIsDecided, HeadsAreReadAsTheyAreWritten, NumbersAreThoseOfTheLines, RulesAreReadAsTheyAreWritten, TextsHaveOneCode};
+ghost use Rattle.rules_text.specs.Laws.{CodeGivesWhatIsDecided, HeadsAreReadAsTheyAreWritten, NumbersAreThoseOfTheLines, OnlyWrittenHeadsAreRead, OnlyWrittenRulesAreRead, RulesAreReadAsTheyAreWritten, TextsHaveOneCode};
 
 /// A line with the tokens of a test of the grammar, `->` and a token that is a value is read as this rule.
 pub fn rules_are_read_as_they_are_written()
@@ -11,6 +11,16 @@ pub fn rules_are_read_as_they_are_written()
 /// A line with the tokens of a test of the grammar and `{` is read as the head of this block.
 pub fn heads_are_read_as_they_are_written()
     ensures { HeadsAreReadAsTheyAreWritten }
+{}
+
+/// A line that is read as a rule has the tokens of a test of the grammar, `->` and a token that is a value, and is this rule.
+pub fn only_written_rules_are_read()
+    ensures { OnlyWrittenRulesAreRead }
+{}
+
+/// A line that is read as the head of a block has the tokens of a test of the grammar and `{`, and is this head.
+pub fn only_written_heads_are_read()
+    ensures { OnlyWrittenHeadsAreRead }
 {}
 
 /// The number of a line of rules is that of the source line that it was read from.
