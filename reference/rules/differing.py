@@ -22,8 +22,21 @@ NOT_DECIDED = "not decided: more than 4194304 cases\n"
 # Few pairs of texts may have so many cases that nothing is decided.
 MOST_UNDECIDED = 0.1
 LINE = re.compile(
-    r"old (?:line (\d+)|otherwise) value (\d+), new (?:line (\d+)|otherwise) value (\d+): ([a-z0-9 ]*): ([0-9a-f]{104})\n")
+    r"old (line \d+|otherwise|program) value (\d+), new (line \d+|otherwise|program) value (\d+): ([a-z0-9 ]*): ([0-9a-f]{104})\n")
 NUMBER = re.compile(r"\d+")
+
+
+class OfRules:
+    """A side of a comparison: the rules of a text."""
+
+    def __init__(self, text):
+        self.reader = read_rules(text)
+        self.nni = self.reader.nni
+
+    def given(self, cell):
+        """Returns what decides the cell, in words, and its value."""
+        line, value = decision_of(self.reader, cell)
+        return (f"line {line}" if line else "otherwise"), value
 
 
 def compared(program, old, new, words):
@@ -75,30 +88,34 @@ def lower_cells(cell):
 
 def is_listed(was, becomes, every):
     """Returns whether two decisions have a line."""
-    return was[1] != becomes[1] or (every and was[0] != becomes[0])
+    return was[1] != becomes[1] or (every and (was[0] != becomes[0] or was[0] == "program"))
+
+
+def shown_nni(old, new):
+    """Returns whether the fields are those between nodes: at the side of the new rules, or of the old ones. A program has none."""
+    return old.nni if new.nni is None else new.nni
 
 
 def fault_of_line(old, new, every, found, before):
     """Returns what is wrong with a line of an answer, or None. `before` is the line before it."""
     cell = bytes.fromhex(found[5])
-    was, becomes = decision_of(old, cell), decision_of(new, cell)
-    said = [(number and int(number), int(value)) for number, value in (found[0:2], found[2:4])]
-    if [(number or None, value) for number, value in said] != [was, becomes]:
+    was, becomes = old.given(cell), new.given(cell)
+    if [(found[0], int(found[1])), (found[2], int(found[3]))] != [was, becomes]:
         return f"{found} and not {was} and {becomes}"
     if not is_listed(was, becomes, every):
         return f"{found} is no change"
-    if found[4] != fields_in(new.nni, cell):
+    if found[4] != fields_in(shown_nni(old, new), cell):
         return f"the fields {found[4]!r} of {found[5]}"
     if before and before[5] >= found[5]:
         return f"{found[5]} after {before[5]}"
     for lower in lower_cells(cell):
-        if (decision_of(old, lower), decision_of(new, lower)) == (was, becomes):
+        if (old.given(lower), new.given(lower)) == (was, becomes):
             return f"{lower.hex()} is less than {found[5]}"
     return None
 
 
 def fault_of_answer(old, new, every, answer, cells):
-    """Returns what is wrong with the answer to two texts that have rules, or None."""
+    """Returns what is wrong with the answer to two sides, or None."""
     is_same = answer.startswith(f"{SAME}\n")
     rest = answer[len(SAME) + 1:] if is_same else answer
     found = LINE.findall(rest)
@@ -110,12 +127,12 @@ def fault_of_answer(old, new, every, answer, cells):
             return fault
     if is_same == any(one[1] != one[3] for one in found):
         return f"it begins with {answer[:40]!r}"
-    listed = {(one[0], one[2]): one[5] for one in found}
+    listed = {one[:4]: one[5] for one in found}
     if len(listed) != len(found):
-        return "two lines for the same lines of rules"
+        return "two lines for the same"
     for cell in cells:
-        was, becomes = decision_of(old, cell), decision_of(new, cell)
-        key = tuple("" if number is None else str(number) for number in (was[0], becomes[0]))
+        was, becomes = old.given(cell), new.given(cell)
+        key = (was[0], str(was[1]), becomes[0], str(becomes[1]))
         if is_listed(was, becomes, every) and listed.get(key, "g") > cell.hex():
             return f"{was} and {becomes} of {cell.hex()} have no line of a cell up to it"
     return None
@@ -139,10 +156,10 @@ def difference(program, source):
     old, new = (it.encode() for it in texts)
     every = source.random() < 0.3
     answer, status = compared(program, old, new, ["--lines", "all"] if every else [])
-    readers = []
+    sides = []
     for name, it in (("old", old), ("new", new)):
         try:
-            readers.append(read_rules(it))
+            sides.append(OfRules(it))
         except Fault as fault:
             wanted = f"{name}: {fault.shown()}"
             return (None if (answer, status) == (wanted, 1) else f"{answer!r} with status {status} and not {wanted!r}"), False
@@ -150,8 +167,8 @@ def difference(program, source):
         return None, True
     if status != (0 if answer.startswith(SAME) else 1):
         return f"the status {status} of {answer[:40]!r}", False
-    cells = cells_for(readers[0], source, 60) + cells_for(readers[1], source, 60)
-    return fault_of_answer(*readers, every, answer, cells), False
+    cells = [cell for side in sides for cell in cells_for(side.reader, source, 60)]
+    return fault_of_answer(*sides, every, answer, cells), False
 
 
 def main():

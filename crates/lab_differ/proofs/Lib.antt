@@ -1,8 +1,9 @@
+pub mod ProgramLines
+pub mod SideSteps
 pub mod WholeAnswers
 pub mod Served
 pub mod Public
 pub mod LineOfCell
-pub mod Decided
 pub mod UnusedAnswers
 pub mod NamedUnused
 pub mod SameLists

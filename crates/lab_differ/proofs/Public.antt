@@ -3,11 +3,12 @@ use Rattle.std.proofs.Common.{ℕ, Bool, List}
 use Rattle.text_io.specs.declared.ending.Done.{Done}
 use Rattle.lab_differ.specs.DifferText.{IsDifferAnswer}
 use Rattle.lab_differ.specs.UnusedText.{IsUnusedAnswer}
+use Rattle.lab_differ.specs.declared.kinds.TextKinds.{TextKinds}
 use Rattle.lab_differ.proofs.UnusedAnswers as unused
 use Rattle.lab_differ.proofs.WholeAnswers as answers
 
 -- Every old text and every input have an answer of `differ`.
-pub some-differ_text : (lines : Bool) (old octets : List ℕ) → (answer : List ℕ) × (done : Done) × IsDifferAnswer lines old octets answer done
+pub some-differ_text : (kinds : TextKinds) (lines : Bool) (old octets : List ℕ) → (answer : List ℕ) × (done : Done) × IsDifferAnswer kinds lines old octets answer done
 some-differ_text = answers.some_answer
 
 -- Every input has an answer of `unused`.

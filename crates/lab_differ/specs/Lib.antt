@@ -1,5 +1,7 @@
 -- The subcommands `differ` and `unused`. Read the modules in this order:
 pub mod Findings
+pub mod ProgramText
+pub mod Sides
 pub mod ChangeLines
 pub mod DifferText
 pub mod DifferLaws

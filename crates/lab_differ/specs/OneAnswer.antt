@@ -1,9 +1,10 @@
--- That texts of rules have one answer, unless nothing is decided.
+-- That texts have one answer, unless nothing is decided.
 use Rattle.std.specs.Prelude.{◌≡◌, ℕ, Bool, List}
 use Rattle.lab_differ.specs.DifferText.{IsDifferText}
 use Rattle.lab_differ.specs.UnusedText.{IsUnusedText}
 use Rattle.lab_differ.specs.declared.finding.Finding.{Finding}
 use Rattle.lab_differ.specs.declared.finding.Finding.TheVariants.{Nothing, Something, Faulty, Undecided}
+use Rattle.lab_differ.specs.declared.kinds.TextKinds.{TextKinds}
 
 -- The finding is another than that nothing is decided.
 abbrev pub IsDecisive : Finding → Type 0
@@ -14,8 +15,8 @@ IsDecisive Undecided = ⊥
 
 -- Two answers of `differ` to the same texts are the same octets, with the same finding.
 abbrev pub TwoTextsHaveOneAnswer : Type 0
-TwoTextsHaveOneAnswer = (lines : Bool) (old octets answer other : List ℕ) (finding also : Finding) → IsDifferText lines old octets answer finding → IsDifferText lines old octets other also
-    → IsDecisive finding → IsDecisive also → (answer ≡ other) × (finding ≡ also)
+TwoTextsHaveOneAnswer = (kinds : TextKinds) (lines : Bool) (old octets answer other : List ℕ) (finding also : Finding)
+    → IsDifferText kinds lines old octets answer finding → IsDifferText kinds lines old octets other also → IsDecisive finding → IsDecisive also → (answer ≡ other) × (finding ≡ also)
 
 -- Two answers of `unused` to the same text are.
 abbrev pub ATextHasOneAnswer : Type 0

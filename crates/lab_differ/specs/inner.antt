@@ -1,2 +1,4 @@
 -- Definitions that only private functions and proofs use.
 pub mod Readings
+pub mod SidesRead
+pub mod SpokenLines

@@ -3,14 +3,14 @@
 ghost use Rattle.std.specs.Prelude.{◌≡◌, ◌++◌, codes, slice_index, OnOk};
 ghost use Rattle.hex.specs.Hex.{encode_lower};
 ghost use Rattle.lab_rules.specs.CountText.{decider_text};
-ghost use Rattle.rules_text.specs.NumberedText.{numbered_read};
 ghost use Rattle.upc_cell.specs.Header.{clp_of};
 ghost use Rattle.upc_words.specs.FaultLines.{line};
-ghost use Rattle.lab_differ.specs.ChangeLines.{both_text, case_text, cases_text, change_text, field_text, fields_text, given_text, is_listed, path_text, cell_with_fields, source_number};
+ghost use Rattle.lab_differ.specs.ChangeLines.{both_text, case_text, cases_text, change_text, field_text, fields_text, given_text, is_listed, is_one_line, path_text, cell_with_fields, shown_side, side_decider, source_number};
+ghost use Rattle.lab_differ.specs.inner.SidesRead.{side_read};
 
+use crate::sides::SideText;
 use cell_diagrams::Case;
 use cell_rules::Decision;
-use rules_text::NumberedRules;
 use std::alloc::AllocError;
 use upc_cell::{CELL_OCTETS, Cell, Side};
 use upc_words::{add_number, add_text};
@@ -94,29 +94,43 @@ pub(crate) fn add_decider(
     }
 }
 
-/// Appends what a text of rules gives a cell.
-#[tactic(auto, using(std::proofs::lemmas::List::append_assoc))]
-fn add_given(answers: &mut Vec<u8>, numbers: &[usize], decision: Decision) -> Result<(), AllocError>
-    ensures { OnOk result (answers.new.items ≡ answers.old.items ++ given_text numbers.now decision) }
+/// Appends what decides a cell: the line of rules, or the program.
+fn add_side_decider(
+    answers: &mut Vec<u8>,
+    side: &SideText,
+    line: Option<usize>,
+) -> Result<(), AllocError>
+    ensures { OnOk result (answers.new.items ≡ answers.old.items ++ side_decider (side_read side.now) line) }
 {
-    add_decider(answers, numbers, decision.line)?;
+    match side {
+        SideText::Rules(numbered) => add_decider(answers, &numbered.numbers, line),
+        SideText::Program(_) => add_text(answers, b"program"),
+    }
+}
+
+/// Appends what a side gives a cell.
+#[tactic(auto, using(std::proofs::lemmas::List::append_assoc))]
+fn add_given(answers: &mut Vec<u8>, side: &SideText, decision: Decision) -> Result<(), AllocError>
+    ensures { OnOk result (answers.new.items ≡ answers.old.items ++ given_text (side_read side.now) decision) }
+{
+    add_side_decider(answers, side, decision.line)?;
     add_field(answers, b" value ", u64::from(decision.value))
 }
 
-/// Appends what both texts give a cell.
+/// Appends what both sides give a cell.
 #[tactic(auto, using(std::proofs::lemmas::List::append_assoc))]
 fn add_both(
     answers: &mut Vec<u8>,
-    old: &NumberedRules,
-    new: &NumberedRules,
+    old: &SideText,
+    new: &SideText,
     case: &Case,
 ) -> Result<(), AllocError>
-    ensures { OnOk result (answers.new.items ≡ answers.old.items ++ both_text (numbered_read old.now) (numbered_read new.now) case.now.old case.now.new) }
+    ensures { OnOk result (answers.new.items ≡ answers.old.items ++ both_text (side_read old.now) (side_read new.now) case.now.old case.now.new) }
 {
     add_text(answers, b"old ")?;
-    add_given(answers, &old.numbers, case.old)?;
+    add_given(answers, old, case.old)?;
     add_text(answers, b", new ")?;
-    add_given(answers, &new.numbers, case.new)
+    add_given(answers, new, case.new)
 }
 
 /// Appends the octets of a cell in hexadecimal digits.
@@ -151,39 +165,61 @@ fn add_cell(answers: &mut Vec<u8>, side: Side, cell: &Cell) -> Result<(), AllocE
     add_octets_line(answers, cell)
 }
 
+/// The side of the link at which fields are shown: that of the new rules, or of the old ones.
+fn shown_side(old: &SideText, new: &SideText) -> Side
+    ensures { result ≡ shown_side (side_read old.now) (side_read new.now) }
+{
+    match (old, new) {
+        (_, SideText::Rules(numbered)) => numbered.rules.side,
+        (SideText::Rules(numbered), SideText::Program(_)) => numbered.rules.side,
+        (SideText::Program(_), SideText::Program(_)) => Side::Uni,
+    }
+}
+
 /// Appends the line of a case.
 #[tactic(auto, using(std::proofs::lemmas::List::append_assoc))]
 fn add_change(
     answers: &mut Vec<u8>,
-    old: &NumberedRules,
-    new: &NumberedRules,
+    old: &SideText,
+    new: &SideText,
     case: &Case,
 ) -> Result<(), AllocError>
     ensures { OnOk result (answers.new.items ≡ answers.old.items
-        ++ change_text (numbered_read old.now) (numbered_read new.now) case.now.old case.now.new case.now.cell) }
+        ++ change_text (side_read old.now) (side_read new.now) case.now.old case.now.new case.now.cell) }
 {
     add_both(answers, old, new, case)?;
-    add_cell(answers, new.rules.side, &case.cell)
+    add_cell(answers, shown_side(old, new), &case.cell)
+}
+
+/// Whether one line of rules, by its number, decides on both sides.
+fn is_one_line(old: &SideText, new: &SideText, was: Option<usize>, is: Option<usize>) -> bool
+    ensures { result ≡ is_one_line (side_read old.now) (side_read new.now) was is }
+{
+    match (old, new) {
+        (SideText::Rules(old), SideText::Rules(new)) => {
+            source_number(&old.numbers, was) == source_number(&new.numbers, is)
+        }
+        (SideText::Rules(_), SideText::Program(_)) | (SideText::Program(_), _) => false,
+    }
 }
 
 /// Whether a case has a line.
-fn is_listed(lines: bool, old: &NumberedRules, new: &NumberedRules, case: &Case) -> bool
-    ensures { result ≡ is_listed lines (numbered_read old.now) (numbered_read new.now) case.now }
+fn is_listed(lines: bool, old: &SideText, new: &SideText, case: &Case) -> bool
+    ensures { result ≡ is_listed lines (side_read old.now) (side_read new.now) case.now }
 {
-    let was = source_number(&old.numbers, case.old.line);
-    let is = source_number(&new.numbers, case.new.line);
-    case.old.value != case.new.value || (lines && was != is)
+    let one_line = is_one_line(old, new, case.old.line, case.new.line);
+    case.old.value != case.new.value || (lines && !one_line)
 }
 
 /// Appends the line of a case, if it has one.
 fn add_case(
     answers: &mut Vec<u8>,
     lines: bool,
-    old: &NumberedRules,
-    new: &NumberedRules,
+    old: &SideText,
+    new: &SideText,
     case: &Case,
 ) -> Result<(), AllocError>
-    ensures { OnOk result (answers.new.items ≡ answers.old.items ++ case_text lines (numbered_read old.now) (numbered_read new.now) case.now) }
+    ensures { OnOk result (answers.new.items ≡ answers.old.items ++ case_text lines (side_read old.now) (side_read new.now) case.now) }
 {
     if is_listed(lines, old, new, case) {
         add_change(answers, old, new, case)?;
@@ -195,11 +231,11 @@ fn add_case(
 pub(crate) fn add_cases(
     answers: &mut Vec<u8>,
     lines: bool,
-    old: &NumberedRules,
-    new: &NumberedRules,
+    old: &SideText,
+    new: &SideText,
     cases: &[Case],
 ) -> Result<(), AllocError>
-    ensures { OnOk result (answers.new.items ≡ answers.old.items ++ cases_text lines (numbered_read old.now) (numbered_read new.now) cases.now) }
+    ensures { OnOk result (answers.new.items ≡ answers.old.items ++ cases_text lines (side_read old.now) (side_read new.now) cases.now) }
 {
     for case in cases {
         add_case(answers, lines, old, new, case)?;

@@ -6,6 +6,7 @@ ghost use Rattle.command_line.specs.Arguments.{texts_of};
 ghost use Rattle.lab_options.specs.DifferOptions.{AsksDiffer, DifferAsked, IsDifferStop, differ_asked_by};
 ghost use Rattle.lab_options.specs.inner.Answered.{AnswersValues, differ_spelled};
 
+use crate::programs::{Programs, programs_of};
 use crate::values::{old_name_of, pairs_of, wrong_value};
 use command_line::{Argument, Form, Options, Stop, Value, values_of_words};
 use std::alloc::Global;
@@ -13,10 +14,12 @@ use std::alloc::Global;
 /// What `upc-lab differ` should do.
 #[derive(Debug, PartialEq, Eq, Drop)]
 pub struct DifferOptions {
-    /// The name of the file with the old text of rules.
+    /// The name of the file with the old text.
     pub old: String,
     /// Whether pairs of lines whose values agree are listed too.
     pub all: bool,
+    /// Which of the texts are programs.
+    pub programs: Programs,
 }
 
 const OLD: Argument = Argument {
@@ -24,7 +27,7 @@ const OLD: Argument = Argument {
     form: Form::Word,
     default: None,
     required: true,
-    help: "A file with the rules before the change",
+    help: "A file with the rules, or the program, before the change",
 };
 
 const PAIRS: Argument = Argument {
@@ -35,15 +38,24 @@ const PAIRS: Argument = Argument {
     help: "The pairs of lines that are listed: changed, whose values differ, or all that aren't the same line",
 };
 
-const DIFFER: Options = Options {
-    name: "upc-lab differ",
-    about: "Compare two texts of rules, and print for which cells their values differ",
-    after_help: "Standard input is the rules after the change.\nExample: upc-lab differ examples/customer.rules < examples/customer-changed.rules",
-    arguments: &[OLD, PAIRS],
+const PROGRAM: Argument = Argument {
+    name: "program",
+    form: Form::Valued("WHICH"),
+    default: None,
+    required: false,
+    help: "Which of both is a program in hexadecimal in place of rules: old, new or both",
 };
 
-/// Reads the words after `upc-lab differ`: the name of a file, and `--lines LINES`, which is changed if it isn't given. The forms of help
-/// that `clap` has request help. Any other word is an error, and so are a wrong value, an empty name and words without a name.
+const DIFFER: Options = Options {
+    name: "upc-lab differ",
+    about: "Compare two texts of rules, or programs, and print for which cells their values differ",
+    after_help: "Standard input is the rules, or the program, after the change.\nExample: upc-lab differ examples/customer.rules < examples/customer-changed.rules",
+    arguments: &[OLD, PAIRS, PROGRAM],
+};
+
+/// Reads the words after `upc-lab differ`: the name of a file, `--lines LINES`, which is changed if it isn't given, and `--program WHICH`,
+/// without which both texts are rules. The forms of help that `clap` has request help. Any other word is an error, and so are a wrong value,
+/// an empty name and words without a name.
 pub fn differ_options(alloc: Global, words: Vec<String>) -> Result<DifferOptions, Stop>
     ensures asked { IfOk result (λ options. AsksDiffer (map string_bytes words.items) (differ_asked_by options)) }
     ensures stopped { IfErr result (IsDifferStop (map string_bytes words.items)) }
@@ -64,10 +76,16 @@ fn read(alloc: Global, values: &[Value]) -> Result<DifferOptions, Stop>
     let Some(all) = pairs_of(values) else {
         return Err(wrong_value(alloc, "error: the value of '--lines' is changed or all\n"));
     };
+    let Some(programs) = programs_of(values) else {
+        return Err(wrong_value(
+            alloc,
+            "error: the value of '--program' is old, new or both\n",
+        ));
+    };
     let Ok(old) = String::from_str(alloc, old) else {
         return Err(Stop::NoMemory);
     };
-    Ok(DifferOptions { old, all })
+    Ok(DifferOptions { old, all, programs })
 }
 
 fn answer_to(alloc: Global, found: Result<Vec<Value>, Stop>) -> Result<DifferOptions, Stop>

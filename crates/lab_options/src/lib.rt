@@ -8,6 +8,7 @@ mod forward;
 pub mod laws;
 mod link;
 mod police;
+mod programs;
 mod values;
 mod why;
 
@@ -16,4 +17,5 @@ pub use differ::{DifferOptions, differ_options};
 pub use fit::{FitOptions, fit_options};
 pub use forward::{ForwardOptions, forward_options};
 pub use police::{PoliceOptions, police_options};
+pub use programs::Programs;
 pub use why::{WhyOptions, why_options};

@@ -11,7 +11,7 @@ use Rattle.lab_programs.proofs.Public.{some-list_text, some-trace_text}
 use Rattle.lab_rules.proofs.Public.{some-asm_text, some-rules_text, some-why_text}
 use Rattle.lab_police.proofs.Public.{some_agreed_text}
 use Rattle.lab_sizes.proofs.Public.{some-sizes_text}
-use Rattle.upc_lab.specs.LabText.{IsAskedText, IsLabText, others_asked}
+use Rattle.upc_lab.specs.LabText.{IsAskedText, IsLabText, kinds_asked, others_asked}
 use Rattle.upc_lab.specs.declared.choice.Asked.{Asked}
 use Rattle.upc_lab.specs.declared.choice.Asked.TheVariants.{Plain, Why, Cells, Fit, Police, Differ, Forward}
 use Rattle.upc_lab.specs.declared.choice.Subcommand.{Subcommand}
@@ -38,4 +38,4 @@ some-asked_text (Fit options) setup tick rules old octets =
     (fit_start options.increment options.side) octets tt
 some-asked_text (Forward options) setup tick rules old octets =
     some_agreed_records (others_asked options.others) tick (option_map (λ it. it.nanoseconds) options.tick) options.link setup rules octets
-some-asked_text (Differ options) setup tick rules old octets = some-differ_text options.all old octets
+some-asked_text (Differ options) setup tick rules old octets = some-differ_text (kinds_asked options.programs) options.all old octets

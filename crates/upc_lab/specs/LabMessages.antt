@@ -51,4 +51,4 @@ asked_notice (Cells options) = codes "upc-lab cells: reading a capture from the 
 asked_notice (Fit options) = codes "upc-lab fit: reading a capture from the terminal, to its end"
 asked_notice (Police options) = codes "upc-lab police: reading a capture from the terminal, to its end"
 asked_notice (Forward options) = codes "upc-lab forward: reading a capture from the terminal, to its end"
-asked_notice (Differ options) = codes "upc-lab differ: reading rules from the terminal, to its end"
+asked_notice (Differ options) = codes "upc-lab differ: reading rules or a program from the terminal, to its end"

@@ -2,6 +2,8 @@
 use Rattle.std.specs.Prelude.{ℕ, if◌then◌else◌, Bool, List, Option, option_map}
 use Rattle.lab_captures.specs.CellsText.{IsCellsText}
 use Rattle.lab_differ.specs.DifferText.{IsDifferAnswer}
+use Rattle.lab_differ.specs.declared.kinds.TextKind.TheVariants.{Rules, Program}
+use Rattle.lab_differ.specs.declared.kinds.TextKinds.{TextKinds}
 use Rattle.lab_differ.specs.UnusedText.{IsUnusedAnswer}
 use Rattle.lab_fit.specs.FitText.{IsFitText}
 use Rattle.lab_faults.specs.Explained.{IsExplainText}
@@ -9,6 +11,8 @@ use Rattle.lab_forward.specs.AgreedForward.{MayBeForwardedAsAgreed}
 use Rattle.lab_forward.specs.Reporting.{HasReportedText}
 use Rattle.lab_forward.specs.declared.others.Others.{Others}
 use Rattle.lab_forward.specs.declared.others.Others.TheVariants.{Pass, Drop}
+use Rattle.lab_options.specs.declared.programs.Programs.{Programs}
+use Rattle.lab_options.specs.declared.programs.Programs.TheVariants as which
 use Rattle.lab_programs.specs.ListedProgram.{IsListText}
 use Rattle.lab_programs.specs.Trace.{IsTraceText}
 use Rattle.lab_rules.specs.AsmText.{MayBeAsmText}
@@ -36,8 +40,15 @@ IsLabText lab.Explain = IsExplainText
 abbrev pub others_asked : Bool → Others
 others_asked others = if others then Pass else Drop
 
+-- What the texts are of which these are programs.
+abbrev pub kinds_asked : Programs → TextKinds
+kinds_asked which.Neither = record { old = Rules; new = Rules }
+kinds_asked which.Old = record { old = Program; new = Rules }
+kinds_asked which.New = record { old = Rules; new = Program }
+kinds_asked which.Both = record { old = Program; new = Program }
+
 -- The output for the octets of the files that the words name, which are a setup script, with the tick that it names, files of rules and an old
--- text of rules, and for a whole input, and how the run ends. Only `police` and `forward` have the first three, and only `differ` the last.
+-- text of `differ`, and for a whole input, and how the run ends. Only `police` and `forward` have the first three, and only `differ` the last.
 abbrev pub IsAskedText : List ℕ → Option ℕ → List (List ℕ) → List ℕ → Asked → List ℕ → List ℕ → Done → Type 0
 IsAskedText setup tick rules old (Plain subcommand) = IsLabText subcommand
 IsAskedText setup tick rules old (Why options) = MayBeWhyText options.count
@@ -46,4 +57,4 @@ IsAskedText setup tick rules old (Police options) = MayBePolicedAsAgreed options
 IsAskedText setup tick rules old (Fit options) = IsFitText options.increment options.tick.nanoseconds options.link options.side
 IsAskedText setup tick rules old (Forward options) = HasReportedText (MayBeForwardedAsAgreed (others_asked options.others) tick
     (option_map (λ asked. asked.nanoseconds) options.tick) options.link setup rules)
-IsAskedText setup tick rules old (Differ options) = IsDifferAnswer options.all old
+IsAskedText setup tick rules old (Differ options) = IsDifferAnswer (kinds_asked options.programs) options.all old

@@ -1,4 +1,4 @@
--- What the program does with the files that the words name: a setup script and the files of rules that it names, or an old text of rules.
+-- What the program does with the files that the words name: a setup script and the files of rules that it names, or an old text of `differ`.
 use Rattle.std.specs.Prelude.{◌≡◌, ◌⊎◌, ◌==◌, IsTrue, if◌then◌else◌, ℕ, List, [], ◌++◌, Option, Some, None, MatchBool, MatchOption, Bool, true, false, Result, Ok, Err, codes, length, option_map}
 use Rattle.std.specs.Path.{path_with_file_name}
 use Rattle.std.specs.Str.{bytes_eq}
@@ -19,7 +19,7 @@ use Rattle.lab_options.specs.declared.differ.DifferOptions.{DifferOptions}
 use Rattle.lab_options.specs.declared.forward.ForwardOptions.{ForwardOptions}
 use Rattle.upc_lab.specs.Comparison.{CarriesFinding}
 use Rattle.upc_lab.specs.ForwardRun.{CarriesForward}
-use Rattle.upc_lab.specs.LabText.{IsAskedText, others_asked}
+use Rattle.upc_lab.specs.LabText.{IsAskedText, kinds_asked, others_asked}
 use Rattle.upc_lab.specs.ShownNames.{shown_name}
 use Rattle.upc_lab.specs.declared.choice.Asked.{Asked}
 use Rattle.upc_lab.specs.declared.choice.Asked.TheVariants.{Plain, Why, Cells, Fit, Police, Differ, Forward}
@@ -77,7 +77,7 @@ asks_unused (Ok (Forward options)) = false
 asks_unused (Ok (Differ options)) = false
 asks_unused (Err stop) = false
 
--- The name of the file with the old rules, if the words name one.
+-- The name of the file with the old text, if the words name one.
 abbrev pub old_name : Result Asked Stop → Option (List ℕ)
 old_name chosen = option_map (λ options. string_bytes options.old) (differ_in chosen)
 
@@ -150,7 +150,7 @@ abbrev pub CarriesWith : {Source Sink Errors : Type 0} → (RunFault → List �
     → InputView Source → Source → Source → OutputView Sink → Sink → Sink → OutputView Errors → Errors → Errors → ℕ → Type 0
 CarriesWith message chosen files I input input' O output output' E errors errors' status = MatchOption (differ_in chosen)
     (CarriesOther message chosen files I input input' O output output' E errors errors' status)
-    (λ options. CarriesFinding message (IsDifferText options.all files.old.items) I input input' O output output' E errors errors' status)
+    (λ options. CarriesFinding message (IsDifferText (kinds_asked options.programs) options.all files.old.items) I input input' O output output' E errors errors' status)
 
 -- The same, for files that may not have been read. If a file
 -- couldn't be read, nothing is read or written but the message about it.

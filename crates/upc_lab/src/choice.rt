@@ -46,7 +46,7 @@ pub enum Asked {
     Fit(FitOptions),
     /// Print the verdicts on the cells of a capture.
     Police(PoliceOptions),
-    /// Print for which cells two texts of rules differ.
+    /// Print for which cells two texts of rules, or programs, differ.
     Differ(DifferOptions),
     /// Write the records of a capture whose cells pass.
     Forward(ForwardOptions),
@@ -137,7 +137,7 @@ const SUBCOMMANDS: [Row<Option<Subcommand>>; 13] = [
     },
     Row {
         name: "differ",
-        about: "Compare two texts of rules, and print for which cells their values differ",
+        about: "Compare two texts of rules, or programs, and print for which cells their values differ",
         example: Some("It has options: `upc-lab differ --help` lists them"),
         means: None,
     },

@@ -14,7 +14,7 @@ ghost use Rattle.text_io.specs.declared.ending.RunFault.{RunFault as Failed};
 ghost use Rattle.upc_lab.specs.Comparison.{CarriesFinding, finding_status};
 ghost use Rattle.upc_lab.specs.ForwardRun.{CarriesForward};
 ghost use Rattle.upc_lab.specs.LabMessages.{lab_failure_line, shell_status_of};
-ghost use Rattle.upc_lab.specs.LabText.{IsAskedText, IsLabText, others_asked};
+ghost use Rattle.upc_lab.specs.LabText.{IsAskedText, IsLabText, kinds_asked, others_asked};
 ghost use Rattle.upc_lab.specs.SetupFile.{CarriesAllOut, CarriesOther, CarriesPlain, CarriesWith, ForwardsAsked, IsStatusIn, MayForwardAsked, asks_unused, differ_in, forward_in, rules_in_files, tick_in_files};
 
 use crate::choice::{Asked, Subcommand};
@@ -22,11 +22,11 @@ use crate::reason::Reasoned;
 use crate::setup_file::{SetupFiles, Unreadable};
 use command_line::{Stop, status, write_message};
 use lab_captures::cells_of_capture;
-use lab_differ::{Finding, compare_texts, ended_by, unused_in_text};
+use lab_differ::{Finding, TextKind, TextKinds, compare_texts, ended_by, unused_in_text};
 use lab_faults::{Ahead, explain_faults};
 use lab_fit::fit_capture;
 use lab_forward::{Others, forward_as_agreed};
-use lab_options::{DifferOptions, ForwardOptions};
+use lab_options::{DifferOptions, ForwardOptions, Programs};
 use lab_police::{PoliceChoice, police_as_agreed};
 use lab_programs::{list_program, trace_cells};
 use lab_rules::{assemble_rules, compile_rules, decide_cells};
@@ -110,6 +110,19 @@ fn others_asked(others: bool) -> Others
     if others { Others::Pass } else { Others::Drop }
 }
 
+/// Returns what the texts are of which these are programs.
+fn kinds_asked(programs: Programs) -> TextKinds
+    ensures { result ≡ kinds_asked programs }
+{
+    let (old, new) = match programs {
+        Programs::Neither => (TextKind::Rules, TextKind::Rules),
+        Programs::Old => (TextKind::Program, TextKind::Rules),
+        Programs::New => (TextKind::Rules, TextKind::Program),
+        Programs::Both => (TextKind::Program, TextKind::Program),
+    };
+    TextKinds { old, new }
+}
+
 /// Runs what was asked for over the whole input, with the files that the words name.
 fn run<R: Threads, I: Ahead + Send, O: Output>(
     rt: &R,
@@ -171,9 +184,14 @@ fn run<R: Threads, I: Ahead + Send, O: Output>(
             output,
             &mut Vec::new(alloc),
         ),
-        Asked::Differ(options) => {
-            ended_by(compare_texts(alloc, files.old.as_slice(), options.all, input, output))
-        }
+        Asked::Differ(options) => ended_by(compare_texts(
+            alloc,
+            kinds_asked(options.programs),
+            files.old.as_slice(),
+            options.all,
+            input,
+            output,
+        )),
     }
 }
 
@@ -219,9 +237,10 @@ fn report_finding<I: Reasoned, O: Reasoned, E: Output>(
     }
 }
 
-/// Compares an old text of rules with the whole input, and returns the exit status. A failure also gets a message.
+/// Compares an old text with the whole input, and returns the exit status. A failure also gets a message.
 fn carry_out_differ<I: Ahead + Reasoned, O: Output + Reasoned, E: Output>(
     alloc: Global,
+    kinds: TextKinds,
     all: bool,
     old: &[u8],
     input: &mut I,
@@ -230,10 +249,10 @@ fn carry_out_differ<I: Ahead + Reasoned, O: Output + Reasoned, E: Output>(
 ) -> u8
     ensures carried { I.is_known → O.is_known → E.is_known → CarriesFinding
         (lab_failure_line (I.message input.new) (O.message output.new) (O.is_closed output.new))
-        (IsDifferText all old.now) I.Input input.old input.new O.Output output.old output.new E.Output errors.old errors.new result }
+        (IsDifferText kinds all old.now) I.Input input.old input.new O.Output output.old output.new E.Output errors.old errors.new result }
     ensures status { (ended : Result Found Failed) × (result ≡ finding_status ended) }
 {
-    let ended = compare_texts(alloc, old, all, input, output);
+    let ended = compare_texts(alloc, kinds, old, all, input, output);
     report_finding(ended, input, output, errors)
 }
 
@@ -419,6 +438,7 @@ fn carry_out_read<R: Threads, I: Ahead + Reasoned + Send, O: Output + Reasoned, 
     match differ_in(chosen) {
         Some(options) => carry_out_differ(
             alloc,
+            kinds_asked(options.programs),
             options.all,
             files.old.as_slice(),
             input,

@@ -20,7 +20,8 @@ pub fn awaited(asked: &Asked) -> &'static str
         Asked::Fit(_) => "upc-lab fit: reading a capture from the terminal, to its end",
         Asked::Police(_) => "upc-lab police: reading a capture from the terminal, to its end",
         Asked::Forward(_) => "upc-lab forward: reading a capture from the terminal, to its end",
-        Asked::Differ(_) => "upc-lab differ: reading rules from the terminal, to its end",
+        Asked::Differ(_) =>
+            "upc-lab differ: reading rules or a program from the terminal, to its end",
     }
 }
 

@@ -20,7 +20,7 @@ use std::path::Path;
 use std::rt::Files;
 use std::{io, str};
 
-/// The maximum number of octets of a text of rules.
+/// The maximum number of octets of a text of rules, or of one with a program.
 const MOST_RULES_OCTETS: u64 = 1048576;
 
 /// The maximum number of lines of a script.
@@ -41,7 +41,7 @@ pub struct SetupFiles {
     pub tick: Option<Tick>,
     /// The octets of the file of rules that each line `rules NAME` of the script names, in order. Lines that name the same file share them.
     pub rules: Vec<SharedText>,
-    /// The octets of the old text of rules, as far as they were read.
+    /// The octets of the old text of `differ`, as far as they were read.
     pub old: Vec<u8>,
 }
 
@@ -190,7 +190,7 @@ fn read_script<R: Files + AllocGlobal>(rt: &R, name: &str) -> io::Result<Vec<u8>
     Ok(script)
 }
 
-/// Reads a text of rules to its end, or to the first octet over its limit.
+/// Reads a text of rules, or one with a program, to its end, or to the first octet over its limit.
 fn read_text<R: Files + AllocGlobal>(rt: &R, name: &str) -> io::Result<Vec<u8>> {
     let file = File::open(rt, name)?;
     let mut text = Vec::new(rt.alloc());
@@ -355,7 +355,7 @@ fn read_shown<R: Files + AllocGlobal, C: CommandLine>(
     }
 }
 
-/// Reads the old text of rules in the file with this name.
+/// Reads the old text in the file with this name.
 fn read_old_file<R: Files + AllocGlobal>(rt: &R, name: &[u8]) -> Result<SetupFiles, Unreadable>
     ensures script { IfOk result (λ files. files.script.items ≡ []) }
     ensures rules { IfOk result (λ files. files.rules.items ≡ []) }
@@ -373,7 +373,7 @@ fn read_old_file<R: Files + AllocGlobal>(rt: &R, name: &[u8]) -> Result<SetupFil
     })
 }
 
-/// Reads the old text of rules in the file that is shown by this name.
+/// Reads the old text in the file that is shown by this name.
 fn read_old_shown<R: Files + AllocGlobal, C: CommandLine>(
     rt: &R,
     line: &C,
@@ -390,7 +390,7 @@ fn read_old_shown<R: Files + AllocGlobal, C: CommandLine>(
     }
 }
 
-/// Reads the files that the words name: the setup script of `police` and the files of rules that it names, or the old rules of `differ`.
+/// Reads the files that the words name: the setup script of `police` and the files of rules that it names, or the old text of `differ`.
 /// Other words name none. `line` is the command line of these words.
 ///
 /// No contract is about the octets of a file. A script is read up to a line over the limits, and a file of rules up to its limit and an

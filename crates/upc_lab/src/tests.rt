@@ -190,6 +190,7 @@ fn a_subcommand_is_chosen_by_its_name_alone(rt: HostRuntime) -> Result<(), Fail>
         ("police a b", false),
         ("differ a.rules", true),
         ("differ a.rules --lines all", true),
+        ("differ a.hex --program old", true),
         ("differ", false),
         ("rules differ", false),
         ("rules police", false),

@@ -39,7 +39,7 @@ police_spelled texts = police_values (text_named texts (codes "SETUP")) (text_na
 
 -- What named values of `differ` spell.
 abbrev pub differ_spelled : List (Text × Option Text) → Option DifferAsked
-differ_spelled texts = differ_values (text_named texts (codes "OLD")) (text_named texts (codes "lines"))
+differ_spelled texts = differ_values (text_named texts (codes "OLD")) (text_named texts (codes "lines")) (text_named texts (codes "program"))
 
 -- What named values of `forward` spell.
 abbrev pub forward_spelled : List (Text × Option Text) → Option ForwardAsked

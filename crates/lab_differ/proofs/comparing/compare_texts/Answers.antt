@@ -13,7 +13,7 @@ returns-in-Err-clause-served g c =
     let octets = g.I.Input.rest c.args.input.now in
     record {
       text = search rules;
-      front = λ _ _. nothing-begins (IsDifferAnswer c.args.lines c.args.old.now octets) (g.O.Output.held c.args.output.now) (some_answer c.args.lines c.args.old.now octets);
+      front = λ _ _. nothing-begins (IsDifferAnswer c.args.kinds c.args.lines c.args.old.now octets) (g.O.Output.held c.args.output.now) (some_answer c.args.kinds c.args.lines c.args.old.now octets);
       left = search rules;
       whole = search rules;
       reading = search rules;
@@ -25,7 +25,7 @@ returns-in-Err-add_differ-clause-served g c =
     let octets = g.I.Input.rest c.args.input.now in
     record {
       text = search rules;
-      front = λ _ _. nothing-begins (IsDifferAnswer c.args.lines c.args.old.now octets) (g.O.Output.held c.args.output.now) (some_answer c.args.lines c.args.old.now octets);
+      front = λ _ _. nothing-begins (IsDifferAnswer c.args.kinds c.args.lines c.args.old.now octets) (g.O.Output.held c.args.output.now) (some_answer c.args.kinds c.args.lines c.args.old.now octets);
       left = search rules;
       whole = search rules;
       reading = search rules;
@@ -34,6 +34,7 @@ returns-in-Err-add_differ-clause-served g c =
 
 pub returns-clause-served : goal.returns-clause-served
 returns-clause-served g c =
+    let kinds = c.args.kinds in
     let lines = c.args.lines in
     let old = c.args.old.now in
     let octets = g.I.Input.rest c.args.input.now in
@@ -46,17 +47,17 @@ returns-clause-served g c =
     let result = c.give_finding.result in
     let answered = c.in-Ok-add_differ.ensures in
     let text_is : answers ≡ answered.0 = answered.1 ∙ ap (λ xs. xs ++ answered.0) c.new-answers.ensures.items in
-    let prints : PrintsDiffer lines (gathered most_rules_octets old) found answers finding =
-    subst (λ xs. PrintsDiffer lines (gathered most_rules_octets old) found xs finding) (sym text_is) answered.2 in
-    let text : g.I.Input.is_known → IsDifferText lines old octets answers finding =
-    λ known. subst (λ (f : Option (List ℕ)). PrintsDiffer lines (gathered most_rules_octets old) f answers finding) (c.in-Ok.ensures.whole known) prints in
+    let prints : PrintsDiffer kinds lines (gathered most_rules_octets old) found answers finding =
+    subst (λ xs. PrintsDiffer kinds lines (gathered most_rules_octets old) found xs finding) (sym text_is) answered.2 in
+    let text : g.I.Input.is_known → IsDifferText kinds lines old octets answers finding =
+    λ known. subst (λ (f : Option (List ℕ)). PrintsDiffer kinds lines (gathered most_rules_octets old) f answers finding) (c.in-Ok.ensures.whole known) prints in
     record {
-      text = λ known written. text_given (IsDifferText lines old) octets held held' result
-          (printed_given (IsDifferText lines old) octets held held' answers finding result c.give_finding.ensures.found (c.give_finding.ensures.given written) (text known));
-      front = λ known written. front_given (IsDifferText lines old) octets held held' answers finding result (c.give_finding.ensures.front written) (text known);
-      left = λ known. left_given (IsDifferText lines old) octets left finding result c.give_finding.ensures.found
-          (enough lines old octets left found answers finding (c.in-Ok.ensures.whole known) (c.in-Ok.ensures.left known) prints);
-      whole = λ known e. whole_read lines (gathered most_rules_octets old) found octets left answers finding
+      text = λ known written. text_given (IsDifferText kinds lines old) octets held held' result
+          (printed_given (IsDifferText kinds lines old) octets held held' answers finding result c.give_finding.ensures.found (c.give_finding.ensures.given written) (text known));
+      front = λ known written. front_given (IsDifferText kinds lines old) octets held held' answers finding result (c.give_finding.ensures.front written) (text known);
+      left = λ known. left_given (IsDifferText kinds lines old) octets left finding result c.give_finding.ensures.found
+          (enough kinds lines old octets left found answers finding (c.in-Ok.ensures.whole known) (c.in-Ok.ensures.left known) prints);
+      whole = λ known e. whole_read kinds lines (gathered most_rules_octets old) found octets left answers finding
           (done_whole finding result c.give_finding.ensures.found e) prints (c.in-Ok.ensures.left known);
       reading = c.in-Ok.ensures.reading ∙ sym (none_read result (g.I.Input.failures c.args.input.now) c.give_finding.ensures.fault);
       writing = c.give_finding.ensures.writing;
@@ -64,6 +65,7 @@ returns-clause-served g c =
 
 pub returns-clause-printed : goal.returns-clause-printed
 returns-clause-printed g c = λ known written.
+    let kinds = c.args.kinds in
     let lines = c.args.lines in
     let old = c.args.old.now in
     let octets = g.I.Input.rest c.args.input.now in
@@ -72,9 +74,9 @@ returns-clause-printed g c = λ known written.
     let answers = c.add_differ.new.answers.items in
     let answered = c.in-Ok-add_differ.ensures in
     let text_is : answers ≡ answered.0 = answered.1 ∙ ap (λ xs. xs ++ answered.0) c.new-answers.ensures.items in
-    let prints : PrintsDiffer lines (gathered most_rules_octets old) found answers finding =
-    subst (λ xs. PrintsDiffer lines (gathered most_rules_octets old) found xs finding) (sym text_is) answered.2 in
-    let text : IsDifferText lines old octets answers finding =
-    subst (λ (f : Option (List ℕ)). PrintsDiffer lines (gathered most_rules_octets old) f answers finding) (c.in-Ok.ensures.whole known) prints in
-    printed_given (IsDifferText lines old) octets (g.O.Output.held c.args.output.now) (g.O.Output.held c.give_finding.new.output) answers finding c.give_finding.result
+    let prints : PrintsDiffer kinds lines (gathered most_rules_octets old) found answers finding =
+    subst (λ xs. PrintsDiffer kinds lines (gathered most_rules_octets old) found xs finding) (sym text_is) answered.2 in
+    let text : IsDifferText kinds lines old octets answers finding =
+    subst (λ (f : Option (List ℕ)). PrintsDiffer kinds lines (gathered most_rules_octets old) f answers finding) (c.in-Ok.ensures.whole known) prints in
+    printed_given (IsDifferText kinds lines old) octets (g.O.Output.held c.args.output.now) (g.O.Output.held c.give_finding.new.output) answers finding c.give_finding.result
     c.give_finding.ensures.found (c.give_finding.ensures.given written) text

@@ -6,7 +6,8 @@ use Rattle.upc_lab.proofs.invocation.carry_out_read.Goals as goal
 pub returns-in-Some-clause-carried : goal.returns-in-Some-clause-carried
 returns-in-Some-clause-carried g c = λ known written shown.
     let carried = c.carry_out_differ.ensures.carried known written shown in
-    let here = rw c.as_slice.ensures.value at carried in
+    let asked = rw c.kinds_asked.ensures at carried in
+    let here = rw c.as_slice.ensures.value at asked in
     rw (sym c.in-Some.ensures) here
 
 pub returns-in-Some-clause-status : goal.returns-in-Some-clause-status
