@@ -145,6 +145,8 @@ def pcapng_records(octets):
 def records_of(octets):
     """Returns an iterator of the records in a file: the interface of the packet of each in a pcapng file, or None, and its octets. Between them
     are the kinds and places of blocks that are passed over, as `Block`."""
+    if not octets:
+        raise Refused("7 Empty")
     if len(octets) < 16:
         return short_file(octets)
     magic = number(octets, 0, ">")
@@ -169,8 +171,7 @@ def records_of(octets):
 
 
 def short_file(octets):
-    if octets and all(32 <= octet < 127 or 9 <= octet < 14 for octet in octets):
+    if all(32 <= octet < 127 or 9 <= octet < 14 for octet in octets):
         raise Broken("14 ShortText", 0)
-    if octets:
-        raise Broken("1 CutOff", 0)
+    raise Broken("1 CutOff", 0)
     return iter(())

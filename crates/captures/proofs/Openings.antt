@@ -1,11 +1,11 @@
 -- What a file is by its first octets, whatever follows them.
-use Rattle.std.proofs.Common.{◌≡◌, ◌≢◌, ◌≤◌, ◌<◌, ◌%◌, ◌==◌, inl, inr, ℕ, Bool, true, false, List, Option, None, Some, ◌++◌, length, arith, refl, ◌∙◌, sym, ap, subst, length-append, if◌then◌else◌}
+use Rattle.std.proofs.Common.{◌≡◌, ◌≢◌, ◌≤◌, ◌<◌, ◌%◌, ◌==◌, inl, inr, ℕ, Bool, true, false, List, [], ◌∷◌, Option, None, Some, ◌++◌, length, arith, refl, ◌∙◌, sym, ap, subst, append-nil, length-append, if◌then◌else◌}
 use Rattle.std.specs.List.{list_all}
 use Rattle.std.proofs.lemmas.Bool.{cases_lt}
 use Rattle.std.proofs.lemmas.List.{take-append-le}
 use Rattle.captures.specs.Blocks.{section_begun}
 use Rattle.captures.specs.Frames.{format_start}
-use Rattle.captures.specs.Opening.{OpeningsStay, begins_as_text, fault_by, file_magic, file_number, is_pcap_magic, is_pcapng_magic, is_text_octet, opening_by, opening_of, pcap_link, pcap_opening, refused_or}
+use Rattle.captures.specs.Opening.{OpeningsStay, begins_as_text, fault_by, file_magic, file_number, file_opening, is_pcap_magic, is_pcapng_magic, is_text_octet, opening_by, opening_of, pcap_link, pcap_opening, refused_or}
 use Rattle.captures.specs.declared.format.Format.{Format}
 use Rattle.captures.specs.declared.format.Format.TheVariants.{Erf, Pcap, PcapNg}
 use Rattle.captures.specs.declared.format.Order.{Order}
@@ -146,3 +146,24 @@ header_within xs format is =
     (λ why same. cc)
     (λ same. let equal : Erf ≡ format = cc in subst (λ (f : Format). format_start f ≤ length xs) equal (omega arith))
     is
+
+-- What a file is whose first octets are these, of which all were read if they decide nothing.
+stays_or_ends : (xs ys : List ℕ) (opening : Opening) → opening_of xs ≡ opening → (opening_of xs ≡ Undecided → ys ≡ []) → opening_of (xs ++ ys) ≡ opening
+stays_or_ends xs ys Undecided is none = subst (λ (zs : List ℕ). opening_of (xs ++ zs) ≡ Undecided) (sym (none is)) (ap opening_of (append-nil xs) ∙ is)
+stays_or_ends xs ys (Opened format) is none =
+    let decided : opening_of xs ≢ Undecided = λ same. let bad : Opened format ≡ Undecided = sym is ∙ same in cc in openings_stay xs ys decided ∙ is
+stays_or_ends xs ys (Refused fault) is none =
+    let decided : opening_of xs ≢ Undecided = λ same. let bad : Refused fault ≡ Undecided = sym is ∙ same in cc in openings_stay xs ys decided ∙ is
+
+pub file_decided : (xs ys : List ℕ) (opening : Opening) → file_opening xs ≡ opening → (opening_of xs ≡ Undecided → ys ≡ []) → file_opening (xs ++ ys) ≡ opening
+file_decided [] ys opening is none = subst (λ (zs : List ℕ). file_opening zs ≡ opening) (sym (none refl)) is
+file_decided (x ∷ xs) ys opening is none = stays_or_ends (x ∷ xs) ys opening is none
+
+-- A file that was opened is no empty one, and nor is one that its octets don't decide.
+pub file_opened : (xs : List ℕ) (format : Format) → file_opening xs ≡ Opened format → opening_of xs ≡ Opened format
+file_opened [] format is = cc
+file_opened (x ∷ xs) format is = is
+
+pub file_undecided : (xs : List ℕ) → file_opening xs ≡ Undecided → opening_of xs ≡ Undecided
+file_undecided [] is = refl
+file_undecided (x ∷ xs) is = is

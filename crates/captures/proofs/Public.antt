@@ -1,9 +1,10 @@
 -- Lemmas for other crates.
-use Rattle.std.proofs.Common.{◌≡◌, ◌≤◌, ◌<◌, ℕ, List, length}
+use Rattle.std.proofs.Common.{◌≡◌, ◌≤◌, ◌<◌, ℕ, List, [], ◌++◌, length}
 use Rattle.captures.specs.Frames.{format_start}
-use Rattle.captures.specs.Opening.{OpeningsStay, opening_of}
+use Rattle.captures.specs.Opening.{OpeningsStay, file_opening, opening_of}
 use Rattle.captures.specs.Reading.{FaultsEndReadings, FramesAreReadInOrder, HasOneReading, HasSomeReading}
 use Rattle.captures.specs.declared.format.Format.{Format}
+use Rattle.captures.specs.declared.opening.Opening.{Opening}
 use Rattle.captures.specs.declared.opening.Opening.TheVariants.{Opened, Undecided}
 use Rattle.captures.proofs.OneReading as one
 use Rattle.captures.proofs.Openings as openings
@@ -37,3 +38,16 @@ undecided_short = openings.undecided_short
 -- The header of a file that was opened is among its octets.
 pub header_within : (octets : List ℕ) (format : Format) → opening_of octets ≡ Opened format → format_start format ≤ length octets
 header_within = openings.header_within
+
+-- What a file is whose first octets are these, of which all were read if they decide nothing.
+pub file_decided : (octets more : List ℕ) (opening : Opening) → file_opening octets ≡ opening → (opening_of octets ≡ Undecided → more ≡ [])
+    → file_opening (octets ++ more) ≡ opening
+file_decided = openings.file_decided
+
+-- A file that was opened is no empty one.
+pub file_opened : (octets : List ℕ) (format : Format) → file_opening octets ≡ Opened format → opening_of octets ≡ Opened format
+file_opened = openings.file_opened
+
+-- Nor is one that its octets don't decide.
+pub file_undecided : (octets : List ℕ) → file_opening octets ≡ Undecided → opening_of octets ≡ Undecided
+file_undecided = openings.file_undecided

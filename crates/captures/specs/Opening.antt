@@ -1,5 +1,5 @@
 -- What a file is, by its first octets.
-use Rattle.std.specs.Prelude.{◌≡◌, ◌≢◌, ◌++◌, ◌/◌, ◌%◌, ◌==◌, ◌&&◌, ◌||◌, nat_le, nat_lt, if◌then◌else◌, Bool, ℕ, List, Option, None, Some, length, take, drop}
+use Rattle.std.specs.Prelude.{◌≡◌, ◌≢◌, ◌++◌, ◌/◌, ◌%◌, ◌==◌, ◌&&◌, ◌||◌, nat_le, nat_lt, if◌then◌else◌, Bool, ℕ, List, [], ◌∷◌, Option, None, Some, length, take, drop}
 use Rattle.std.specs.List.{list_all}
 use Rattle.byteorder.specs.Endian.{big_number}
 use Rattle.captures.specs.Blocks.{section_begun}
@@ -8,7 +8,7 @@ use Rattle.captures.specs.declared.format.Format.TheVariants.{Erf, Pcap, PcapNg}
 use Rattle.captures.specs.declared.format.Order.{Order}
 use Rattle.captures.specs.declared.format.Order.TheVariants.{HighestFirst, LowestFirst}
 use Rattle.captures.specs.declared.opening.FileFault.{FileFault}
-use Rattle.captures.specs.declared.opening.FileFault.TheVariants.{Bzip2, Gzip, OtherLink, Text, Xz, Zstd}
+use Rattle.captures.specs.declared.opening.FileFault.TheVariants.{Bzip2, Empty, Gzip, OtherLink, Text, Xz, Zstd}
 use Rattle.captures.specs.declared.opening.Opening.{Opening}
 use Rattle.captures.specs.declared.opening.Opening.TheVariants.{Opened, Undecided, Refused}
 
@@ -102,6 +102,11 @@ opening_by magic octets =
 -- What a file is that begins with these octets. The first 16 octets decide, or the first 24 of a pcap file.
 abbrev pub opening_of : List ℕ → Opening
 opening_of octets = if nat_lt (length octets) 16 then Undecided else opening_by (file_magic octets) octets
+
+-- What a whole file with these octets is. One without octets has no header of any format, and no record.
+abbrev pub file_opening : List ℕ → Opening
+file_opening [] = Refused Empty
+file_opening (octet ∷ octets) = opening_of (octet ∷ octets)
 
 -- What a file is stays once its first octets decided it, whatever follows them.
 abbrev pub OpeningsStay : Type 0

@@ -23,6 +23,6 @@ pub use format::{Format, Order};
 pub use lent_cell::LentCell;
 pub use link::{Channel, Link};
 pub use marks::Marks;
-pub use opening::{FileFault, Opening, is_text, open};
+pub use opening::{FileFault, Opening, is_text, open, open_whole};
 pub use reader::{Next, Passage, Reader, Record};
 pub use record_octets::cell_place;

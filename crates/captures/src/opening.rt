@@ -1,7 +1,7 @@
 //! What a file is.
 
 ghost use Rattle.std.specs.Prelude.{◌≡◌, ◌≤◌, ◌↔◌, length, IsTrue};
-ghost use Rattle.captures.specs.Opening.{begins_as_text as begins_text, fault_by as fault_of, is_marked_text as is_marked, is_pcap_magic, is_text as are_printed, is_text_octet as is_printed, opening_by, opening_of, pcap_opening};
+ghost use Rattle.captures.specs.Opening.{begins_as_text as begins_text, fault_by as fault_of, is_marked_text as is_marked, file_opening, is_pcap_magic, is_text as are_printed, is_text_octet as is_printed, opening_by, opening_of, pcap_opening};
 
 use crate::block::Section;
 use crate::format::{FILE_HEADER_OCTETS, Format, Order};
@@ -30,6 +30,9 @@ pub enum FileFault {
     /// It was compressed by zstd.
     #[error("6 Zstd")]
     Zstd,
+    /// It has no octets.
+    #[error("7 Empty")]
+    Empty,
 }
 
 /// What a file is, by its first octets.
@@ -37,7 +40,7 @@ pub enum FileFault {
 pub enum Opening {
     /// The file is a capture.
     Opened(Format),
-    /// More octets are wanted: 16, or 24 of a pcap file. A file that ends before them is cut off, or is an empty capture.
+    /// More octets are wanted: 16, or 24 of a pcap file. A file that ends before them is cut off, or a text, or empty.
     Undecided,
     /// The file isn't read.
     Refused(FileFault),
@@ -139,4 +142,14 @@ pub fn open(octets: &[u8]) -> Opening
         return Opening::Undecided;
     }
     open_by(BigEndian::read_u32(octets), octets)
+}
+
+/// Returns what the file is that has these octets and no others.
+pub fn open_whole(octets: &[u8]) -> Opening
+    ensures { result ≡ file_opening octets.now }
+{
+    if octets.is_empty() {
+        return Opening::Refused(FileFault::Empty);
+    }
+    open(octets)
 }

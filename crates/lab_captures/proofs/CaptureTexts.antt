@@ -1,16 +1,16 @@
 -- The text of a whole capture, from what its first octets say.
-use Rattle.std.proofs.Common.{◌≡◌, ◌≢◌, ◌≤◌, ℕ, List, [], ◌++◌, Option, Result, Ok, Err, length, drop, refl, ◌∙◌, sym, ap, ap₂, subst, arith, append_assoc, append-nil}
+use Rattle.std.proofs.Common.{◌≡◌, ◌≢◌, ◌≤◌, ℕ, List, [], ◌++◌, Option, Some, Result, Ok, Err, length, drop, refl, ◌∙◌, sym, ap, ap₂, subst, arith, append_assoc, append-nil}
 use Rattle.std.proofs.lemmas.List.{drop-append-le}
-use Rattle.captures.proofs.Public.{header_within, openings_stay}
+use Rattle.captures.proofs.Public.{file_decided, file_opened, header_within}
 use Rattle.captures.specs.Frames.{format_start}
-use Rattle.captures.specs.Opening.{opening_of}
+use Rattle.captures.specs.Opening.{file_opening, opening_of}
 use Rattle.captures.specs.declared.fault.Fault.{Fault}
 use Rattle.captures.specs.declared.format.Format.{Format}
 use Rattle.captures.specs.declared.opening.FileFault.{FileFault}
 use Rattle.captures.specs.declared.opening.Opening.{Opening}
 use Rattle.captures.specs.declared.opening.Opening.TheVariants.{Opened, Undecided, Refused}
 use Rattle.lab_captures.specs.CaptureFaults.{file_fault_line}
-use Rattle.lab_captures.specs.CaptureText.{IsCaptureText, IsOpenedText, IsRecordsText, done_at, short_ending}
+use Rattle.lab_captures.specs.CaptureText.{IsCaptureText, IsOpenedText, IsRecordsText, short_fault}
 use Rattle.lab_captures.specs.CellFilter.{FilterState, filter_state}
 use Rattle.lab_captures.specs.CellRules.{AnswersEachCell, CellRules, fixed_rules}
 use Rattle.lab_captures.specs.declared.counted.CountedCell.{CountedCell}
@@ -36,7 +36,7 @@ use Rattle.text_io.specs.declared.ending.RunFault.TheVariants.{ReadFailed, Write
 
 -- A file that is this has the text of it.
 by_opening : {World : Type 0} (rules : CellRules World) (filter : FilterState) (world : World) (octets text : List ℕ) (opening : Opening) (done : Done)
-    → opening_of octets ≡ opening → IsOpenedText rules filter world octets opening text done → IsCaptureText rules filter world octets text done
+    → file_opening octets ≡ opening → IsOpenedText rules filter world octets opening text done → IsCaptureText rules filter world octets text done
 by_opening rules filter world octets text opening done is printed =
     subst (λ (o : Opening). IsOpenedText rules filter world octets o text done) (sym is) printed
 
@@ -49,13 +49,13 @@ opened_some rules total filter world octets (Opened format) sound =
     let printed = cells_some rules total has.0 has.1 world sound in
     (printed.0, printed.1, (has.0, has.1, has.2, printed.2))
 opened_some rules total filter world octets Undecided sound =
-    (rules.closes world filter.passed (short_ending octets), done_at (short_ending octets), (refl, refl))
+    (rules.closes world filter.passed (Some (short_fault octets)), Ended, (refl, refl))
 opened_some rules total filter world octets (Refused fault) sound = (file_fault_line fault, Ended, (refl, refl))
 
 pub some_capture_text : {World : Type 0} (rules : CellRules World) → AnswersEachCell rules
     → (filter : FilterState) (world : World) (octets : List ℕ) → rules.is_sound world
     → (text : List ℕ) × (done : Done) × IsCaptureText rules filter world octets text done
-some_capture_text rules total filter world octets sound = opened_some rules total filter world octets (opening_of octets) sound
+some_capture_text rules total filter world octets sound = opened_some rules total filter world octets (file_opening octets) sound
 
 -- Where nothing was written, the output grew by a front of a text.
 pub no_front : {World : Type 0} (rules : CellRules World) → AnswersEachCell rules
@@ -71,31 +71,32 @@ a_front IsText before after text done is part =
 
 -- A file that isn't read.
 pub refused_text : {World : Type 0} (rules : CellRules World) (filter : FilterState) (world : World) (octets more : List ℕ) (fault : FileFault)
-    → opening_of octets ≡ Refused fault → IsCaptureText rules filter world (octets ++ more) (file_fault_line fault) Ended
-refused_text rules filter world octets more fault is =
-    let decided : opening_of octets ≢ Undecided = λ none. let bad : Refused fault ≡ Undecided = sym is ∙ none in cc in
-    by_opening rules filter world (octets ++ more) (file_fault_line fault) (Refused fault) Ended (openings_stay octets more decided ∙ is) (refl, refl)
+    → file_opening octets ≡ Refused fault → (opening_of octets ≡ Undecided → more ≡ [])
+    → IsCaptureText rules filter world (octets ++ more) (file_fault_line fault) Ended
+refused_text rules filter world octets more fault is none =
+    by_opening rules filter world (octets ++ more) (file_fault_line fault) (Refused fault) Ended (file_decided octets more (Refused fault) is none) (refl, refl)
 
 -- A file that is too short.
-pub short_text : {World : Type 0} (rules : CellRules World) (filter : FilterState) (world : World) (octets : List ℕ) → opening_of octets ≡ Undecided
-    → IsCaptureText rules filter world octets (rules.closes world filter.passed (short_ending octets)) (done_at (short_ending octets))
+pub short_text : {World : Type 0} (rules : CellRules World) (filter : FilterState) (world : World) (octets : List ℕ) → file_opening octets ≡ Undecided
+    → IsCaptureText rules filter world octets (rules.closes world filter.passed (Some (short_fault octets))) Ended
 short_text rules filter world octets is =
-    by_opening rules filter world octets (rules.closes world filter.passed (short_ending octets)) Undecided (done_at (short_ending octets)) is (refl, refl)
+    by_opening rules filter world octets (rules.closes world filter.passed (Some (short_fault octets))) Undecided Ended is (refl, refl)
 
 -- A capture: the text of its cells that count.
 pub opened_text : {World : Type 0} (rules : CellRules World) (world : World) (reading : ReadingAhead) (format : Format) (window : List ℕ)
-    → opening_of window ≡ Opened format → reading.reader.format ≡ format → reading.reader.count ≡ 0 → reading.reader.at ≡ format_start format
+    → file_opening window ≡ Opened format → reading.reader.format ≡ format → reading.reader.count ≡ 0 → reading.reader.at ≡ format_start format
     → reading.window ≡ drop (format_start format) window → (more text : List ℕ) (done : Done)
     → IsQueuedText rules reading [] world (reading.window ++ more) text done → IsCaptureText rules (filter_state reading.filter) world (window ++ more) text done
 opened_text rules world reading format window is formats counts places dropped more text done printed =
     let filter = filter_state reading.filter in
-    let decided : opening_of window ≢ Undecided = λ none. let bad : Opened format ≡ Undecided = sym is ∙ none in cc in
-    let within : format_start format ≤ length window = header_within window format is in
+    let opened : opening_of window ≡ Opened format = file_opened window format is in
+    let decided : opening_of window ≡ Undecided → more ≡ [] = λ none. let bad : Opened format ≡ Undecided = sym opened ∙ none in cc in
+    let within : format_start format ≤ length window = header_within window format opened in
     let later = reading.window in
     let octets : later ++ more ≡ drop (format_start format) (window ++ more) =
     ap (λ xs. xs ++ more) dropped ∙ sym (drop-append-le (format_start format) window more within)
     in
-    by_opening rules filter world (window ++ more) text (Opened format) done (openings_stay window more decided ∙ is)
+    by_opening rules filter world (window ++ more) text (Opened format) done (file_decided window more (Opened format) is decided)
     (subst (λ (xs : List ℕ). IsRecordsText rules filter format 0 (format_start format) world xs text done) octets
     (subst (λ (n : ℕ). IsRecordsText rules filter format 0 n world (later ++ more) text done) places
     (subst (λ (n : ℕ). IsRecordsText rules filter format n reading.reader.at world (later ++ more) text done) counts
@@ -103,7 +104,7 @@ opened_text rules world reading format window is formats counts places dropped m
 
 -- What was read has a text with the same end, with the header.
 pub opened_enough : {World : Type 0} (rules : CellRules World) (world : World) (reading : ReadingAhead) (format : Format) (whole window rest0 rest : List ℕ) (done : Done)
-    → opening_of window ≡ Opened format → reading.reader.format ≡ format → reading.reader.count ≡ 0 → reading.reader.at ≡ format_start format
+    → file_opening window ≡ Opened format → reading.reader.format ≡ format → reading.reader.count ≡ 0 → reading.reader.at ≡ format_start format
     → reading.window ≡ drop (format_start format) window → whole ≡ window ++ rest0 → HasRead (IsQueuedText rules reading [] world) reading.window rest0 rest done
     → TakesEnough (λ octets. (text : List ℕ) × IsCaptureText rules (filter_state reading.filter) world octets text done) most_ahead whole rest
 opened_enough rules world reading format whole window rest0 rest done is formats counts places dropped all read =
@@ -148,7 +149,7 @@ pub one_fixed_text : {World : Type 0} (steps : World → CountedCell → List �
     → IsCaptureText (fixed_rules steps closes) filter world octets one ends → IsCaptureText (fixed_rules steps closes) filter world octets other other_ends
     → (one ≡ other) × (ends ≡ other_ends)
 one_fixed_text steps closes filter world octets one other ends other_ends first second =
-    opened_one steps closes filter world octets (opening_of octets) one other ends other_ends first second
+    opened_one steps closes filter world octets (file_opening octets) one other ends other_ends first second
 
 -- The same promise from an equal state of the filter.
 pub served_from : {World : Type 0} (rules : CellRules World) (filter start : FilterState) (world : World) {Source Sink : Type 0} (I : InputView Source)

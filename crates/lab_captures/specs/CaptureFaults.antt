@@ -15,6 +15,7 @@ file_fault_line file.Text = codes "fault file 3 Text\n"
 file_fault_line file.Xz = codes "fault file 4 Xz\n"
 file_fault_line file.Bzip2 = codes "fault file 5 Bzip2\n"
 file_fault_line file.Zstd = codes "fault file 6 Zstd\n"
+file_fault_line file.Empty = codes "fault file 7 Empty\n"
 
 -- A fault: its number and name, and its own number if it has one.
 abbrev pub record_fault_text : RecordFault → List ℕ

@@ -1,7 +1,7 @@
 -- The text that answers a capture: the answers to its cells that count, in order, and then to their end.
 use Rattle.std.specs.Prelude.{◌≡◌, if◌then◌else◌, ℕ, List, [], ◌∷◌, ◌++◌, drop, Option, Some, None, MatchOption}
 use Rattle.captures.specs.Frames.{format_start}
-use Rattle.captures.specs.Opening.{is_text, opening_of}
+use Rattle.captures.specs.Opening.{file_opening, is_text}
 use Rattle.captures.specs.declared.fault.Fault.{Fault}
 use Rattle.captures.specs.declared.fault.RecordFault.TheVariants.{CutOff, ShortText}
 use Rattle.captures.specs.declared.format.Format.{Format}
@@ -49,19 +49,18 @@ abbrev pub IsRecordsText : {World : Type 0} → CellRules World → FilterState 
 IsRecordsText rules filter format count at world octets text done =
     (cells : List CountedCell) × (end : CellsEnd) × HasCells filter format count at octets cells end × IsTextOfCells rules world cells end text done
 
--- How a file ends that is too short for a capture: it is an empty one, or a text, or was cut off.
-abbrev pub short_ending : List ℕ → Option Fault
-short_ending [] = None
-short_ending (octet ∷ octets) = Some (record { at = 0; reason = if is_text (octet ∷ octets) then ShortText else CutOff })
+-- The fault of a file that is too short for a capture: it is a text, or was cut off.
+abbrev pub short_fault : List ℕ → Fault
+short_fault octets = record { at = 0; reason = if is_text octets then ShortText else CutOff }
 
--- From this state of the filter and this world, the text may answer a file with these octets that is what its first octets say.
+-- From this state of the filter and this world, the text may answer a file with these octets that is this.
 abbrev pub IsOpenedText : {World : Type 0} → CellRules World → FilterState → World → List ℕ → Opening → List ℕ → Done → Type 0
 IsOpenedText rules filter world octets (Opened format) text done =
     IsRecordsText rules filter format 0 (format_start format) world (drop (format_start format) octets) text done
 IsOpenedText rules filter world octets Undecided text done =
-    (text ≡ rules.closes world filter.passed (short_ending octets)) × (done ≡ done_at (short_ending octets))
+    (text ≡ rules.closes world filter.passed (Some (short_fault octets))) × (done ≡ Ended)
 IsOpenedText rules filter world octets (Refused fault) text done = (text ≡ file_fault_line fault) × (done ≡ Ended)
 
 -- From this state of the filter and this world, the text may answer a file with these octets, and the run then ends in this way.
 abbrev pub IsCaptureText : {World : Type 0} → CellRules World → FilterState → World → List ℕ → List ℕ → Done → Type 0
-IsCaptureText rules filter world octets text done = IsOpenedText rules filter world octets (opening_of octets) text done
+IsCaptureText rules filter world octets text done = IsOpenedText rules filter world octets (file_opening octets) text done

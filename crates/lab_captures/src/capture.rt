@@ -1,64 +1,62 @@
 //! The text of the cells of a whole capture.
 
-ghost use Rattle.std.specs.Prelude.{◌≡◌, ◌≢◌, ◌≤◌, ◌++◌, [], Err, length, IfOk, OnErr, OnOk};
-ghost use Rattle.captures.specs.Opening.{opening_of};
+ghost use Rattle.std.specs.Prelude.{◌≡◌, ◌≢◌, ◌≤◌, ◌++◌, [], Err, Some, length, IfOk, OnErr, OnOk};
+ghost use Rattle.captures.specs.Opening.{file_opening, opening_of};
 ghost use Rattle.lab_captures.specs.CaptureFaults.{file_fault_line};
-ghost use Rattle.lab_captures.specs.CaptureText.{IsCaptureText, done_at as ends_at, short_ending as ends_short};
+ghost use Rattle.lab_captures.specs.CaptureText.{IsCaptureText, short_fault as fault_if_short};
 ghost use Rattle.lab_captures.specs.CellFilter.{filter_start};
 ghost use Rattle.lab_captures.specs.CellFollowing.{OfEachWorld};
 ghost use Rattle.text_io.specs.Devices.{IsPart, one_more};
 ghost use Rattle.text_io.specs.Failures.{write_failures};
 ghost use Rattle.text_io.specs.Serving.{IsServed};
 
-use crate::driver::{done_at, follow_on};
+use crate::driver::follow_on;
 use crate::fault_lines::add_file_fault;
 use crate::filter::CellFilter;
 use crate::follower::{CellFollower, answers_each_cell};
 use crate::passed::PassedOver;
 use crate::reading_ahead::{ReadingAhead, WINDOW_ROOM};
-use captures::{Fault, FileFault, Link, Opening, Reader, RecordFault, Tick, is_text, open};
+use captures::{
+    Fault, FileFault, Link, Opening, Reader, RecordFault, Tick, is_text, open, open_whole,
+};
 use std::alloc::Global;
 use std::thread::Threads;
 use text_io::{Done, Failed, Input, Output, RunFault, Window, give_last};
 
-/// Reads the first octets of a file, until they say what it is or the file ends.
+/// Reads the first octets of a file, until they say what it is or the file ends, and returns what it is.
 pub fn find_opening<I: Input>(
     window: &mut Window<WINDOW_ROOM>,
     input: &mut I,
 ) -> Result<Opening, Failed>
     requires { window.old ≡ [] }
     ensures octets { I.is_known → IfOk result (λ _. I.rest input.old ≡ window.new ++ I.rest input.new) }
-    ensures opening { IfOk result (λ opening. opening ≡ opening_of window.new) }
+    ensures opening { IfOk result (λ opening. opening ≡ file_opening window.new) }
     ensures bounded { length window.new ≤ 524288 }
-    ensures end { I.is_known → IfOk result (λ opening. opening ≡ Opening.Undecided → I.rest input.new ≡ []) }
+    ensures end { I.is_known → IfOk result (λ _. opening_of window.new ≡ Opening.Undecided → I.rest input.new ≡ []) }
     ensures calm { OnOk result (I.failures input.new ≡ I.failures input.old) }
     ensures failed { OnErr result (I.failures input.new ≡ one_more (I.failures input.old)) }
 {
     loop {
-        let opening = open(window.octets());
-        match opening {
+        match open(window.octets()) {
             Opening::Undecided => {}
-            _ => return Ok(opening),
+            _ => return Ok(open_whole(window.octets())),
         }
         if window.fill(input)? == 0 {
-            return Ok(Opening::Undecided);
+            return Ok(open_whole(window.octets()));
         }
     }
 }
 
-/// Returns how a file ends that is too short for a capture.
-pub fn short_ending(octets: &[u8]) -> Option<Fault>
-    ensures { result ≡ ends_short octets.now }
+/// Returns the fault of a file that is too short for a capture.
+pub fn short_fault(octets: &[u8]) -> Fault
+    ensures { result ≡ fault_if_short octets.now }
 {
-    if octets.is_empty() {
-        return None;
-    }
     let reason = if is_text(octets) {
         RecordFault::ShortText
     } else {
         RecordFault::CutOff
     };
-    Some(Fault { at: 0, reason })
+    Fault { at: 0, reason }
 }
 
 /// Answers a file that isn't read.
@@ -84,19 +82,19 @@ fn close_short<O: Output, F: CellFollower>(
     passed: &PassedOver,
     octets: &[u8],
 ) -> Result<Done, RunFault>
-    ensures done { IfOk result (λ done. done ≡ ends_at (ends_short octets.now)) }
+    ensures done { IfOk result (λ done. done ≡ Done.Ended) }
     ensures given { O.is_known → OnOk result (OfEachWorld F.rules (F.shows follower.now) (λ world.
-        O.held output.new ≡ O.held output.old ++ F.rules.closes world passed.now (ends_short octets.now))) }
+        O.held output.new ≡ O.held output.old ++ F.rules.closes world passed.now (Some (fault_if_short octets.now)))) }
     ensures front { O.is_known → OnErr result (OfEachWorld F.rules (F.shows follower.now) (λ world.
-        IsPart (O.held output.old) (O.held output.new) (F.rules.closes world passed.now (ends_short octets.now)))) }
+        IsPart (O.held output.old) (O.held output.new) (F.rules.closes world passed.now (Some (fault_if_short octets.now))))) }
     ensures fault { result ≢ Err RunFault.ReadFailed }
     ensures writing { O.failures output.new ≡ write_failures result (O.failures output.old) }
 {
-    let ending = short_ending(octets);
+    let fault = short_fault(octets);
     let mut answers = Vec::new(alloc);
-    match follower.close(passed, ending, &mut answers) {
+    match follower.close(passed, Some(fault), &mut answers) {
         Err(_) => Err(RunFault::NoMemory),
-        Ok(()) => give_last(output, &mut answers, done_at(ending)),
+        Ok(()) => give_last(output, &mut answers, Done::Ended),
     }
 }
 

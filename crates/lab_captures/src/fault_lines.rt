@@ -20,6 +20,7 @@ pub fn add_file_fault(answers: &mut Vec<u8>, fault: FileFault) -> Result<(), All
         FileFault::Xz => add_text(answers, b"fault file 4 Xz\n"),
         FileFault::Bzip2 => add_text(answers, b"fault file 5 Bzip2\n"),
         FileFault::Zstd => add_text(answers, b"fault file 6 Zstd\n"),
+        FileFault::Empty => add_text(answers, b"fault file 7 Empty\n"),
     }
 }
 

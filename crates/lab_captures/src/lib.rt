@@ -22,7 +22,7 @@ mod run_lines;
 mod tally;
 
 pub use blocks::BlockTallies;
-pub use capture::{find_opening, follow_cells, short_ending};
+pub use capture::{find_opening, follow_cells, short_fault};
 pub use cell_lines::CellLines;
 pub use cells::cells_of_capture;
 pub use counted::CountedCell;

@@ -1,5 +1,5 @@
 -- From each sound world any octets are forwarded somehow.
-use Rattle.std.proofs.Common.{◌≡◌, ◌+◌, ℕ, List, [], ◌∷◌, ◌++◌, drop, Option, Result, Ok, Err, refl, sym, subst}
+use Rattle.std.proofs.Common.{◌≡◌, ◌+◌, ℕ, List, [], ◌∷◌, ◌++◌, drop, Option, Some, Result, Ok, Err, refl, sym, subst}
 use Rattle.std.specs.Result.{MatchResult}
 use Rattle.captures.specs.Framing.{Framed}
 use Rattle.captures.specs.Reading.{IsGiven, count_after}
@@ -14,9 +14,9 @@ use Rattle.captures.specs.declared.opening.Opening.TheVariants.{Opened, Undecide
 use Rattle.captures.specs.declared.reader.Passage.{Passage}
 use Rattle.captures.specs.declared.reader.Record.{Record}
 use Rattle.captures.specs.Frames.{format_start}
-use Rattle.captures.specs.Opening.{opening_of}
+use Rattle.captures.specs.Opening.{file_opening}
 use Rattle.lab_captures.specs.CaptureFaults.{file_fault_line}
-use Rattle.lab_captures.specs.CaptureText.{done_at, short_ending}
+use Rattle.lab_captures.specs.CaptureText.{done_at, short_fault}
 use Rattle.lab_captures.specs.CellFilter.{FilterState, filter_content, filter_marked, filter_passage, filter_record}
 use Rattle.lab_captures.specs.RunLines.{several_line}
 use Rattle.lab_captures.specs.declared.filter.Filtered.{Filtered}
@@ -117,9 +117,9 @@ opened_some : {World : Type 0} (rules : JudgeRules World) → JudgesEachCell rul
 opened_some rules total others state octets (Opened format) sound =
     octets_some rules total others state format 0 (format_start format) (drop (format_start format) octets) sound
 opened_some rules total others state octets Undecided sound =
-    ([], rules.closes state.world state.filter.passed (short_ending octets), done_at (short_ending octets), (refl, refl, refl))
+    ([], rules.closes state.world state.filter.passed (Some (short_fault octets)), Ended, (refl, refl, refl))
 opened_some rules total others state octets (Refused fault) sound = ([], file_fault_line fault, Ended, (refl, refl, refl))
 
 pub capture_some : {World : Type 0} (rules : JudgeRules World) → JudgesEachCell rules → (others : Others) (state : ForwardState World) (octets : List ℕ)
     → rules.is_sound state.world → (text : List ℕ) × (report : List ℕ) × (done : Done) × ForwardsCapture rules others state octets text report done
-capture_some rules total others state octets sound = opened_some rules total others state octets (opening_of octets) sound
+capture_some rules total others state octets sound = opened_some rules total others state octets (file_opening octets) sound

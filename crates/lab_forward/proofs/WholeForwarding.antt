@@ -1,15 +1,15 @@
 -- What is forwarded of a whole file, from what its first octets say.
-use Rattle.std.proofs.Common.{◌≡◌, ◌≢◌, ◌≤◌, ℕ, List, [], ◌++◌, Result, Ok, Err, length, drop, refl, ◌∙◌, sym, ap, subst, arith, append_assoc, append-nil}
+use Rattle.std.proofs.Common.{◌≡◌, ◌≢◌, ◌≤◌, ℕ, List, [], ◌++◌, Some, Result, Ok, Err, length, drop, refl, ◌∙◌, sym, ap, subst, arith, append_assoc, append-nil}
 use Rattle.std.proofs.lemmas.List.{drop-append-le}
-use Rattle.captures.proofs.Public.{header_within, openings_stay}
+use Rattle.captures.proofs.Public.{file_decided, file_opened, header_within}
 use Rattle.captures.specs.Frames.{format_start}
-use Rattle.captures.specs.Opening.{opening_of}
+use Rattle.captures.specs.Opening.{file_opening, opening_of}
 use Rattle.captures.specs.declared.format.Format.{Format}
 use Rattle.captures.specs.declared.opening.FileFault.{FileFault}
 use Rattle.captures.specs.declared.opening.Opening.{Opening}
 use Rattle.captures.specs.declared.opening.Opening.TheVariants.{Opened, Undecided, Refused}
 use Rattle.lab_captures.specs.CaptureFaults.{file_fault_line}
-use Rattle.lab_captures.specs.CaptureText.{done_at, short_ending}
+use Rattle.lab_captures.specs.CaptureText.{short_fault}
 use Rattle.lab_captures.specs.CellFilter.{FilterState, filter_state}
 use Rattle.lab_captures.specs.inner.Progress.{HasRead}
 use Rattle.lab_captures.proofs.CaptureTexts.{all_needed}
@@ -32,38 +32,39 @@ use Rattle.lab_forward.proofs.SomeForwarding.{capture_some}
 
 -- A file that is this has what is forwarded of it.
 by_opening : {World : Type 0} (rules : JudgeRules World) (others : Others) (state : ForwardState World) (octets text report : List ℕ) (opening : Opening) (done : Done)
-    → opening_of octets ≡ opening → ForwardsOpened rules others state octets opening text report done → ForwardsCapture rules others state octets text report done
+    → file_opening octets ≡ opening → ForwardsOpened rules others state octets opening text report done → ForwardsCapture rules others state octets text report done
 by_opening rules others state octets text report opening done is forwards =
     subst (λ (o : Opening). ForwardsOpened rules others state octets o text report done) (sym is) forwards
 
 -- A file that isn't read.
 pub refused_text : {World : Type 0} (rules : JudgeRules World) (others : Others) (state : ForwardState World) (octets more : List ℕ) (fault : FileFault)
-    → opening_of octets ≡ Refused fault → ForwardsCapture rules others state (octets ++ more) [] (file_fault_line fault) Ended
-refused_text rules others state octets more fault is =
-    let decided : opening_of octets ≢ Undecided = λ none. let bad : Refused fault ≡ Undecided = sym is ∙ none in cc in
-    by_opening rules others state (octets ++ more) [] (file_fault_line fault) (Refused fault) Ended (openings_stay octets more decided ∙ is) (refl, refl, refl)
+    → file_opening octets ≡ Refused fault → (opening_of octets ≡ Undecided → more ≡ [])
+    → ForwardsCapture rules others state (octets ++ more) [] (file_fault_line fault) Ended
+refused_text rules others state octets more fault is none =
+    by_opening rules others state (octets ++ more) [] (file_fault_line fault) (Refused fault) Ended (file_decided octets more (Refused fault) is none) (refl, refl, refl)
 
 -- A file that is too short.
-pub short_text : {World : Type 0} (rules : JudgeRules World) (others : Others) (state : ForwardState World) (octets : List ℕ) → opening_of octets ≡ Undecided
-    → ForwardsCapture rules others state octets [] (rules.closes state.world state.filter.passed (short_ending octets)) (done_at (short_ending octets))
+pub short_text : {World : Type 0} (rules : JudgeRules World) (others : Others) (state : ForwardState World) (octets : List ℕ) → file_opening octets ≡ Undecided
+    → ForwardsCapture rules others state octets [] (rules.closes state.world state.filter.passed (Some (short_fault octets))) Ended
 short_text rules others state octets is =
-    by_opening rules others state octets [] (rules.closes state.world state.filter.passed (short_ending octets)) Undecided (done_at (short_ending octets)) is (refl, refl, refl)
+    by_opening rules others state octets [] (rules.closes state.world state.filter.passed (Some (short_fault octets))) Undecided Ended is (refl, refl, refl)
 
 -- A capture.
 pub opened_text : {World : Type 0} (rules : JudgeRules World) (others : Others) (world : World) (reading : ForwardReading) (format : Format) (window : List ℕ)
-    → opening_of window ≡ Opened format → reading.reader.format ≡ format → reading.reader.count ≡ 0 → reading.reader.at ≡ format_start format
+    → file_opening window ≡ Opened format → reading.reader.format ≡ format → reading.reader.count ≡ 0 → reading.reader.at ≡ format_start format
     → reading.window ≡ drop (format_start format) window → (more text report : List ℕ) (done : Done)
     → ForwardsHere rules others reading world report (reading.window ++ more) text done
     → ForwardsCapture rules others (at_state (filter_state reading.filter) world) (window ++ more) text report done
 opened_text rules others world reading format window is formats counts places dropped more text report done forwards =
     let state = at_state (filter_state reading.filter) world in
-    let decided : opening_of window ≢ Undecided = λ none. let bad : Opened format ≡ Undecided = sym is ∙ none in cc in
-    let within : format_start format ≤ length window = header_within window format is in
+    let opened : opening_of window ≡ Opened format = file_opened window format is in
+    let decided : opening_of window ≡ Undecided → more ≡ [] = λ none. let bad : Opened format ≡ Undecided = sym opened ∙ none in cc in
+    let within : format_start format ≤ length window = header_within window format opened in
     let later = reading.window in
     let octets : later ++ more ≡ drop (format_start format) (window ++ more) =
     ap (λ xs. xs ++ more) dropped ∙ sym (drop-append-le (format_start format) window more within)
     in
-    by_opening rules others state (window ++ more) text report (Opened format) done (openings_stay window more decided ∙ is)
+    by_opening rules others state (window ++ more) text report (Opened format) done (file_decided window more (Opened format) is decided)
     (subst (λ (xs : List ℕ). ForwardsOctets rules others state format 0 (format_start format) xs text report done) octets
     (subst (λ (n : ℕ). ForwardsOctets rules others state format 0 n (later ++ more) text report done) places
     (subst (λ (n : ℕ). ForwardsOctets rules others state format n reading.reader.at (later ++ more) text report done) counts
@@ -72,7 +73,7 @@ opened_text rules others world reading format window is formats counts places dr
 -- What was read has a text with the same end, with the header.
 pub opened_enough : {World : Type 0} (rules : JudgeRules World) (others : Others) (world : World) (reading : ForwardReading) (format : Format)
     (whole window rest0 rest : List ℕ) (done : Done)
-    → opening_of window ≡ Opened format → reading.reader.format ≡ format → reading.reader.count ≡ 0 → reading.reader.at ≡ format_start format
+    → file_opening window ≡ Opened format → reading.reader.format ≡ format → reading.reader.count ≡ 0 → reading.reader.at ≡ format_start format
     → reading.window ≡ drop (format_start format) window → whole ≡ window ++ rest0
     → HasRead (ForwardsSomehow rules others reading world) reading.window rest0 rest done
     → TakesEnough (λ octets. (text : List ℕ) × HasReportedText (ForwardsCapture rules others (at_state (filter_state reading.filter) world)) octets text done) most_ahead whole rest

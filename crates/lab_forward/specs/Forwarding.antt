@@ -1,7 +1,7 @@
 -- The records of a capture that go on, and the report about the run.
-use Rattle.std.specs.Prelude.{◌≡◌, ℕ, List, [], ◌∷◌, ◌++◌, drop, Option, Result, Ok, Err, MatchResult}
+use Rattle.std.specs.Prelude.{◌≡◌, ℕ, List, [], ◌∷◌, ◌++◌, drop, Option, Some, Result, Ok, Err, MatchResult}
 use Rattle.captures.specs.Frames.{format_start}
-use Rattle.captures.specs.Opening.{opening_of}
+use Rattle.captures.specs.Opening.{file_opening}
 use Rattle.captures.specs.declared.fault.Fault.{Fault}
 use Rattle.captures.specs.declared.format.Format.{Format}
 use Rattle.captures.specs.declared.opening.Opening.{Opening}
@@ -9,7 +9,7 @@ use Rattle.captures.specs.declared.opening.Opening.TheVariants.{Opened, Undecide
 use Rattle.captures.specs.declared.reader.Passage.{Passage}
 use Rattle.captures.specs.declared.reader.Record.{Record}
 use Rattle.lab_captures.specs.CaptureFaults.{file_fault_line}
-use Rattle.lab_captures.specs.CaptureText.{done_at, short_ending}
+use Rattle.lab_captures.specs.CaptureText.{done_at, short_fault}
 use Rattle.captures.specs.declared.link.Link.{Link}
 use Rattle.lab_captures.specs.CellFilter.{FilterState, filter_passage, filter_record, filter_start}
 use Rattle.lab_captures.specs.RunLines.{several_line}
@@ -63,17 +63,17 @@ abbrev pub ForwardsOctets : {World : Type 0} → JudgeRules World → Others →
 ForwardsOctets rules others state format count at octets text report done =
     (frames : List FrameRead) × (ending : Option Fault) × AreFrames format count at octets frames ending × Forwards rules others state frames ending text report done
 
--- The same of a file with these octets that is what its first octets say.
+-- The same of a file with these octets that is this.
 abbrev pub ForwardsOpened : {World : Type 0} → JudgeRules World → Others → ForwardState World → List ℕ → Opening → List ℕ → List ℕ → Done → Type 0
 ForwardsOpened rules others state octets (Opened format) text report done =
     ForwardsOctets rules others state format 0 (format_start format) (drop (format_start format) octets) text report done
 ForwardsOpened rules others state octets Undecided text report done =
-    (text ≡ []) × (report ≡ rules.closes state.world state.filter.passed (short_ending octets)) × (done ≡ done_at (short_ending octets))
+    (text ≡ []) × (report ≡ rules.closes state.world state.filter.passed (Some (short_fault octets))) × (done ≡ Ended)
 ForwardsOpened rules others state octets (Refused fault) text report done = (text ≡ []) × (report ≡ file_fault_line fault) × (done ≡ Ended)
 
 -- The same of a file.
 abbrev pub ForwardsCapture : {World : Type 0} → JudgeRules World → Others → ForwardState World → List ℕ → List ℕ → List ℕ → Done → Type 0
-ForwardsCapture rules others state octets text report done = ForwardsOpened rules others state octets (opening_of octets) text report done
+ForwardsCapture rules others state octets text report done = ForwardsOpened rules others state octets (file_opening octets) text report done
 
 -- The state at first, with a tick of this many nanoseconds and the link that was asked for.
 abbrev pub forward_start : {World : Type 0} → ℕ → Option Link → World → ForwardState World

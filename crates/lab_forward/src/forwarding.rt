@@ -9,7 +9,7 @@ use crate::judge::{CellJudge, judges_each_cell};
 use crate::others::Others;
 use crate::stepping::ForwardReading;
 use captures::{Link, Opening, Reader, Tick};
-use lab_captures::{CellFilter, WINDOW_ROOM, add_file_fault, done_at, find_opening, short_ending};
+use lab_captures::{CellFilter, WINDOW_ROOM, add_file_fault, find_opening, short_fault};
 use std::alloc::Global;
 use text_io::{Done, Input, Output, RunFault, Window};
 
@@ -49,10 +49,10 @@ pub fn forward_cells<I: Input, O: Output, J: CellJudge>(
             Ok(()) => Ok(Done::Ended),
         },
         Ok(Opening::Undecided) => {
-            let ending = short_ending(window.octets());
-            match judge.close(&filter.passed(), ending, report) {
+            let fault = short_fault(window.octets());
+            match judge.close(&filter.passed(), Some(fault), report) {
                 Err(_) => Err(RunFault::NoMemory),
-                Ok(()) => Ok(done_at(ending)),
+                Ok(()) => Ok(Done::Ended),
             }
         }
         Ok(Opening::Opened(format)) => {

@@ -6,7 +6,7 @@ mod blocks;
 use super::link::plain;
 use captures::{
     Channel, Clock, Fault, FileFault, Format, Next, NoCell, Opening, Order, Reader, RecordFault,
-    Section, Tick, open,
+    Section, Tick, open, open_whole,
 };
 use std::test::Fail;
 
@@ -278,6 +278,9 @@ fn what_files_are(rt: HostRuntime) -> Result<(), Fail> {
         ),
     ] {
         assert_eq!(rt; open(octets), opening);
+        let empty = Opening::Refused(FileFault::Empty);
+        let whole = if octets.is_empty() { empty } else { opening };
+        assert_eq!(rt; open_whole(octets), whole);
     }
     Ok(())
 }
@@ -345,6 +348,7 @@ fn faults_as_text(rt: HostRuntime) -> Result<(), Fail> {
         (FileFault::Xz, "4 Xz"),
         (FileFault::Bzip2, "5 Bzip2"),
         (FileFault::Zstd, "6 Zstd"),
+        (FileFault::Empty, "7 Empty"),
     ] {
         assert_eq!(rt; format!(in rt.alloc(); "{file}")?.as_str(), text);
     }

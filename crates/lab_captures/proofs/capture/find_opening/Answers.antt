@@ -5,5 +5,5 @@ use Rattle.lab_captures.proofs.capture.find_opening.Goals as goal
 
 pub fill-requires : goal.fill-requires
 fill-requires g c =
-    let few = undecided_short c.octets.result.now (sym c.open-opening.ensures ∙ c.in-Undecided.is) in
+    let few = undecided_short c.octets.result.now (sym c.open.ensures ∙ c.in-Undecided.is) in
     omega (arith, few, ap length c.octets.ensures)

@@ -1,12 +1,12 @@
 -- Each end of a run gives the promise of a call that answers a whole input.
-use Rattle.std.proofs.Common.{Err, ◌≡◌, ◌≤◌, ◌++◌, List, ℕ, [], length, drop, refl, ap, sym, ◌∙◌, subst, arith, append-nil}
+use Rattle.std.proofs.Common.{Err, Some, ◌≡◌, ◌≤◌, ◌++◌, List, ℕ, [], length, drop, refl, ap, sym, ◌∙◌, subst, arith, append-nil}
 use Rattle.std.proofs.lemmas.Result.{IfOk-weaker}
-use Rattle.captures.proofs.Public.{header_within}
+use Rattle.captures.proofs.Public.{file_opened, file_undecided, header_within}
 use Rattle.captures.specs.Frames.{format_start}
-use Rattle.captures.specs.Opening.{opening_of}
+use Rattle.captures.specs.Opening.{file_opening, opening_of}
 use Rattle.captures.specs.declared.opening.Opening.TheVariants.{Opened, Undecided, Refused}
 use Rattle.lab_captures.specs.CaptureFaults.{file_fault_line}
-use Rattle.lab_captures.specs.CaptureText.{IsCaptureText, done_at, short_ending}
+use Rattle.lab_captures.specs.CaptureText.{IsCaptureText, short_fault}
 use Rattle.lab_captures.specs.CellFilter.{filter_start, filter_state}
 use Rattle.lab_captures.specs.declared.reading_ahead.ReadingAhead.{ReadingAhead}
 use Rattle.lab_captures.specs.declared.passed.PassedOver.{PassedOver}
@@ -36,8 +36,8 @@ returns-in_default g c = λ world sound is_shown.
 
 pub skip-requires : goal.skip-requires
 skip-requires g c =
-    let is : opening_of c.find_opening.new.window ≡ Opened c.in-Ok-Opened.format = sym c.in-Ok-Opened.ensures.opening ∙ c.in-Ok-Opened.field-0-is in
-    let within : format_start c.in-Ok-Opened.format ≤ length c.find_opening.new.window = header_within c.find_opening.new.window c.in-Ok-Opened.format is in
+    let is : file_opening c.find_opening.new.window ≡ Opened c.in-Ok-Opened.format = sym c.in-Ok-Opened.ensures.opening ∙ c.in-Ok-Opened.field-0-is in
+    let within : format_start c.in-Ok-Opened.format ≤ length c.find_opening.new.window = header_within c.find_opening.new.window c.in-Ok-Opened.format (file_opened c.find_opening.new.window c.in-Ok-Opened.format is) in
     omega (arith, within, c.start.ensures)
 
 pub returns-in-Err : goal.returns-in-Err
@@ -65,12 +65,12 @@ returns-in-Ok-Refused g c = λ world sound is_shown.
     let fault = c.in-Ok-Refused.fault in
     let line = file_fault_line fault in
     let IsText = IsCaptureText rules first world in
-    let is : opening_of near ≡ Refused fault = sym c.in-Ok-Refused.ensures.opening ∙ c.in-Ok-Refused.field-0-is in
+    let is : file_opening near ≡ Refused fault = sym c.in-Ok-Refused.ensures.opening ∙ c.in-Ok-Refused.field-0-is in
     let printed : g.I.Input.is_known → IsText all line Ended =
-    λ ki. subst (λ (xs : List ℕ). IsText xs line Ended) (sym (c.in-Ok-Refused.ensures.octets ki)) (refused_text rules first world near rest fault is)
+    λ ki. subst (λ (xs : List ℕ). IsText xs line Ended) (sym (c.in-Ok-Refused.ensures.octets ki)) (refused_text rules first world near rest fault is (c.in-Ok-Refused.ensures.end ki))
     in
     let here : IsText near line Ended =
-    subst (λ (xs : List ℕ). IsText xs line Ended) (append-nil near) (refused_text rules first world near [] fault is)
+    subst (λ (xs : List ℕ). IsText xs line Ended) (append-nil near) (refused_text rules first world near [] fault is (λ none. refl))
     in
     served_from rules first (filter_start c.args.tick.nanoseconds c.args.link) world g.I.Input g.O.Output c.args.input.now c.find_opening.new.input c.args.output.now c.refuse.new.output
     c.refuse.result c.new-filter.ensures
@@ -93,30 +93,29 @@ returns-in-Ok-Undecided g c = λ world sound is_shown.
     let near = c.find_opening.new.window in
     let rest = g.I.Input.rest c.find_opening.new.input in
     let octets = c.octets.result.now in
-    let here = rules.closes world first.passed (short_ending octets) in
-    let done = done_at (short_ending octets) in
+    let here = rules.closes world first.passed (Some (short_fault octets)) in
     let IsText = IsCaptureText rules first world in
     let same : octets ≡ near = c.octets.ensures in
-    let is : opening_of octets ≡ Undecided = ap opening_of same ∙ sym c.in-Ok-Undecided.ensures.opening ∙ c.in-Ok-Undecided.field-0-is in
-    let at_end : g.I.Input.is_known → rest ≡ [] = λ ki. c.in-Ok-Undecided.ensures.end ki c.in-Ok-Undecided.field-0-is in
+    let is : file_opening octets ≡ Undecided = ap file_opening same ∙ sym c.in-Ok-Undecided.ensures.opening ∙ c.in-Ok-Undecided.field-0-is in
+    let at_end : g.I.Input.is_known → rest ≡ [] = λ ki. c.in-Ok-Undecided.ensures.end ki (file_undecided near (sym c.in-Ok-Undecided.ensures.opening ∙ c.in-Ok-Undecided.field-0-is)) in
     let whole : g.I.Input.is_known → all ≡ octets =
     λ ki. c.in-Ok-Undecided.ensures.octets ki ∙ ap (λ xs. near ++ xs) (at_end ki) ∙ append-nil near ∙ sym same
     in
-    let short : IsText octets here done = short_text rules first world octets is in
-    let printed : g.I.Input.is_known → IsText all here done = λ ki. subst (λ (xs : List ℕ). IsText xs here done) (sym (whole ki)) short in
+    let short : IsText octets here Ended = short_text rules first world octets is in
+    let printed : g.I.Input.is_known → IsText all here Ended = λ ki. subst (λ (xs : List ℕ). IsText xs here Ended) (sym (whole ki)) short in
     served_from rules first (filter_start c.args.tick.nanoseconds c.args.link) world g.I.Input g.O.Output c.args.input.now c.find_opening.new.input c.args.output.now c.close_short.new.output
     c.close_short.result c.new-filter.ensures
     (record {
-      text = λ ki ko. if_given c.close_short.result done _ _ c.close_short.ensures.done (c.close_short.ensures.given ko)
-          (λ gives. (here, gives world sound is_shown ∙ ap (λ (p : PassedOver). g.O.Output.held c.args.output.now ++ g.F.CellFollower.rules.closes world p (short_ending octets)) c.passed.ensures, printed ki));
+      text = λ ki ko. if_given c.close_short.result Ended _ _ c.close_short.ensures.done (c.close_short.ensures.given ko)
+          (λ gives. (here, gives world sound is_shown ∙ ap (λ (p : PassedOver). g.O.Output.held c.args.output.now ++ g.F.CellFollower.rules.closes world p (Some (short_fault octets))) c.passed.ensures, printed ki));
       front = λ ki ko.
           on_fault c.close_short.result _ _ (c.close_short.ensures.front ko)
-          (λ part. a_front (IsText all) (g.O.Output.held c.args.output.now) (g.O.Output.held c.close_short.new.output) here done (printed ki)
+          (λ part. a_front (IsText all) (g.O.Output.held c.args.output.now) (g.O.Output.held c.close_short.new.output) here Ended (printed ki)
           (subst (λ (p : PassedOver). IsPart (g.O.Output.held c.args.output.now) (g.O.Output.held c.close_short.new.output)
-          (g.F.CellFollower.rules.closes world p (short_ending octets))) c.passed.ensures (part world sound is_shown)));
+          (g.F.CellFollower.rules.closes world p (Some (short_fault octets)))) c.passed.ensures (part world sound is_shown)));
       left = λ ki.
-          if_done c.close_short.result done _ c.close_short.ensures.done
-          (all_needed IsText all octets rest here done (whole ki ∙ sym (append-nil octets) ∙ ap (λ xs. octets ++ xs) (sym (at_end ki))) short);
+          if_done c.close_short.result Ended _ c.close_short.ensures.done
+          (all_needed IsText all octets rest here Ended (whole ki ∙ sym (append-nil octets) ∙ ap (λ xs. octets ++ xs) (sym (at_end ki))) short);
       whole = λ ki ended. at_end ki;
       reading = not_read c.close_short.result _ _ c.close_short.ensures.fault c.in-Ok-Undecided.ensures.calm;
       writing = c.close_short.ensures.writing;
@@ -134,7 +133,7 @@ returns-in-Ok-Opened g c = λ world sound is_shown.
     let made = c.new-in-Ok-Opened.ensures in
     let reading : ReadingAhead = record { window = c.skip.new.self; reader = reader; filter = c.new-filter.result } in
     let IsText = IsCaptureText rules first world in
-    let is : opening_of near ≡ Opened format = sym c.in-Ok-Opened.ensures.opening ∙ c.in-Ok-Opened.field-0-is in
+    let is : file_opening near ≡ Opened format = sym c.in-Ok-Opened.ensures.opening ∙ c.in-Ok-Opened.field-0-is in
     let dropped : reading.window ≡ drop (format_start format) near = c.skip.ensures.octets ∙ ap (λ n. drop n near) c.start.ensures in
     served_from rules first (filter_start c.args.tick.nanoseconds c.args.link) world g.I.Input g.O.Output c.args.input.now c.follow_on.new.input c.args.output.now c.follow_on.new.output
     c.follow_on.result c.new-filter.ensures

@@ -1,12 +1,13 @@
 -- Each end of a run gives the promise of a call that answers a whole input, and reports of it.
-use Rattle.std.proofs.Common.{Err, ◌≡◌, ◌≤◌, ◌++◌, List, ℕ, [], length, drop, refl, ap, sym, ◌∙◌, subst, arith, append-nil}
+use Rattle.std.proofs.Common.{Err, Option, Some, ◌≡◌, ◌≤◌, ◌++◌, List, ℕ, [], length, drop, refl, ap, sym, ◌∙◌, subst, arith, append-nil}
 use Rattle.std.proofs.lemmas.Result.{IfOk-weaker}
-use Rattle.captures.proofs.Public.{header_within}
+use Rattle.captures.proofs.Public.{file_opened, file_undecided, header_within}
 use Rattle.captures.specs.Frames.{format_start}
-use Rattle.captures.specs.Opening.{opening_of}
+use Rattle.captures.specs.Opening.{file_opening, opening_of}
+use Rattle.captures.specs.declared.fault.Fault.{Fault}
 use Rattle.captures.specs.declared.opening.Opening.TheVariants.{Opened, Undecided, Refused}
 use Rattle.lab_captures.specs.CaptureFaults.{file_fault_line}
-use Rattle.lab_captures.specs.CaptureText.{done_at, short_ending}
+use Rattle.lab_captures.specs.CaptureText.{short_fault}
 use Rattle.lab_captures.specs.CellFilter.{filter_start, filter_state}
 use Rattle.lab_captures.specs.declared.passed.PassedOver.{PassedOver}
 use Rattle.lab_captures.proofs.Progresses.{on_fault}
@@ -32,8 +33,8 @@ returns-in_default g c = λ world sound is_shown.
 
 pub skip-requires : goal.skip-requires
 skip-requires g c =
-    let is : opening_of c.find_opening.new.window ≡ Opened c.in-Ok-Opened.format = sym c.in-Ok-Opened.ensures.opening ∙ c.in-Ok-Opened.field-0-is in
-    let within : format_start c.in-Ok-Opened.format ≤ length c.find_opening.new.window = header_within c.find_opening.new.window c.in-Ok-Opened.format is in
+    let is : file_opening c.find_opening.new.window ≡ Opened c.in-Ok-Opened.format = sym c.in-Ok-Opened.ensures.opening ∙ c.in-Ok-Opened.field-0-is in
+    let within : format_start c.in-Ok-Opened.format ≤ length c.find_opening.new.window = header_within c.find_opening.new.window c.in-Ok-Opened.format (file_opened c.find_opening.new.window c.in-Ok-Opened.format is) in
     omega (arith, within, c.start.ensures)
 
 pub returns-in-Err : goal.returns-in-Err
@@ -70,13 +71,13 @@ returns-in-Ok-Refused g c = λ world sound is_shown.
     let line = file_fault_line fault in
     let said' = c.add_file_fault.new.answers.items in
     let IsText = ForwardsCapture rules c.args.others state in
-    let is : opening_of near ≡ Refused fault = sym c.in-Ok-Refused.ensures.opening ∙ c.in-Ok-Refused.field-0-is in
+    let is : file_opening near ≡ Refused fault = sym c.in-Ok-Refused.ensures.opening ∙ c.in-Ok-Refused.field-0-is in
     served_from rules c.args.others first (filter_start c.args.tick.nanoseconds c.args.link) world g.I.Input g.O.Output c.args.input.now c.find_opening.new.input
     c.args.output.now c.args.output.now c.args.report.now.items said' _ c.new-filter.ensures
     (served_report g.I.Input g.O.Output c.args.input.now c.find_opening.new.input c.args.output.now c.args.report.now.items said'
     IsText near line Ended c.in-Ok-Refused.ensures.calm c.in-Ok-Refused.ensures.octets c.in-Ok-add_file_fault.ensures
-    (λ ki. subst (λ (xs : List ℕ). IsText xs [] line Ended) (sym (c.in-Ok-Refused.ensures.octets ki)) (refused_text rules c.args.others state near rest fault is))
-    (subst (λ (xs : List ℕ). IsText xs [] line Ended) (append-nil near) (refused_text rules c.args.others state near [] fault is))
+    (λ ki. subst (λ (xs : List ℕ). IsText xs [] line Ended) (sym (c.in-Ok-Refused.ensures.octets ki)) (refused_text rules c.args.others state near rest fault is (c.in-Ok-Refused.ensures.end ki)))
+    (subst (λ (xs : List ℕ). IsText xs [] line Ended) (append-nil near) (refused_text rules c.args.others state near [] fault is (λ none. refl)))
     (λ ki same. cc))
 
 pub returns-in-Err-close : goal.returns-in-Err-close
@@ -99,18 +100,16 @@ returns-in-Ok-Undecided g c = λ world sound is_shown.
     let all = g.I.Input.rest c.args.input.now in
     let near = c.find_opening.new.window in
     let rest = g.I.Input.rest c.find_opening.new.input in
-    let ending = c.short_ending-ending.result in
+    let ending : Option Fault = Some c.short_fault-fault.result in
     let said' = c.close.new.report.items in
     let IsText = ForwardsCapture rules c.args.others state in
     let same : c.octets.result.now ≡ near = c.octets.ensures in
-    let how : ending ≡ short_ending near = c.short_ending-ending.ensures ∙ ap short_ending same in
-    let is : opening_of near ≡ Undecided = sym c.in-Ok-Undecided.ensures.opening ∙ c.in-Ok-Undecided.field-0-is in
-    let at_end : g.I.Input.is_known → rest ≡ [] = λ ki. c.in-Ok-Undecided.ensures.end ki c.in-Ok-Undecided.field-0-is in
-    let report = rules.closes world first.passed (short_ending near) in
-    let done = done_at (short_ending near) in
-    let here : IsText near [] report done = short_text rules c.args.others state near is in
+    let how : ending ≡ Some (short_fault near) = ap Some (c.short_fault-fault.ensures ∙ ap short_fault same) in
+    let is : file_opening near ≡ Undecided = sym c.in-Ok-Undecided.ensures.opening ∙ c.in-Ok-Undecided.field-0-is in
+    let at_end : g.I.Input.is_known → rest ≡ [] = λ ki. c.in-Ok-Undecided.ensures.end ki (file_undecided near is) in
+    let report = rules.closes world first.passed (Some (short_fault near)) in
+    let here : IsText near [] report Ended = short_text rules c.args.others state near is in
     let whole : g.I.Input.is_known → all ≡ near = λ ki. c.in-Ok-Undecided.ensures.octets ki ∙ ap (λ xs. near ++ xs) (at_end ki) ∙ append-nil near in
-    let ends : c.done_at.result ≡ done = c.done_at.ensures ∙ ap done_at how in
     let said : said' ≡ c.args.report.now.items ++ report =
     c.in-Ok-close.ensures world sound is_shown
     ∙ ap (λ (p : PassedOver). c.args.report.now.items ++ rules.closes world p ending) c.passed.ensures
@@ -118,9 +117,9 @@ returns-in-Ok-Undecided g c = λ world sound is_shown.
     served_from rules c.args.others first (filter_start c.args.tick.nanoseconds c.args.link) world g.I.Input g.O.Output c.args.input.now c.find_opening.new.input
     c.args.output.now c.args.output.now c.args.report.now.items said' _ c.new-filter.ensures
     (served_report g.I.Input g.O.Output c.args.input.now c.find_opening.new.input c.args.output.now c.args.report.now.items said'
-    IsText near report c.done_at.result c.in-Ok-Undecided.ensures.calm c.in-Ok-Undecided.ensures.octets said
-    (λ ki. subst (λ (xs : List ℕ). IsText xs [] report c.done_at.result) (sym (whole ki)) (subst (λ d. IsText near [] report d) (sym ends) here))
-    (subst (λ d. IsText near [] report d) (sym ends) here)
+    IsText near report Ended c.in-Ok-Undecided.ensures.calm c.in-Ok-Undecided.ensures.octets said
+    (λ ki. subst (λ (xs : List ℕ). IsText xs [] report Ended) (sym (whole ki)) here)
+    here
     (λ ki it. at_end ki))
 
 pub returns : goal.returns
@@ -136,7 +135,7 @@ returns g c = λ world sound is_shown.
     let made = c.new-in-Ok-Opened.ensures in
     let reading : ForwardReading = record { window = c.skip.new.self; reader = reader; filter = c.new-filter.result } in
     let IsText = ForwardsCapture rules c.args.others state in
-    let is : opening_of near ≡ Opened format = sym c.in-Ok-Opened.ensures.opening ∙ c.in-Ok-Opened.field-0-is in
+    let is : file_opening near ≡ Opened format = sym c.in-Ok-Opened.ensures.opening ∙ c.in-Ok-Opened.field-0-is in
     let dropped : reading.window ≡ drop (format_start format) near = c.skip.ensures.octets ∙ ap (λ n. drop n near) c.start.ensures in
     served_from rules c.args.others first (filter_start c.args.tick.nanoseconds c.args.link) world g.I.Input g.O.Output c.args.input.now c.forward_on.new.input
     c.args.output.now c.forward_on.new.output c.args.report.now.items c.forward_on.new.report.items c.forward_on.result c.new-filter.ensures
