@@ -1,7 +1,7 @@
 """Which cells of a capture count, and at which moments; the comments about the records that were passed over."""
 from collections import namedtuple
 
-from captures.formats import Block, Broken, Refused
+from captures.formats import ENTRIES, Block, Broken, Refused
 from captures.reading import OtherType, records_of
 
 # A cell that counts: the number of its record, its moment in ticks, and its octets.
@@ -60,13 +60,8 @@ class Capture:
             if isinstance(record, Block):
                 self.pass_block(record)
                 continue
-            for mark in record.marks:
-                self.marks[mark].append(record.number)
-            if isinstance(record.reason, OtherType):
-                self.other_types.setdefault(record.reason.kind, []).append(record.number)
-                continue
-            if record.reason:
-                self.passed[record.reason].append(record.number)
+            self.note(record)
+            if record.cell is None:
                 continue
             begun = record.time if begun is None else begun
             latest = max(latest, begun)
@@ -84,11 +79,20 @@ class Capture:
                 moment = ((record.time - begun) * 10**9 + 2**31 * self.tick) // (2**32 * self.tick)
                 self.cells.append(Counted(record.number, moment, record.cell))
 
+    def note(self, record):
+        """Notes the marks of a record, and why it has no cell."""
+        for mark in record.marks:
+            self.marks[mark].append(record.number)
+        if isinstance(record.reason, OtherType):
+            self.other_types.setdefault(record.reason.kind, []).append(record.number)
+        elif record.reason:
+            self.passed[record.reason].append(record.number)
+
     def pass_block(self, block):
         """Notes a block that has no record."""
         if block.what in self.blocks:
             self.blocks[block.what].append(block.place)
-        else:
+        elif block.what not in ENTRIES:
             self.unknown.append(block)
 
     def closing(self):

@@ -9,9 +9,13 @@ SECTION = 0x0A0D0D0A
 PCAP_ORDERS = {0xA1B2C3D4: ">", 0xA1B23C4D: ">", 0xD4C3B2A1: "<", 0x4D3CB2A1: "<"}
 
 
-# A block or a packet that has no record: what it is, and its place. Types that have no packet are none.
+# A block or a packet that has no record: what it is, and its place. Types that have no packet and no number are none.
 Block = namedtuple("Block", "what place")
-NO_PACKET = (4, 5, 9, 10, 0xBAD, 0x40000BAD)
+NO_PACKET = (4, 5, 10)
+# Blocks without a packet that have a number as packets have.
+ENTRIES = (9, 0xBAD, 0x40000BAD)
+# What has a number.
+NUMBERED = (2, 3, "other link", *ENTRIES)
 
 
 # How files begin that were compressed.

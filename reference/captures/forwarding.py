@@ -34,9 +34,11 @@ def records_in(octets):
     try:
         number = 0
         for it in formats.records_of(octets):
-            if not isinstance(it, formats.Block):
-                number += 1
-                yield number, it
+            if isinstance(it, formats.Block):
+                number += it.what in formats.NUMBERED
+                continue
+            number += 1
+            yield number, it
     except (formats.Broken, formats.Refused):
         pass
 

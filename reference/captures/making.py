@@ -67,7 +67,7 @@ def in_pcapng(draw, made):
             links = [draw.choice([197] * 15 + [1]) for _ in range(interfaces)]
             blocks += [block(order, 1, struct.pack(order + "HHI", link_type, 0, 0)) for link_type in links]
         if draw.random() < 0.1:
-            blocks.append(block(order, draw.choice([2, 3, 4, 5, 0xBAD, 0x40000BAD, 0x80000001]), draw.randbytes(8)))
+            blocks.append(block(order, draw.choice([2, 3, 4, 5, 9, 0xBAD, 0x40000BAD, 0x80000001]), draw.randbytes(8)))
         if it is not None:
             interface = usual if draw.random() < 0.9 else draw.randrange(interfaces)
             blocks.append(block(order, 6, struct.pack(order + "IIIII", interface, 1, 2, len(it), len(it)) + it))

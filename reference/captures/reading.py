@@ -17,8 +17,9 @@ MORE = 0x80
 # The flags of a record that was received or stored with an error.
 ERRORS = 0x30
 
-# A record: its number from 1, the word of its link, its time in units of 2^-32 seconds, its cell or None, why it holds none or None, and its marks.
-Record = namedtuple("Record", "number link time cell reason marks")
+# A record: its number from 1, the word of its link, its time in units of 2^-32 seconds, its cell or None, why it holds none or None, its marks, and
+# how many records were lost before it, if it is of a type with cells.
+Record = namedtuple("Record", "number link time cell reason marks losses")
 # The reason that a record is of a type that holds no cell.
 OtherType = namedtuple("OtherType", "kind")
 
@@ -64,7 +65,8 @@ def record_of(number, packet, octets):
     """Returns the record that these octets encode."""
     cell, reason, channel = content_of(octets)
     time = struct.unpack_from("<Q", octets)[0]
-    return Record(number, link_of(packet, octets[9], channel), time, cell, reason, marks_of(octets, channel))
+    losses = struct.unpack_from(">H", octets, 12)[0]
+    return Record(number, link_of(packet, octets[9], channel), time, cell, reason, marks_of(octets, channel), losses)
 
 
 def records_of(octets):
@@ -72,6 +74,7 @@ def records_of(octets):
     number = 0
     for it in formats.records_of(octets):
         if isinstance(it, formats.Block):
+            number += it.what in formats.NUMBERED
             yield it
         else:
             number += 1

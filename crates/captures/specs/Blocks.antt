@@ -1,10 +1,10 @@
 -- The blocks of a pcapng file. Each begins with its type and its length, of four octets each, and ends with its length.
-use Rattle.std.specs.Prelude.{◌+◌, ◌-◌, ◌/◌, ◌%◌, ◌^◌, ◌==◌, ◌&&◌, ◌||◌, bit_or, nat_lt, nat_le, min, if◌then◌else◌, Bool, ℕ, List, length, take, drop, Some, Result, Ok, Err}
+use Rattle.std.specs.Prelude.{◌+◌, ◌-◌, ◌/◌, ◌%◌, ◌^◌, ◌==◌, ◌&&◌, ◌||◌, bit_or, nat_lt, nat_le, min, if◌then◌else◌, Bool, true, false, ℕ, List, length, take, drop, Some, Result, Ok, Err}
 use Rattle.byteorder.specs.Endian.{big_number}
 use Rattle.captures.specs.Framing.{Framed, half_in_order, number_in_order, or_fault, record_in_packet, sized}
 use Rattle.captures.specs.declared.block.Section.{Section}
 use Rattle.captures.specs.declared.block.Unread.{Unread}
-use Rattle.captures.specs.declared.block.Unread.TheVariants.{NoPacket, SimplePacket, OldPacket, OtherBlock, OtherLinkPacket}
+use Rattle.captures.specs.declared.block.Unread.TheVariants.{NoPacket, Entry, SimplePacket, OldPacket, OtherBlock, OtherLinkPacket}
 use Rattle.captures.specs.declared.fault.RecordFault.{RecordFault}
 use Rattle.captures.specs.declared.fault.RecordFault.TheVariants.{OddLength, LengthsDiffer, OtherMagic, OtherVersion, ShortBlock, OtherLink, NoInterface, LongPacket}
 use Rattle.captures.specs.declared.format.Order.{Order}
@@ -90,9 +90,13 @@ record_of_packet section block =
     else or_fault (record_in_packet (take (number_in_order section.order (drop 20 block)) (drop 28 block))) (λ octets.
     Ok (Ok (record { packet = Some (interface_in_file section (number_in_order section.order (drop 8 block))); octets = octets })))
 
--- A block of this type has no packet: names (4), statistics (5), a journal's entry (9), secrets (10), or custom data.
+-- A block of this type has no packet: names (4), statistics (5), or secrets (10).
 abbrev pub lacks_packet : ℕ → Bool
-lacks_packet kind = kind == 4 || kind == 5 || kind == 9 || kind == 10 || kind == 0xbad || kind == 0x40000bad
+lacks_packet kind = kind == 4 || kind == 5 || kind == 10
+
+-- Nor has one of this type, but it has a number as packets have: an entry of a journal (9), or custom data.
+abbrev pub is_entry : ℕ → Bool
+is_entry kind = kind == 9 || kind == 0xbad || kind == 0x40000bad
 
 -- What a block of this type is that is not read: a simple packet (3), an obsolete packet (2), one without a packet, or one of an unknown type.
 abbrev pub unread_of_type : ℕ → Unread
@@ -100,7 +104,21 @@ unread_of_type kind =
     if kind == 3 then SimplePacket
     else if kind == 2 then OldPacket
     else if lacks_packet kind then NoPacket
+    else if is_entry kind then Entry
     else OtherBlock kind
+
+-- Whether what is not read has a number, as records have. Wireshark numbers these as frames.
+abbrev pub has_number : Unread → Bool
+has_number NoPacket = false
+has_number Entry = true
+has_number SimplePacket = true
+has_number OldPacket = true
+has_number (OtherBlock kind) = false
+has_number OtherLinkPacket = true
+
+-- How many numbers were given after it, if this many were before.
+abbrev pub count_past : ℕ → Unread → ℕ
+count_past count unread = if has_number unread then count + 1 else count
 
 -- The section after a block of this type, and the record in it, or what it is that is passed over.
 abbrev pub held_of_type : Section → Order → ℕ → List ℕ → Result (Section × Result Framed Unread) RecordFault

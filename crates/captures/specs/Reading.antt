@@ -1,6 +1,6 @@
 -- The reading of a capture: its records and what was passed over between them, in order, and then its end or the first place at which it is no capture.
 use Rattle.std.specs.Prelude.{◌≡◌, ◌≤◌, ◌<◌, ◌+◌, ◌^◌, ◌⊎◌, ℕ, List, [], ◌∷◌, ◌++◌, length, drop, Option, Some, None, Result, Ok, Err}
-use Rattle.captures.specs.Blocks.{most_block}
+use Rattle.captures.specs.Blocks.{count_past, most_block}
 use Rattle.captures.specs.Frames.{Frame, first_frame}
 use Rattle.captures.specs.Framing.{Framed}
 use Rattle.captures.specs.RecordReading.{IsRecordOf}
@@ -28,19 +28,19 @@ abbrev pub EndsReading : Format → ℕ → List ℕ → Option Fault → Type 0
 EndsReading format at octets None = octets ≡ []
 EndsReading format at octets (Some fault) = (fault.at ≡ at) × IsRecordFault format at octets fault.reason
 
--- What is given of a frame after this many records, at this place: the record in it, or what it is and where.
+-- What is given of a frame after this many numbers, at this place: the record in it, which has the next number, or what it is and where.
 abbrev pub IsGiven : ℕ → ℕ → Result Framed Unread → Result Record Passage → Type 0
 IsGiven count at (Err unread) (Err passage) = passage ≡ record { what = unread; at = at }
 IsGiven count at (Err unread) (Ok record_read) = ⊥
 IsGiven count at (Ok framed) (Err passage) = ⊥
 IsGiven count at (Ok framed) (Ok record_read) = IsRecordOf (count + 1) framed record_read
 
--- How many records there are after a frame.
+-- How many numbers were given after a frame: a record has one, and so has a packet that is passed over.
 abbrev pub count_after : ℕ → Result Record Passage → ℕ
-count_after count (Err passage) = count
+count_after count (Err passage) = count_past count passage.what
 count_after count (Ok record_read) = count + 1
 
--- After this many records, at this place, the octets are read as frames of which this is given, in order, and then end: the whole capture was
+-- After this many numbers, at this place, the octets are read as frames of which this is given, in order, and then end: the whole capture was
 -- read, or this is its first fault.
 abbrev pub IsReading : Format → ℕ → ℕ → List ℕ → List (Result Record Passage) → Option Fault → Type 0
 IsReading format count at octets [] ending = EndsReading format at octets ending

@@ -1,7 +1,7 @@
 //! The blocks of a pcapng file.
 
-ghost use Rattle.std.specs.Prelude.{◌≡◌, ◌≤◌, ◌+◌, length, IfErr, IfOk, Ok, Err};
-ghost use Rattle.captures.specs.Blocks.{block_order, block_size, block_held, even_block, held_of_type, interface_in_file, is_other_interface, lacks_packet, is_section_header as begins_section, order_of_magic, record_of_packet, section_of_header, section_of_interface, unread_of_type, whole_block_order};
+ghost use Rattle.std.specs.Prelude.{◌≡◌, ◌≤◌, ◌<◌, ◌+◌, ◌-◌, ◌^◌, length, IfErr, IfOk, Ok, Err};
+ghost use Rattle.captures.specs.Blocks.{block_order, block_size, block_held, count_past as numbers_past, even_block, has_number as is_numbered, held_of_type, interface_in_file, is_entry as is_entry_type, is_other_interface, lacks_packet, is_section_header as begins_section, order_of_magic, record_of_packet, section_of_header, section_of_interface, unread_of_type, whole_block_order};
 ghost use Rattle.captures.specs.inner.Lent.{held_of};
 ghost use Rattle.captures.specs.Framing.{record_in_packet as record_of, sized as size_stated};
 
@@ -51,9 +51,10 @@ pub struct Section {
 /// A block or a packet that has no record for this reader.
 #[derive(Clone, Copy, PartialEq, Eq, Debug)]
 pub enum Unread {
-    /// A block without a packet: a section header, the description of an interface, names, statistics, an entry of a journal, secrets or
-    /// custom data.
+    /// A block without a packet: a section header, the description of an interface, names, statistics or secrets.
     NoPacket,
+    /// A block without a packet that has a number as packets have: an entry of a journal, or custom data.
+    Entry,
     /// A simple packet block (type 3).
     SimplePacket,
     /// An obsolete packet block (type 2).
@@ -62,6 +63,24 @@ pub enum Unread {
     OtherBlock(u32),
     /// A packet of an interface of another link type than ERF.
     OtherLinkPacket,
+}
+
+impl Unread {
+    /// Returns whether it has a number, as a record has.
+    pub fn has_number(self) -> bool
+        ensures { result ≡ is_numbered self }
+    {
+        !matches!(self, Unread::NoPacket | Unread::OtherBlock(_))
+    }
+
+    /// Returns how many numbers were given after it, if this many were before.
+    pub(crate) fn count_past(self, count: u64) -> u64
+        requires { count < 2 ^ 64 - 1 }
+        ensures count { result ≡ numbers_past count self }
+        ensures most { result ≤ count + 1 }
+    {
+        if self.has_number() { count + 1 } else { count }
+    }
 }
 
 /// The section after a block, and the record in it, or what it is that has none.
@@ -108,7 +127,14 @@ fn even(size: usize) -> Result<usize, RecordFault>
 fn has_no_packet(kind: u32) -> bool
     ensures { result ≡ lacks_packet kind }
 {
-    matches!(kind, 4 | 5 | 9 | 10 | 0xbad | 0x4000_0bad)
+    matches!(kind, 4 | 5 | 10)
+}
+
+/// Returns whether a block of this type has no packet and yet a number.
+fn is_entry(kind: u32) -> bool
+    ensures { result ≡ is_entry_type kind }
+{
+    matches!(kind, 9 | 0xbad | 0x4000_0bad)
 }
 
 /// Returns what a block of this type is that is not read.
@@ -119,6 +145,7 @@ fn unread_by_type(kind: u32) -> Unread
         SIMPLE_PACKET => Unread::SimplePacket,
         OLD_PACKET => Unread::OldPacket,
         _ if has_no_packet(kind) => Unread::NoPacket,
+        _ if is_entry(kind) => Unread::Entry,
         _ => Unread::OtherBlock(kind),
     }
 }

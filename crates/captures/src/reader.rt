@@ -20,7 +20,7 @@ use byteorder::{ByteOrder, LittleEndian};
 /// A record of a capture. It borrows its cell from the octets that it was read from.
 #[derive(PartialEq, Eq, Drop, Debug)]
 pub struct Record<'a> {
-    /// The number of the record in its capture, from 1.
+    /// Its number in its capture, from 1. Packets of a pcapng file that are passed over have numbers too (`Unread::has_number`).
     pub number: u64,
     /// The link by which it was received. Only a record with a cell has its channel.
     pub link: Link,
@@ -59,7 +59,7 @@ pub enum Next<'a> {
 pub struct Reader {
     /// What the file has of records.
     pub format: Format,
-    /// How many records were read.
+    /// How many numbers were given to records, and to packets that were passed over.
     pub count: u64,
     /// How many octets of the file come before the next record.
     pub at: u64,
@@ -163,7 +163,10 @@ impl Reader {
         self.at = end;
         self.format.go_on(held.after);
         match held.framed {
-            Err(what) => Next::Passed(Passage { what, at }, size),
+            Err(what) => {
+                self.count = what.count_past(self.count);
+                Next::Passed(Passage { what, at }, size)
+            }
             Ok(framed) => {
                 self.count += 1;
                 Next::Taken(record_in(self.count, framed), size)

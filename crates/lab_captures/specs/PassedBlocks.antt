@@ -1,7 +1,7 @@
 -- The blocks and packets of a pcapng file that have no record for this reader, by kind, and the comments about them.
 use Rattle.std.specs.Prelude.{◌==◌, if◌then◌else◌, ℕ, List, [], ◌++◌, codes, decimal}
 use Rattle.captures.specs.declared.block.Unread.{Unread}
-use Rattle.captures.specs.declared.block.Unread.TheVariants.{NoPacket, SimplePacket, OldPacket, OtherBlock, OtherLinkPacket}
+use Rattle.captures.specs.declared.block.Unread.TheVariants.{NoPacket, Entry, SimplePacket, OldPacket, OtherBlock, OtherLinkPacket}
 use Rattle.lab_captures.specs.Tallies.{no_tally, one_more_record, passed_count}
 use Rattle.lab_captures.specs.declared.blocks.BlockTallies.{BlockTallies}
 use Rattle.lab_captures.specs.declared.tally.PassedTally.{PassedTally}
@@ -15,6 +15,7 @@ no_blocks = record { simple = no_tally; obsolete = no_tally; other = no_tally; o
 -- type of the first one is kept.
 abbrev pub one_more_block : BlockTallies → Unread → ℕ → BlockTallies
 one_more_block blocks NoPacket at = blocks
+one_more_block blocks Entry at = blocks
 one_more_block blocks SimplePacket at = record blocks { simple = one_more_record blocks.simple at }
 one_more_block blocks OldPacket at = record blocks { obsolete = one_more_record blocks.obsolete at }
 one_more_block blocks (OtherBlock kind) at = record blocks {

@@ -56,7 +56,7 @@ impl BlockTallies {
         ensures { self.new ≡ one_more_block self.old what at }
     {
         match what {
-            Unread::NoPacket => {}
+            Unread::NoPacket | Unread::Entry => {}
             Unread::SimplePacket => self.simple = self.simple.with(at),
             Unread::OldPacket => self.obsolete = self.obsolete.with(at),
             Unread::OtherBlock(kind) => self.count_other(kind, at),

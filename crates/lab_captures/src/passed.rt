@@ -34,7 +34,7 @@ pub struct PassedOver {
 
 impl PassedOver {
     /// Returns that no record was passed over.
-    pub(crate) fn none() -> PassedOver
+    pub fn none() -> PassedOver
         ensures { result ≡ none_passed }
     {
         let none = PassedTally::none();
@@ -50,7 +50,7 @@ impl PassedOver {
     }
 
     /// Counts a block or a packet more without a record.
-    pub(crate) fn pass(&mut self, passage: Passage)
+    pub fn pass(&mut self, passage: Passage)
         ensures { self.new ≡ with_passage self.old passage }
     {
         self.blocks.count(passage.what, passage.at);
@@ -58,7 +58,7 @@ impl PassedOver {
 
     /// Counts the marks of a record with this number.
     #[inline(always)]
-    pub(crate) fn mark(&mut self, marks: Marks, number: u64)
+    pub fn mark(&mut self, marks: Marks, number: u64)
         ensures { self.new ≡ with_marked self.old marks number }
     {
         self.marks.count(marks, number);
@@ -75,7 +75,7 @@ impl PassedOver {
     }
 
     /// Counts one record more, which holds no cell for this reason and has this number.
-    pub(crate) fn count(&mut self, why: NoCell, number: u64)
+    pub fn count(&mut self, why: NoCell, number: u64)
         ensures { self.new ≡ without_cell self.old why number }
     {
         match why {

@@ -23,7 +23,7 @@ returns-in-Err-framed c =
     (omega arith)
     (cc)
     c.go_on.ensures
-    refl
+    c.count_past-self.ensures.count
     (omega arith)
 
 pub returns-in-Ok-framed : goal.returns-in-Ok-framed
