@@ -82,7 +82,9 @@ fn records_in_pcapng_files(rt: HostRuntime) -> Result<(), Fail> {
             ((16, u32::MAX), 1),
             ((68, 16), 1),
             ((48, 5), 0),
-            ((48, 3), 0),
+            ((48, 3), 1),
+            ((48, 9), 1),
+            ((48, 0x777), 0),
         ] {
             let octets = blocks_of(order, [change, change]);
             let (reader, next) = read_blocks(&octets);
@@ -139,7 +141,7 @@ fn octets_that_are_no_block(rt: HostRuntime) -> Result<(), Fail> {
             ([(4, 24), (20, 24)], 0, RecordFault::ShortBlock(24)),
             ([(32, 16), (40, 16)], 28, RecordFault::ShortBlock(16)),
             ([(56, 1), (144, 100)], 48, RecordFault::NoInterface(1)),
-            ([(28, 2), (44, 20)], 48, RecordFault::NoInterface(0)),
+            ([(28, 4), (44, 20)], 48, RecordFault::NoInterface(0)),
             ([(68, 69), (144, 100)], 48, RecordFault::LongPacket(69)),
             (
                 [(68, u32::MAX), (144, 100)],
