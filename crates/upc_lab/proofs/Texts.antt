@@ -7,6 +7,7 @@ use Rattle.lab_differ.proofs.Public.{some-differ_text, some-unused_text}
 use Rattle.lab_faults.proofs.Public.{some-explain_text}
 use Rattle.lab_forward.proofs.Public.{some_agreed_records}
 use Rattle.lab_fit.specs.FitText.{fit_closes, fit_rules, fit_start, fit_steps}
+use Rattle.lab_links.proofs.Public.{some_links_text}
 use Rattle.lab_programs.proofs.Public.{some-list_text, some-trace_text}
 use Rattle.lab_rules.proofs.Public.{some-asm_text, some-rules_text, some-why_text}
 use Rattle.lab_police.proofs.Public.{some_agreed_text}
@@ -25,6 +26,7 @@ some-lab_text lab.List octets = some-list_text octets
 some-lab_text lab.Trace octets = some-trace_text octets
 some-lab_text lab.Size octets = some-sizes_text octets
 some-lab_text lab.Explain octets = some-explain_text octets
+some-lab_text lab.Links octets = some_links_text octets
 
 pub some-asked_text : (asked : Asked) (setup : List ℕ) (tick : Option ℕ) (rules : List (List ℕ)) (old octets : List ℕ)
     → (answer : List ℕ) × (done : Done) × IsAskedText setup tick rules old asked octets answer done

@@ -28,6 +28,7 @@ lab_name_of lab.List = codes "list"
 lab_name_of lab.Trace = codes "trace"
 lab_name_of lab.Size = codes "size"
 lab_name_of lab.Explain = codes "explain"
+lab_name_of lab.Links = codes "links"
 
 -- What a subcommand waits for.
 abbrev pub lab_input_of : Subcommand → List ℕ
@@ -38,6 +39,7 @@ lab_input_of lab.List = codes "reading a program from the terminal, to its end"
 lab_input_of lab.Trace = codes "reading a program and cells from the terminal, to its end"
 lab_input_of lab.Size = codes "reading contracts from the terminal, to its end"
 lab_input_of lab.Explain = codes "reading a script from the terminal, or a line `source` and a source, to its end"
+lab_input_of lab.Links = codes "reading a capture from the terminal, to its end"
 
 -- The name of the subcommand, and what it waits for.
 abbrev pub lab_notice : Subcommand → List ℕ

@@ -11,6 +11,7 @@ use Rattle.lab_forward.specs.AgreedForward.{MayBeForwardedAsAgreed}
 use Rattle.lab_forward.specs.Reporting.{HasReportedText}
 use Rattle.lab_forward.specs.declared.others.Others.{Others}
 use Rattle.lab_forward.specs.declared.others.Others.TheVariants.{Pass, Drop}
+use Rattle.lab_links.specs.LinksText.{IsLinksText}
 use Rattle.lab_options.specs.declared.programs.Programs.{Programs}
 use Rattle.lab_options.specs.declared.programs.Programs.TheVariants as which
 use Rattle.lab_programs.specs.ListedProgram.{IsListText}
@@ -35,6 +36,7 @@ IsLabText lab.List = IsListText
 IsLabText lab.Trace = IsTraceText
 IsLabText lab.Size = IsSizesText
 IsLabText lab.Explain = IsExplainText
+IsLabText lab.Links = IsLinksText
 
 -- What becomes of other records.
 abbrev pub others_asked : Bool → Others

@@ -21,11 +21,12 @@ use Rattle.upc_lab.specs.declared.choice.Subcommand.TheVariants as lab
 use Rattle.upc_lab.specs.declared.help_words.WithOptions.{WithOptions}
 use Rattle.upc_lab.specs.declared.help_words.WithOptions.TheVariants as own
 
--- The name of each subcommand without options: those for rules, those for programs, that for contracts, and that for faults.
+-- The name of each subcommand without options: those for rules, those for programs, that for contracts, that for faults, and that for the
+-- links of a capture.
 abbrev pub lab_subcommands : List (Text × Subcommand)
 lab_subcommands =
     (codes "rules", lab.Rules) ∷ (codes "asm", lab.Asm) ∷ (codes "unused", lab.Unused) ∷ (codes "list", lab.List)
-    ∷ (codes "trace", lab.Trace) ∷ (codes "size", lab.Size) ∷ (codes "explain", lab.Explain) ∷ []
+    ∷ (codes "trace", lab.Trace) ∷ (codes "size", lab.Size) ∷ (codes "explain", lab.Explain) ∷ (codes "links", lab.Links) ∷ []
 
 -- The name of each subcommand with options.
 abbrev pub own_subcommands : List (Text × WithOptions)

@@ -5,10 +5,23 @@ use Rattle.command_line.specs.declared.stop.Stop.{Stop}
 use Rattle.command_line.specs.Messages.{WritesMessage}
 use Rattle.upc_lab.specs.declared.choice.Asked.{Asked}
 use Rattle.upc_lab.specs.declared.choice.Asked.TheVariants.{Plain, Why, Cells, Fit, Police, Differ, Forward}
+use Rattle.upc_lab.specs.declared.choice.Subcommand.{Subcommand}
+use Rattle.upc_lab.specs.declared.choice.Subcommand.TheVariants as lab
+
+-- A subcommand without options that reads a capture.
+abbrev pub reads_links : Subcommand → Bool
+reads_links lab.Rules = false
+reads_links lab.Asm = false
+reads_links lab.Unused = false
+reads_links lab.List = false
+reads_links lab.Trace = false
+reads_links lab.Size = false
+reads_links lab.Explain = false
+reads_links lab.Links = true
 
 -- The words ask for a subcommand that reads a capture.
 abbrev pub reads_capture : Result Asked Stop → Bool
-reads_capture (Ok (Plain subcommand)) = false
+reads_capture (Ok (Plain subcommand)) = reads_links subcommand
 reads_capture (Ok (Why options)) = false
 reads_capture (Ok (Cells options)) = true
 reads_capture (Ok (Fit options)) = true

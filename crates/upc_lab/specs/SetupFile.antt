@@ -65,6 +65,7 @@ is_unused lab.List = false
 is_unused lab.Trace = false
 is_unused lab.Size = false
 is_unused lab.Explain = false
+is_unused lab.Links = false
 
 -- Whether the words ask for `unused`.
 abbrev pub asks_unused : Result Asked Stop → Bool

@@ -31,6 +31,8 @@ pub enum Subcommand {
     Size,
     /// Print the faults of a script or a source, each with its line and column and a sentence.
     Explain,
+    /// Print the links of a capture.
+    Links,
 }
 
 /// What the program should do.
@@ -62,7 +64,7 @@ const LAB: Program = Program {
 };
 
 /// Its subcommands. One with options has a command of its own in place of a subcommand here.
-const SUBCOMMANDS: [Row<Option<Subcommand>>; 13] = [
+const SUBCOMMANDS: [Row<Option<Subcommand>>; 14] = [
     Row {
         name: "rules",
         about: "Compile rules for cells and print the octets of their program",
@@ -104,6 +106,12 @@ const SUBCOMMANDS: [Row<Option<Subcommand>>; 13] = [
         about: "Explain the faults of a script, or after a line `source` that of a source of assembly",
         example: Some("Example: upc-lab explain < examples/desk-refusals.run"),
         means: Some(Subcommand::Explain),
+    },
+    Row {
+        name: "links",
+        about: "Print the links of a capture, with their cells, times and losses",
+        example: Some("Example: examples/make-capture | upc-lab links"),
+        means: Some(Subcommand::Links),
     },
     Row {
         name: "why",

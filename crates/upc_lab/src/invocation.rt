@@ -26,6 +26,7 @@ use lab_differ::{Finding, TextKind, TextKinds, compare_texts, ended_by, unused_i
 use lab_faults::{Ahead, explain_faults};
 use lab_fit::fit_capture;
 use lab_forward::{Others, forward_as_agreed};
+use lab_links::links_of_capture;
 use lab_options::{DifferOptions, ForwardOptions, Programs};
 use lab_police::{PoliceChoice, police_as_agreed};
 use lab_programs::{list_program, trace_cells};
@@ -97,6 +98,7 @@ fn run_plain<I: Ahead, O: Output>(
         Subcommand::Trace => trace_cells(alloc, input, output),
         Subcommand::Size => size_contracts(alloc, input, output),
         Subcommand::Explain => explain_faults(alloc, input, output),
+        Subcommand::Links => links_of_capture(alloc, input, output),
     }
 }
 

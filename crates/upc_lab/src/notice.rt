@@ -40,5 +40,6 @@ fn notice_of(subcommand: Subcommand) -> &'static str
         Subcommand::Size => "upc-lab size: reading contracts from the terminal, to its end",
         Subcommand::Explain =>
             "upc-lab explain: reading a script from the terminal, or a line `source` and a source, to its end",
+        Subcommand::Links => "upc-lab links: reading a capture from the terminal, to its end",
     }
 }

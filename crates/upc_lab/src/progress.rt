@@ -1,10 +1,10 @@
 //! How much of a capture was read, for a terminal.
 
 ghost use Rattle.std.specs.Prelude.{◌≡◌, ◌≢◌, ◌+◌, ◌*◌, ◌/◌, ◌≤◌, ◌<◌, min, IfOk, codes};
-ghost use Rattle.upc_lab.specs.Progress.{ShowsText, reads_capture};
+ghost use Rattle.upc_lab.specs.Progress.{ShowsText, reads_capture, reads_links};
 ghost use Rattle.upc_lab.specs.inner.ProgressText.{progress_text};
 
-use crate::choice::Asked;
+use crate::choice::{Asked, Subcommand};
 use crate::reason::Reasoned;
 use command_line::{Stop, write_message};
 use std::alloc::{AllocError, Global};
@@ -14,13 +14,21 @@ use upc_words::{add_number, add_text};
 /// The number of octets after which a new text is shown: 16 MiB.
 const STEP: u64 = 16777216;
 
+/// Returns whether a subcommand without options reads a capture.
+fn reads_links(subcommand: Subcommand) -> bool
+    ensures { result ≡ reads_links subcommand }
+{
+    subcommand == Subcommand::Links
+}
+
 /// Returns whether the words ask for a subcommand that reads a capture.
 pub fn reads_capture(chosen: &Result<Asked, Stop>) -> bool
     ensures { result ≡ reads_capture chosen.now }
 {
     match chosen {
         Ok(Asked::Cells(_) | Asked::Fit(_) | Asked::Police(_) | Asked::Forward(_)) => true,
-        Ok(Asked::Plain(_) | Asked::Why(_) | Asked::Differ(_)) | Err(_) => false,
+        Ok(Asked::Plain(subcommand)) => reads_links(*subcommand),
+        Ok(Asked::Why(_) | Asked::Differ(_)) | Err(_) => false,
     }
 }
 

@@ -180,6 +180,7 @@ fn a_subcommand_is_chosen_by_its_name_alone(rt: HostRuntime) -> Result<(), Fail>
         ("trace", true),
         ("size", true),
         ("explain", true),
+        ("links", true),
         ("cells", true),
         ("cells --tick 1us", true),
         ("fit --increment 7", true),

@@ -1,0 +1,4 @@
+pub mod LineLemmas
+pub mod LinksOfOctets
+pub mod LinksProgress
+pub mod Public

@@ -1,0 +1,3 @@
+pub mod LinkTallies
+pub mod LinksText
+pub mod inner
