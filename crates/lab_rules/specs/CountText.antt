@@ -17,14 +17,14 @@ is_same_place (Some place) None = false
 is_same_place (Some place) (Some other) = place == other
 
 -- A count and one more. A count has 64 bits, which no input fills.
-abbrev pub one_more : ℕ → ℕ
-one_more count = min (count + 1) (2 ^ 64 - 1)
+abbrev pub counted_more : ℕ → ℕ
+counted_more count = min (count + 1) (2 ^ 64 - 1)
 
 -- How often the rule at this place is among those that decided cells. No place is that of `otherwise`.
 abbrev pub times_decided : Option ℕ → List (Option ℕ) → ℕ
 times_decided place [] = 0
 times_decided place (decider ∷ decided) =
-    if is_same_place place decider then one_more (times_decided place decided) else times_decided place decided
+    if is_same_place place decider then counted_more (times_decided place decided) else times_decided place decided
 
 -- The line about a rule, by the number of cells that it decided.
 abbrev pub count_line : List ℕ → (Option ℕ → ℕ) → Option ℕ → List ℕ

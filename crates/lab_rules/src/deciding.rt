@@ -11,7 +11,7 @@ ghost use Rattle.upc_words.specs.Hexadecimal.{octets_of_digits};
 ghost use Rattle.lab_rules.specs.RulesAnswers.{AnswersBy, PrintsFault};
 ghost use Rattle.lab_rules.specs.CountText.{decider_text};
 ghost use Rattle.lab_rules.specs.WhyText.{HasCode, IsWhyText, MayBeWhyText, cell_line_read, cell_word_read, decision_text, value_text};
-ghost use Rattle.lab_rules.specs.inner.Counted.{AnswersLine, AreCounts, IsLineRead};
+ghost use Rattle.lab_rules.specs.inner.Counted.{AnswersWhyLine, AreCounts, IsLineRead};
 ghost use Rattle.lab_rules.specs.inner.Places.{FindsRules};
 
 use crate::before_cells::read_rules_before;
@@ -131,7 +131,7 @@ fn answer_cell(
     cell: &Cell,
     answers: &mut Vec<u8>,
 ) -> Result<(), AllocError>
-    ensures { OnOk result (AnswersLine deciding.old deciding.new (Ok cell.now) answers.old.items answers.new.items) }
+    ensures { OnOk result (AnswersWhyLine deciding.old deciding.new (Ok cell.now) answers.old.items answers.new.items) }
 {
     let decision = deciding.decider.decide(cell);
     match &mut deciding.counts {
@@ -146,7 +146,7 @@ fn answer_line(
     line: &[u8],
     answers: &mut Vec<u8>,
 ) -> Result<(), AllocError>
-    ensures { OnOk result (AnswersLine deciding.old deciding.new (cell_line_read (words_of line.now)) answers.old.items answers.new.items) }
+    ensures { OnOk result (AnswersWhyLine deciding.old deciding.new (cell_line_read (words_of line.now)) answers.old.items answers.new.items) }
 {
     match cell_in_line(deciding.alloc, line, answers)? {
         Some(cell) => answer_cell(deciding, &cell, answers),

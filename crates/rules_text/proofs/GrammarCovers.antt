@@ -227,10 +227,12 @@ list_closes tokens of range reading it =
     let test = list_test of spans in
     let made : Reading = record reading { spans = []; group = group_with reading.group test; awaited = awaits_operator } in
     let same : spans ≡ spans_written it.ranges range = ap (λ xs. xs ++ (range_span range ∷ [])) it.spans_are ∙ spans_written_are it.ranges range in
-    let means : list_test (list_of_head it.head) (spans_written it.ranges range) ≡ test = ap (list_test (list_of_head it.head)) (sym same) ∙ ap (λ l. list_test l spans) (sym it.list_is) in
-    (unit_closes tokens unit test reading made
-    (renamed tokens (head_tokens it.head ++ (ranges_tokens it.ranges ++ range_tokens range)) (unit_tokens unit) reading (ap (λ rest. head_tokens it.head ++ rest) (list_tokens_are it.ranges range)) it.begun)
-    (λ denied. ap (negated_if denied) means) refl refl, refl)
+    let means : list_test (list_of_head it.head) (spans_written it.ranges range) ≡ test = ap (list_test (list_of_head it.head)) (sym same) ∙ ap (λ l. list_test l spans) (sym it.list_is) in (
+      unit_closes tokens unit test reading made
+          (renamed tokens (head_tokens it.head ++ (ranges_tokens it.ranges ++ range_tokens range)) (unit_tokens unit) reading (ap (λ rest. head_tokens it.head ++ rest) (list_tokens_are it.ranges range)) it.begun)
+          (λ denied. ap (negated_if denied) means) refl refl,
+      refl,
+    )
 
 comma_read : (context : LineContext) (tokens : List RuleToken) (of : ListRead) (range : RangeForm) (reading next : Reading) (token : RuleToken)
     → read_comma context of (range_span range) reading token ≡ Ok next → InList tokens of (range_tokens range) reading → Explained (tokens ++ (token ∷ [])) next
@@ -277,11 +279,13 @@ high_read context tokens of low reading next token e it =
     let high = found.0 in
     let made : Reading = record reading { comparisons = reading.comparisons + 1; awaited = awaits_comma of (record { low = low; high = high }) } in
     let counted : with_range reading (awaits_comma of (record { low = low; high = high })) ≡ Ok next = unless_ok (nat_lt high low) TooLarge _ next found.2 in
-    made_by (tokens ++ (token ∷ [])) made next (Ok made) (unless_ok (nat_le 4096 reading.comparisons) TooLong (Ok made) next counted) refl
-    (record { low = low; high = Some high }, refl,
-    list_renamed (tokens ++ (token ∷ [])) of (number_word low ∷ dots_mark ∷ token ∷ []) (number_word low ∷ dots_mark ∷ number_word high ∷ []) made
-    (ap (λ t. number_word low ∷ dots_mark ∷ t ∷ []) (number_ok most token high found.1))
-    (list_grown tokens of (number_word low ∷ dots_mark ∷ []) token reading made it refl refl refl))
+    made_by (tokens ++ (token ∷ [])) made next (Ok made) (unless_ok (nat_le 4096 reading.comparisons) TooLong (Ok made) next counted) refl (
+      record { low = low; high = Some high },
+      refl,
+      list_renamed (tokens ++ (token ∷ [])) of (number_word low ∷ dots_mark ∷ token ∷ []) (number_word low ∷ dots_mark ∷ number_word high ∷ []) made
+          (ap (λ t. number_word low ∷ dots_mark ∷ t ∷ []) (number_ok most token high found.1))
+          (list_grown tokens of (number_word low ∷ dots_mark ∷ []) token reading made it refl refl refl),
+    )
 
 -- ---- comparisons
 

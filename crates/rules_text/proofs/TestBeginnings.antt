@@ -350,9 +350,11 @@ path_begins context most tokens reading next token e begun none =
     let found = then_ok (number_within most token) (λ path. Ok (record reading { awaited = awaits_slash path })) next e in
     let path = found.0 in
     let made : Reading = record reading { awaited = awaits_slash path } in
-    made_by (tokens ++ (token ∷ [])) made next (Ok made) found.2 refl
-    (renamed (tokens ++ (token ∷ [])) (token ∷ []) (number_word path ∷ []) made (ap (λ t. t ∷ []) (number_ok most token path found.1))
-    (grown tokens [] token reading made begun refl refl), none)
+    made_by (tokens ++ (token ∷ [])) made next (Ok made) found.2 refl (
+      renamed (tokens ++ (token ∷ [])) (token ∷ []) (number_word path ∷ []) made (ap (λ t. t ∷ []) (number_ok most token path found.1))
+          (grown tokens [] token reading made begun refl refl),
+      none,
+    )
 
 pub unit_begins : (context : LineContext) (column : ℕ) (tokens : List RuleToken) (reading next : Reading) (token : RuleToken)
     → read_unit context column reading token ≡ Ok next → InOpen tokens [] reading → reading.spans ≡ [] → Explained (tokens ++ (token ∷ [])) next
@@ -375,9 +377,12 @@ unit_begins context column tokens reading next (field_word name) e begun none =
     let found = then_ok (header_read context.side name) (λ field. Ok (record reading { awaited = awaits_relation (subject_of field) })) next e in
     let field = found.0 in
     let made : Reading = record reading { awaited = awaits_relation (subject_of field) } in
-    made_by (tokens ++ (field_word name ∷ [])) made next (Ok made) found.2 refl
-    (refl, renamed (tokens ++ (field_word name ∷ [])) (field_word name ∷ []) (subject_tokens (subject_of field)) made
-    (header_ok context.side name field found.1 ∙ sym (append-nil (field_tokens field))) (grown tokens [] (field_word name) reading made begun refl refl), none)
+    made_by (tokens ++ (field_word name ∷ [])) made next (Ok made) found.2 refl (
+      refl,
+      renamed (tokens ++ (field_word name ∷ [])) (field_word name ∷ []) (subject_tokens (subject_of field)) made
+          (header_ok context.side name field found.1 ∙ sym (append-nil (field_tokens field))) (grown tokens [] (field_word name) reading made begun refl refl),
+      none,
+    )
 unit_begins context column tokens reading next (size_word size) e begun none =
     let made : Reading = record reading { awaited = awaits_offset size } in
     made_by (tokens ++ (size_word size ∷ [])) made next (Ok made) e refl (grown tokens [] (size_word size) reading made begun refl refl, none)

@@ -21,7 +21,7 @@ ShowsWhy deciding world =
     (world.numbered ≡ numbered_read deciding.decider.numbered) × (world.counts ≡ is_some deciding.counts) × IfSome deciding.counts (AreCounts world.decided)
 
 -- The answer to a line that was read so was appended, and what the machine showed is now the world after the line.
-pub record AnswersLine (before after : Deciding) (read : Result (List ℕ) (List ℕ)) (old new : List ℕ) : Type 0 where
+pub record AnswersWhyLine (before after : Deciding) (read : Result (List ℕ) (List ℕ)) (old new : List ℕ) : Type 0 where
   pub text : new ≡ old ++ why_text (numbered_read before.decider.numbered) (is_some before.counts) read
   pub shown : (world : WhyWorld) → ShowsWhy before world → ShowsWhy after (world_after_line world read)
 
