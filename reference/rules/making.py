@@ -81,6 +81,17 @@ def test(source, depth):
     return f"{source.choice(NOT)}({test(source, depth - 1)})" if kind < 0.95 else f"({test(source, depth - 1)})"
 
 
+def broken(source, text):
+    """Returns a test with line ends in place of some blanks inside its parentheses."""
+    made, depth = [], 0
+    for it in text:
+        depth += (it == "(") - (it == ")")
+        if it == " " and depth > 0 and source.random() < 0.15:
+            it = source.choice(["\n", "\r\n", " # (\n", "\n\t\n", " #\r\n"])
+        made.append(it)
+    return "".join(made)
+
+
 def definitions(source):
     """Returns lines that give names, and lets the tests after them have these names."""
     made = []
@@ -91,7 +102,7 @@ def definitions(source):
         elif source.random() < 0.4:
             name, here, meant = source.choice(LIST_NAMES), source.lists, listed(source, 255)
         else:
-            name, here, meant = source.choice(TEST_NAMES), source.tests, test(source, source.choice([0, 1, 2]))
+            name, here, meant = source.choice(TEST_NAMES), source.tests, broken(source, test(source, source.choice([0, 1, 2])))
         # Mostly no name is given twice, and what a name means is of its own kind.
         if name not in here or source.random() < 0.03:
             made.append(f"{kind} {name} {source.choice(['=', '=', '=='])} {meant}")
@@ -106,11 +117,11 @@ def lines(source, count, depth):
     made = []
     for _ in range(count):
         if depth and source.random() < 0.25:
-            made.append(f"{test(source, 2)} {{")
+            made.append(f"{broken(source, test(source, 2))} {{")
             made += lines(source, source.randint(0, 4), depth - 1)
             made.append("}")
         else:
-            made.append(f"{test(source, source.choice([0, 1, 2, 3]))} -> {source.choice([*REFUSE, '1', '2', '3', '4294967295', *source.contracts])}")
+            made.append(f"{broken(source, test(source, source.choice([0, 1, 2, 3])))} -> {source.choice([*REFUSE, '1', '2', '3', '4294967295', *source.contracts])}")
         if source.random() < 0.1:
             made.append(source.choice(["", "# remark", "   \t"]))
     return made
@@ -172,6 +183,8 @@ AT_LIMITS = (
     "define a b = 1", "define a = 1 and vpi 1", "define a = 1, 2..1", "define a = 1,", "define a = 4294967296", "define a = 4294967295..0xffffffff", "define a = 0x/1",
     "define a = 1 / 2, 3", "define a = 256/1", "define a = (any", "define a = any)", "define a = any -> 1", "define a = (any {", "define a = (any and", "define a = b",
     "define a = }", "define a = refuse", "define a = vci 5..4", "contract", "contract a", "contract a =", "contract a = 1 2", "contract a = any", "contract a = 4294967296",
+    "(any\n-> 1", "(any\nor rm\n) -> 1", "(\n(any\nand\n1/5)) {", "(any # )\n) -> 1", "(any\r\r\n)", "(any\n{", "(vpi\n1,\r\n256) -> 1",
+    "define a = (any\nor\nrm)", "define a\n= any", "(any\n\n# (\n", "(any -\n) -> 1", "vci (\n5) -> 1",
     "contract a = 1x", "contract user = 1", "contract a = a", "contract a == drop", "voice", "vci customers, 5 -> 1", "customers/7 -> 1", "not voice or (voice) -> gold",
 )
 

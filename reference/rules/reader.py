@@ -1,6 +1,8 @@
 """Reads a text of rules as docs/RULES.md has it."""
 import re
 
+from policer.text_lines import source_lines
+
 TOKEN = re.compile(rb"[A-Za-z0-9_]+|->|\.\.|&&|\|\||==|!=|<=|>=|.", re.DOTALL)
 NAMES = (
     "BadLine", "BadNumber", "TooLarge", "OutsideCell", "AfterOtherwise", "Unbalanced", "TooDeep", "TooLong", "NoMemory", "UnknownName", "NameTaken",
@@ -59,6 +61,30 @@ def tokens_of(line):
     return found, after
 
 
+def depth_after(depth, tokens):
+    """Returns how many parentheses are open after tokens, where this many were open before them. No test goes on after `->`, a `-` or `{`."""
+    for token, _ in tokens:
+        if token in (b"->", b"-", b"{"):
+            depth = 0
+        elif token in (b"(", b")"):
+            depth = max(depth + (1 if token == b"(" else -1), 0)
+    return depth
+
+
+def rule_lines(lines):
+    """Returns the lines of rules of source lines, in order: of each the number of the source line in which it begins, its tokens, each with
+    its line and column, and the line and column after the last. One goes on over the end of a source line inside parentheses."""
+    found, depth = [], 0
+    for number, line in enumerate(lines, 1):
+        tokens, after = tokens_of(line)
+        if depth == 0:
+            found.append((number, [], (number, after)))
+        begin, before, end = found[-1]
+        found[-1] = (begin, before + [(token, (number, column)) for token, column in tokens], (number, after) if tokens else end)
+        depth = depth_after(depth, tokens)
+    return found
+
+
 def is_word(token):
     """Returns whether a token begins as a word does."""
     return re.match(rb"[A-Za-z_]", token) is not None
@@ -89,22 +115,22 @@ def number_of(token):
 
 
 class Line:
-    """A line that is read from left to right."""
+    """A line of rules that is read from left to right. `tokens` has its tokens with their places, and `after` is the place after the last."""
 
-    def __init__(self, reader, line, number):
+    def __init__(self, reader, number, tokens, after):
         self.reader, self.number = reader, number
-        self.tokens, self.after = tokens_of(line)
+        self.tokens, self.after = tokens, after
         self.at = 0
         # What ends a test.
         self.ends = (b"->", b"{")
         self.comparisons = 0
         self.open = []
 
-    def fault(self, name, column=None):
+    def fault(self, name, place=None):
         """Stops at the present token, or at the end of the line."""
-        if column is None:
-            column = self.tokens[self.at][1] if self.at < len(self.tokens) else self.after
-        raise Fault(name, self.number, column)
+        if place is None:
+            place = self.tokens[self.at][1] if self.at < len(self.tokens) else self.after
+        raise Fault(name, *place)
 
     def peek(self):
         """Returns the present token, of several spellings the first, None at the end of the line."""
@@ -120,7 +146,7 @@ class Line:
     def expand(self):
         """Puts in place of names, from the present token on, what they mean, as long as they may add so much."""
         rest = self.tokens[self.at:]
-        self.tokens[self.at:] = [(it, column) for token, column in rest for it in self.meant(token)]
+        self.tokens[self.at:] = [(it, place) for token, place in rest for it in self.meant(token)]
 
     def meant(self, token):
         """Returns what is read in place of a token, and counts what a name adds."""
@@ -155,10 +181,10 @@ class Line:
         self.at += 1
         return value
 
-    def count(self, column=None):
+    def count(self, place=None):
         """Counts a comparison."""
         if self.comparisons >= MOST_COMPARISONS:
-            self.fault("TooLong", column)
+            self.fault("TooLong", place)
         self.comparisons += 1
 
     def test(self):
@@ -230,9 +256,9 @@ class Line:
             return listed if token == b"=" else ("not", listed)
         if token in (b"<", b"<=", b">", b">="):
             self.at += 1
-            column = self.tokens[self.at][1] if self.at < len(self.tokens) else None
+            place = self.tokens[self.at][1] if self.at < len(self.tokens) else None
             value = self.read_number(most)
-            self.count(column)
+            self.count(place)
             return ("compare", field, mask, token.decode(), value)
         return ("among", field, mask, self.list(most))
 
@@ -243,11 +269,11 @@ class Line:
             low = self.read_number(most)
             if self.peek() == b"..":
                 self.at += 1
-                column = self.tokens[self.at][1] if self.at < len(self.tokens) else None
+                place = self.tokens[self.at][1] if self.at < len(self.tokens) else None
                 high = self.read_number(most)
                 if high < low:
-                    self.fault("TooLarge", column)
-                self.count(column)
+                    self.fault("TooLarge", place)
+                self.count(place)
             else:
                 high = low
                 if self.peek() is None:
@@ -329,9 +355,9 @@ class Reader:
         """Returns how many blocks are open."""
         return len(self.heads)
 
-    def read_line(self, octets, number):
-        """Reads a line of this number."""
-        line = Line(self, octets, number)
+    def read_line(self, number, tokens, after):
+        """Reads a line of rules, which begins in the source line of this number."""
+        line = Line(self, number, tokens, after)
         if not line.tokens:
             return
         if self.closed:
@@ -380,7 +406,7 @@ class Reader:
         kind = line.take()
         if line.at >= len(line.tokens):
             line.fault("BadLine")
-        name, column = line.tokens[line.at]
+        name, place = line.tokens[line.at]
         if not is_word(name):
             line.fault("BadLine")
         if name in WORDS or name in self.names:
@@ -399,7 +425,7 @@ class Reader:
             return
         tokens = [token for token, _ in line.tokens[line.at:]]
         if len(tokens) > MOST_TOKENS:
-            line.fault("TooLong", column)
+            line.fault("TooLong", place)
         self.names[name] = read_definition(line, tokens)
 
     def read_rule(self, line, first):
@@ -417,7 +443,7 @@ class Reader:
             line.take()
             line.end()
             self.rules.append(("block", test))
-            self.heads.append((line.number, first))
+            self.heads.append(first)
         elif token == b")":
             line.fault("Unbalanced")
         else:
@@ -427,13 +453,8 @@ class Reader:
 def read_rules(text):
     """Returns the reader of a text, or raises its first fault."""
     reader = Reader()
-    lines = text.split(b"\n")
-    last = lines.pop()
-    lines = [line[:-1] if line.endswith(b"\r") else line for line in lines]
-    if last:
-        lines.append(last)
-    for number, line in enumerate(lines, 1):
-        reader.read_line(line, number)
+    for number, tokens, after in rule_lines(source_lines(text)):
+        reader.read_line(number, tokens, after)
     if reader.heads:
         raise Fault("Unbalanced", *reader.heads[0])
     return reader

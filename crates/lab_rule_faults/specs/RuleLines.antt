@@ -1,15 +1,29 @@
 -- The lines of a text of rules.
-use Rattle.std.specs.Prelude.{ℕ, ◌+◌, ◌-◌, ◌==◌, Bool, true, false, ◌&&◌, if◌then◌else◌, List, [], ◌∷◌, get_or, Option, Some, None}
+use Rattle.std.specs.Prelude.{ℕ, ◌+◌, ◌-◌, ◌==◌, Bool, true, false, ◌&&◌, if◌then◌else◌, nat_lt, min, length, List, [], ◌∷◌, Option, Some, None}
 use Rattle.std.specs.Str.{bytes_eq}
 use Rattle.lab_rule_faults.specs.Parts.{part_of}
 use Rattle.lab_rule_faults.specs.WordsFound.{rule_word_octets, words_found}
 use Rattle.lab_rule_faults.specs.declared.parts.Part.{Part}
 use Rattle.lab_rule_faults.specs.declared.parts.Part.TheVariants as part
+use Rattle.rules_text.specs.ContinuedLines.{lines_within}
 use Rattle.lab_rule_faults.specs.declared.words_found.RuleWord.{RuleWord}
 
--- The line of this number, counted from 1.
-abbrev pub rule_line_numbered : List (List ℕ) → ℕ → List ℕ
-rule_line_numbered lines number = get_or lines (number - 1) []
+-- The line of rules that has the source line of the last number, after the number of the source line in which it begins. The first of
+-- these lines begins in the source line of the first number.
+abbrev pub line_holding : ℕ → List (List ℕ) → ℕ → ℕ × List ℕ
+line_holding number [] wanted = (number, [])
+line_holding number (line ∷ lines) wanted =
+    if nat_lt wanted (number + lines_within line) then (number, line) else line_holding (number + lines_within line) lines wanted
+
+-- How many octets a line of rules has up to the end of so many of its source lines.
+abbrev pub octets_before : ℕ → List ℕ → ℕ
+octets_before source_lines [] = 0
+octets_before source_lines (octet ∷ rest) =
+    if source_lines == 0 then 0 else octets_before (if octet == 10 then source_lines - 1 else source_lines) rest + 1
+
+-- The column, counted in a line of rules, that is this one of a source line after so many others.
+abbrev pub column_within : List ℕ → ℕ → ℕ → ℕ
+column_within line source_lines column = octets_before source_lines line + min column (length line + 1)
 
 -- Whether a line that begins with this token gives a name.
 abbrev pub begins_giving : Part → Bool
@@ -45,6 +59,14 @@ abbrev pub depth_from : List ℕ → ℕ → List RuleWord → ℕ
 depth_from text depth [] = depth
 depth_from text depth (word ∷ words) =
     if ends_test (part_of (rule_word_octets text word)) then depth else depth_from text (depth_after (part_of (rule_word_octets text word)) depth) words
+
+-- How many parentheses are open before this column, if this many were before these tokens.
+abbrev pub depth_before : List ℕ → ℕ → ℕ → List RuleWord → ℕ
+depth_before text column depth [] = depth
+depth_before text column depth (word ∷ words) =
+    if nat_lt word.column column
+    then depth_before text column (depth_after (part_of (rule_word_octets text word)) depth) words
+    else depth
 
 -- The token in a column, if there is one.
 abbrev pub word_at : ℕ → List RuleWord → Option RuleWord

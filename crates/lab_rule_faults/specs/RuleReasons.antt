@@ -1,9 +1,10 @@
--- The explanation of a fault of a text of rules: its line, the column of the token that is wrong, and a sentence.
-use Rattle.std.specs.Prelude.{ℕ, ◌==◌, if◌then◌else◌, nat_lt, List, [], ◌∷◌, ◌++◌, codes, decimal, unwrap_or, Option, Some, None}
+-- The explanation of a fault of a text of rules: its source line, the column of the token that is wrong, and a sentence.
+use Rattle.std.specs.Prelude.{ℕ, ◌==◌, ◌-◌, if◌then◌else◌, nat_lt, List, [], ◌∷◌, ◌++◌, codes, decimal, unwrap_or, Option, Some, None}
+use Rattle.bpf_asm.specs.SourceLines.{source_lines}
 use Rattle.lab_rule_faults.specs.MeantWords.{unknown_word_sentence}
 use Rattle.lab_rule_faults.specs.Parts.{part_of}
 use Rattle.lab_rule_faults.specs.Reasons.{expected, number_reason, offsets, reason, too_large_words}
-use Rattle.lab_rule_faults.specs.RuleLines.{depth_from, giving_line, rule_line_numbered, word_at}
+use Rattle.lab_rule_faults.specs.RuleLines.{column_within, depth_before, depth_from, giving_line, line_holding, word_at}
 use Rattle.lab_rule_faults.specs.Spots.{first_spot, spot_from}
 use Rattle.lab_rule_faults.specs.WordsFound.{rule_word_octets, words_found}
 use Rattle.lab_rule_faults.specs.declared.parts.Part.{Part}
@@ -13,6 +14,7 @@ use Rattle.lab_rule_faults.specs.declared.spots.Place.TheVariants as here
 use Rattle.lab_rule_faults.specs.declared.spots.Spot.{Spot}
 use Rattle.lab_rule_faults.specs.declared.words_found.RuleWord.{RuleWord}
 use Rattle.lab_scripts.specs.Places.{place_words, quoted}
+use Rattle.rules_text.specs.ContinuedLines.{rule_lines}
 use Rattle.rules_text.specs.declared.fault.RuleFault.{RuleFault}
 use Rattle.rules_text.specs.declared.fault.RuleKind.{RuleKind}
 use Rattle.rules_text.specs.declared.fault.RuleKind.TheVariants as kind
@@ -76,29 +78,40 @@ rule_sentence lines kind.NoMemory content spot octets = []
 rule_sentence lines kind.UnknownName content spot octets = unknown_word_sentence spot octets
 rule_sentence lines kind.NameTaken content spot octets = taken_sentence octets (part_of octets) (giving_line octets 1 lines)
 
--- The column of a token, if there is one.
-abbrev pub rule_word_column : Option RuleWord → Option ℕ
-rule_word_column None = None
-rule_word_column (Some word) = Some word.column
+-- The column of a fault, if there is a token.
+abbrev pub rule_word_column : ℕ → Option RuleWord → Option ℕ
+rule_word_column column None = None
+rule_word_column column (Some word) = Some column
 
 -- The octets of a token, if there is one.
 abbrev pub blamed_octets : List ℕ → Option RuleWord → List ℕ
 blamed_octets text None = []
 blamed_octets text (Some word) = rule_word_octets text word
 
--- The explanation of a fault on a line with this content and these tokens.
-abbrev pub placed_explanation : List (List ℕ) → RuleFault → List ℕ → List RuleWord → List ℕ
-placed_explanation lines fault content words =
-    place_words fault.line (rule_word_column (word_at fault.column words))
+-- What is added where a token doesn't fit, or the line ends, and so many parentheses are open.
+abbrev pub inside_words : RuleKind → ℕ → List ℕ
+inside_words kind.BadLine depth = if nat_lt 0 depth then codes "; a `(` is open here" else []
+inside_words _ depth = []
+
+-- The explanation of a fault on a line of rules with this content and these tokens, at this column of it.
+abbrev pub placed_explanation : List (List ℕ) → RuleFault → ℕ → List ℕ → List RuleWord → List ℕ
+placed_explanation lines fault column content words =
+    place_words fault.line (rule_word_column fault.column (word_at column words))
     ++ line
-    (rule_sentence lines fault.kind content (spot_from content fault.column first_spot words) (blamed_octets content (word_at fault.column words)))
+    (rule_sentence lines fault.kind content (spot_from content column first_spot words) (blamed_octets content (word_at column words))
+    ++ inside_words fault.kind (depth_before content column 0 words))
+
+-- The explanation of a fault on this line of rules, after the number of the source line in which it begins.
+abbrev pub explanation_within : List (List ℕ) → RuleFault → ℕ × List ℕ → List ℕ
+explanation_within lines fault held =
+    placed_explanation lines fault (column_within held.1 (fault.line - held.0) fault.column) held.1 (words_found held.1)
 
 -- The sentence about a code that is too long.
 abbrev pub long_code_sentence : List ℕ
 long_code_sentence = codes "the code of these rules has more than 4096 instructions"
 
--- The explanation of a fault of a text of these lines. A code that is too long has no line.
-abbrev pub rule_explanation : List (List ℕ) → RuleFault → List ℕ
-rule_explanation lines fault =
+-- The explanation of a fault of a text of rules. A code that is too long has no line.
+abbrev pub rule_explanation : List ℕ → RuleFault → List ℕ
+rule_explanation text fault =
     if fault.line == 0 then line long_code_sentence
-    else placed_explanation lines fault (rule_line_numbered lines fault.line) (words_found (rule_line_numbered lines fault.line))
+    else explanation_within (source_lines text) fault (line_holding 1 (rule_lines text) fault.line)

@@ -2,7 +2,6 @@
 use Rattle.std.specs.Prelude.{◌≡◌, ◌⊎◌, ℕ, ◌+◌, List, [], ◌∷◌, ◌++◌, codes, decimal, Ok, Err}
 use Rattle.bpf_code.specs.declared.instr.Instr.{Instr}
 use Rattle.bpf_verify.specs.Accepted.{IsAccepted}
-use Rattle.bpf_asm.specs.SourceLines.{source_lines}
 use Rattle.lab_rule_faults.specs.RuleHints.{AreRuleHints}
 use Rattle.lab_rule_faults.specs.RuleReasons.{rule_explanation}
 use Rattle.lab_rules.specs.RuleFaults.{rule_fault}
@@ -42,7 +41,7 @@ no_fault_text numbered = line (codes "no fault in " ++ (decimal (rules_count num
 
 -- The answer to a text with this fault: the line of `upc-lab rules`, and an explanation.
 abbrev pub fault_answer : List ℕ → RuleFault → List ℕ
-fault_answer text fault = rule_fault fault ++ rule_explanation (source_lines text) fault
+fault_answer text fault = rule_fault fault ++ rule_explanation text fault
 
 -- The answer to a text of rules, and how the run ends: its fault, or that there is none, with hints.
 abbrev pub ExplainsRules : List ℕ → List ℕ → Done → Type 0

@@ -4,12 +4,14 @@ ghost use Rattle.std.specs.Prelude.{◌≡◌, ◌++◌, [], codes, OnOk};
 ghost use Rattle.lab_scripts.specs.Places.{quoted};
 ghost use Rattle.bpf_asm.specs.SourceLines.{source_lines};
 ghost use Rattle.lab_rule_faults.specs.WordsFound.{words_found};
-ghost use Rattle.lab_rule_faults.specs.RuleReasons.{rule_misfit_sentence, rule_word_column, given_sentence, misfit_sentence, no_rule_number_sentence, blamed_octets, outside_sentence, placed_explanation, rule_explanation, rule_sentence, taken_sentence, too_large_sentence, too_long_sentence, unbalanced_sentence};
+ghost use Rattle.lab_rule_faults.specs.RuleReasons.{rule_misfit_sentence, rule_word_column, given_sentence, misfit_sentence, no_rule_number_sentence, blamed_octets, inside_words, outside_sentence, placed_explanation, rule_explanation, rule_sentence, taken_sentence, too_large_sentence, too_long_sentence, unbalanced_sentence};
 
 use crate::meant_words::add_unknown;
 use crate::parts::{Part, part_of};
 use crate::reasons::{add_number_reason, expected, offsets, reason, too_large_words};
-use crate::rule_lines::{depth_of, giving_line, rule_line_numbered, word_at};
+use crate::rule_lines::{
+    column_within, depth_before, depth_of, giving_line, line_holding, word_at,
+};
 use crate::spots::{Place, Spot, spot_before};
 use crate::words_found::{RuleWord, rule_word_octets, words_found};
 use lab_scripts::{add_place, add_quoted};
@@ -190,12 +192,12 @@ fn add_sentence(
     }
 }
 
-/// Returns the column of a token, if there is one.
-fn rule_word_column(word: Option<RuleWord>) -> Option<usize>
-    ensures { result ≡ rule_word_column word }
+/// Returns the column of a fault, if there is a token.
+fn rule_word_column(column: usize, word: Option<RuleWord>) -> Option<usize>
+    ensures { result ≡ rule_word_column column word }
 {
     match word {
-        Some(word) => Some(word.column),
+        Some(_) => Some(column),
         None => None,
     }
 }
@@ -210,38 +212,50 @@ fn blamed_octets(text: &[u8], word: Option<RuleWord>) -> &[u8]
     }
 }
 
-/// Appends the explanation of a fault on a line with this content.
+/// Appends that a parenthesis is open where a token doesn't fit, or where the line ends, if so many are.
+fn add_inside(answers: &mut Vec<u8>, kind: RuleKind, depth: usize) -> Result<(), AllocError>
+    ensures { OnOk result (answers.new.items ≡ answers.old.items ++ inside_words kind depth) }
+{
+    match kind {
+        RuleKind::BadLine if depth > 0 => add_text(answers, b"; a `(` is open here"),
+        _ => Ok(()),
+    }
+}
+
+/// Appends the explanation of a fault on a line of rules with this content, at this column of it.
 #[tactic(auto, using(std::proofs::lemmas::List::append_assoc))]
 fn add_placed(
     alloc: Global,
     answers: &mut Vec<u8>,
     text: &[u8],
     fault: RuleFault,
+    column: usize,
     content: &[u8],
 ) -> Result<(), AllocError>
     ensures { OnOk result (answers.new.items
-        ≡ answers.old.items ++ placed_explanation (source_lines text.now) fault content.now (words_found content.now)) }
+        ≡ answers.old.items ++ placed_explanation (source_lines text.now) fault column content.now (words_found content.now)) }
 {
     let words = words_found(alloc, content)?;
-    let blamed = word_at(fault.column, &words);
-    add_place(answers, fault.line, rule_word_column(blamed))?;
-    let spot = spot_before(content, fault.column, &words);
+    let blamed = word_at(column, &words);
+    add_place(answers, fault.line, rule_word_column(fault.column, blamed))?;
+    let spot = spot_before(content, column, &words);
     let octets = blamed_octets(content, blamed);
     add_sentence(
         alloc, answers, text, fault.kind, content, &words, spot, octets,
     )?;
+    add_inside(answers, fault.kind, depth_before(content, column, &words))?;
     answers.push(b'\n')?;
     Ok(())
 }
 
-/// Appends the explanation of a fault of a text of rules: its line, the column of the token that is wrong, and a sentence.
+/// Appends the explanation of a fault of a text of rules: its source line, the column of the token that is wrong, and a sentence.
 pub(crate) fn add_rule_explanation(
     alloc: Global,
     answers: &mut Vec<u8>,
     text: &[u8],
     fault: RuleFault,
 ) -> Result<(), AllocError>
-    ensures { OnOk result (answers.new.items ≡ answers.old.items ++ rule_explanation (source_lines text.now) fault) }
+    ensures { OnOk result (answers.new.items ≡ answers.old.items ++ rule_explanation text.now fault) }
 {
     if fault.line == 0 {
         return add_text(
@@ -249,11 +263,7 @@ pub(crate) fn add_rule_explanation(
             b"the code of these rules has more than 4096 instructions\n",
         );
     }
-    add_placed(
-        alloc,
-        answers,
-        text,
-        fault,
-        rule_line_numbered(text, fault.line),
-    )
+    let (number, line) = line_holding(text, fault.line);
+    let column = column_within(line, fault.line.saturating_sub(number), fault.column);
+    add_placed(alloc, answers, text, fault, column, line)
 }

@@ -1,29 +1,62 @@
 //! The lines of a text of rules.
 
-ghost use Rattle.std.specs.Prelude.{◌≡◌, ◌-◌, IfOk};
+ghost use Rattle.std.specs.Prelude.{◌≡◌, ◌≤◌, length, IfOk};
 ghost use Rattle.bpf_asm.specs.SourceLines.{source_lines};
+ghost use Rattle.rules_text.specs.ContinuedLines.{rule_lines};
 ghost use Rattle.lab_rule_faults.specs.WordsFound.{words_found};
-ghost use Rattle.lab_rule_faults.specs.RuleLines.{begins_giving, depth_from, ends_test, gives, giving_line, rule_line_numbered, word_at};
+ghost use Rattle.lab_rule_faults.specs.RuleLines.{begins_giving, column_within, depth_before, depth_from, ends_test, gives, giving_line, line_holding, octets_before, word_at};
 
 use crate::parts::{Part, part_of};
 use crate::words_found::{RuleWord, rule_word_octets, words_found};
 use bpf_asm::next_line;
+use rules_text::{lines_within, next_rule_line};
 use std::alloc::{AllocError, Global};
 
-/// Returns the line of this number, counted from 1. It is empty if there is none.
-pub(crate) fn rule_line_numbered(text: &[u8], number: usize) -> &[u8]
-    ensures { result.now ≡ rule_line_numbered (source_lines text.now) number }
+/// Returns the line of rules that has the source line of this number, and the number of the source line in which it begins. It is empty
+/// if there is none.
+pub(crate) fn line_holding(text: &[u8], wanted: usize) -> (usize, &[u8])
+    ensures number { result.0 ≡ (line_holding 1 (rule_lines text.now) wanted).0 }
+    ensures line { result.1.now ≡ (line_holding 1 (rule_lines text.now) wanted).1 }
 {
     let mut left = text;
-    let mut more = number.saturating_sub(1);
-    while let Some((line, rest)) = next_line(left) {
-        if more == 0 {
-            return line;
+    let mut number = 1usize;
+    while let Some((line, rest)) = next_rule_line(left) {
+        let next = number + lines_within(line);
+        if wanted < next {
+            return (number, line);
         }
-        more -= 1;
+        number = next;
         left = rest;
     }
-    &[]
+    (number, &[])
+}
+
+/// Returns how many octets a line of rules has up to the end of so many of its source lines.
+fn octets_before(line: &[u8], source_lines: usize) -> usize
+    ensures before { result ≡ octets_before source_lines line.now }
+    ensures within { result ≤ length line.now }
+{
+    let mut left = line;
+    let mut more = source_lines;
+    let mut count = 0;
+    while let [octet, rest @ ..] = left {
+        if more == 0 {
+            return count;
+        }
+        if *octet == b'\n' {
+            more -= 1;
+        }
+        count += 1;
+        left = rest;
+    }
+    count
+}
+
+/// Returns the column, counted in a line of rules, that is this one of a source line after so many others.
+pub(crate) fn column_within(line: &[u8], source_lines: usize, column: usize) -> usize
+    ensures { result ≡ column_within line.now source_lines column }
+{
+    octets_before(line, source_lines) + column.min(line.len() + 1)
 }
 
 /// Returns whether a line that begins with a token gives a name.
@@ -101,6 +134,26 @@ pub(crate) fn depth_of(text: &[u8], words: &[RuleWord]) -> usize
             return depth;
         }
         match part {
+            Part::Left => depth += 1,
+            Part::Right => depth = depth.saturating_sub(1),
+            _ => {}
+        }
+        left = rest;
+    }
+    depth
+}
+
+/// Returns how many parentheses are open before a column.
+pub(crate) fn depth_before(text: &[u8], column: usize, words: &[RuleWord]) -> usize
+    ensures { result ≡ depth_before text.now column 0 words.now }
+{
+    let mut left = words;
+    let mut depth: usize = 0;
+    while let [word, rest @ ..] = left {
+        if word.column >= column {
+            return depth;
+        }
+        match part_of(rule_word_octets(text, *word)) {
             Part::Left => depth += 1,
             Part::Right => depth = depth.saturating_sub(1),
             _ => {}

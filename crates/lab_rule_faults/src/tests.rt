@@ -4,7 +4,15 @@ use crate::explaining::explain_text;
 use std::test::Fail;
 
 /// Texts of rules, and the whole answer to each.
-const ANSWERS: [(&[u8], &[u8]); 63] = [
+const ANSWERS: [(&[u8], &[u8]); 65] = [
+    (
+        b"(vpi 1 or\n vpi 2\nclp 1 -> 3\n",
+        b"fault rules 1 BadLine 3 1\nline 3 column 1: `clp` doesn't fit here; `..`, `,`, `and`, `or`, `->` or `{` comes next; a `(` is open here\n",
+    ),
+    (
+        b"vpi 1 and (rm or # (\n\n oam\n",
+        b"fault rules 1 BadLine 3 5\nline 3: the line ends too early; `and`, `or`, `->` or `{` comes next; a `(` is open here\n",
+    ),
     (
         b"vpi 1 => 2\n",
         b"fault rules 1 BadLine 1 7\nline 1 column 7: `=` doesn't fit here; `..`, `,`, `and`, `or`, `->` or `{` comes next\n",

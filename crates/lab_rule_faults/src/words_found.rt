@@ -1,12 +1,13 @@
 //! The tokens of a line of rules.
 
-ghost use Rattle.std.specs.Prelude.{◌≡◌, ◌+◌, ◌-◌, ◌≤◌, ◌<◌, ◌∷◌, ◌==◌, [], false, length, slice_index, take, drop, map, IfOk, MatchOption, IfSome};
+ghost use Rattle.std.specs.Prelude.{◌≡◌, ◌+◌, ◌-◌, ◌≤◌, ◌<◌, ◌∷◌, [], length, take, drop, map, IfOk, MatchOption, IfSome};
 ghost use Rattle.std.specs.Option.{is_some};
 ghost use Rattle.bpf_asm.specs.Tokens.{is_word};
-ghost use Rattle.text_io.specs.Words.{is_blank, is_digit};
+ghost use Rattle.text_io.specs.Words.{is_digit};
 ghost use Rattle.rules_text.specs.RuleTokens.{first_cut, letters_len, long_marks, row_token, tokens_from};
 ghost use Rattle.lab_rule_faults.specs.WordsFound.{place_of, rule_word_octets, words_found};
 
+use rules_text::after_blanks;
 use std::alloc::{AllocError, Global};
 
 /// A token of a line.
@@ -16,20 +17,6 @@ pub struct RuleWord {
     pub column: usize,
     /// The column after it.
     pub after: usize,
-}
-
-/// Returns whether an octet is a space or a tab.
-fn blank(octet: u8) -> bool
-    ensures { result ≡ is_blank octet }
-{
-    octet == b' ' || octet == b'\t'
-}
-
-/// Returns whether a comment begins at an octet.
-fn begins_comment(octet: u8) -> bool
-    ensures { result ≡ (octet == 35) }
-{
-    octet == b'#'
 }
 
 /// Returns whether an octet is an ASCII digit.
@@ -47,22 +34,6 @@ pub(crate) fn letter(octet: u8) -> bool
         || (b'A' <= octet && octet <= b'Z')
         || (b'a' <= octet && octet <= b'z')
         || octet == b'_'
-}
-
-/// Returns the column after blanks, both columns counted from 0.
-fn after_blanks(line: &[u8], from: usize) -> usize
-    requires { from ≤ length line.now }
-    ensures least { from ≤ result }
-    ensures most { result ≤ length line.now }
-    ensures tokens { tokens_from (from + 1) 0 (drop from line.now) ≡ tokens_from (result + 1) 0 (drop result line.now) }
-    ensures stops { result < length line.now → is_blank (slice_index line.now result) ≡ false }
-{
-    for at in from..line.len() {
-        if !blank(line[at]) {
-            return at;
-        }
-    }
-    line.len()
 }
 
 /// Returns how many octets of words a text begins with.
@@ -92,7 +63,7 @@ fn is_long_mark(octets: &[u8]) -> bool
         || octets == b">=".as_slice()
 }
 
-/// Returns how many octets the token has that octets begin with, which don't begin with a blank or a comment.
+/// Returns how many octets the token has that octets begin with, which don't begin with what separates tokens.
 #[tactic(auto, unfolding(rules_text::specs::RuleTokens::first_cut))]
 fn cut_size(octets: &[u8]) -> usize
     requires { 0 < length octets.now }
@@ -107,7 +78,7 @@ fn cut_size(octets: &[u8]) -> usize
     if is_long_mark(&octets[..two]) { two } else { 1 }
 }
 
-/// Returns the first token from a column on, counted from 0, if there is one before a comment and the end of the line.
+/// Returns the first token from a column on, counted from 0, if there is one before the end of the line.
 fn next_word(line: &[u8], from: usize) -> Option<RuleWord>
     requires { from ≤ length line.now }
     ensures words { MatchOption result (tokens_from (from + 1) 0 (drop from line.now) ≡ [])
@@ -116,9 +87,6 @@ fn next_word(line: &[u8], from: usize) -> Option<RuleWord>
 {
     let start = after_blanks(line, from);
     if start == line.len() {
-        return None;
-    }
-    if begins_comment(line[start]) {
         return None;
     }
     let size = cut_size(&line[start..]);

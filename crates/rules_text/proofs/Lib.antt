@@ -1,4 +1,6 @@
 pub mod TokenSteps
+pub mod RuleLineCuts
+pub mod FeedCounts
 pub mod ReadingSteps
 pub mod NameSteps
 pub mod NamePlaces

@@ -1,12 +1,12 @@
 -- A line read token by token, and a text line by line.
 use Rattle.std.proofs.Common.{◌≡◌, ◌≢◌, inl, inr, IsErrAnd, IfErr, IfOk, ℕ, ◌+◌, Bool, true, false, if◌then◌else◌, List, [], ◌∷◌, Result, Ok, Err, refl, sym, ap, ◌∙◌, subst}
-use Rattle.bpf_asm.specs.SourceLines.{source_lines}
+use Rattle.rules_text.specs.ContinuedLines.{lines_within, rule_lines}
 use Rattle.rules_text.specs.LineGrammar.{LineContext, Reading, StatementRead, read_token, statement_at_end}
 use Rattle.rules_text.specs.Names.{NameRead, rule_form}
 use Rattle.rules_text.specs.NumberedText.{numbered_read}
 use Rattle.rules_text.specs.RuleTokens.{RuleFound, rule_tokens}
 use Rattle.rules_text.specs.TextFaults.{IsFaultOf}
-use Rattle.rules_text.specs.TextOfRules.{NumberedRead, TextReading, context_of, fault_column, formed_statement, gives_name, name_given, no_text_read, placed_fault, numbered_at_end, numbered_from, numbered_in, read_then, rules_in, statement_from, text_with, text_with_line, text_with_name, text_with_room, text_with_tokens}
+use Rattle.rules_text.specs.TextOfRules.{NumberedRead, TextReading, context_of, fault_column, fault_of_line, formed_statement, gives_name, name_given, no_text_read, placed_fault, numbered_at_end, numbered_from, numbered_in, read_then, rules_in, statement_from, text_with, text_with_line, text_with_name, text_with_room, text_with_tokens}
 use Rattle.rules_text.specs.declared.fault.RuleFault.{RuleFault}
 use Rattle.rules_text.specs.declared.fault.RuleKind.{RuleKind}
 use Rattle.rules_text.specs.declared.fault.RuleKind.TheVariants.{BadLine, BadNumber, TooLarge, OutsideCell, AfterOtherwise, Unbalanced, TooDeep, TooLong, NoMemory, UnknownName, NameTaken}
@@ -41,13 +41,13 @@ statement_early context number column reading kind e = rw e refl
 
 -- One more line.
 pub rules_more : (text next : TextReading) (number : ℕ) (line : List ℕ) (rest : List (List ℕ))
-    → text_with_line text number line ≡ Ok next → numbered_from text number (line ∷ rest) ≡ numbered_from next (number + 1) rest
+    → text_with_line text number line ≡ Ok next → numbered_from text number (line ∷ rest) ≡ numbered_from next (number + lines_within line) rest
 unfolding numbered_from
 rules_more text next number line rest e = rw e refl
 
 -- A line with a fault.
 pub rules_fault : (text : TextReading) (number : ℕ) (line : List ℕ) (rest : List (List ℕ)) (fault : RuleFault)
-    → text_with_line text number line ≡ Err fault → numbered_from text number (line ∷ rest) ≡ Err fault
+    → text_with_line text number line ≡ Err fault → numbered_from text number (line ∷ rest) ≡ Err (fault_of_line number line fault)
 unfolding numbered_from
 rules_fault text number line rest fault e = rw e refl
 
@@ -141,6 +141,12 @@ pub fault_onward : {A B : Type 0} (part : Result A RuleFault) (whole : Result B 
 fault_onward part whole fault on (inl e) = inl e
 fault_onward part whole fault on (inr e) = inr (on e)
 
+-- A fault of a line of rules is one of the text, with its place there.
+pub fault_of_text : {A B : Type 0} (part : Result A RuleFault) (whole : Result B RuleFault) (number : ℕ) (line : List ℕ) (fault : RuleFault)
+    → ((own : RuleFault) → part ≡ Err own → whole ≡ Err (fault_of_line number line own)) → IsFaultOf part fault → IsFaultOf whole (fault_of_line number line fault)
+fault_of_text part whole number line fault on (inl e) = inl (ap (fault_of_line number line) e)
+fault_of_text part whole number line fault on (inr e) = inr (on fault e)
+
 -- A fault that is returned at once.
 pub returned_fault : {T : Type 0} (returned : Result T RuleFault) (fault : RuleFault) (P : RuleFault → Type 0)
     → IsErrAnd returned (λ other. other ≡ fault) → P fault → IfErr returned P
@@ -158,7 +164,7 @@ early_same fault number column kind e bad =
     e ∙ seen ∙ ap (placed_fault number column) (sym bad)
 
 -- The rules of a text, from its first line on.
-pub rules_begun : (octets : List ℕ) → numbered_in octets ≡ numbered_from no_text_read 1 (source_lines octets)
+pub rules_begun : (octets : List ℕ) → numbered_in octets ≡ numbered_from no_text_read 1 (rule_lines octets)
 unfolding numbered_in
 rules_begun octets = refl
 

@@ -1,15 +1,16 @@
--- The number of a line of rules is that of the source line that it was read from.
+-- The number of a line of rules is that of the source line in which it begins.
 use Rattle.std.proofs.Common.{◌≡◌, ℕ, ◌+◌, Bool, true, false, if◌then◌else◌, nat_lt, List, [], ◌∷◌, ◌++◌, length, Result, Ok, Err, refl, sym, ap, subst, ◌∙◌, arith, append_assoc}
-use Rattle.std.proofs.lemmas.List.{length_push}
 use Rattle.bpf_asm.specs.SourceLines.{source_lines}
+use Rattle.rules_text.specs.ContinuedLines.{feed_count, lines_within, rule_lines}
 use Rattle.rules_text.specs.Laws.{AreLinesReadAt, IsLineReadAt, NumbersAreThoseOfTheLines}
 use Rattle.rules_text.specs.LineGrammar.{LineContext, StatementRead, blank_statement, side_statement, line_statement, otherwise_statement}
 use Rattle.rules_text.specs.Names.{NameRead, rule_form}
 use Rattle.rules_text.specs.RulesRead.{LineRead, rule_line, block_line, end_line}
 use Rattle.rules_text.specs.RuleTokens.{RuleFound, rule_tokens}
-use Rattle.rules_text.specs.TextOfRules.{NumberedRead, TextReading, context_of, formed_statement, gives_name, name_given, no_text_read, numbered_from, placed_fault, read_then, text_with, text_with_line, text_with_tokens, text_with_name, text_with_room}
+use Rattle.rules_text.specs.TextOfRules.{NumberedRead, TextReading, context_of, fault_of_line, formed_statement, gives_name, name_given, no_text_read, numbered_from, placed_fault, read_then, text_with, text_with_line, text_with_tokens, text_with_name, text_with_room}
 use Rattle.rules_text.specs.declared.fault.RuleFault.{RuleFault}
 use Rattle.rules_text.specs.declared.fault.RuleKind.TheVariants.{AfterOtherwise, Unbalanced}
+use Rattle.rules_text.proofs.FeedCounts.{IsCutAt, cut_at, feeds_joined, lines_apart, lines_counted}
 use Rattle.rules_text.proofs.ReadingSteps.{rules_begun, without_numbers}
 
 module _ (octets : List ℕ) where
@@ -81,27 +82,86 @@ module _ (octets : List ℕ) where
       let same : ◌≡◌ {A = NumberedRead} (record { rules = record { side = text.side; lines = text.lines; otherwise = text.otherwise }; numbers = text.numbers }) numbered = cc in
       subst (λ (n : NumberedRead). AreLinesReadAt octets n.numbers n.rules.lines) same held
 
-  whole : (before rest : List (List ℕ)) (text : TextReading) (number : ℕ) (numbered : NumberedRead) → source_lines octets ≡ before ++ rest → number ≡ length before + 1
-      → Holds text → numbered_from text number rest ≡ Ok numbered → AreLinesReadAt octets numbered.numbers numbered.rules.lines
+  one_feed : feed_count (10 ∷ []) ≡ 1
+  unfolding feed_count
+  one_feed = refl
+
+  -- A line of rules that begins after this text.
+  record BeginsAfter (before rest : List ℕ) (number : ℕ) : Type 0 where
+    pub parts : octets ≡ before ++ rest
+    pub lines : source_lines octets ≡ source_lines before ++ source_lines rest
+    pub counted : number ≡ length (source_lines before) + 1
+    pub feeds : number ≡ feed_count before + 1
+
+  after_cut : (before text line : List ℕ) (number : ℕ) (later : List (List ℕ)) → BeginsAfter before text number → (cut : IsCutAt text line later)
+      → BeginsAfter ((before ++ cut.front) ++ 10 ∷ []) cut.rest (number + lines_within line)
+  after_cut before text line number later begins cut =
+      let front = before ++ cut.front in
+      let whole : octets ≡ front ++ 10 ∷ cut.rest = begins.parts ∙ ap (λ (r : List ℕ). before ++ r) cut.parts ∙ sym (append_assoc before cut.front (10 ∷ cut.rest)) in
+      let fed : feed_count front ≡ feed_count before + feed_count cut.front = feeds_joined before cut.front in
+      let more : feed_count (front ++ 10 ∷ []) ≡ feed_count front + 1 = feeds_joined front (10 ∷ []) ∙ ap (λ (k : ℕ). feed_count front + k) one_feed in
+      let counted = lines_counted front in
+      record {
+        parts = whole ∙ sym (append_assoc front (10 ∷ []) cut.rest);
+        lines = ap source_lines whole ∙ lines_apart front cut.rest;
+        counted = omega (arith, begins.feeds, fed, cut.feeds, counted);
+        feeds = omega (arith, begins.feeds, fed, cut.feeds, more);
+      }
+
+  whole : (earlier lines : List (List ℕ)) (before rest : List ℕ) (text : TextReading) (number : ℕ) (numbered : NumberedRead)
+      → rule_lines octets ≡ earlier ++ lines → rule_lines rest ≡ lines → BeginsAfter before rest number
+      → Holds text → numbered_from text number lines ≡ Ok numbered → AreLinesReadAt octets numbered.numbers numbered.rules.lines
   unfolding numbered_from
-  whole before [] text number numbered parts counted held e = at_end (nat_lt 0 text.blocks) text numbered e held
-  whole before (line ∷ rest) text number numbered parts counted held e =
-      let more = length_push before line in
-      let next_counted : number + 1 ≡ length (before ++ line ∷ []) + 1 = omega (arith, counted, more) in
-      onward (text_with_line text number line) refl e
-      (λ next held_next read. whole (before ++ line ∷ []) rest next (number + 1) numbered (parts ∙ sym (append_assoc before (line ∷ []) rest)) next_counted held_next read)
+  whole earlier [] before rest text number numbered parts first begins held e = at_end (nat_lt 0 text.blocks) text numbered e held
+  whole earlier (line ∷ later) before rest text number numbered parts first begins held e =
+      onward (text_with_line text number line) refl e (λ earlier_now before_now rest_now next number_now. whole earlier_now later before_now rest_now next number_now numbered)
     where
-      onward : (found : Result TextReading RuleFault) → text_with_line text number line ≡ found
-          → read_then found (λ fault. fault) (λ next. numbered_from next (number + 1) rest) ≡ Ok numbered
-          → ((next : TextReading) → Holds next → numbered_from next (number + 1) rest ≡ Ok numbered → AreLinesReadAt octets numbered.numbers numbered.rules.lines)
+      Deep : Type 0
+      Deep = (earlier_now : List (List ℕ)) (before_now rest_now : List ℕ) (next : TextReading) (number_now : ℕ)
+          → rule_lines octets ≡ earlier_now ++ later → rule_lines rest_now ≡ later → BeginsAfter before_now rest_now number_now
+          → Holds next → numbered_from next number_now later ≡ Ok numbered → AreLinesReadAt octets numbered.numbers numbered.rules.lines
+
+      is_read : (context : LineContext) (names : List NameRead) (l : LineRead)
+          → formed_statement context names rule_form number line 1 (rule_tokens line) ≡ Ok (line_statement l) → IsLineReadAt octets number l
+      is_read context names l statement = record {
+        before = before;
+        rest = rest;
+        parts = begins.parts;
+        lines = begins.lines;
+        counted = begins.counted;
+        line = line;
+        earlier = earlier;
+        later = later;
+        rules = parts;
+        first = first;
+        context = context;
+        names = names;
+        read_as = statement;
+      }
+
+      deep : (more : List (List ℕ)) → Deep → later ≡ more → (next : TextReading) → Holds next → numbered_from next (number + lines_within line) later ≡ Ok numbered
           → AreLinesReadAt octets numbered.numbers numbered.rules.lines
-      onward (Ok next) is read deep =
-          deep next (by_line text next number line is held (λ context names l statement. (before, line, rest, context, names, parts, counted, statement))) read
-      onward (Err fault) is read deep = cc
+      deep [] go same next held_next read =
+          at_end (nat_lt 0 next.blocks) next numbered (sym (ap (numbered_from next (number + lines_within line)) same) ∙ read) held_next
+      deep (second ∷ more) go same next held_next read =
+          let cut = cut_at rest line second more (first ∙ ap (λ (ls : List (List ℕ)). line ∷ ls) same) in
+          go (earlier ++ line ∷ []) ((before ++ cut.front) ++ 10 ∷ []) cut.rest next (number + lines_within line)
+          (parts ∙ sym (append_assoc earlier (line ∷ []) later)) (cut.goes_on ∙ sym same)
+          (after_cut before rest line number (second ∷ more) begins cut) held_next read
+
+      onward : (found : Result TextReading RuleFault) → text_with_line text number line ≡ found
+          → read_then found (fault_of_line number line) (λ next. numbered_from next (number + lines_within line) later) ≡ Ok numbered
+          → Deep → AreLinesReadAt octets numbered.numbers numbered.rules.lines
+      onward (Ok next) is read go = deep later go refl next (by_line text next number line is held is_read) read
+      onward (Err fault) is read go = cc
+
+none_before : (octets : List ℕ) → BeginsAfter octets [] octets 1
+unfolding source_lines feed_count
+none_before octets = record { parts = refl; lines = refl; counted = refl; feeds = refl }
 
 -- For every text.
 pub statement_numbers : NumbersAreThoseOfTheLines
 statement_numbers octets numbered e = record {
   rules = without_numbers octets numbered e;
-  numbers = whole octets [] (source_lines octets) no_text_read 1 numbered refl refl tt (sym (rules_begun octets) ∙ e);
+  numbers = whole octets [] (rule_lines octets) [] octets no_text_read 1 numbered refl refl (none_before octets) tt (sym (rules_begun octets) ∙ e);
 }

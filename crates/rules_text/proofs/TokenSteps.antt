@@ -1,19 +1,65 @@
 -- The tokens of a line, one blank or token after the other.
-use Rattle.std.proofs.Common.{◌≡◌, ℕ, zero, suc, ◌+◌, ◌-◌, ◌<◌, ◌≤◌, true, false, ◌==◌, List, [], ◌∷◌, length, get_or, drop, refl, sym, ap, ◌∙◌, arith}
-use Rattle.std.proofs.lemmas.List.{at_drop_all, at_drop_more, drop-drop}
+use Rattle.std.proofs.Common.{◌≡◌, ℕ, zero, suc, ◌+◌, ◌-◌, ◌<◌, ◌≤◌, Bool, true, false, not, ◌&&◌, ◌||◌, ◌==◌, List, [], ◌∷◌, length, get_or, drop, refl, sym, ap, ◌∙◌, arith}
+use Rattle.std.proofs.lemmas.List.{at_drop_all, at_drop_more, drop-drop, drop_all}
 use Rattle.bpf_asm.specs.Tokens.{is_word}
 use Rattle.text_io.specs.Words.{is_blank}
-use Rattle.rules_text.specs.RuleTokens.{RuleFound, TokenCut, first_cut, found_at, letters_len, tokens_from}
+use Rattle.rules_text.specs.RuleTokens.{RuleFound, TokenCut, before_feed, begins_with_feed, first_cut, found_at, letters_len, separates, tokens_from}
+use Rattle.rules_text.specs.inner.SeenLines.{skipped}
 
-tokens_blank : (column octet : ℕ) (rest : List ℕ) → is_blank octet ≡ true → tokens_from column 0 (octet ∷ rest) ≡ tokens_from (column + 1) 0 rest
+tokens_separated : (column octet : ℕ) (rest : List ℕ) → separates octet rest ≡ true → tokens_from column 0 (octet ∷ rest) ≡ tokens_from (column + 1) 0 rest
 unfolding tokens_from
-tokens_blank column octet rest b = rw b refl
+tokens_separated column octet rest b = rw b refl
 
--- One more blank.
-pub blank_more : (line : List ℕ) (from at : ℕ) → at < length line → is_blank (get_or line at 0) ≡ true
-    → tokens_from (from + 1) 0 (drop from line) ≡ tokens_from (at + 1) 0 (drop at line)
-    → tokens_from (from + 1) 0 (drop from line) ≡ tokens_from (at + 1 + 1) 0 (drop (at + 1) line)
-blank_more line from at h b e = e ∙ at_drop_more (tokens_from (at + 1) 0) line at 0 h ∙ tokens_blank (at + 1) (get_or line at 0) (drop (at + 1) line) b
+-- An octet that separates tokens.
+pub separated : (line : List ℕ) (at : ℕ) → at < length line → separates (get_or line at 0) (drop (at + 1) line) ≡ true
+    → tokens_from (at + 1) 0 (drop at line) ≡ tokens_from (at + 1 + 1) 0 (drop (at + 1) line)
+separated line at h b = at_drop_more (tokens_from (at + 1) 0) line at 0 h ∙ tokens_separated (at + 1) (get_or line at 0) (drop (at + 1) line) b
+
+comment_first : (column octet : ℕ) (rest : List ℕ) → separates octet rest ≡ false → (octet == 35) ≡ true
+    → tokens_from column 0 (octet ∷ rest) ≡ tokens_from (column + 1) (before_feed rest) rest
+unfolding tokens_from
+comment_first column octet rest b c = rw (b, c) refl
+
+-- A comment begins.
+pub comment_begun : (line : List ℕ) (at : ℕ) → at < length line → separates (get_or line at 0) (drop (at + 1) line) ≡ false → (get_or line at 0 == 35) ≡ true
+    → tokens_from (at + 1) 0 (drop at line) ≡ tokens_from (at + 1 + 1) (before_feed (drop (at + 1) line)) (drop (at + 1) line)
+comment_begun line at h b c = at_drop_more (tokens_from (at + 1) 0) line at 0 h ∙ comment_first (at + 1) (get_or line at 0) (drop (at + 1) line) b c
+
+feed_or : (blank other : Bool) → (blank || (true || other)) ≡ true
+feed_or true other = refl
+feed_or false other = refl
+
+feed_separates : (octet : ℕ) (rest : List ℕ) → (octet == 10) ≡ true → separates octet rest ≡ true
+feed_separates octet rest e = rw e (feed_or (is_blank octet) ((octet == 13) && begins_with_feed rest))
+
+passed_one : (column n octet : ℕ) (rest : List ℕ) → tokens_from column (suc n) (octet ∷ rest) ≡ tokens_from (column + 1) n rest
+unfolding tokens_from
+passed_one column n octet rest = refl
+
+in_comment : (feed : Bool) (column octet : ℕ) (rest : List ℕ) → (octet == 10) ≡ feed
+    → tokens_from column (before_feed (octet ∷ rest)) (octet ∷ rest) ≡ tokens_from (column + 1) (skipped (not feed) rest) rest
+unfolding before_feed
+in_comment true column octet rest e = rw e (tokens_separated column octet rest (feed_separates octet rest e))
+in_comment false column octet rest e = rw e (passed_one column (before_feed rest) octet rest)
+
+-- An octet of a comment.
+pub comment_more : (line : List ℕ) (at : ℕ) → at < length line
+    → tokens_from (at + 1) (before_feed (drop at line)) (drop at line)
+    ≡ tokens_from (at + 1 + 1) (skipped (not (get_or line at 0 == 10)) (drop (at + 1) line)) (drop (at + 1) line)
+comment_more line at h =
+    at_drop_more (λ (octets : List ℕ). tokens_from (at + 1) (before_feed octets) octets) line at 0 h
+    ∙ in_comment (get_or line at 0 == 10) (at + 1) (get_or line at 0) (drop (at + 1) line) refl
+
+skipped_none : (comment : Bool) (column : ℕ) → tokens_from column (skipped comment []) [] ≡ tokens_from column 0 []
+unfolding tokens_from
+skipped_none comment column = refl
+
+-- At the end of the line nothing is skipped.
+pub skipped_end : (line : List ℕ) (at : ℕ) (comment : Bool) → length line ≤ at
+    → tokens_from (at + 1) (skipped comment (drop at line)) (drop at line) ≡ tokens_from (at + 1) 0 (drop at line)
+skipped_end line at comment h =
+    let none : drop at line ≡ [] = drop_all at line h in
+    ap (λ (octets : List ℕ). tokens_from (at + 1) (skipped comment octets) octets) none ∙ skipped_none comment (at + 1) ∙ ap (tokens_from (at + 1) 0) (sym none)
 
 -- The octets of a token are passed over.
 tokens_passed : (column n : ℕ) (octets : List ℕ) → n ≤ length octets → tokens_from column n octets ≡ tokens_from (column + n) 0 (drop n octets)
@@ -32,7 +78,7 @@ token_by_size column octet (suc n) rest s w =
     let e : column + 1 + n ≡ column + suc n = omega arith in
     ap (λ (k : ℕ). tokens_from (column + 1) k rest) same ∙ tokens_passed (column + 1) n rest (omega arith) ∙ ap (λ (c : ℕ). tokens_from c 0 (drop n rest)) e
 
-token_first : (column octet : ℕ) (rest : List ℕ) (cut : TokenCut) → is_blank octet ≡ false → (octet == 35) ≡ false → cut ≡ first_cut (octet ∷ rest)
+token_first : (column octet : ℕ) (rest : List ℕ) (cut : TokenCut) → separates octet rest ≡ false → (octet == 35) ≡ false → cut ≡ first_cut (octet ∷ rest)
     → 0 < cut.size → cut.size ≤ length rest + 1
     → tokens_from column 0 (octet ∷ rest) ≡ found_at column cut ∷ tokens_from (column + cut.size) 0 (drop cut.size (octet ∷ rest))
 unfolding tokens_from
@@ -44,7 +90,7 @@ abbrev found_to : TokenCut → ℕ → ℕ → RuleFound
 found_to cut column after = record { token = cut.token; column = column; after = after }
 
 -- One more token.
-pub token_more : (line : List ℕ) (start : ℕ) (cut : TokenCut) → start < length line → is_blank (get_or line start 0) ≡ false → (get_or line start 0 == 35) ≡ false
+pub token_more : (line : List ℕ) (start : ℕ) (cut : TokenCut) → start < length line → separates (get_or line start 0) (drop (start + 1) line) ≡ false → (get_or line start 0 == 35) ≡ false
     → cut ≡ first_cut (drop start line) → 0 < cut.size → cut.size ≤ length (drop start line)
     → tokens_from (start + 1) 0 (drop start line)
     ≡ found_to cut (start + 1) (start + cut.size + 1) ∷ tokens_from (start + cut.size + 1) 0 (drop (start + cut.size) line)
@@ -63,15 +109,6 @@ pub tokens_none : (column : ℕ) (text : List ℕ) → length text ≡ 0 → tok
 unfolding tokens_from
 tokens_none column [] h = refl
 tokens_none column (octet ∷ rest) h = absurd (omega arith)
-
-comment_first : (column octet : ℕ) (rest : List ℕ) → is_blank octet ≡ false → (octet == 35) ≡ true → tokens_from column 0 (octet ∷ rest) ≡ []
-unfolding tokens_from
-comment_first column octet rest b c = rw (b, c) refl
-
--- A comment has no token.
-pub comment_none : (line : List ℕ) (start : ℕ) → start < length line → is_blank (get_or line start 0) ≡ false → (get_or line start 0 == 35) ≡ true
-    → tokens_from (start + 1) 0 (drop start line) ≡ []
-comment_none line start h b c = at_drop_more (tokens_from (start + 1) 0) line start 0 h ∙ comment_first (start + 1) (get_or line start 0) (drop (start + 1) line) b c
 
 letters_word : (octet : ℕ) (rest : List ℕ) → is_word octet ≡ true → letters_len (octet ∷ rest) ≡ letters_len rest + 1
 unfolding letters_len

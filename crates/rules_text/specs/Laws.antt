@@ -6,6 +6,7 @@ use Rattle.bpf_interp.specs.Value.{Value}
 use Rattle.cell_rules.specs.Fields.{IsCell}
 use Rattle.cell_rules.specs.declared.deciding.Decision.{Decision}
 use Rattle.rules_text.specs.CodeOfText.{IsCodeOfText}
+use Rattle.rules_text.specs.ContinuedLines.{rule_lines}
 use Rattle.rules_text.specs.DecisionsRead.{rules_decide}
 use Rattle.rules_text.specs.LineGrammar.{LineContext, nothing_read, line_statement}
 use Rattle.rules_text.specs.Names.{NameRead, rule_form}
@@ -63,21 +64,34 @@ OnlyWrittenHeadsAreRead =
     → statement_from context number nothing_read 1 found ≡ Ok (line_statement (block_line read))
     → IsHeadWritten (map (λ it. it.token) found) read
 
--- The source line of this number, counted from 1, is read as this line of rules.
-abbrev pub IsLineReadAt : List ℕ → ℕ → LineRead → Type 0
-IsLineReadAt octets number read =
-    (before : List (List ℕ)) × (line : List ℕ) × (after : List (List ℕ)) × (context : LineContext) × (names : List NameRead)
-    × (source_lines octets ≡ before ++ line ∷ after) × (number ≡ length before + 1)
-    × (formed_statement context names rule_form number line 1 (rule_tokens line) ≡ Ok (line_statement read))
+-- A line of rules of the text is read as this one, and the source line in which it begins has this number, counted from 1.
+pub record IsLineReadAt (octets : List ℕ) (number : ℕ) (read : LineRead) : Type 0 where
+  -- the text before the line, and from the line on
+  pub before : List ℕ
+  pub rest : List ℕ
+  pub parts : octets ≡ before ++ rest
+  -- no source line is cut, and the first of the rest has the number
+  pub lines : source_lines octets ≡ source_lines before ++ source_lines rest
+  pub counted : number ≡ length (source_lines before) + 1
+  -- the line is a line of rules of the text, and the first of the rest
+  pub line : List ℕ
+  pub earlier : List (List ℕ)
+  pub later : List (List ℕ)
+  pub rules : rule_lines octets ≡ earlier ++ line ∷ later
+  pub first : rule_lines rest ≡ line ∷ later
+  -- which is read in this way
+  pub context : LineContext
+  pub names : List NameRead
+  pub read_as : formed_statement context names rule_form number line 1 (rule_tokens line) ≡ Ok (line_statement read)
 
--- The source lines of these numbers are read as these lines of rules: as many, in order.
+-- Lines of rules that begin in the source lines of these numbers are read as these lines: as many, in order.
 abbrev pub AreLinesReadAt : List ℕ → List ℕ → List LineRead → Type 0
 AreLinesReadAt octets [] [] = Unit {0}
 AreLinesReadAt octets (number ∷ numbers) (read ∷ lines) = IsLineReadAt octets number read × AreLinesReadAt octets numbers lines
 AreLinesReadAt octets [] (read ∷ lines) = ⊥
 AreLinesReadAt octets (number ∷ numbers) [] = ⊥
 
--- What is read with numbers are the rules of the text, each with the number of the source line that it is read from.
+-- What is read with numbers are the rules of the text, each with the number of the source line in which it begins.
 pub record AreNumbered (octets : List ℕ) (numbered : NumberedRead) : Type 0 where
   pub rules : rules_in octets ≡ Ok numbered.rules
   pub numbers : AreLinesReadAt octets numbered.numbers numbered.rules.lines

@@ -1,5 +1,5 @@
 -- The tokens of a line of rules.
-use Rattle.std.specs.Prelude.{ℕ, zero, suc, ◌+◌, ◌-◌, ◌==◌, if◌then◌else◌, codes, take, slice_index, unwrap_or, List, [], ◌∷◌, Option, Some, None}
+use Rattle.std.specs.Prelude.{ℕ, zero, suc, ◌+◌, ◌-◌, ◌==◌, ◌&&◌, ◌||◌, Bool, false, if◌then◌else◌, codes, take, slice_index, unwrap_or, List, [], ◌∷◌, Option, Some, None}
 use Rattle.std.specs.Str.{bytes_eq}
 use Rattle.bpf_asm.specs.Numbers.{number_of_word}
 use Rattle.bpf_asm.specs.Tokens.{is_word}
@@ -163,15 +163,30 @@ pub record RuleFound : Type 0 where
 abbrev pub found_at : ℕ → TokenCut → RuleFound
 found_at column cut = record { token = cut.token; column = column; after = column + cut.size }
 
--- The tokens of octets of a line that begin at this column, after this many octets of a token before them. Spaces and
--- tabs separate tokens, and a comment begins at `#` (35).
+-- Whether octets begin with a line feed (10).
+abbrev pub begins_with_feed : List ℕ → Bool
+begins_with_feed [] = false
+begins_with_feed (octet ∷ rest) = octet == 10
+
+-- Whether an octet with these after it separates tokens: a space, a tab, or a line end, which is a line feed, or a carriage return (13)
+-- before one.
+abbrev pub separates : ℕ → List ℕ → Bool
+separates octet rest = is_blank octet || ((octet == 10) || ((octet == 13) && begins_with_feed rest))
+
+-- How many octets come before the end of a source line.
+unfoldable pub before_feed : List ℕ → ℕ
+before_feed [] = 0
+before_feed (octet ∷ rest) = if octet == 10 then 0 else suc (before_feed rest)
+
+-- The tokens of octets of a line that begin at this column, after this many octets of a token or a comment before them. Blanks and
+-- line ends separate tokens. A comment begins at `#` (35) and ends with its source line.
 unfoldable pub tokens_from : ℕ → ℕ → List ℕ → List RuleFound
 tokens_from column passed [] = []
 tokens_from column (suc passed) (octet ∷ rest) = tokens_from (column + 1) passed rest
 tokens_from column zero (octet ∷ rest) =
-    if is_blank octet then tokens_from (column + 1) zero rest else (
-    if octet == 35 then [] else
-    (found_at column (first_cut (octet ∷ rest)) ∷ tokens_from (column + 1) ((first_cut (octet ∷ rest)).size - 1) rest))
+    if separates octet rest then tokens_from (column + 1) zero rest else (
+    if octet == 35 then tokens_from (column + 1) (before_feed rest) rest else (
+    (found_at column (first_cut (octet ∷ rest)) ∷ tokens_from (column + 1) ((first_cut (octet ∷ rest)).size - 1) rest)))
 
 -- The tokens of a line.
 abbrev pub rule_tokens : List ℕ → List RuleFound

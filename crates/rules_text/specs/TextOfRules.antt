@@ -1,11 +1,11 @@
 -- The rules of a text, or its first fault.
-use Rattle.std.specs.Prelude.{ℕ, ◌+◌, ◌-◌, ◌&&◌, Bool, true, false, not, nat_le, nat_lt, if◌then◌else◌, slice_index, map, List, [], ◌∷◌, ◌++◌, length, Result, Ok, Err}
+use Rattle.std.specs.Prelude.{ℕ, ◌+◌, ◌-◌, ◌==◌, ◌&&◌, Bool, true, false, not, nat_le, nat_lt, if◌then◌else◌, slice_index, map, take, List, [], ◌∷◌, ◌++◌, length, Result, Ok, Err}
 use Rattle.std.specs.Option.{is_some}
 use Rattle.bpf_asm.specs.Tokens.{is_word}
-use Rattle.bpf_asm.specs.SourceLines.{source_lines}
 use Rattle.text_io.specs.Words.{is_digit}
 use Rattle.upc_cell.specs.declared.side.Side.{Side}
 use Rattle.upc_cell.specs.declared.side.Side.TheVariants.{Uni}
+use Rattle.rules_text.specs.ContinuedLines.{TextPlace, line_begin, lines_within, place_past, rule_lines}
 use Rattle.rules_text.specs.RulesRead.{LineRead, RulesRead, equal_sign, rule_line, block_line, end_line}
 use Rattle.rules_text.specs.RuleTokens.{RuleFound, RuleToken, contract_value, contract_word, define_word, rule_tokens, sign_mark}
 use Rattle.rules_text.specs.LineGrammar.{LineContext, Reading, StatementRead, blank_statement, side_statement, line_statement, otherwise_statement, may_be_name, read_token, statement_at_end}
@@ -208,11 +208,22 @@ text_with_tokens text number line (first ∷ rest) =
     else read_then (formed_statement (context_of text) text.names rule_form number line 1 (first ∷ rest)) (λ fault. fault)
     (λ statement. Ok (text_with (text_with_room text line (first ∷ rest)) number first.column statement)))
 
--- What was read, with a line.
+-- What was read, with a line of rules, which begins in the source line of this number. The column of a fault is counted from the
+-- beginning of the line of rules.
 unfoldable pub text_with_line : TextReading → ℕ → List ℕ → Result TextReading RuleFault
 text_with_line text number line = text_with_tokens text number line (rule_tokens line)
 
--- Rules, and for each of their lines the number of the source line that it is written in, counted from 1.
+-- A fault of this kind at this place.
+abbrev pub fault_in_text : TextPlace → RuleKind → RuleFault
+fault_in_text place kind = placed_fault place.line place.column kind
+
+-- A fault of the line of rules of these octets, which begins in the source line of this number, with its place in the text: it is
+-- where the octets before its column end. A fault without a place has none.
+abbrev pub fault_of_line : ℕ → List ℕ → RuleFault → RuleFault
+fault_of_line number line fault =
+    if fault.column == 0 then fault else fault_in_text (place_past (line_begin number) (take (fault.column - 1) line)) fault.kind
+
+-- Rules, and for each of their lines the number of the source line in which it begins, counted from 1.
 pub record NumberedRead : Type 0 where
   pub rules : RulesRead
   pub numbers : List ℕ
@@ -223,15 +234,15 @@ numbered_at_end text =
     if nat_lt 0 text.blocks then Err (placed_fault text.head_line text.head_column Unbalanced) else
     Ok (record { rules = record { side = text.side; lines = text.lines; otherwise = text.otherwise }; numbers = text.numbers })
 
--- The rules of the lines, read on from here. The first of them has this number.
+-- The rules of the lines, read on from here. The first of them begins in the source line of this number.
 unfoldable pub numbered_from : TextReading → ℕ → List (List ℕ) → Result NumberedRead RuleFault
 numbered_from text number [] = numbered_at_end text
 numbered_from text number (line ∷ rest) =
-    read_then (text_with_line text number line) (λ fault. fault) (λ next. numbered_from next (number + 1) rest)
+    read_then (text_with_line text number line) (fault_of_line number line) (λ next. numbered_from next (number + lines_within line) rest)
 
 -- The rules of a text and the numbers of their lines, or its first fault.
 unfoldable pub numbered_in : List ℕ → Result NumberedRead RuleFault
-numbered_in octets = numbered_from no_text_read 1 (source_lines octets)
+numbered_in octets = numbered_from no_text_read 1 (rule_lines octets)
 
 -- The rules of a text, or its first fault.
 unfoldable pub rules_in : List ℕ → Result RulesRead RuleFault

@@ -4,3 +4,4 @@ pub mod SeenFaults
 pub mod TokensRead
 pub mod SeenNames
 pub mod SeenNameTable
+pub mod SeenLines

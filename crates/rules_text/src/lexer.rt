@@ -1,12 +1,13 @@
 //! The tokens of a line.
 
-ghost use Rattle.std.specs.Prelude.{◌≡◌, ◌+◌, ◌≤◌, ◌<◌, ◌∷◌, ◌==◌, [], false, length, slice_index, take, drop, map, MatchOption, IfSome};
+ghost use Rattle.std.specs.Prelude.{◌≡◌, ◌+◌, ◌≤◌, ◌<◌, ◌∷◌, ◌==◌, [], false, not, length, slice_index, take, drop, map, MatchOption, IfSome};
 ghost use Rattle.bpf_asm.specs.Tokens.{is_word};
 ghost use Rattle.text_io.specs.Words.{is_blank, is_digit};
 ghost use Rattle.rules_text.specs.LineGrammar.{lacks_room, may_be_name};
 ghost use Rattle.rules_text.specs.TextOfRules.{starts_word};
-ghost use Rattle.rules_text.specs.RuleTokens.{first_cut, letters_len, long_marks, longest_mark, row_token, rule_words, short_marks, token_of_letters, tokens_from};
+ghost use Rattle.rules_text.specs.RuleTokens.{begins_with_feed, first_cut, letters_len, long_marks, longest_mark, row_token, rule_words, separates, short_marks, token_of_letters, tokens_from};
 ghost use Rattle.rules_text.specs.inner.Seen.{cut_seen, found_seen, rule_token_seen, some_token};
+ghost use Rattle.rules_text.specs.inner.SeenLines.{skipped};
 
 use crate::class::Class;
 use bpf_asm::number;
@@ -233,11 +234,52 @@ fn blank(octet: u8) -> bool
     octet == b' ' || octet == b'\t'
 }
 
+/// Whether octets begin with a line feed.
+fn begins_with_feed(octets: &[u8]) -> bool
+    ensures { result ≡ begins_with_feed octets.now }
+{
+    matches!(octets, [b'\n', ..])
+}
+
+/// Whether the octet in a column separates tokens.
+fn separates(line: &[u8], at: usize) -> bool
+    requires { at < length line.now }
+    ensures { result ≡ separates (slice_index line.now at) (drop (at + 1) line.now) }
+{
+    let octet = line[at];
+    blank(octet) || (octet == b'\n' || (octet == b'\r' && begins_with_feed(&line[at + 1..])))
+}
+
 /// Whether a comment begins at an octet.
 fn begins_comment(octet: u8) -> bool
     ensures { result ≡ (octet == 35) }
 {
     octet == b'#'
+}
+
+/// Whether a source line goes on after an octet.
+fn goes_on(octet: u8) -> bool
+    ensures { result ≡ not (octet == 10) }
+{
+    octet != b'\n'
+}
+
+/// If the octet in a column belongs to no token: whether the next one is in a comment, where this one is or isn't.
+fn passed(line: &[u8], at: usize, comment: bool) -> Option<bool>
+    requires { at < length line.now }
+    ensures { MatchOption result ((comment ≡ false) × (separates (slice_index line.now at) (drop (at + 1) line.now) ≡ false) × ((slice_index line.now at == 35) ≡ false))
+        (λ next. tokens_from (at + 1) (skipped comment (drop at line.now)) (drop at line.now) ≡ tokens_from (at + 1 + 1) (skipped next (drop (at + 1) line.now)) (drop (at + 1) line.now)) }
+{
+    if comment {
+        return Some(goes_on(line[at]));
+    }
+    if separates(line, at) {
+        return Some(false);
+    }
+    if begins_comment(line[at]) {
+        return Some(true);
+    }
+    None
 }
 
 /// Whether an octet is an ASCII digit.
@@ -264,17 +306,19 @@ pub(crate) fn begins_word(octet: u8) -> bool
     letter(octet) && !digit(octet)
 }
 
-/// The column after blanks.
-fn after_blanks(line: &[u8], from: usize) -> usize
+/// Returns the column after spaces, tabs, line ends and comments of a line of rules, from a column on; both are counted from 0.
+pub fn after_blanks(line: &[u8], from: usize) -> usize
     requires { from ≤ length line.now }
     ensures least { from ≤ result }
     ensures most { result ≤ length line.now }
     ensures tokens { tokens_from (from + 1) 0 (drop from line.now) ≡ tokens_from (result + 1) 0 (drop result line.now) }
-    ensures stops { result < length line.now → is_blank (slice_index line.now result) ≡ false }
+    ensures stops { result < length line.now → (separates (slice_index line.now result) (drop (result + 1) line.now) ≡ false) × ((slice_index line.now result == 35) ≡ false) }
 {
+    let mut comment = false;
     for at in from..line.len() {
-        if !blank(line[at]) {
-            return at;
+        match passed(line, at, comment) {
+            Some(next) => comment = next,
+            None => return at,
         }
     }
     line.len()
@@ -332,7 +376,7 @@ fn mark(octets: &[u8]) -> Cut
     }
 }
 
-/// The token that octets begin with, which don't begin with a blank or a comment.
+/// The token that octets begin with, which don't begin with what separates tokens.
 #[tactic(auto, unfolding(crate::specs::RuleTokens::first_cut))]
 fn first_token(octets: &[u8]) -> Cut
     requires { 0 < length octets.now }
@@ -350,7 +394,7 @@ fn first_token(octets: &[u8]) -> Cut
     }
 }
 
-/// The first token from a column on, if there is one before a comment and the end of the line.
+/// The first token from a column on, if there is one before the end of the line.
 pub(crate) fn next_token(line: &[u8], from: usize) -> Option<Found>
     requires { from ≤ length line.now }
     ensures tokens { MatchOption result (tokens_from (from + 1) 0 (drop from line.now) ≡ [])
@@ -359,9 +403,6 @@ pub(crate) fn next_token(line: &[u8], from: usize) -> Option<Found>
 {
     let start = after_blanks(line, from);
     if start == line.len() {
-        return None;
-    }
-    if begins_comment(line[start]) {
         return None;
     }
     let first = first_token(&line[start..]);

@@ -4,6 +4,7 @@
 mod class;
 mod comparison_reader;
 mod compiler;
+mod continued_lines;
 mod definition;
 mod fault;
 mod group;
@@ -19,5 +20,7 @@ mod subject;
 mod test_reader;
 
 pub use compiler::{NumberedCode, compile_numbered, compile_text};
+pub use continued_lines::{lines_within, next_rule_line};
 pub use fault::{RuleFault, RuleKind};
+pub use lexer::after_blanks;
 pub use reader::{NumberedRules, read_numbered, read_rules};

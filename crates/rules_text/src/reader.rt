@@ -12,6 +12,7 @@ ghost use Rattle.rules_text.specs.inner.Seen.{found_seen};
 ghost use Rattle.rules_text.specs.inner.SeenNameTable.{IsFoundByLetters};
 ghost use Rattle.rules_text.specs.inner.SeenReading.{context_seen, line_statement_seen, name_seen, names_seen, text_seen};
 
+use crate::continued_lines::{Place, fault_of_line, lines_within, next_rule_line};
 use crate::definition::{is_giving, name_at, name_place};
 use crate::fault::{RuleFault, RuleKind, fault_at};
 use crate::lexer::{Found, next_token};
@@ -19,7 +20,6 @@ use crate::line_reader::{Context, Statement};
 use crate::name_table::NameTable;
 use crate::names::{Form, Name};
 use crate::statement_reader::{room_after_line, statement_in};
-use bpf_asm::next_line;
 use cell_rules::{RuleLine, Rules};
 use std::alloc::Global;
 use upc_cell::Side;
@@ -27,20 +27,13 @@ use upc_cell::Side;
 /// The most tokens that the names of a text add.
 const MOST_ADDED: usize = 262_144;
 
-/// Rules, and the source lines that they are written in.
+/// Rules, and the source lines in which they begin.
 #[derive(Debug, Drop)]
 pub struct NumberedRules {
     /// The rules.
     pub rules: Rules,
-    /// For each line of the rules the number of its source line, counted from 1.
+    /// For each line of the rules the number of the source line in which it begins, counted from 1.
     pub numbers: Vec<usize>,
-}
-
-/// The place of a token, both counted from 1.
-#[derive(Clone, Copy)]
-struct Place {
-    line: usize,
-    column: usize,
 }
 
 /// What was read of a text.
@@ -48,7 +41,7 @@ struct Place {
 struct TextReader {
     /// The rules.
     rules: Rules,
-    /// The numbers of the source lines of their lines.
+    /// The numbers of the source lines in which their lines begin.
     numbers: Vec<usize>,
     /// The names.
     names: NameTable,
@@ -198,7 +191,8 @@ impl TextReader {
         Ok(())
     }
 
-    /// Reads a line of this number, counted from 1.
+    /// Reads a line of rules, which begins in the source line of this number, counted from 1. The column of a fault is counted from
+    /// the beginning of the line of rules.
     fn read_line(&mut self, alloc: Global, number: usize, line: &[u8]) -> Result<(), RuleFault>
         requires names { IsFoundByLetters self.old.names }
         requires blocks { self.old.blocks < 2 ^ 63 }
@@ -246,8 +240,8 @@ impl TextReader {
     }
 }
 
-/// Reads a text of rules: returns the rules that are defined for it, with the numbers of the source lines that they are written in
-/// (`numbered_in`).
+/// Reads a text of rules: returns the rules that are defined for it, with the numbers of the source lines in which their lines
+/// begin (`numbered_in`).
 ///
 /// # Errors
 ///
@@ -274,9 +268,11 @@ pub fn read_numbered(alloc: Global, text: &[u8]) -> Result<NumberedRules, RuleFa
     };
     let mut left = text;
     let mut number = 1usize;
-    while let Some((line, rest)) = next_line(left) {
-        reader.read_line(alloc, number, line)?;
-        number += 1;
+    while let Some((line, rest)) = next_rule_line(left) {
+        if let Err(fault) = reader.read_line(alloc, number, line) {
+            return Err(fault_of_line(number, line, fault));
+        }
+        number += lines_within(line);
         left = rest;
     }
     reader.finish()

@@ -1,6 +1,5 @@
 -- The fault, and its explanation.
 use Rattle.std.proofs.Common.{◌++◌, ◌∙◌, ap, append_assoc, inr, refl}
-use Rattle.bpf_asm.specs.SourceLines.{source_lines}
 use Rattle.lab_rules.specs.RuleFaults.{rule_fault}
 use Rattle.lab_rule_faults.specs.RuleReasons.{rule_explanation}
 use Rattle.lab_rule_faults.specs.RulesExplained.{fault_answer}
@@ -10,7 +9,7 @@ pub returns : goal.returns
 returns c =
     let before = c.args.answers.now.items in
     let found = rule_fault c.args.fault in
-    let explained = rule_explanation (source_lines c.args.text.now) c.args.fault in (
+    let explained = rule_explanation c.args.text.now c.args.fault in (
       fault_answer c.args.text.now c.args.fault,
       c.in_ok-add_rule_explanation.ensures ∙ ap (λ xs. xs ++ explained) c.in_ok-add_rule_fault.ensures ∙ append_assoc before found explained,
       inr (c.args.fault, c.requires, refl, refl),

@@ -49,6 +49,33 @@ fn the_first_fault_has_its_place(rt: HostRuntime) {
 }
 
 #[test]
+fn faults_inside_parentheses_have_their_places(rt: HostRuntime) {
+    let rows: [(&[u8], RuleFault); 9] = [
+        (b"(any or\n rm", at(RuleKind::BadLine, 2, 4)),
+        (b"(any or # )\r\n\r\n", at(RuleKind::BadLine, 1, 8)),
+        (
+            b"any and (rm\n\tor lane) -> 1",
+            at(RuleKind::UnknownName, 2, 5),
+        ),
+        (b"(any\n vci 5) -> 1", at(RuleKind::BadLine, 2, 2)),
+        (b"(any\r or rm) -> 1", at(RuleKind::BadLine, 1, 5)),
+        (b"rm or\n(any) -> 1", at(RuleKind::BadLine, 1, 6)),
+        (b" ((any) or\nrm -> 1", at(RuleKind::Unbalanced, 1, 2)),
+        (b"\nvpi 1 and (rm\n) {\n", at(RuleKind::Unbalanced, 2, 1)),
+        (
+            b"define a = (any or\n rm)\ndefine a = 1",
+            at(RuleKind::NameTaken, 3, 8),
+        ),
+    ];
+    for (text, want) in rows {
+        match read_rules(rt.alloc(), text) {
+            Ok(_) => assert_eq!(rt; 0, want.column),
+            Err(fault) => assert_eq!(rt; fault, want),
+        }
+    }
+}
+
+#[test]
 fn faults_of_names_have_their_places(rt: HostRuntime) {
     let rows: [(&[u8], RuleFault); 14] = [
         (b"define any = 1", at(RuleKind::NameTaken, 1, 8)),

@@ -110,3 +110,37 @@ fn names_mean_what_lines_give_them(rt: HostRuntime) -> Result<(), Fail> {
     }
     Ok(())
 }
+
+/// The example of docs/RULES.md whose tests go on inside parentheses.
+const LINES: &[u8] = b"# a customer with two paths
+define kept = (oam or rm
+  or metasig or signal)   # in both paths
+
+vpi 1, 7 and (kept or ilmi) -> 3
+(1/32..39 or
+  1/48..55                # the second voice trunk
+  or 7/32..39) and not (clp 1
+    or pti 2, 3) -> 1
+otherwise -> refuse
+";
+
+#[test]
+fn tests_go_on_inside_parentheses(rt: HostRuntime) -> Result<(), Fail> {
+    let rows = [
+        (0x0010_0010, 3),
+        (0x0070_0050, 3),
+        (0x0070_0100, 3),
+        (0x0020_0010, 0),
+        (0x0010_0200, 1),
+        (0x0010_0300, 1),
+        (0x0070_0300, 0),
+        (0x0070_0270, 1),
+        (0x0010_0201, 0),
+        (0x0010_0204, 0),
+        (0x0010_0208, 3),
+    ];
+    for (header, want) in rows {
+        assert_eq!(rt; value(rt.alloc(), LINES, header, 0)?, want);
+    }
+    Ok(())
+}

@@ -1,6 +1,8 @@
-use Rattle.std.proofs.Common.{sym, ◌∙◌, arith}
-use Rattle.rules_text.proofs.TokenSteps.{blank_more}
+use Rattle.std.proofs.Common.{◌≡◌, length, ◌∙◌, sym, arith}
+use Rattle.rules_text.proofs.TokenSteps.{skipped_end}
 use Rattle.rules_text.proofs.lexer.after_blanks.Goals as goal
 
-pub loop-at-preserved : goal.loop-at-preserved
-loop-at-preserved c = blank_more c.args.line.now c.args.from c.loop-at.at (omega arith) (sym c.blank.ensures ∙ c.if-not-blank.false) c.loop-at.invariant
+pub returns-clause-tokens : goal.returns-clause-tokens
+returns-clause-tokens c =
+    let whole : c.loop-at.at ≡ length c.args.line.now = omega arith in
+    rw (sym whole) (c.loop-at.invariant ∙ skipped_end c.args.line.now c.loop-at.at c.loop-at.comment (omega arith))

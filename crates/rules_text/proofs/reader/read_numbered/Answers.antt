@@ -1,36 +1,38 @@
 use Rattle.std.proofs.Common.{sym, ap, ◌∙◌, arith}
-use Rattle.bpf_asm.specs.SourceLines.{source_lines}
-use Rattle.rules_text.specs.TextFaults.{IsFaultOf}
+use Rattle.rules_text.specs.ContinuedLines.{rule_lines}
 use Rattle.rules_text.specs.TextOfRules.{numbered_at_end, numbered_from, numbered_in}
 use Rattle.rules_text.specs.inner.SeenReading.{text_seen}
-use Rattle.rules_text.proofs.ReadingSteps.{rules_begun, rules_more, rules_fault, rules_end, rules_at_last, fault_at_last, fault_onward, returned_fault}
+use Rattle.rules_text.proofs.ReadingSteps.{rules_begun, rules_more, rules_fault, rules_end, rules_at_last, fault_at_last, fault_of_text}
 use Rattle.rules_text.proofs.reader.read_numbered.Goals as goal
 
 pub loop-line-init : goal.loop-line-init
 loop-line-init c = record { counted = omega arith; blocks = omega arith; names = c.new-3.ensures.found; rest = rw (c.new.ensures.items, c.new-2.ensures.items, c.new-3.ensures.empty) (sym (rules_begun c.args.text.now)) }
 
-pub returns-in_err-read_line-clause-fault : goal.returns-in_err-read_line-clause-fault
-returns-in_err-read_line-clause-fault c =
+pub read_line-requires-clause-blocks : goal.read_line-requires-clause-blocks
+read_line-requires-clause-blocks c = omega (arith, c.in-Some.ensures.shorter)
+
+pub returns-in-Err-clause-fault : goal.returns-in-Err-clause-fault
+returns-in-Err-clause-fault c =
     let text = text_seen c.loop-line.reader in
     let line = c.in-Some.line.now in
-    let rest = source_lines c.in-Some.rest.now in
-    returned_fault c.from_residual.result c.in_err-read_line.field-0.0 (IsFaultOf (numbered_in c.args.text.now)) c.from_residual.ensures.1
-    (fault_onward _ _ _ (λ e. sym c.loop-line.invariant.rest ∙ ap (numbered_from text c.loop-line.number) c.in-Some.ensures.lines ∙ rules_fault text c.loop-line.number line rest _ e) c.in_err-read_line.ensures.err)
+    let rest = rule_lines c.in-Some.rest.now in
+    rw c.fault_of_line.ensures
+    (fault_of_text _ _ c.loop-line.number line _ (λ own e. sym c.loop-line.invariant.rest ∙ ap (numbered_from text c.loop-line.number) c.in-Some.ensures.lines ∙ rules_fault text c.loop-line.number line rest own e) c.in-Err.ensures.err)
 
 pub loop-line-preserved : goal.loop-line-preserved
 loop-line-preserved c =
     let text = text_seen c.loop-line.reader in
     let next = text_seen c.read_line.new.self in
     let line = c.in-Some.line.now in
-    let rest = source_lines c.in-Some.rest.now in
+    let rest = rule_lines c.in-Some.rest.now in
     record {
-      counted = omega (arith, c.in-Some.ensures.shorter);
-      blocks = omega arith;
-      names = c.in_ok-read_line.ensures.names;
-      rest =
-          sym (rules_more text next c.loop-line.number line rest c.in_ok-read_line.ensures.ok)
+      counted = omega (arith, c.in-Some.ensures.shorter, c.in-Some.ensures.within, c.lines_within-number.ensures.few);
+      blocks = omega (arith, c.in-Some.ensures.shorter);
+      names = c.in_default-read_line.ensures.names;
+      rest = rw c.lines_within-number.ensures.count
+          (sym (rules_more text next c.loop-line.number line rest c.in_default-read_line.ensures.ok)
           ∙ ap (numbered_from text c.loop-line.number) (sym c.in-Some.ensures.lines)
-          ∙ c.loop-line.invariant.rest;
+          ∙ c.loop-line.invariant.rest);
     }
 
 pub returns-clause-rules : goal.returns-clause-rules

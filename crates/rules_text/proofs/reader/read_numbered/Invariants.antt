@@ -1,6 +1,6 @@
 -- The rest of the text, read on from here, has the rules of the whole text.
 use Rattle.std.proofs.Common.{◌≡◌, ◌+◌, ◌≤◌, length}
-use Rattle.bpf_asm.specs.SourceLines.{source_lines}
+use Rattle.rules_text.specs.ContinuedLines.{rule_lines}
 use Rattle.rules_text.specs.TextOfRules.{numbered_from, numbered_in}
 use Rattle.rules_text.specs.inner.SeenNameTable.{IsFoundByLetters}
 use Rattle.rules_text.specs.inner.SeenReading.{text_seen}
@@ -8,10 +8,10 @@ use Rattle.rules_text.proofs.reader.read_numbered.Given as goal
 
 abbrev pub invariant-loop-line : goal.invariant-loop-line
 invariant-loop-line l = record {
-  counted : l.number + length l.left ≤ length l.text + 1;
-  blocks : l.reader.blocks + 1 ≤ l.number;
+  counted : l.number + (length l.left + length l.left) ≤ length l.text + length l.text + 1;
+  blocks : l.reader.blocks + length l.left ≤ length l.text;
   names : IsFoundByLetters l.reader.names;
-  rest : numbered_from (text_seen l.reader) l.number (source_lines l.left) ≡ numbered_in l.text;
+  rest : numbered_from (text_seen l.reader) l.number (rule_lines l.left) ≡ numbered_in l.text;
 }
 
 abbrev pub decreases-loop-line : goal.decreases-loop-line
