@@ -87,7 +87,7 @@ def wrong_rules_explanation(text, is_all, ours, source):
     if answer == LONG_CODE + LONG_CODE_WORDS:
         return None if status == 1 and may_be_too_long(reader) else f"{answer!r} with status {status}"
     count = sum(line[0] == "rule" for line in reader.rules)
-    begins = f"no fault in {count} rules\n"
+    begins = f"no fault in {count} rule{'' if count == 1 else 's'}\n"
     if not answer.startswith(begins) or status != 0:
         return f"{answer[:300]!r} with status {status} and not {begins!r}"
     if answer == begins + UNDECIDED:

@@ -1,5 +1,5 @@
 -- The output of `upc-lab explain` for a text of rules: its fault, as `upc-lab rules` has it, or that there is none.
-use Rattle.std.specs.Prelude.{◌≡◌, ◌⊎◌, ℕ, ◌+◌, List, [], ◌∷◌, ◌++◌, codes, decimal, Ok, Err}
+use Rattle.std.specs.Prelude.{◌≡◌, ◌⊎◌, ℕ, ◌+◌, ◌==◌, if◌then◌else◌, List, [], ◌∷◌, ◌++◌, codes, decimal, Ok, Err}
 use Rattle.bpf_code.specs.declared.instr.Instr.{Instr}
 use Rattle.bpf_verify.specs.Accepted.{IsAccepted}
 use Rattle.lab_rule_faults.specs.RuleHints.{AreRuleHints}
@@ -35,9 +35,13 @@ rules_count (rule_line test value ∷ lines) = 1 + rules_count lines
 rules_count (block_line test ∷ lines) = rules_count lines
 rules_count (end_line ∷ lines) = rules_count lines
 
+-- A number of rules, in words.
+abbrev pub rules_words : ℕ → List ℕ
+rules_words count = if count == 1 then codes "1 rule" else decimal count ++ codes " rules"
+
 -- The line that says that rules have no fault.
 abbrev pub no_fault_text : NumberedRead → List ℕ
-no_fault_text numbered = line (codes "no fault in " ++ (decimal (rules_count numbered.rules.lines) ++ codes " rules"))
+no_fault_text numbered = line (codes "no fault in " ++ rules_words (rules_count numbered.rules.lines))
 
 -- The answer to a text with this fault: the line of `upc-lab rules`, and an explanation.
 abbrev pub fault_answer : List ℕ → RuleFault → List ℕ

@@ -5,7 +5,7 @@ ghost use Rattle.rules_text.specs.NumberedText.{HasNumbered, numbered_read};
 ghost use Rattle.rules_text.specs.RulesRead.{line_read};
 ghost use Rattle.text_io.specs.Devices.{Adds};
 ghost use Rattle.text_io.specs.Serving.{IsServed};
-ghost use Rattle.lab_rule_faults.specs.RulesExplained.{ExplainsRules, HasNoFault, IsFaultOfText, IsRulesExplained, MayBeRulesExplained, no_fault_text, rules_count};
+ghost use Rattle.lab_rule_faults.specs.RulesExplained.{ExplainsRules, HasNoFault, IsFaultOfText, IsRulesExplained, MayBeRulesExplained, no_fault_text, rules_count, rules_words};
 
 use crate::rule_faults::add_rule_explanation;
 use crate::rule_hints::add_rule_hints;
@@ -34,14 +34,25 @@ fn rules_count(lines: &[RuleLine]) -> usize
     count
 }
 
+/// Appends a number of rules, in words.
+#[tactic(auto, using(std::proofs::lemmas::List::append_assoc))]
+fn add_rules_count(answers: &mut Vec<u8>, count: usize) -> Result<(), AllocError>
+    ensures { OnOk result (answers.new.items ≡ answers.old.items ++ rules_words count) }
+{
+    if count == 1 {
+        return add_text(answers, b"1 rule");
+    }
+    add_number(answers, count as u64)?;
+    add_text(answers, b" rules")
+}
+
 /// Appends that rules have no fault.
 #[tactic(auto, using(std::proofs::lemmas::List::append_assoc))]
 fn add_no_fault(answers: &mut Vec<u8>, numbered: &NumberedRules) -> Result<(), AllocError>
     ensures { OnOk result (answers.new.items ≡ answers.old.items ++ no_fault_text (numbered_read numbered.now)) }
 {
     add_text(answers, b"no fault in ")?;
-    add_number(answers, rules_count(&numbered.rules.lines) as u64)?;
-    add_text(answers, b" rules")?;
+    add_rules_count(answers, rules_count(&numbered.rules.lines))?;
     answers.push(b'\n')?;
     Ok(())
 }

@@ -251,7 +251,7 @@ const ANSWERS: [(&[u8], &[u8]); 65] = [
     ),
     (
         b"vpi 1 {\noam -> 3\n}\notherwise -> 2\n",
-        b"no fault in 1 rules\n",
+        b"no fault in 1 rule\n",
     ),
     (
         b"vci 3 -> 1\nvci 4 -> 2\noamf4 -> 3\nuser and rm -> 1\n",
