@@ -38,7 +38,7 @@ lab_input_of lab.Unused = codes "reading rules from the terminal, to its end"
 lab_input_of lab.List = codes "reading a program from the terminal, to its end"
 lab_input_of lab.Trace = codes "reading a program and cells from the terminal, to its end"
 lab_input_of lab.Size = codes "reading contracts from the terminal, to its end"
-lab_input_of lab.Explain = codes "reading a script from the terminal, or a line `source` and a source, to its end"
+lab_input_of lab.Explain = codes "reading a script from the terminal, or a line `source` or `rules` and what it says, to its end"
 lab_input_of lab.Links = codes "reading a capture from the terminal, to its end"
 
 -- The name of the subcommand, and what it waits for.

@@ -103,7 +103,7 @@ const SUBCOMMANDS: [Row<Option<Subcommand>>; 14] = [
     },
     Row {
         name: "explain",
-        about: "Explain the faults of a script, or after a line `source` that of a source of assembly",
+        about: "Explain the faults of a script, or after a line `source` or `rules` that of a source or of rules",
         example: Some("Example: upc-lab explain < examples/desk-refusals.run"),
         means: Some(Subcommand::Explain),
     },

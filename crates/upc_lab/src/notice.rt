@@ -39,7 +39,7 @@ fn notice_of(subcommand: Subcommand) -> &'static str
             "upc-lab trace: reading a program and cells from the terminal, to its end",
         Subcommand::Size => "upc-lab size: reading contracts from the terminal, to its end",
         Subcommand::Explain =>
-            "upc-lab explain: reading a script from the terminal, or a line `source` and a source, to its end",
+            "upc-lab explain: reading a script from the terminal, or a line `source` or `rules` and what it says, to its end",
         Subcommand::Links => "upc-lab links: reading a capture from the terminal, to its end",
     }
 }
