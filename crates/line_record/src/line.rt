@@ -325,6 +325,18 @@ impl Line {
         Ok(Piece::new(owner, contracts, start, entries, end))
     }
 
+    /// Begins a new journal at the present state, in the memory of the old one, whose entries are dropped. Doesn't
+    /// allocate. It is [`Line::cut`] for those who keep no pieces.
+    pub fn drop_journal(&mut self)
+        requires { IsHeld self.old }
+        ensures begun { self.new ≡ record self.old { start = self.old.state; entries = [] } }
+        ensures owner { self.new.owner ≡ self.old.owner }
+        ensures counts { self.new.state.counts ≡ self.old.state.counts }
+    {
+        self.start = self.state.copied();
+        self.entries.clear();
+    }
+
     /// Takes the journal out as a piece and frees the line. Doesn't allocate.
     pub fn close(&mut self) -> Piece
         requires { IsHeld self.old }
