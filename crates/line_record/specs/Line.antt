@@ -1,5 +1,5 @@
 -- A line of the card as its callers see it.
-use Rattle.std.specs.Prelude.{◌≡◌, ℕ, ◌^◌, ◌≤◌, ◌<◌, nat_le, nat_lt, Bool, false, Option, Some, None, IsSome, if◌then◌else◌, List, [], ◌∷◌, ◌++◌, length, All}
+use Rattle.std.specs.Prelude.{◌≡◌, ℕ, ◌^◌, ◌≤◌, ◌<◌, nat_le, nat_lt, min, Bool, false, Option, Some, None, IsSome, if◌then◌else◌, List, [], ◌∷◌, ◌++◌, length, All}
 use Rattle.leaky.specs.declared.contract.Contract.{Contract}
 use Rattle.line_record.specs.declared.entry.Entry.{Entry}
 use Rattle.line_record.specs.declared.state.State.{State}
@@ -47,6 +47,10 @@ line_refusal line moment =
     else if nat_le line.journal (length line.entries) then Some Full
     else if nat_le (2 ^ 62) (cells_in line.state.counts) then Some Full
     else None
+
+-- Whether the journal is full, or has this many entries or more.
+abbrev pub is_long : ℕ → LineView → Bool
+is_long most line = nat_le (min most line.journal) (length line.entries)
 
 -- The line serves a connection.
 abbrev pub IsHeld : LineView → Type 0

@@ -59,7 +59,7 @@ impl Line {
     ghost use Rattle.line_record.specs.Tally.{nothing, counted, cells_in};
     ghost use Rattle.line_record.specs.History.{NamedCell, named_cell_of, empty_buckets, verdict_after, IsNoNumber};
     ghost use Rattle.line_record.specs.StateAfter.{IsStateAfter};
-    ghost use Rattle.line_record.specs.Line.{free_line, line_refusal, IsHeld, Gains, OpensLine, IsLine};
+    ghost use Rattle.line_record.specs.Line.{free_line, is_long, line_refusal, IsHeld, Gains, OpensLine, IsLine};
     ghost use Rattle.line_record.specs.Piece.{IsJournalOf, IsPiece};
 
     /// Makes a free line that has judged no cell. Its journals have at most `journal` entries (1 to 65536).
@@ -323,6 +323,15 @@ impl Line {
         let start = mem::replace(&mut self.start, self.state.copied());
         let entries = mem::replace(&mut self.entries, next);
         Ok(Piece::new(owner, contracts, start, entries, end))
+    }
+
+    /// Returns whether the journal is full, or has `most` entries or more.
+    #[inline(always)]
+    pub fn is_long(&self, most: usize) -> bool
+        ensures long { result ≡ is_long most self.now }
+        ensures line { IsLine self.now }
+    {
+        self.entries.len() >= most.min(self.journal as usize)
     }
 
     /// Begins a new journal at the present state, in the memory of the old one, whose entries are dropped. Doesn't
