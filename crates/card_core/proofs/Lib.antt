@@ -35,6 +35,7 @@ pub mod Replies
 pub mod Returning
 pub mod RunLemmas
 pub mod SetupSteps
+pub mod Shortening
 pub mod Sound
 pub mod SoundChanges
 pub mod SoundSteps

@@ -86,6 +86,9 @@ judge-ready_by : (refusal : Option Answer) (line next : LineView) (found : Found
 judge-ready_by None line next found answer judges is = sym (ap (λ (l : LineView). l.ready) judges.gains.after) ∙ is
 judge-ready_by (Some refused) line next found answer did is = sym (ap (λ (l : LineView). l.ready) did.1) ∙ is
 
+pub judge-ready : (line next : LineView) (found : Found) (answer : Answer) → JudgesOrRefuses found answer line next → next.ready ≡ true → line.ready ≡ true
+judge-ready line next found answer did is = judge-ready_by (judging_refusal line found.vc found.seating found.moment) line next found answer did is
+
 pub judge-reserves : (old new : CoreView) (found : Found) (answer : Answer)
     → ChangesLine old.lines found.seating.line (JudgesOrRefuses found answer) new.lines → ReservesNothing old new
 judge-reserves old new found answer change =

@@ -1,10 +1,11 @@
 //! The judgement of a cell whose program named a contract, on the line that the caller passes.
 
-ghost use Rattle.std.specs.Prelude.{◌≡◌, ◌≢◌, ◌+◌, ◌↔◌, IsTrue, IfOk, IfSome, OnErr, MatchOption, Some, None};
+ghost use Rattle.std.specs.Prelude.{◌≡◌, ◌≢◌, ◌+◌, ◌<◌, ◌↔◌, length, IsTrue, IfOk, IfSome, OnErr, MatchOption, Some, None};
 ghost use Rattle.line_record.specs.History.{IsNoNumber};
 ghost use Rattle.line_record.specs.Line.{IsLine};
 ghost use Rattle.line_record.specs.Tally.{counted, count_of};
 ghost use Rattle.card_core.specs.Sections.{holder, is_owned_by, answer_to, judging_refusal, judged_in_answer, JudgesAt};
+ghost use Rattle.card_core.specs.inner.Parts.{DropsIfLong};
 
 use crate::answer::{Answer, Judgement, Unjudged};
 use crate::picking::Named;
@@ -100,6 +101,20 @@ pub fn judge_at(line: &mut Line, vc: Vc, seating: &Seating, named: &Named, momen
     match judge_without_cell(line, vc, seating, named, moment) {
         Ok(judgement) => judgement.answer(&named.cell()),
         Err(reason) => reason.answer(),
+    }
+}
+
+/// Drops the journal of a line that serves the connection, if it is full or has `most` entries or more. Doesn't
+/// allocate.
+#[inline(always)]
+pub(crate) fn drop_if_long(line: &mut Line, vc: Vc, seating: &Seating, most: usize)
+    ensures dropped { DropsIfLong most vc seating.now line.old line.new }
+    ensures room { line.new.owner ≡ Some (holder vc seating.now) → length line.new.entries < line.new.journal }
+    ensures owner { line.new.owner ≡ line.old.owner }
+    ensures state { line.new.state ≡ line.old.state }
+{
+    if line.is_long(most) && serves(line, vc, seating) {
+        line.drop_journal();
     }
 }
 

@@ -6,7 +6,7 @@ use crate::answer::{Answer, Judgement, Unjudged};
 use crate::ask::Ask;
 use crate::desk;
 use crate::fault::{CardFault, DeskFault};
-use crate::judging::judge_without_cell;
+use crate::judging::{drop_if_long, judge_without_cell};
 use crate::picking::{Store, name, pick};
 use crate::port::{
     Came, Found, Port, are_outside, entered_at, is_idle_at, move_port, outside_ports, picked_at,
@@ -56,7 +56,8 @@ impl Core {
     ghost use Rattle.card_core.specs.Shapes.{shape_fault};
     ghost use Rattle.card_core.specs.declared.step.Step.TheVariants.{Enter, Pick, Judge, Load, Retire, Setup, Reload, Release, Cut};
     ghost use Rattle.card_core.specs.Agreement.{CoreAgrees, Follows, FollowsAll};
-    ghost use Rattle.card_core.specs.Arrival.{AnswersArrival};
+    ghost use Rattle.card_core.specs.Arrival.{AnswersArrival, AnswersKeeping, IsWorn};
+    ghost use Rattle.upc_cell.specs.Connection.{vc_of};
     ghost use Rattle.card_core.specs.Inspection.{load_fault_of, IsRetireFault, PutsIn, TakesOut};
     ghost use Rattle.card_core.specs.Kept.{RefusalKeeps, ReservesNothing, StepReserves, AnswersSteps};
     ghost use Rattle.card_core.specs.Sections.{answer_to};
@@ -248,6 +249,44 @@ impl Core {
         }
     }
 
+    /// Takes all steps of a cell at a port, as [`Core::arrive`] does, for users who don't keep journals. Before them, if
+    /// the journal of the cell's connection is full or has `most` entries or more, the connection is cut, and what it
+    /// returns is dropped. A journal that stays short stays in the processor's cache. Doesn't allocate.
+    /// Returns None if the port has a cell or there is no such port. Then nothing changes.
+    #[inline(always)]
+    pub fn arrive_keeping(
+        &mut self,
+        port: u8,
+        cell: &Cell,
+        moment: u64,
+        most: usize,
+    ) -> Option<Result<Judgement, Unjudged>>
+        ensures answered { IfSome result (λ decision.
+            AnswersKeeping most self.old port cell.now moment (answer_to cell.now decision) self.new) }
+        ensures not_now { IfNone result (Follows self.old (Enter port cell.now moment) Reply.NotNow self.new) }
+        ensures rest { self.new ≡ record self.old { lines = self.new.lines } }
+        ensures reserves { ReservesNothing self.old self.new }
+        ensures unchanged { IfNone result (self.new ≡ self.old) }
+        ensures memory { IfSome result (λ decision. answer_to cell.now decision ≢ Answer.NoMemory) }
+
+        // A journal is never full, so the answer tells of a line on which 2^62 cells were judged.
+        ensures full { IfSome result (λ decision. answer_to cell.now decision ≡ Answer.JournalFull
+            → IsWorn self.old (vc_of self.old.shape.side cell.now)) }
+    {
+        if !is_idle_at(&self.ports, port) {
+            return None;
+        }
+        let side = self.shape.side;
+        let picked = find_contract(&self.store, &self.directory, side, cell, moment);
+        match picked {
+            Ok(found) => {
+                drop_long_journal(&mut self.lines, found.vc, &found.seating, most);
+                Some(judge_line_without_cell(&mut self.lines, &found))
+            }
+            Err(reason) => Some(Err(reason)),
+        }
+    }
+
     /// Loads a program: the step `Load`. Programs are loaded and retired only while no port has a cell, so no program
     /// is retired while a cell is at a port.
     ///
@@ -371,7 +410,7 @@ ghost use Rattle.line_record.specs.Tally.{nothing};
 ghost use Rattle.line_record.specs.Line.{free_line};
 ghost use Rattle.line_record.specs.Directory.{seating_at, IsOpenLine};
 ghost use Rattle.upc_cell.specs.Connection.{vc_of};
-ghost use Rattle.card_core.specs.inner.Parts.{IsFound, IsMissed, ChangesLine, JudgesOrRefuses, SetsUpOrRefuses, ReleasesOrRefuses, CutsOrRefuses};
+ghost use Rattle.card_core.specs.inner.Parts.{IsFound, IsMissed, ChangesLine, JudgesOrRefuses, SetsUpOrRefuses, ReleasesOrRefuses, CutsOrRefuses, DropsIfLong, HasRoomFor};
 
 /// Makes `many` free lines, each with a journal of `journal` entries. Returns None if an allocation fails.
 fn free_lines(alloc: Global, many: usize, journal: u32) -> Option<Vec<Line>>
@@ -419,6 +458,18 @@ fn find_contract(
         seating,
         named,
     })
+}
+
+/// Drops the journal of a connection's line, if it is full or has `most` entries or more.
+#[inline(always)]
+fn drop_long_journal(lines: &mut Vec<Line>, vc: Vc, seating: &Seating, most: usize)
+    requires { seating.now.line < length lines.old.items }
+    ensures line { ChangesLine lines.old.items seating.now.line
+        (λ line next. DropsIfLong most vc seating.now line next × HasRoomFor vc seating.now line next) lines.new.items }
+    ensures many { length lines.new.items ≡ length lines.old.items }
+{
+    let line = &mut lines[usize::from(seating.line)];
+    drop_if_long(line, vc, seating, most);
 }
 
 /// Judges a picked cell on its line. Returns the judgement without the leaving cell.

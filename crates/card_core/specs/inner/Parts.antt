@@ -1,5 +1,5 @@
 -- The effects of the core's private functions on its parts.
-use Rattle.std.specs.Prelude.{◌≡◌, ◌≢◌, ℕ, ◌+◌, false, List, [], Some, None, Result, MatchOption, MatchResult, slice_get, slice_set}
+use Rattle.std.specs.Prelude.{◌≡◌, ◌≢◌, ◌<◌, ◌⊎◌, ℕ, ◌+◌, length, true, false, List, [], Some, None, Result, MatchOption, MatchResult, slice_get, slice_set}
 use Rattle.upc_cell.specs.declared.vc.Vc.{Vc}
 use Rattle.upc_cell.specs.declared.side.Side.{Side}
 use Rattle.upc_cell.specs.Connection.{vc_of}
@@ -11,7 +11,7 @@ use Rattle.gen_arena.specs.Live.{live_value}
 use Rattle.line_record.specs.declared.directory.Seating.{Seating}
 use Rattle.line_record.specs.declared.owner.Owner.{Owner}
 use Rattle.line_record.specs.Directory.{DirectoryView, seating_at, Sits}
-use Rattle.line_record.specs.Line.{LineView, OpensLine, free_line}
+use Rattle.line_record.specs.Line.{LineView, OpensLine, free_line, is_long}
 use Rattle.line_record.specs.Piece.{PieceView, IsJournalOf}
 use Rattle.line_record.specs.StateAfter.{IsStateAfter}
 use Rattle.card_core.specs.declared.answer.Answer.{Answer}
@@ -81,3 +81,18 @@ abbrev pub CutsOrRefuses : Vc → Seating → Result PieceView DeskFault → Lin
 CutsOrRefuses vc seating result line next = MatchResult result
     (λ piece. IsJournalOf line piece × (next ≡ record line { start = line.state; entries = [] }))
     (λ fault. IsUncut line (holder vc seating) fault × (next ≡ line))
+
+-- The line serves the connection, and its journal is long.
+abbrev pub IsLongFor : ℕ → Vc → Seating → LineView → Type 0
+IsLongFor most vc seating line = (line.owner ≡ Some (holder vc seating)) × (is_long most line ≡ true)
+
+-- The line's journal is dropped if it is long for the connection.
+abbrev pub DropsIfLong : ℕ → Vc → Seating → LineView → LineView → Type 0
+DropsIfLong most vc seating line next =
+    (IsLongFor most vc seating line × (next ≡ record line { start = line.state; entries = [] }))
+    ⊎ ((¬ IsLongFor most vc seating line) × (next ≡ line))
+
+-- The next line has room for an entry if it serves the connection, and the line before has as many cells counted.
+abbrev pub HasRoomFor : Vc → Seating → LineView → LineView → Type 0
+HasRoomFor vc seating line next =
+    (next.owner ≡ Some (holder vc seating) → length next.entries < next.journal) × ((next.owner ≡ line.owner) × (next.state ≡ line.state))
