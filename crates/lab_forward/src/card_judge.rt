@@ -34,8 +34,7 @@ impl CellJudge for PolicedCard {
     ghost rules = { forward_rules };
 
     fn judge_cell(&mut self, counted: &CountedCell) -> Result<Onward, AllocError> {
-        let verdict = self.judge(counted)?;
-        Ok(onward_by(verdict))
+        Ok(onward_by(self.judge(counted)))
     }
 
     fn close(

@@ -1,9 +1,10 @@
 -- How a cell and a cut change the card that a core agrees with.
-use Rattle.std.proofs.Common.{◌≡◌, ◌≢◌, ℕ, inl, inr, true, false, List, length, [], ◌++◌, Option, Some, None, option_map, Result, refl, sym, ap, ◌∙◌, subst}
+use Rattle.std.proofs.Common.{◌≡◌, ◌≤◌, ◌⊎◌, ℕ, ◌^◌, inl, inr, false, List, length, [], ◌++◌, Option, Some, None, option_map, slice_get, Result, refl, sym, ap, ◌∙◌, subst}
 use Rattle.std.specs.Option.{IfNone, IfSome}
 use Rattle.std.proofs.lemmas.List.{append-nil}
-use Rattle.card_core.specs.Agreement.{CoreView, Follows}
-use Rattle.card_core.specs.Arrival.{AnswersArrival}
+use Rattle.card_core.specs.Agreement.{CoreAgrees, CoreView, Follows, seating_of}
+use Rattle.card_core.specs.Arrival.{AnswersAfterCut, AnswersArrival, AnswersKeeping, CutsIfLong, IsWorn}
+use Rattle.card_core.specs.World.{Connection, World, connection_in}
 use Rattle.card_core.specs.Laws.{is_of_memory}
 use Rattle.card_core.specs.Sections.{answer_to}
 use Rattle.card_core.specs.declared.answer.Answer.{Answer}
@@ -11,23 +12,22 @@ use Rattle.card_core.specs.declared.answer.Answer.TheVariants.{Judged, NoConnect
 use Rattle.card_core.specs.declared.answer.Judgement.{Judgement}
 use Rattle.card_core.specs.declared.answer.Unjudged.{Unjudged}
 use Rattle.card_core.specs.declared.reply.Reply.{Reply}
-use Rattle.card_core.specs.declared.fault.DeskFault.{DeskFault}
-use Rattle.card_core.specs.declared.fault.DeskFault.TheVariants as desk
-use Rattle.card_core.specs.declared.reply.Reply.TheVariants.{NotNow, Refused}
+use Rattle.card_core.specs.declared.reply.Reply.TheVariants.{NotNow, Cut as CutOff}
 use Rattle.card_core.specs.declared.step.Step.TheVariants.{Cut, Enter}
 use Rattle.gen_arena.specs.declared.id.Id.{Id}
 use Rattle.card_core.specs.declared.shape.Shape.{Shape}
 use Rattle.upc_cell.specs.Connection.{vc_of}
 use Rattle.upc_cell.specs.declared.vc.Vc.{Vc}
 use Rattle.upc_run.proofs.Public.{arrives}
-use Rattle.upc_run.specs.RunText.{TakesCommand, id_loaded}
+use Rattle.upc_run.specs.RunText.{Card, IsLed, id_loaded}
 use Rattle.upc_run.specs.ShownCard.{Held}
 use Rattle.upc_run.specs.inner.CardSteps.{cut-printed}
 use Rattle.upc_run.specs.inner.RunLaws.{cut-led}
-use Rattle.upc_script.specs.ScriptCommands.{cut}
-use Rattle.lab_police.specs.PoliceText.{TakesCell, connection_of_cell}
-use Rattle.lab_police.specs.inner.CardArrival.{ArrivesAfterCut, ArrivesOnce, ArrivesWithRoom, CutsOff, is_full}
-use Rattle.lab_police.specs.inner.PoliceTotal.{taken_led}
+use Rattle.lab_police.specs.PoliceText.{IsWornLine, TakesCellWithRoom, connection_of_cell}
+use Rattle.lab_police.specs.inner.CardArrival.{ArrivesOnce, ArrivesWithRoom, CutsOff}
+use Rattle.line_record.proofs.Public.{verdicts_count}
+use Rattle.line_record.specs.Tally.{cells_in, tally_of}
+use Rattle.line_record.specs.declared.directory.Seating.{Seating}
 
 -- A cell that takes all its steps.
 pub arrives_once : (old new : CoreView) (cell : List ℕ) (moment : ℕ) (decision : Option (Result Judgement Unjudged))
@@ -44,6 +44,12 @@ arrives_once old new cell moment decision goes not before led agrees =
       record { arrived = on.3; same = refl },
       on.4,
     )
+
+-- A connection that is seated is set up.
+seated_in : (found : Option Connection) (seating : Seating) → option_map seating_of found ≡ Some seating
+    → (connection : Connection) × (found ≡ Some connection) × (seating_of connection ≡ seating)
+seated_in None seating is = cc
+seated_in (Some connection) seating is = (connection, refl, let same : Some (seating_of connection) ≡ Some seating = is in cc)
 
 -- A cut that didn't fail to allocate.
 pub cuts_off : (old new : CoreView) (vc : Vc) (reply : Reply) → Follows old (Cut vc) reply new → is_of_memory reply ≡ false → id_loaded reply ≡ []
@@ -62,69 +68,72 @@ cuts_off old new vc reply follows spares none before led agrees =
       on.agrees,
     )
 
--- Another fault is no allocation failure.
-pub spares : (fault : DeskFault) → fault ≢ desk.NoMemory → is_of_memory (Refused fault) ≡ false
-spares desk.NoMemory other = absurd (other refl)
-spares desk.NoProgram other = refl
-spares desk.NoConnection other = refl
-spares desk.Taken other = refl
-spares desk.NoLine other = refl
-spares desk.InUse other = refl
-spares desk.ProgramsFull other = refl
-spares desk.Exhausted other = refl
-spares desk.BadContracts other = refl
-spares desk.Busy other = refl
-spares desk.Stale other = refl
+-- The line of a connection that is worn in the core is worn in each world that the core agrees with.
+worn_in_world : (core : CoreView) (world : World) (vc : Vc) → CoreAgrees core world → IsWorn core vc → IsWornLine world vc
+worn_in_world core world vc agrees (line, has, worn) =
+    let found = seated_in (connection_in world.connections vc) has.seating (sym (agrees.seatings.seatings vc) ∙ has.seated) in
+    let at : slice_get core.lines found.0.line ≡ Some line =
+    subst (λ (seating : Seating). slice_get core.lines seating.line ≡ Some line) (sym found.2) has.there in
+    let counts : line.state.counts ≡ tally_of (world.verdicts found.0.line) = agrees.lines.counts found.0.line line at in
+    (found.0, found.1, subst (λ n. 2 ^ 62 ≤ n) (ap cells_in counts ∙ verdicts_count (world.verdicts found.0.line)) worn)
 
--- The answer of a full journal, or another one.
-not_full : (given : Option Answer) (answer : Answer) → given ≡ Some answer → is_full given ≡ false → answer ≢ JournalFull
-not_full given answer is other full =
-    let no : is_full (Some JournalFull) ≡ false = subst (λ (a : Answer). is_full (Some a) ≡ false) full (subst (λ (o : Option Answer). is_full o ≡ false) is other) in
-    cc
+-- Two ways in which a cell arrives: as it is, or after a cut of its connection if its journal is long.
+keeping_ways : (most : ℕ) (old new : CoreView) (cell : List ℕ) (moment : ℕ) (answer : Answer) → AnswersKeeping most old 0 cell moment answer new
+    → AnswersArrival old 0 cell moment answer new ⊎ AnswersAfterCut most old 0 cell moment answer new
+keeping_ways most old new cell moment NoConnection way = inl way
+keeping_ways most old new cell moment Stale way = inl way
+keeping_ways most old new cell moment (Judged line number at value program verdict leaving) way = inr way
+keeping_ways most old new cell moment Released way = inr way
+keeping_ways most old new cell moment (MomentBack last) way = inr way
+keeping_ways most old new cell moment MomentTooLate way = inr way
+keeping_ways most old new cell moment JournalFull way = inr way
+keeping_ways most old new cell moment NoMemory way = inr way
 
-full_is : (given : Option Answer) → is_full given ≡ true → given ≡ Some JournalFull
-full_is None full = cc
-full_is (Some JournalFull) full = refl
-full_is (Some (Judged line number moment value program verdict leaving)) full = cc
-full_is (Some NoConnection) full = cc
-full_is (Some Released) full = cc
-full_is (Some Stale) full = cc
-full_is (Some (MomentBack last)) full = cc
-full_is (Some MomentTooLate) full = cc
-full_is (Some NoMemory) full = cc
+-- A cell that arrives at a card that was cut, or not.
+module _ (most : ℕ) (old new : CoreView) (cell : List ℕ) (moment : ℕ) (decision : Result Judgement Unjudged)
+    (full : answer_to cell decision ≡ JournalFull → IsWorn old (vc_of old.shape.side cell))
+    (before : Card) (led : IsLed before) (agrees : CoreAgrees old before.world) where
+  abbrev Arrived : Type 0
+  Arrived = (answer : Answer) × (Some (answer_to cell decision) ≡ Some answer) × (after : Card) × TakesCellWithRoom before cell moment answer after
+      × CoreAgrees new after.world
 
--- A cell whose journal isn't full.
-pub room_once : (old new : CoreView) (cell : List ℕ) (moment : ℕ) (given : Option Answer) → ArrivesOnce old cell moment given new → is_full given ≡ false
-    → ArrivesWithRoom old cell moment given new
-room_once old new cell moment given once other before led agrees =
-    let on = once before led agrees in
-    (on.0, on.1, on.2, inl (not_full given on.0 on.1 other, on.3), on.4)
+  named : vc_of old.shape.side cell ≡ connection_of_cell before cell
+  named = ap (λ (shape : Shape). vc_of shape.side cell) agrees.shape
 
--- A cell whose journal is full, a cut, and the cell once more.
-pub room_twice : (old full new : CoreView) (cell : List ℕ) (moment : ℕ) (vc : Vc) (given last : Option Answer)
-    → ArrivesOnce old cell moment given full → is_full given ≡ true → vc ≡ vc_of old.shape.side cell → ArrivesAfterCut full vc cell moment last new
-    → ArrivesWithRoom old cell moment last new
-room_twice old full new cell moment vc given last once is same once_more before led agrees =
-    let cuts = once_more.1 in
-    let again = once_more.2 in
-    let on = once before led agrees in
-    let refused : TakesCell before cell moment JournalFull on.2 =
-    subst (λ (a : Answer). TakesCell before cell moment a on.2) (let e : Some on.0 ≡ Some JournalFull = sym on.1 ∙ full_is given is in cc) on.3 in
-    let here : vc ≡ connection_of_cell before cell = same ∙ ap (λ (shape : Shape). vc_of shape.side cell) agrees.shape in
-    let one = taken_led before on.2 cell moment JournalFull led refused in
-    let cutting = cuts on.2 one on.4 in
-    let two = cut-led on.2 cutting.1 vc cutting.0 one cutting.2 in
-    let more = again cutting.1 two cutting.3 in (
-      more.0,
-      more.1,
-      more.2,
-      inr (record {
-        full = on.2;
-        refused = refused;
-        line = cutting.0;
-        emptied = cutting.1;
-        cuts = subst (λ (v : Vc). TakesCommand on.2 (cut v) (Cut v) cutting.0 cutting.1) here cutting.2;
-        taken = more.3;
-      }),
-      more.4,
-    )
+  worn : (answer : Answer) → Some (answer_to cell decision) ≡ Some answer → answer ≡ JournalFull → IsWornLine before.world (connection_of_cell before cell)
+  worn answer is journal =
+      let same : answer_to cell decision ≡ answer = cc in
+      subst (IsWornLine before.world) named (worn_in_world old before.world (vc_of old.shape.side cell) agrees (full (same ∙ journal)))
+
+  as_it_is : AnswersArrival old 0 cell moment (answer_to cell decision) new → Arrived
+  as_it_is arrival =
+      let on = arrives_once old new cell moment (Some decision) arrival tt before led agrees in
+      (on.0, on.1, on.2, record { ready = before; cuts = inl refl; taken = on.3; room = λ journal. inr (worn on.0 on.1 journal) }, on.4)
+
+  after_cut : (middle : CoreView) → CutsIfLong most old (vc_of old.shape.side cell) middle
+      → AnswersArrival middle 0 cell moment (answer_to cell decision) new → Arrived
+  after_cut middle (inr (short, same)) arrival =
+      as_it_is (subst (λ (core : CoreView). AnswersArrival core 0 cell moment (answer_to cell decision) new) same arrival)
+  after_cut middle (inl (long, (piece, follows))) arrival =
+      let vc = connection_of_cell before cell in
+      let cuts = cuts_off old middle vc (CutOff piece) (subst (λ (v : Vc). Follows old (Cut v) (CutOff piece) middle) named follows) refl refl before led agrees in
+      let on = arrives_once middle new cell moment (Some decision) arrival tt cuts.1 (cut-led before cuts.1 vc cuts.0 led cuts.2) cuts.3 in
+      (on.0, on.1, on.2, record { ready = cuts.1; cuts = inr (cuts.0, cuts.2); taken = on.3; room = λ journal. inl (cuts.0, cuts.2) }, on.4)
+
+  arrived : AnswersKeeping most old 0 cell moment (answer_to cell decision) new → Arrived
+  arrived way = elim (keeping_ways most old new cell moment (answer_to cell decision) way) [
+    | inl once ↦ as_it_is once
+    | inr (middle, cuts, arrival) ↦ after_cut middle cuts arrival
+  ]
+
+-- A cell that takes all its steps, after a long journal of its connection is dropped.
+pub arrives_with_room : (most : ℕ) (old new : CoreView) (cell : List ℕ) (moment : ℕ) (decision : Option (Result Judgement Unjudged))
+    → IfSome decision (λ t. AnswersKeeping most old 0 cell moment (answer_to cell t) new)
+    → IfNone decision (Follows old (Enter 0 cell moment) NotNow new)
+    → IfSome decision (λ t. answer_to cell t ≡ JournalFull → IsWorn old (vc_of old.shape.side cell))
+    → ArrivesWithRoom old cell moment (option_map (λ t. answer_to cell t) decision) new
+arrives_with_room most old new cell moment None goes not full before led agrees =
+    let on = arrives_once old new cell moment None tt not before led agrees in
+    let no = on.1 in cc
+arrives_with_room most old new cell moment (Some decision) goes not full before led agrees =
+    arrived most old new cell moment decision full before led agrees goes

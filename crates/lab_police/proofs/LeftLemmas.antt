@@ -22,9 +22,8 @@ use Rattle.upc_run.specs.RunText.{Card, IsAnswered, IsLed}
 use Rattle.upc_run.specs.inner.CardSteps.{desk-cases}
 use Rattle.upc_run.specs.inner.PortZero.{PortIs}
 use Rattle.upc_run.specs.inner.RunLaws.{cut-led}
-use Rattle.lab_police.specs.PoliceText.{TakesCell, TakesCellWithRoom, connection_of_cell}
+use Rattle.lab_police.specs.PoliceText.{MayBeCut, TakesCell, TakesCellWithRoom, connection_of_cell}
 use Rattle.lab_police.specs.inner.ExcessLeft.{LeavesConnection}
-use Rattle.lab_police.specs.inner.PoliceTotal.{taken_led}
 
 -- A state that is written to place 0 is there.
 written : (states : List PortState) (old new : PortState) → slice_get states 0 ≡ Some old → slice_get (slice_set states 0 new) 0 ≡ Some new
@@ -300,22 +299,20 @@ taken_leaves before after cell moment given led takes = elim (arrival_leaves bef
   | inr leaves ↦ leaves.0
 ]
 
--- A cell, with a cut before it if its connection's journal is full.
+-- A cut leaves the shape, and what a cell leaves after it is what it would leave without it.
+ready_leaves : (before ready after : Card) (cell : List ℕ) (moment : ℕ) (given : Answer) → IsLed before → MayBeCut before (connection_of_cell before cell) ready
+    → TakesCell ready cell moment given after
+    → LeavesConnection before.world.connections after.world.connections (connection_of_cell before cell) (has_low_priority cell) given
+ready_leaves before ready after cell moment given led (inl same) takes =
+    taken_leaves before after cell moment given led (subst (λ (card : Card). TakesCell card cell moment given after) same takes)
+ready_leaves before ready after cell moment given led (inr (line, cuts)) takes =
+    let vc = connection_of_cell before cell in
+    let keeps = cut_keeps before.world ready.world vc cuts.reply cuts.stepped in
+    let last = taken_leaves ready after cell moment given (cut-led before ready vc line led cuts) takes in
+    cut_leaves before.world ready.world after.world.connections vc (has_low_priority cell) given keeps
+    (subst (λ (shape : Shape). LeavesConnection ready.world.connections after.world.connections (vc_of shape.side cell) (has_low_priority cell) given) keeps.0 last)
+
+-- A cell, with a cut before it or without one.
 pub room_leaves : (before after : Card) (cell : List ℕ) (moment : ℕ) (given : Answer) → IsLed before → TakesCellWithRoom before cell moment given after
     → LeavesConnection before.world.connections after.world.connections (connection_of_cell before cell) (has_low_priority cell) given
-room_leaves before after cell moment given led (inl once) = taken_leaves before after cell moment given led once.1
-room_leaves before after cell moment given led (inr twice) =
-    let vc = connection_of_cell before cell in
-    let one = taken_led before twice.full cell moment answer.JournalFull led twice.refused in
-    let two = cut-led twice.full twice.emptied vc twice.line one twice.cuts in
-    let keeps = cut_keeps twice.full.world twice.emptied.world vc twice.cuts.reply twice.cuts.stepped in
-    let last = taken_leaves twice.emptied after cell moment given two twice.taken in
-    elim (arrival_leaves before twice.full cell moment answer.JournalFull led twice.refused) [
-      | inl quiet ↦
-          let same : twice.emptied.world.shape ≡ before.world.shape = keeps.0 ∙ quiet.2 in
-          let last' : LeavesConnection twice.emptied.world.connections after.world.connections vc (has_low_priority cell) given =
-          subst (λ (shape : Shape). LeavesConnection twice.emptied.world.connections after.world.connections (vc_of shape.side cell) (has_low_priority cell) given) same last in
-          subst (λ (list : List (Vc × Connection)). LeavesConnection list after.world.connections vc (has_low_priority cell) given) quiet.1
-          (cut_leaves twice.full.world twice.emptied.world after.world.connections vc (has_low_priority cell) given keeps last')
-      | inr leaves ↦ absurd (leaves.1 refl)
-    ]
+room_leaves before after cell moment given led takes = ready_leaves before takes.ready after cell moment given led takes.cuts takes.taken

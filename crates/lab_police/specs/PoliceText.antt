@@ -1,7 +1,8 @@
 -- The text of `police`. A script sets up a card, as `upc run` does; its faults are explained, and then nothing is policed. Otherwise the card
 -- judges the cells of a capture, at port 0 and in order.
-use Rattle.std.specs.Prelude.{◌≡◌, ◌≢◌, ◌⊎◌, ℕ, ◌||◌, Bool, false, if◌then◌else◌, List, [], ◌++◌, codes, Option, Some, None}
+use Rattle.std.specs.Prelude.{◌≡◌, ◌≤◌, ◌⊎◌, ℕ, ◌^◌, ◌||◌, Bool, false, if◌then◌else◌, List, [], ◌++◌, codes, length, Option, Some, None}
 use Rattle.captures.specs.declared.fault.Fault.{Fault}
+use Rattle.card_core.specs.World.{Connection, World, connection_in}
 use Rattle.card_core.specs.declared.answer.Answer.{Answer}
 use Rattle.card_core.specs.declared.answer.Answer.TheVariants.{JournalFull}
 use Rattle.card_core.specs.declared.step.Step.TheVariants.{Cut}
@@ -51,19 +52,26 @@ pub record TakesCell (before : Card) (cell : List ℕ) (moment : ℕ) (given : A
   pub arrived : Arrives before.world cell moment given after.world
   pub same : after.names ≡ before.names
 
--- The journal of the cell's connection was full, so the connection was cut, and then the cell arrived once more.
-pub record TakesCellAfterCut (before : Card) (cell : List ℕ) (moment : ℕ) (given : Answer) (after : Card) : Type 0 where
-  pub full : Card
-  pub refused : TakesCell before cell moment JournalFull full
-  pub line : List ℕ
-  pub emptied : Card
-  pub cuts : TakesCommand full (cut (connection_of_cell before cell)) (Cut (connection_of_cell before cell)) line emptied
-  pub taken : TakesCell emptied cell moment given after
+-- The connection is cut, or not.
+abbrev pub MayBeCut : Card → Vc → Card → Type 0
+MayBeCut before vc after = (after ≡ before) ⊎ ((line : List ℕ) × TakesCommand before (cut vc) (Cut vc) line after)
 
--- The cell arrives, and once more after a cut if its connection's journal is full.
-abbrev pub TakesCellWithRoom : Card → List ℕ → ℕ → Answer → Card → Type 0
-TakesCellWithRoom before cell moment given after =
-    ((given ≢ JournalFull) × TakesCell before cell moment given after) ⊎ TakesCellAfterCut before cell moment given after
+-- 2^62 cells were judged on the line of the connection.
+abbrev pub IsWornLine : World → Vc → Type 0
+IsWornLine world vc =
+    (connection : Connection) × (connection_in world.connections vc ≡ Some connection) × (2 ^ 62 ≤ length (world.verdicts connection.line))
+
+-- The journal of the connection has just been cut, or no cell is judged on its line any more.
+abbrev pub IsCutOrWorn : Card → Vc → Card → Type 0
+IsCutOrWorn before vc after = ((line : List ℕ) × TakesCommand before (cut vc) (Cut vc) line after) ⊎ IsWornLine before.world vc
+
+-- The cell arrives. Its connection may be cut before, so that its journal has room: the answer of a full journal comes only after a cut, or
+-- if 2^62 cells were judged on the line.
+pub record TakesCellWithRoom (before : Card) (cell : List ℕ) (moment : ℕ) (given : Answer) (after : Card) : Type 0 where
+  pub ready : Card
+  pub cuts : MayBeCut before (connection_of_cell before cell) ready
+  pub taken : TakesCell ready cell moment given after
+  pub room : given ≡ JournalFull → IsCutOrWorn before (connection_of_cell before cell) ready
 
 -- The text for a cell with this answer: its line, and before the first line the heading.
 abbrev pub policed_text : PoliceWorld → CountedCell → Answer → List ℕ

@@ -10,7 +10,7 @@ ghost use Rattle.text_io.specs.Failures.{write_failures};
 ghost use Rattle.text_io.specs.Serving.{IsServed};
 ghost use Rattle.lab_police.specs.PoliceLines.{excess_of_answer};
 ghost use Rattle.lab_police.specs.PoliceText.{IsPoliceText, police_gap};
-ghost use Rattle.lab_police.specs.inner.CardArrival.{ArrivesAfterCut, ArrivesOnce, ArrivesWithRoom, CutsOff, is_full};
+ghost use Rattle.lab_police.specs.inner.CardArrival.{ArrivesWithRoom};
 ghost use Rattle.lab_police.specs.inner.ExcessLeft.{IsKeptOnLine, LeavesConnection, excess_left, first_met};
 ghost use Rattle.lab_police.specs.inner.PoliceShown.{AddsCell};
 
@@ -20,10 +20,10 @@ use crate::not_judged::{NotJudged, add_not_judged};
 use crate::run_comments::add_run_comments;
 use crate::setting_up::{SetUp, set_up};
 use captures::{Fault, Link, Tick};
-use card_core::{Core, DeskFault, Judgement, Unjudged};
+use card_core::{Core, Judgement, Unjudged};
 use lab_captures::{CellFollower, CellLines, CountedCell, PassedOver, add_closing, follow_cells};
 use leaky::{Excess, Levels, Verdict, excess_at};
-use line_record::{Line, LineFault};
+use line_record::Line;
 use std::alloc::{AllocError, Global};
 use std::thread::Threads;
 use text_io::{Done, Input, Output, RunFault, Turn, give_last};
@@ -32,73 +32,21 @@ use upc_cell::{Cell, Vc};
 /// The port that every cell of a capture enters.
 const PORT: u8 = 0;
 
-/// Takes all steps of a cell at the port and returns its answer. None if the port has a cell; between cells it never has.
-#[inline(always)]
-fn arrive(core: &mut Core, cell: &Cell, moment: u64) -> Option<Result<Judgement, Unjudged>>
-    ensures { ArrivesOnce core.old cell.now moment (option_map (λ decision. answer_to cell.now decision) result) core.new }
-{
-    core.arrive(PORT, cell, moment)
-}
+/// How many entries a journal has at most when a cell arrives. Nothing printed depends on it: so many entries of each connection stay in the
+/// processor's cache.
+const MOST_ENTRIES: usize = 64;
 
-/// Returns an error if the fault is that of an allocation.
-fn unless_memory(fault: DeskFault) -> Result<(), AllocError>
-    ensures { OnOk result (fault ≢ DeskFault.NoMemory) }
-{
-    match fault {
-        DeskFault::NoMemory => Err(AllocError),
-        _ => Ok(()),
-    }
-}
-
-/// Returns a connection's journal and begins a new one.
-fn cut_connection(core: &mut Core, vc: Vc) -> Result<(), AllocError>
-    ensures { OnOk result (CutsOff core.old vc core.new) }
-{
-    match core.cut(vc) {
-        Ok(_) => Ok(()),
-        Err(fault) => unless_memory(fault),
-    }
-}
-
-/// Returns whether the journal of the cell's connection is full.
-#[inline(always)]
-fn is_full(answered: &Option<Result<Judgement, Unjudged>>) -> bool
-    ensures { (cell : List ℕ) → result ≡ is_full (option_map (λ decision. answer_to cell decision) answered.now) }
-{
-    match answered {
-        Some(Err(Unjudged::LineFault(LineFault::Full))) => true,
-        _ => false,
-    }
-}
-
-/// Cuts this connection, whose journal is full, and takes all steps of its cell once more.
-fn arrive_after_cut(
-    core: &mut Core,
-    vc: Vc,
-    cell: &Cell,
-    moment: u64,
-) -> Result<Option<Result<Judgement, Unjudged>>, AllocError>
-    ensures { IfOk result (λ answered. ArrivesAfterCut core.old vc cell.now moment (option_map (λ decision. answer_to cell.now decision) answered) core.new) }
-{
-    cut_connection(core, vc)?;
-    Ok(arrive(core, cell, moment))
-}
-
-/// Takes all steps of a cell at the port and returns its answer. If its connection's journal is full, the connection is cut first.
+/// Takes all steps of a cell at the port and returns its answer. A long journal of its connection is dropped first, so that it is never full.
+/// Returns None if the port has a cell; between cells it never has.
 #[inline(always)]
 pub(crate) fn arrive_with_room(
     core: &mut Core,
     cell: &Cell,
     moment: u64,
-) -> Result<Option<Result<Judgement, Unjudged>>, AllocError>
-    ensures { IfOk result (λ answered. ArrivesWithRoom core.old cell.now moment (option_map (λ decision. answer_to cell.now decision) answered) core.new) }
+) -> Option<Result<Judgement, Unjudged>>
+    ensures { ArrivesWithRoom core.old cell.now moment (option_map (λ decision. answer_to cell.now decision) result) core.new }
 {
-    let vc = cell.vc_at(core.shape().side);
-    let decision = arrive(core, cell, moment);
-    if !is_full(&decision) {
-        return Ok(decision);
-    }
-    arrive_after_cut(core, vc, cell, moment)
+    core.arrive_keeping(PORT, cell, moment, MOST_ENTRIES)
 }
 
 /// Returns the item with this number, counted from 1, if there is one.
@@ -238,7 +186,7 @@ impl CellFollower for PoliceRun {
         let cell = &counted.cell;
         let moment = counted.moment;
         let vc = cell.vc_at(self.core.shape().side);
-        let Some(decision) = arrive_with_room(&mut self.core, cell, moment)? else {
+        let Some(decision) = arrive_with_room(&mut self.core, cell, moment) else {
             return Ok(Turn::GoesOn);
         };
         self.begun = add_cell(
@@ -288,7 +236,7 @@ pub fn write_faults<O: Output>(output: &mut O, mut text: Vec<u8>) -> Result<Done
 }
 
 /// Polices the cells of a capture by a card that a setup script opens. A script with a fault is explained, and nothing is policed. Cells
-/// count, and have their moments, as in `upc-lab cells`. A connection whose journal is full is cut, so that any number of cells is judged.
+/// count, and have their moments, as in `upc-lab cells`. Long journals are dropped, so that any number of cells is judged.
 /// A table has the counts of each connection. docs/LAB.md has the format.
 ///
 /// With more than one thread, records are read on one thread while the cells of earlier ones are judged on another, as in

@@ -48,21 +48,17 @@ fn verdict_in(decision: &Result<Judgement, Unjudged>) -> Option<Verdict>
 }
 
 impl PolicedCard {
-    /// Takes all steps of a cell at port 0, and returns its verdict, or None if it isn't judged. A connection whose journal is full is cut
-    /// first, so that any number of cells is judged.
-    ///
-    /// # Errors
-    ///
-    /// An allocation failed.
-    pub fn judge(&mut self, counted: &CountedCell) -> Result<Option<Verdict>, AllocError>
-        ensures { IfOk result (λ verdict. (before : PolicedWorld) → IsLed before.card → ShowsPoliced self.old before
-            → (after : PolicedWorld) × ShowsPoliced self.new after × PolicesOneCell before counted.now verdict after) }
+    /// Takes all steps of a cell at port 0, and returns its verdict, or None if it isn't judged. Long journals are dropped, so that any
+    /// number of cells is judged.
+    pub fn judge(&mut self, counted: &CountedCell) -> Option<Verdict>
+        ensures { (before : PolicedWorld) → IsLed before.card → ShowsPoliced self.old before
+            → (after : PolicedWorld) × ShowsPoliced self.new after × PolicesOneCell before counted.now result after }
     {
-        let Some(decision) = arrive_with_room(&mut self.core, &counted.cell, counted.moment)? else {
-            return Ok(None);
+        let Some(decision) = arrive_with_room(&mut self.core, &counted.cell, counted.moment) else {
+            return None;
         };
         self.not_judged.count(counted.number, &decision);
-        Ok(verdict_in(&decision))
+        verdict_in(&decision)
     }
 
     /// Appends what `police` prints after its lines about cells: the table of the connections, the comments about cells that were not judged,

@@ -1,8 +1,7 @@
 -- How a cell changes the stored card.
-use Rattle.std.specs.Prelude.{◌≡◌, List, ℕ, Bool, true, false, Option, Some}
+use Rattle.std.specs.Prelude.{◌≡◌, List, ℕ, Option, Some}
 use Rattle.card_core.specs.Agreement.{CoreAgrees, CoreView}
 use Rattle.card_core.specs.declared.answer.Answer.{Answer}
-use Rattle.card_core.specs.declared.answer.Answer.TheVariants.{JournalFull}
 use Rattle.card_core.specs.declared.step.Step.TheVariants.{Cut}
 use Rattle.upc_cell.specs.declared.vc.Vc.{Vc}
 use Rattle.upc_run.specs.RunText.{Card, IsLed, TakesCommand}
@@ -19,20 +18,11 @@ ArrivesBy Takes old given new = (before : Card) → IsLed before → CoreAgrees 
 abbrev pub ArrivesOnce : CoreView → List ℕ → ℕ → Option Answer → CoreView → Type 0
 ArrivesOnce old cell moment given new = ArrivesBy (λ before answer after. TakesCell before cell moment answer after) old given new
 
--- The cell arrives, and once more after a cut if its connection's journal is full.
+-- The cell arrives, and its connection's journal has room.
 abbrev pub ArrivesWithRoom : CoreView → List ℕ → ℕ → Option Answer → CoreView → Type 0
 ArrivesWithRoom old cell moment given new = ArrivesBy (λ before answer after. TakesCellWithRoom before cell moment answer after) old given new
-
--- Whether the answer is that of a full journal.
-abbrev pub is_full : Option Answer → Bool
-is_full (Some JournalFull) = true
-is_full _ = false
 
 -- For each such card: it takes a cut of this connection, and the core then agrees with the card after it.
 abbrev pub CutsOff : CoreView → Vc → CoreView → Type 0
 CutsOff old vc new = (before : Card) → IsLed before → CoreAgrees old before.world
     → (line : List ℕ) × (after : Card) × TakesCommand before (cut vc) (Cut vc) line after × CoreAgrees new after.world
-
--- This connection is cut, and then the cell arrives once.
-abbrev pub ArrivesAfterCut : CoreView → Vc → List ℕ → ℕ → Option Answer → CoreView → Type 0
-ArrivesAfterCut old vc cell moment given new = (emptied : CoreView) × CutsOff old vc emptied × ArrivesOnce emptied cell moment given new
