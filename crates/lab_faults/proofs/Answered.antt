@@ -12,8 +12,10 @@ use Rattle.bpf_verify.specs.Faults.{FailsFirst}
 use Rattle.bpf_verify.specs.declared.fault.Fault.{Fault}
 use Rattle.bpf_verify.specs.declared.fault.Fault.TheVariants as fault
 use Rattle.lab_faults.specs.CodeReasons.{IsRest, code_sentence, code_start, numbers_text}
-use Rattle.lab_faults.specs.Explained.{ExplainsCode, ExplainsSource, ExplainsWithin, IsExplainText, IsSourceText}
-use Rattle.lab_faults.specs.InputKinds.{rules_after, source_after}
+use Rattle.lab_faults.specs.Explained.{ExplainsCode, ExplainsSource, ExplainsWithin, IsExplainText, IsFaultsOrScript, IsSourceText}
+use Rattle.lab_faults.specs.FaultSentences.{IsFaultsText, PrintsFaults, most_fault_octets}
+use Rattle.lab_faults.specs.InputKinds.{faults_after, rules_after, source_after}
+use Rattle.lab_faults.specs.inner.FaultsTotal.{faults-answered}
 use Rattle.lab_rule_faults.proofs.Public.{ended-rules_explained}
 use Rattle.lab_rule_faults.specs.RulesExplained.{MayBeRulesExplained}
 use Rattle.lab_faults.specs.Hints.{hints_of}
@@ -23,7 +25,7 @@ use Rattle.lab_scripts.proofs.Public.{some-script_text}
 use Rattle.lab_scripts.specs.ScriptText.{IsScriptExplained}
 use Rattle.std.specs.Option.{MatchOption}
 use Rattle.text_io.specs.Devices.{TakesEnough}
-use Rattle.text_io.specs.Gathered.{gathered, LeavesAfter}
+use Rattle.text_io.specs.Gathered.{AnswersGathered, gathered, LeavesAfter}
 use Rattle.text_io.specs.Limits.{most_ahead}
 use Rattle.text_io.specs.declared.ending.Done.{Done}
 use Rattle.text_io.specs.declared.ending.Done.TheVariants.{Whole, Ended}
@@ -102,14 +104,28 @@ some-within_answer (Some source) = some-source_answer source
 pub some-source_text : (source : List ℕ) → (text : List ℕ) × (done : Done) × IsSourceText source text done
 some-source_text source = some-within_answer (gathered most_source_octets source)
 
+-- Every text of fault lines has an answer, and one without lines has an empty one.
+some-faults_answer : (found : Option (List ℕ)) → (text : List ℕ) × (done : Done) × AnswersGathered too_long PrintsFaults found text done
+some-faults_answer None = (too_long, Ended, (refl, refl))
+some-faults_answer (Some octets) = faults-answered octets
+
+pub no-faults_answer : IsFaultsText [] [] Ended
+unfolding source_lines
+no-faults_answer = (refl, refl)
+
+some-last_answer : (octets : List ℕ) (found : Option (List ℕ))
+    → (text : List ℕ) × (done : Done) × MatchOption found (IsScriptExplained octets text done) (λ lines. IsFaultsText lines text done)
+some-last_answer octets None = some-script_text octets
+some-last_answer octets (Some lines) = some-faults_answer (gathered most_fault_octets lines)
+
 some-other_answer : (octets : List ℕ) (found : Option (List ℕ))
-    → (text : List ℕ) × (done : Done) × MatchOption found (IsScriptExplained octets text done) (λ rules. MayBeRulesExplained rules text done)
-some-other_answer octets None = some-script_text octets
+    → (text : List ℕ) × (done : Done) × MatchOption found (IsFaultsOrScript octets text done) (λ rules. MayBeRulesExplained rules text done)
+some-other_answer octets None = some-last_answer octets (faults_after octets)
 some-other_answer octets (Some rules) = let ended = ended-rules_explained rules in (ended.0, Ended, ended.1)
 
 some-input_answer : (octets : List ℕ) (found : Option (List ℕ))
     → (text : List ℕ) × (done : Done)
-    × MatchOption found (MatchOption (rules_after octets) (IsScriptExplained octets text done) (λ rules. MayBeRulesExplained rules text done))
+    × MatchOption found (MatchOption (rules_after octets) (IsFaultsOrScript octets text done) (λ rules. MayBeRulesExplained rules text done))
     (λ source. IsSourceText source text done)
 some-input_answer octets None = some-other_answer octets (rules_after octets)
 some-input_answer octets (Some source) = some-source_text source

@@ -17,43 +17,56 @@ use Rattle.text_io.specs.declared.device.Output.{Ghosts as OutputView}
 use Rattle.text_io.specs.declared.ending.Done.{Done}
 use Rattle.text_io.specs.declared.ending.Done.TheVariants.{Ended}
 use Rattle.text_io.specs.declared.ending.RunFault.{RunFault}
-use Rattle.lab_faults.specs.Explained.{IsExplainText, IsExplainedBy, IsSourceText}
-use Rattle.lab_faults.specs.InputKinds.{PassesFirst, after_first, after_word, is_alone, is_word_line, rules_after, source_after}
+use Rattle.lab_faults.specs.Explained.{IsExplainText, IsExplainedBy, IsFaultsOrScript, IsSourceText}
+use Rattle.lab_faults.specs.FaultSentences.{IsFaultsText}
+use Rattle.lab_faults.specs.InputKinds.{PassesFirst, after_first, after_word, is_alone, is_word_line, faults_after, rules_after, source_after}
 use Rattle.lab_faults.specs.declared.ahead.InputKind.TheVariants.{Script}
 use Rattle.lab_rule_faults.proofs.Public.{ended-rules_explained}
 use Rattle.lab_rule_faults.specs.RulesExplained.{MayBeRulesExplained}
-use Rattle.lab_faults.proofs.Answered.{empty-source_answer}
+use Rattle.lab_faults.proofs.Answered.{empty-source_answer, no-faults_answer}
 use Rattle.lab_faults.proofs.WordFront.{WordFront, last_line, word_front}
 use Rattle.lab_scripts.specs.ScriptText.{ExplainsLine, IsScriptExplained, ScriptWorld, after_answer, before_script, script_rules}
 use Rattle.upc_run.specs.RunText.{OpensOrObeys, RunWorld}
 
--- The text of an input that begins with the line `source`, of one that begins with the line `rules`, and of one that doesn't.
+-- The text of an input that begins with the line `source`, `rules` or `faults`, and of one that doesn't.
 module _ (RulesText : List ℕ → List ℕ → Done → Type 0) where
   pub of_source : (octets source text : List ℕ) (done : Done) → source_after octets ≡ Some source → IsSourceText source text done
       → IsExplainedBy RulesText octets text done
   of_source octets source text done is answered =
-      let Other : Type 0 = MatchOption (rules_after octets) (IsScriptExplained octets text done) (λ rules. RulesText rules text done) in
+      let Other : Type 0 = MatchOption (rules_after octets) (IsFaultsOrScript octets text done) (λ rules. RulesText rules text done) in
       let P : Option (List ℕ) → Type 0 = λ found. MatchOption found Other (λ source. IsSourceText source text done) in
       subst P (sym is) answered
 
   pub of_other : (octets text : List ℕ) (done : Done) → source_after octets ≡ None
-      → MatchOption (rules_after octets) (IsScriptExplained octets text done) (λ rules. RulesText rules text done) → IsExplainedBy RulesText octets text done
+      → MatchOption (rules_after octets) (IsFaultsOrScript octets text done) (λ rules. RulesText rules text done) → IsExplainedBy RulesText octets text done
   of_other octets text done is answered =
-      let Other : Type 0 = MatchOption (rules_after octets) (IsScriptExplained octets text done) (λ rules. RulesText rules text done) in
+      let Other : Type 0 = MatchOption (rules_after octets) (IsFaultsOrScript octets text done) (λ rules. RulesText rules text done) in
       let P : Option (List ℕ) → Type 0 = λ found. MatchOption found Other (λ source. IsSourceText source text done) in
       subst P (sym is) answered
 
   pub of_rules : (octets rules text : List ℕ) (done : Done) → source_after octets ≡ None → rules_after octets ≡ Some rules → RulesText rules text done
       → IsExplainedBy RulesText octets text done
   of_rules octets rules text done none is answered =
-      let P : Option (List ℕ) → Type 0 = λ found. MatchOption found (IsScriptExplained octets text done) (λ rules. RulesText rules text done) in
+      let P : Option (List ℕ) → Type 0 = λ found. MatchOption found (IsFaultsOrScript octets text done) (λ rules. RulesText rules text done) in
       of_other octets text done none (subst P (sym is) answered)
 
-  pub of_script : (octets text : List ℕ) (done : Done) → source_after octets ≡ None → rules_after octets ≡ None → IsScriptExplained octets text done
+  of_last : (octets text : List ℕ) (done : Done) → source_after octets ≡ None → rules_after octets ≡ None → IsFaultsOrScript octets text done
       → IsExplainedBy RulesText octets text done
-  of_script octets text done none is answered =
-      let P : Option (List ℕ) → Type 0 = λ found. MatchOption found (IsScriptExplained octets text done) (λ rules. RulesText rules text done) in
+  of_last octets text done none is answered =
+      let P : Option (List ℕ) → Type 0 = λ found. MatchOption found (IsFaultsOrScript octets text done) (λ rules. RulesText rules text done) in
       of_other octets text done none (subst P (sym is) answered)
+
+  pub of_faults : (octets lines text : List ℕ) (done : Done) → source_after octets ≡ None → rules_after octets ≡ None → faults_after octets ≡ Some lines
+      → IsFaultsText lines text done → IsExplainedBy RulesText octets text done
+  of_faults octets lines text done none no is answered =
+      let P : Option (List ℕ) → Type 0 = λ found. MatchOption found (IsScriptExplained octets text done) (λ lines. IsFaultsText lines text done) in
+      of_last octets text done none no (subst P (sym is) answered)
+
+  pub of_script : (octets text : List ℕ) (done : Done) → source_after octets ≡ None → rules_after octets ≡ None → faults_after octets ≡ None
+      → IsScriptExplained octets text done → IsExplainedBy RulesText octets text done
+  of_script octets text done none no is answered =
+      let P : Option (List ℕ) → Type 0 = λ found. MatchOption found (IsScriptExplained octets text done) (λ lines. IsFaultsText lines text done) in
+      of_last octets text done none no (subst P (sym is) answered)
 
 -- The front of an output with a text.
 front_as : (One Other : List ℕ → Done → Type 0) (before after : List ℕ) → ((text : List ℕ) (done : Done) → One text done → Other text done)
@@ -100,6 +113,9 @@ source_opens_none answer after steps = steps.1
 rules_opens_none : OpensNone (codes "rules")
 rules_opens_none answer after steps = steps.1
 
+faults_opens_none : OpensNone (codes "faults")
+faults_opens_none answer after steps = steps.1
+
 opens_none : (word : List ℕ) (words : List (List ℕ)) (answer : List ℕ) (after : Option RunWorld) → OpensNone word → words ≡ word ∷ []
     → MatchBool (is_silent words) ((answer ≡ []) × (after ≡ Some None)) (OpensOrObeys None words answer after) → after ≡ None
 opens_none word words answer after opens is steps =
@@ -119,33 +135,34 @@ no_card word line text done opens is answered =
     let within : is_over 0 line ≡ false = le-ltb most_line_octets (length line.octets) (leb-true (length line.octets) most_line_octets both.0) in
     word_stops word line text done opens (alone_word word (words_of (line_content line)) both.1) (MatchBool-at_false _ _ within answered)
 
--- An input that begins with the line `rules` doesn't begin with the line `source`.
+-- An input that begins with the line of one word doesn't begin with that of another.
 and_none : (b : Bool) → (b && false) ≡ false
 and_none true = refl
 and_none false = refl
 
-not_source_line : (line : Line) → is_word_line (codes "rules") line ≡ true → is_word_line (codes "source") line ≡ false
-not_source_line line is =
-    let within = nat_le (length line.octets) most_line_octets in
-    let words = words_of (line_content line) in
-    let both = and_parts within (is_alone (codes "rules") words) is in
-    ap (λ (words : List (List ℕ)). within && is_alone (codes "source") words) (alone_word (codes "rules") words both.1) ∙ and_none within
+module _ (word other : List ℕ) (apart : is_alone other (word ∷ []) ≡ false) where
+  not_other_line : (line : Line) → is_word_line word line ≡ true → is_word_line other line ≡ false
+  not_other_line line is =
+      let within = nat_le (length line.octets) most_line_octets in
+      let words = words_of (line_content line) in
+      let both = and_parts within (is_alone word words) is in
+      ap (λ (words : List (List ℕ)). within && is_alone other words) (alone_word word words both.1) ∙ ap (λ (b : Bool). within && b) apart ∙ and_none within
 
-not_source_by : (octets rules : List ℕ) (first : Line) (lines : List Line) (b : Bool) → is_word_line (codes "rules") first ≡ b
-    → after_first (codes "rules") octets (first ∷ lines) ≡ Some rules → after_first (codes "source") octets (first ∷ lines) ≡ None
-not_source_by octets rules first lines true is e =
-    ap (λ (b : Bool). if b then Some (drop (length first.octets + 1) octets) else None) (not_source_line first is)
-not_source_by octets rules first lines false is e =
-    let no : None ≡ Some rules = sym (ap (λ (b : Bool). if b then Some (drop (length first.octets + 1) octets) else None) is) ∙ e in
-    absurd cc
+  not_other_by : (octets rest : List ℕ) (first : Line) (lines : List Line) (b : Bool) → is_word_line word first ≡ b
+      → after_first word octets (first ∷ lines) ≡ Some rest → after_first other octets (first ∷ lines) ≡ None
+  not_other_by octets rest first lines true is e =
+      ap (λ (b : Bool). if b then Some (drop (length first.octets + 1) octets) else None) (not_other_line first is)
+  not_other_by octets rest first lines false is e =
+      let no : None ≡ Some rest = sym (ap (λ (b : Bool). if b then Some (drop (length first.octets + 1) octets) else None) is) ∙ e in
+      absurd cc
 
-not_source_lines : (octets rules : List ℕ) (lines : List Line) → after_first (codes "rules") octets lines ≡ Some rules → after_first (codes "source") octets lines ≡ None
-not_source_lines octets rules [] e = refl
-not_source_lines octets rules (first ∷ lines) e = not_source_by octets rules first lines (is_word_line (codes "rules") first) refl e
+  not_other_lines : (octets rest : List ℕ) (lines : List Line) → after_first word octets lines ≡ Some rest → after_first other octets lines ≡ None
+  not_other_lines octets rest [] e = refl
+  not_other_lines octets rest (first ∷ lines) e = not_other_by octets rest first lines (is_word_line word first) refl e
 
-not_source : (octets rules : List ℕ) → rules_after octets ≡ Some rules → source_after octets ≡ None
-unfolding after_word
-not_source octets rules e = not_source_lines octets rules (lines_of octets) e
+  not_other : (octets rest : List ℕ) → after_word word octets ≡ Some rest → after_word other octets ≡ None
+  unfolding after_word
+  not_other octets rest e = not_other_lines octets rest (lines_of octets) e
 
 -- The octets are a front of an input that doesn't begin with this word alone on its line, and do so themselves. Then they are the word
 -- alone, and a script ends there.
@@ -174,9 +191,18 @@ alone_here word octets needed later source text done opens cut none is answered 
 
 -- Enough of a script is enough of the input.
 module _ (octets needed later : List ℕ) (cut : octets ≡ needed ++ later) (no_source : source_after octets ≡ None) (no_rules : rules_after octets ≡ None)
-    (text : List ℕ) (done : Done) (answered : IsScriptExplained needed text done) where
+    (no_faults : faults_after octets ≡ None) (text : List ℕ) (done : Done) (answered : IsScriptExplained needed text done) where
+  last_answer : source_after needed ≡ None → rules_after needed ≡ None → (found : Option (List ℕ)) → faults_after needed ≡ found
+      → (text' : List ℕ) × IsExplainText needed text' done
+  last_answer none no None is = (text, of_script MayBeRulesExplained needed text done none no is answered)
+  last_answer none no (Some lines) is =
+      let here = alone_here (codes "faults") octets needed later lines text done faults_opens_none cut no_faults is answered in (
+        [],
+        subst (λ (d : Done). IsExplainText needed [] d) (sym here.ends) (of_faults MayBeRulesExplained needed [] [] Ended none no here.empty no-faults_answer),
+      )
+
   other_answer : source_after needed ≡ None → (found : Option (List ℕ)) → rules_after needed ≡ found → (text' : List ℕ) × IsExplainText needed text' done
-  other_answer none None is = (text, of_script MayBeRulesExplained needed text done none is answered)
+  other_answer none None is = last_answer none is (faults_after needed) refl
   other_answer none (Some rules) is =
       let here = alone_here (codes "rules") octets needed later rules text done rules_opens_none cut no_rules is answered in
       let ended = ended-rules_explained [] in (
@@ -201,7 +227,13 @@ pub source_follows : (RulesText : List ℕ → List ℕ → Done → Type 0) →
 source_follows RulesText octets source text done is answered = of_source RulesText octets source text done is answered
 
 pub rules_follow : (RulesText : List ℕ → List ℕ → Done → Type 0) → Follows (codes "rules") RulesText (IsExplainedBy RulesText)
-rules_follow RulesText octets rules text done is answered = of_rules RulesText octets rules text done (not_source octets rules is) is answered
+rules_follow RulesText octets rules text done is answered =
+    of_rules RulesText octets rules text done (not_other (codes "rules") (codes "source") refl octets rules is) is answered
+
+pub faults_follow : (RulesText : List ℕ → List ℕ → Done → Type 0) → Follows (codes "faults") IsFaultsText (IsExplainedBy RulesText)
+faults_follow RulesText octets lines text done is answered =
+    of_faults RulesText octets lines text done (not_other (codes "faults") (codes "source") refl octets lines is)
+    (not_other (codes "faults") (codes "rules") refl octets lines is) is answered
 
 -- What a text of the rest adds is what a text of the whole adds.
 pub adds_after : (word : List ℕ) (IsText IsWhole : List ℕ → List ℕ → Done → Type 0) (octets rest before after : List ℕ) (result : Result Done RunFault)
@@ -239,8 +271,8 @@ module _ {Source : Type 0} (I : InputView Source) (source read source' : Source)
       (λ done adds. (
         adds.0,
         adds.1,
-        of_script RulesText (I.rest source) adds.0 done (begins ki).0 (begins ki).1
-            (subst (λ (xs : List ℕ). IsScriptExplained xs adds.0 done) (begins ki).2 adds.2),
+        of_script RulesText (I.rest source) adds.0 done (begins ki).0 (begins ki).1 (begins ki).2
+            (subst (λ (xs : List ℕ). IsScriptExplained xs adds.0 done) (begins ki).3 adds.2),
       ))
       (served.text ki ko)
 
@@ -250,13 +282,14 @@ module _ {Source : Type 0} (I : InputView Source) (source read source' : Source)
     text = script_printed MayBeRulesExplained begins served;
     front = λ ki ko. on_err_weaker result
         (front_as (IsScriptExplained (I.rest read)) (IsExplainText (I.rest source)) (O.held sink) (O.held sink')
-        (λ text done answered. of_script MayBeRulesExplained (I.rest source) text done (begins ki).0 (begins ki).1
-        (subst (λ (xs : List ℕ). IsScriptExplained xs text done) (begins ki).2 answered)))
+        (λ text done answered. of_script MayBeRulesExplained (I.rest source) text done (begins ki).0 (begins ki).1 (begins ki).2
+        (subst (λ (xs : List ℕ). IsScriptExplained xs text done) (begins ki).3 answered)))
         (served.front ki ko);
     left = λ ki. IfOk-weaker result _ _
         (λ done (needed, ahead, cut, few, (text, answered)).
-        let whole = sym (begins ki).2 ∙ cut in
-        let again = front_answer (I.rest source) needed (ahead ++ I.rest source') whole (begins ki).0 (begins ki).1 text done answered (source_after needed) refl in
+        let whole = sym (begins ki).3 ∙ cut in
+        let again = front_answer (I.rest source) needed (ahead ++ I.rest source') whole (begins ki).0 (begins ki).1 (begins ki).2 text done answered
+        (source_after needed) refl in
         (needed, ahead, whole, few, again))
         (served.left ki);
     whole = served.whole;

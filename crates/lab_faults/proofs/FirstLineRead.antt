@@ -2,7 +2,7 @@
 use Rattle.std.proofs.Common.{◌≡◌, ◌⊎◌, ℕ, List, [], ◌++◌, Some, None, Option, codes, option_map, ap, ◌∙◌}
 use Rattle.lab_faults.specs.InputKinds.{PassesFirst, after_word}
 use Rattle.lab_faults.specs.declared.ahead.InputKind.{InputKind}
-use Rattle.lab_faults.specs.declared.ahead.InputKind.TheVariants.{Source, Rules, Script}
+use Rattle.lab_faults.specs.declared.ahead.InputKind.TheVariants.{Source, Rules, Faults, Script}
 use Rattle.lab_faults.specs.inner.FirstLines.{HoldsFirstLine}
 use Rattle.lab_faults.proofs.WordFront.{ahead_decides}
 
@@ -17,8 +17,14 @@ passes_on Rules front left rest enough is = (
   found_on (codes "source") front rest None enough is.0,
   found_on (codes "rules") front rest (Some left) enough is.1,
 )
+passes_on Faults front left rest enough is = (
+  found_on (codes "source") front rest None enough is.0,
+  found_on (codes "rules") front rest None enough is.1,
+  found_on (codes "faults") front rest (Some left) enough is.2,
+)
 passes_on Script front left rest enough is = (
   found_on (codes "source") front rest None enough is.0,
   found_on (codes "rules") front rest None enough is.1,
-  ap (λ (xs : List ℕ). xs ++ rest) is.2,
+  found_on (codes "faults") front rest None enough is.2,
+  ap (λ (xs : List ℕ). xs ++ rest) is.3,
 )

@@ -1,6 +1,6 @@
 -- The output of `upc-lab explain`. If the only word of the first line is `source`, the rest is a source of assembly, and the
 -- answer is the fault that `upc check` finds, and an explanation of it, or that there is none. If it is `rules`, the rest is a text of
--- rules, and the answer is in the same way that of `upc-lab rules`. Otherwise the input is a script.
+-- rules, and the answer is in the same way that of `upc-lab rules`. If it is `faults`, fault lines follow. Otherwise the input is a script.
 use Rattle.std.specs.Prelude.{◌≡◌, ◌⊎◌, ℕ, List, ◌++◌, length, codes, decimal, Option, MatchOption}
 use Rattle.bpf_asm.specs.Faults.{IsFault}
 use Rattle.bpf_asm.specs.Meaning.{IsMeaning}
@@ -12,7 +12,8 @@ use Rattle.bpf_verify.specs.Faults.{FailsFirst}
 use Rattle.bpf_verify.specs.declared.fault.Fault.{Fault}
 use Rattle.lab_faults.specs.CodeReasons.{IsCodeExplanation}
 use Rattle.lab_faults.specs.Hints.{hints_of}
-use Rattle.lab_faults.specs.InputKinds.{rules_after, source_after}
+use Rattle.lab_faults.specs.FaultSentences.{IsFaultsText}
+use Rattle.lab_faults.specs.InputKinds.{faults_after, rules_after, source_after}
 use Rattle.lab_rule_faults.specs.RulesExplained.{IsRulesExplained, MayBeRulesExplained}
 use Rattle.lab_faults.specs.SourceReasons.{source_explanation}
 use Rattle.lab_scripts.specs.ScriptText.{IsScriptExplained}
@@ -45,12 +46,16 @@ ExplainsWithin found text done = MatchOption found ((text ≡ too_long) × (done
 abbrev pub IsSourceText : List ℕ → List ℕ → Done → Type 0
 IsSourceText source text done = ExplainsWithin (gathered most_source_octets source) text done
 
--- The output for a whole input, and how the run ends: that for the source or the text of rules after the first line, or that for a
--- script. This relation of octets, text and end says what the output for a text of rules is.
+-- The output for a script, or for the fault lines after the first line.
+abbrev pub IsFaultsOrScript : List ℕ → List ℕ → Done → Type 0
+IsFaultsOrScript octets text done = MatchOption (faults_after octets) (IsScriptExplained octets text done) (λ lines. IsFaultsText lines text done)
+
+-- The output for a whole input, and how the run ends: that for the source, the text of rules or the fault lines after the first line, or
+-- that for a script. This relation of octets, text and end says what the output for a text of rules is.
 abbrev pub IsExplainedBy : (List ℕ → List ℕ → Done → Type 0) → List ℕ → List ℕ → Done → Type 0
 IsExplainedBy RulesText octets text done =
     MatchOption (source_after octets)
-    (MatchOption (rules_after octets) (IsScriptExplained octets text done) (λ rules. RulesText rules text done))
+    (MatchOption (rules_after octets) (IsFaultsOrScript octets text done) (λ rules. RulesText rules text done))
     (λ source. IsSourceText source text done)
 
 -- The output for a whole input, and how the run ends.

@@ -5,7 +5,7 @@ use Rattle.text_io.specs.Limits.{most_line_octets}
 use Rattle.text_io.specs.Lines.{Line, line_content, lines_of}
 use Rattle.text_io.specs.Words.{words_of}
 use Rattle.lab_faults.specs.declared.ahead.InputKind.{InputKind}
-use Rattle.lab_faults.specs.declared.ahead.InputKind.TheVariants.{Source, Rules, Script}
+use Rattle.lab_faults.specs.declared.ahead.InputKind.TheVariants.{Source, Rules, Faults, Script}
 
 -- Whether these words are this word alone.
 abbrev pub is_alone : List ℕ → List (List ℕ) → Bool
@@ -34,8 +34,14 @@ source_after octets = after_word (codes "source") octets
 abbrev pub rules_after : List ℕ → Option (List ℕ)
 rules_after octets = after_word (codes "rules") octets
 
+-- The fault lines after the line `faults`, if the input begins with it.
+abbrev pub faults_after : List ℕ → Option (List ℕ)
+faults_after octets = after_word (codes "faults") octets
+
 -- What is left of an input of this kind, once its first line was read. A script is left whole.
 abbrev pub PassesFirst : InputKind → List ℕ → List ℕ → Type 0
 PassesFirst Source before after = source_after before ≡ Some after
 PassesFirst Rules before after = (source_after before ≡ None) × (rules_after before ≡ Some after)
-PassesFirst Script before after = (source_after before ≡ None) × (rules_after before ≡ None) × (after ≡ before)
+PassesFirst Faults before after = (source_after before ≡ None) × (rules_after before ≡ None) × (faults_after before ≡ Some after)
+PassesFirst Script before after =
+    (source_after before ≡ None) × (rules_after before ≡ None) × (faults_after before ≡ None) × (after ≡ before)

@@ -7,6 +7,7 @@ pub mod SourceReasons
 pub mod CodePaths
 pub mod CodeReasons
 pub mod Hints
+pub mod FaultSentences
 pub mod InputKinds
 pub mod Explained
 pub mod AsCheck

@@ -1,3 +1,4 @@
 -- Definitions that only private functions and proofs use.
+pub mod FaultsTotal
 pub mod FirstLines
 pub mod Leading

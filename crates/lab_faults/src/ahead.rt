@@ -21,13 +21,15 @@ pub enum InputKind {
     Source,
     /// A text of rules, after the line `rules`.
     Rules,
+    /// Fault lines, after the line `faults`.
+    Faults,
     /// A script.
     Script,
 }
 
 /// An input that can be asked for its first line.
 pub trait Ahead: Input {
-    /// Reads the first line, if its only word is `source` or `rules`, and returns what the input is. Otherwise all octets are left,
+    /// Reads the first line, if its only word is `source`, `rules` or `faults`, and returns what the input is. Otherwise all octets are left,
     /// although the first line was read from the device.
     ///
     /// # Errors
@@ -166,7 +168,10 @@ fn first_line(octets: &[u8]) -> (InputKind, usize)
         Some(size) => (InputKind::Source, size),
         None => match word_line(b"rules", octets) {
             Some(size) => (InputKind::Rules, size),
-            None => (InputKind::Script, 0),
+            None => match word_line(b"faults", octets) {
+                Some(size) => (InputKind::Faults, size),
+                None => (InputKind::Script, 0),
+            },
         },
     }
 }

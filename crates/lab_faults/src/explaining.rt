@@ -7,6 +7,7 @@ ghost use Rattle.lab_faults.specs.Explained.{ExplainsCode, ExplainsSource, Expla
 
 use crate::ahead::{Ahead, InputKind};
 use crate::code_faults::add_code_explanation;
+use crate::fault_sentences::explain_fault_lines;
 use crate::hints::add_hints;
 use crate::source_faults::add_source_explanation;
 use bpf_asm::{AsmFault, AsmKind, assemble};
@@ -106,7 +107,7 @@ fn explain_gathered<I: Input, O: Output>(
 
 /// Answers the word `source` on the first line and a source of assembly after it by the fault that `upc check` finds, the word `rules`
 /// and a text of rules by the fault that `upc-lab rules` finds, and a script by the fault lines of `upc run`, each with its line, the
-/// column of the word that is wrong and a sentence. docs/LAB.md has the format.
+/// column of the word that is wrong and a sentence. After the word `faults`, each fault line gets a sentence. docs/LAB.md has the format.
 ///
 /// # Errors
 ///
@@ -125,6 +126,7 @@ pub fn explain_faults<I: Ahead, O: Output>(
         Err(fault) => Err(fault),
         Ok(InputKind::Source) => explain_gathered(alloc, input, output),
         Ok(InputKind::Rules) => explain_rules(alloc, input, output),
+        Ok(InputKind::Faults) => explain_fault_lines(alloc, input, output),
         Ok(InputKind::Script) => explain_script(alloc, input, output),
     }
 }

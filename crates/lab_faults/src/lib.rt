@@ -1,10 +1,12 @@
-//! `upc-lab explain`: where a source, a text of rules or a script is faulty, what is wrong there, and what would be right.
+//! `upc-lab explain`: where a source, a text of rules or a script is faulty, what is wrong there, and what would be right; and sentences
+//! about fault lines.
 #![tactic(auto)]
 
 mod ahead;
 mod bad_lines;
 mod code_faults;
 mod explaining;
+mod fault_sentences;
 mod forms;
 mod hints;
 pub mod laws;

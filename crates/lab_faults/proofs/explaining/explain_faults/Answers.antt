@@ -2,11 +2,12 @@
 use Rattle.std.proofs.Common.{codes, subst, rules}
 use Rattle.text_io.proofs.Public.{nothing-begins}
 use Rattle.lab_faults.specs.Explained.{IsExplainText, IsSourceText, IsWholeExplanation}
+use Rattle.lab_faults.specs.FaultSentences.{IsFaultsText}
 use Rattle.lab_faults.specs.InputKinds.{PassesFirst}
 use Rattle.lab_faults.specs.declared.ahead.InputKind.{InputKind}
 use Rattle.lab_rule_faults.specs.RulesExplained.{IsRulesExplained, MayBeRulesExplained}
 use Rattle.lab_faults.proofs.Answered.{some-explain_text}
-use Rattle.lab_faults.proofs.Chosen.{adds_after, rules_follow, script_printed, served_after, served_script, source_follows}
+use Rattle.lab_faults.proofs.Chosen.{adds_after, faults_follow, rules_follow, script_printed, served_after, served_script, source_follows}
 use Rattle.lab_faults.proofs.explaining.explain_faults.Goals as goal
 
 pub returns-in-Err-clause-served : goal.returns-in-Err-clause-served
@@ -55,6 +56,24 @@ returns-in-Ok-Rules-clause-printed g c = λ known written.
     c.explain_rules.result (rules_follow IsRulesExplained)
     (subst (λ (kind : InputKind). PassesFirst kind old read) c.in-Ok-Rules.field-0-is (c.in-Ok-Rules.ensures.octets known)).1
     (c.explain_rules.ensures.printed known written)
+
+pub returns-in-Ok-Faults-clause-served : goal.returns-in-Ok-Faults-clause-served
+returns-in-Ok-Faults-clause-served g c =
+    let old = g.I.Input.rest c.args.input.now in
+    let read = g.I.Input.rest c.pass_first_line.new.self in
+    served_after g.I.Input c.args.input.now c.pass_first_line.new.self c.explain_fault_lines.new.input g.O.Output c.args.output.now
+    c.explain_fault_lines.new.output c.explain_fault_lines.result c.in-Ok-Faults.ensures.reading (codes "faults") IsFaultsText (faults_follow MayBeRulesExplained)
+    (λ known. (subst (λ (kind : InputKind). PassesFirst kind old read) c.in-Ok-Faults.field-0-is (c.in-Ok-Faults.ensures.octets known)).2)
+    c.explain_fault_lines.ensures.served
+
+pub returns-in-Ok-Faults-clause-printed : goal.returns-in-Ok-Faults-clause-printed
+returns-in-Ok-Faults-clause-printed g c = λ known written.
+    let old = g.I.Input.rest c.args.input.now in
+    let read = g.I.Input.rest c.pass_first_line.new.self in
+    adds_after (codes "faults") IsFaultsText IsWholeExplanation old read (g.O.Output.held c.args.output.now) (g.O.Output.held c.explain_fault_lines.new.output)
+    c.explain_fault_lines.result (faults_follow IsRulesExplained)
+    (subst (λ (kind : InputKind). PassesFirst kind old read) c.in-Ok-Faults.field-0-is (c.in-Ok-Faults.ensures.octets known)).2
+    (c.explain_fault_lines.ensures.printed known written)
 
 pub returns-in-Ok-Script-clause-served : goal.returns-in-Ok-Script-clause-served
 returns-in-Ok-Script-clause-served g c =
