@@ -75,7 +75,7 @@ worn_in_world core world vc agrees (line, has, worn) =
     let at : slice_get core.lines found.0.line ≡ Some line =
     subst (λ (seating : Seating). slice_get core.lines seating.line ≡ Some line) (sym found.2) has.there in
     let counts : line.state.counts ≡ tally_of (world.verdicts found.0.line) = agrees.lines.counts found.0.line line at in
-    (found.0, found.1, subst (λ n. 2 ^ 62 ≤ n) (ap cells_in counts ∙ verdicts_count (world.verdicts found.0.line)) worn)
+    (found.0, found.1, subst (λ n. 2 ^ 62 ≤ n) (ap cells_in counts ∙ verdicts_count.cells (world.verdicts found.0.line)) worn)
 
 -- Two ways in which a cell arrives: as it is, or after a cut of its connection if its journal is long.
 keeping_ways : (most : ℕ) (old new : CoreView) (cell : List ℕ) (moment : ℕ) (answer : Answer) → AnswersKeeping most old 0 cell moment answer new
@@ -126,14 +126,23 @@ module _ (most : ℕ) (old new : CoreView) (cell : List ℕ) (moment : ℕ) (dec
     | inr (middle, cuts, arrival) ↦ after_cut middle cuts arrival
   ]
 
+-- No represented card leaves a cell without an answer.
+arrives_none : (old new : CoreView) (cell : List ℕ) (moment : ℕ) → Follows old (Enter 0 cell moment) NotNow new → ArrivesWithRoom old cell moment None new
+arrives_none old new cell moment not before led agrees =
+    let on = arrives_once old new cell moment None tt not before led agrees in
+    let no : None ≡ Some on.0 = on.1 in absurd cc
+
+arrives_some : (most : ℕ) (old new : CoreView) (cell : List ℕ) (moment : ℕ) (decision : Result Judgement Unjudged)
+    → AnswersKeeping most old 0 cell moment (answer_to cell decision) new
+    → (answer_to cell decision ≡ JournalFull → IsWorn old (vc_of old.shape.side cell))
+    → ArrivesWithRoom old cell moment (Some (answer_to cell decision)) new
+arrives_some most old new cell moment decision goes full before led agrees = arrived most old new cell moment decision full before led agrees goes
+
 -- A cell that takes all its steps, after a long journal of its connection is dropped.
 pub arrives_with_room : (most : ℕ) (old new : CoreView) (cell : List ℕ) (moment : ℕ) (decision : Option (Result Judgement Unjudged))
     → IfSome decision (λ t. AnswersKeeping most old 0 cell moment (answer_to cell t) new)
     → IfNone decision (Follows old (Enter 0 cell moment) NotNow new)
     → IfSome decision (λ t. answer_to cell t ≡ JournalFull → IsWorn old (vc_of old.shape.side cell))
     → ArrivesWithRoom old cell moment (option_map (λ t. answer_to cell t) decision) new
-arrives_with_room most old new cell moment None goes not full before led agrees =
-    let on = arrives_once old new cell moment None tt not before led agrees in
-    let no = on.1 in cc
-arrives_with_room most old new cell moment (Some decision) goes not full before led agrees =
-    arrived most old new cell moment decision full before led agrees goes
+arrives_with_room most old new cell moment None goes not full = arrives_none old new cell moment not
+arrives_with_room most old new cell moment (Some decision) goes not full = arrives_some most old new cell moment decision goes full

@@ -3,5 +3,5 @@ use Rattle.lab_police.proofs.police.arrive_with_room.Goals as goal
 
 pub returns : goal.returns
 returns c =
-    arrives_with_room 64 c.args.core.now c.arrive_keeping.new.core c.args.cell.now c.args.moment c.arrive_keeping.result
+    arrives_with_room 64 c.args.core.now c.arrive_keeping.new.self c.args.cell.now c.args.moment c.arrive_keeping.result
     c.arrive_keeping.ensures.answered c.arrive_keeping.ensures.not_now c.arrive_keeping.ensures.full
