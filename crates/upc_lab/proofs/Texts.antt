@@ -1,5 +1,5 @@
 -- Each subcommand has an answer to every input.
-use Rattle.std.proofs.Common.{ℕ, List, Option, None, option_map}
+use Rattle.std.proofs.Common.{ℕ, List, Option, option_map}
 use Rattle.text_io.specs.declared.ending.Done.{Done}
 use Rattle.lab_captures.proofs.Public.{fixed_total, some_capture_text, some_cells_text}
 use Rattle.lab_captures.specs.CellFilter.{filter_start}
@@ -37,7 +37,7 @@ some-asked_text (Police options) setup tick rules old octets =
     some_agreed_text options.lines tick (option_map (λ it. it.nanoseconds) options.tick) options.link setup rules octets
 some-asked_text (Fit options) setup tick rules old octets =
     some_capture_text fit_rules (fixed_total fit_steps fit_closes) (filter_start options.tick.nanoseconds options.link)
-    (fit_start options.increment options.side None) octets tt
+    (fit_start options.increment options.side options.clp) octets tt
 some-asked_text (Forward options) setup tick rules old octets =
     some_agreed_records (others_asked options.others) tick (option_map (λ it. it.nanoseconds) options.tick) options.link setup rules octets
 some-asked_text (Differ options) setup tick rules old octets = some-differ_text (kinds_asked options.programs) options.all old octets

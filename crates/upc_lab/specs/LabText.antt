@@ -1,5 +1,5 @@
 -- The output of each subcommand of `upc-lab`.
-use Rattle.std.specs.Prelude.{ℕ, if◌then◌else◌, Bool, List, Option, None, option_map}
+use Rattle.std.specs.Prelude.{ℕ, if◌then◌else◌, Bool, List, Option, option_map}
 use Rattle.lab_captures.specs.CellsText.{IsCellsText}
 use Rattle.lab_differ.specs.DifferText.{IsDifferAnswer}
 use Rattle.lab_differ.specs.declared.kinds.TextKind.TheVariants.{Rules, Program}
@@ -56,7 +56,7 @@ IsAskedText setup tick rules old (Plain subcommand) = IsLabText subcommand
 IsAskedText setup tick rules old (Why options) = MayBeWhyText options.count
 IsAskedText setup tick rules old (Cells options) = IsCellsText options.tick.nanoseconds options.link
 IsAskedText setup tick rules old (Police options) = MayBePolicedAsAgreed options.lines tick (option_map (λ asked. asked.nanoseconds) options.tick) options.link setup rules
-IsAskedText setup tick rules old (Fit options) = IsFitText options.increment options.tick.nanoseconds options.link options.side None
+IsAskedText setup tick rules old (Fit options) = IsFitText options.increment options.tick.nanoseconds options.link options.side options.clp
 IsAskedText setup tick rules old (Forward options) = HasReportedText (MayBeForwardedAsAgreed (others_asked options.others) tick
     (option_map (λ asked. asked.nanoseconds) options.tick) options.link setup rules)
 IsAskedText setup tick rules old (Differ options) = IsDifferAnswer (kinds_asked options.programs) options.all old

@@ -155,7 +155,7 @@ fn run<R: Threads, I: Ahead + Send, O: Output>(
             options.tick,
             options.link,
             options.side,
-            None,
+            options.clp,
             input,
             output,
         ),
