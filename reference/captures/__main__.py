@@ -16,6 +16,7 @@ def ran(program, case):
     """Returns what the program prints for a case, with its messages, and its status."""
     words = [program, "fit", "--increment", str(case.increment), "--tick", f"{case.tick}ns", "--side", case.side]
     words += [] if case.link is None else ["--link", case.link]
+    words += [] if case.clp is None else ["--clp", str(case.clp)]
     it = subprocess.run(words, input=case.octets, stdout=subprocess.PIPE, stderr=subprocess.PIPE)
     return it.stdout.decode() + it.stderr.decode(), it.returncode
 

@@ -7,8 +7,9 @@ from captures.reading import link_for
 
 SECOND = 2**32
 LONGEST = 65535
-# What `fit` is asked: the octets, the increment in ticks, the tick in nanoseconds, the word of a link or None, and the side.
-Case = namedtuple("Case", "octets increment tick link side")
+# What `fit` is asked: the octets, the increment in ticks, the tick in nanoseconds, the word of a link or None, the side, and the cell loss priority
+# or None.
+Case = namedtuple("Case", "octets increment tick link side clp", defaults=[None])
 
 
 def record(time, header, kind=3, flags=0, octets=52, extensions=0, length=None):
@@ -70,6 +71,7 @@ def edges():
         Case(65535 * record(0, bytes(4)), 2**48, 1, None, "uni"),
         Case(65536 * record(0, bytes(4)), 2**48, 1, None, "uni"),
         Case(record(0, bytes(4)) + record(2**64 - 1, bytes(4)), 2**48, 1, None, "nni"),
+        Case(65536 * record(0, bytes(4)), 2**48, 1, None, "uni", 1),
     ]
 
 
@@ -87,4 +89,4 @@ def case_of(seed, number):
     if random_.random() < 0.05 and len(octets) > 11:
         at = random_.randrange(len(octets))
         octets = octets[:at] + bytes([random_.randrange(256)]) + octets[at + 1 :]
-    return Case(octets, increment, tick, link_for(random_, octets), random_.choice(["uni", "nni"]))
+    return Case(octets, increment, tick, link_for(random_, octets), random_.choice(["uni", "nni"]), random_.choice([None, None, 0, 1]))

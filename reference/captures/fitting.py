@@ -55,11 +55,13 @@ def ended_at(increment, connections):
     return "fault fit {1} {0}\n".format(*min(faults)) if faults else None
 
 
-def fitted(octets, increment, tick, link, side):
-    """Returns the output of `fit` for a capture, and its status."""
+def fitted(octets, increment, tick, link, side, clp):
+    """Returns the output of `fit` for a capture, and its status. Without a cell loss priority all cells are fitted."""
     capture = Capture(octets, tick, link)
     connections = {}
     for cell in capture.cells:
+        if clp is not None and cell.cell[3] % 2 != clp:
+            continue
         connections.setdefault(connection_of(cell.cell, side), []).append(cell)
     ended = capture.refused or ended_at(increment, connections) or capture.several
     if ended:

@@ -6,3 +6,9 @@ pub mod LineLemmas
 pub mod MomentLemmas
 pub mod RunLemmas
 pub mod OrderLemmas
+pub mod LinkLineLemmas
+pub mod LinksOfOctets
+pub mod LinksProgress
+pub mod Public
+pub mod LinkLemmas
+pub mod LinkRows

@@ -17,7 +17,8 @@ use Rattle.lab_captures.specs.declared.filter.Filtered.{Filtered}
 use Rattle.lab_captures.specs.declared.filter.Filtered.TheVariants.{Counts, Passed, Several}
 use Rattle.leaky.specs.Moments.{GoesOn}
 use Rattle.upc_cell.specs.Connection.{is_same_vc, vc_of}
-use Rattle.lab_fit.specs.FitLaws.{MomentsGoOn, moments_counted}
+use Rattle.lab_fit.specs.Fits.{is_of_class}
+use Rattle.lab_fit.specs.FitLaws.{MomentsGoOn, cells_of_class, moments_counted}
 
 div-grows : (a b d : ℕ) → 0 < d → a ≤ b → a / d ≤ b / d
 div-grows a b d some less =
@@ -133,5 +134,7 @@ GoesOn-filter test earliest (cell ∷ cells) goes =
     choice (test cell)
 
 pub moments-go-on : MomentsGoOn
-moments-go-on tick link side frames vc some =
-    GoesOn-filter (λ counted. is_same_vc vc (vc_of side counted.cell)) 0 (counted_cells (filter_start tick link) frames) (cells-go-on (filter_start tick link) frames 0 some refl)
+moments-go-on tick link side clp frames vc some =
+    let cells = counted_cells (filter_start tick link) frames in
+    GoesOn-filter (λ counted. is_same_vc vc (vc_of side counted.cell)) 0 (cells_of_class clp cells)
+    (GoesOn-filter (λ counted. is_of_class clp counted.cell) 0 cells (cells-go-on (filter_start tick link) frames 0 some refl))

@@ -16,7 +16,7 @@ use Rattle.upc_cell.specs.Connection.{is_same_vc, vc_of}
 use Rattle.upc_cell.specs.Header.{header_number, vci_of}
 use Rattle.upc_cell.specs.declared.vc.Vc.{Vc}
 use Rattle.upc_cell.proofs.Public.{vc_is, vc_itself, vc_same}
-use Rattle.lab_fit.specs.Fits.{fit_in, fits_after, with_fit}
+use Rattle.lab_fit.specs.Fits.{fit_in, fits_after, is_of_class, with_fit}
 use Rattle.lab_fit.specs.FitLaws.{LinesAreOfConnections}
 use Rattle.lab_fit.specs.FitText.{FitWorld, connection_key, fit_answer, fit_rules, fit_start, put_in_order}
 use Rattle.lab_fit.specs.declared.connection_fit.ConnectionFit.{ConnectionFit}
@@ -159,17 +159,23 @@ apart-by world counted next (Ok new) is goes apart =
     subst (λ (w : FitWorld). AreApart w.fits) (same_Some (record world { fits = new }) next goes)
     (subst AreApart grew.is (apart-with world.fits grew.fit apart own))
 
+apart-on : (world : FitWorld) (counted : CountedCell) (next : FitWorld) (b : Bool)
+    → (cond b (fit_answer world counted.number (fits_after world.increment world.fits (vc_of world.side counted.cell) counted.moment counted.number)) ([], Some world)).1 ≡ Some next
+    → AreApart world.fits → AreApart next.fits
+apart-on world counted next true goes apart =
+    apart-by world counted next (fits_after world.increment world.fits (vc_of world.side counted.cell) counted.moment counted.number) refl goes apart
+apart-on world counted next false goes apart = subst (λ (w : FitWorld). AreApart w.fits) (same_Some world next goes) apart
+
 run-apart : (world last : FitWorld) (cells : List CountedCell) → RunsThrough fit_rules world cells last → AreApart world.fits → AreApart last.fits
 run-apart world last [] leads apart = subst (λ (w : FitWorld). AreApart w.fits) (sym leads) apart
 run-apart world last (counted ∷ cells) (here, next, step, leads) apart =
     run-apart next last cells leads
-    (apart-by world counted next (fits_after world.increment world.fits (vc_of world.side counted.cell) counted.moment counted.number) refl
-    (ap (λ (s : List ℕ × Option FitWorld). s.1) step) apart)
+    (apart-on world counted next (is_of_class world.clp counted.cell) (ap (λ (s : List ℕ × Option FitWorld). s.1) step) apart)
 
 or-none : (found : Option ConnectionFit) → or_else found None ≡ found
 or-none None = refl
 or-none (Some fit) = refl
 
 pub lines-of-connections : LinesAreOfConnections
-lines-of-connections increment side cells last leads vc small =
-    put-all last.fits [] vc (run-apart (fit_start increment side) last cells leads tt) small ∙ or-none (fit_in vc last.fits)
+lines-of-connections increment side clp cells last leads vc small =
+    put-all last.fits [] vc (run-apart (fit_start increment side clp) last cells leads tt) small ∙ or-none (fit_in vc last.fits)

@@ -1,6 +1,6 @@
 -- A run of `fit` over the cells that count.
 use Rattle.std.proofs.Common.{◌≡◌, ◌≢◌, ℕ, Bool, true, false, cond, List, [], ◌∷◌, Option, Some, None, Result, Ok, Err, refl, sym, ap, ◌∙◌, subst}
-use Rattle.std.specs.Prelude.{MatchOption, length, nat_le, unwrap_or}
+use Rattle.std.specs.Prelude.{MatchOption, length, nat_le, option_map, unwrap_or}
 use Rattle.std.proofs.lemmas.Option.{same_Some}
 use Rattle.lab_captures.specs.CaptureText.{RunsThrough, end_done, text_at_end}
 use Rattle.lab_captures.specs.CellFilter.{CellsEnd}
@@ -12,9 +12,9 @@ use Rattle.upc_cell.specs.Connection.{is_same_vc, vc_of}
 use Rattle.upc_cell.specs.declared.side.Side.{Side}
 use Rattle.upc_cell.specs.declared.vc.Vc.{Vc}
 use Rattle.upc_cell.proofs.Public.{vc_same, vc_itself}
-use Rattle.lab_fit.specs.Fits.{fit_after, fit_in, fits_after, fits_from, is_in_64_bits, most_connections, no_cells, with_fit, with_checked_fit}
+use Rattle.lab_fit.specs.Fits.{fit_after, fit_in, fits_after, fits_from, is_in_64_bits, is_of_class, most_connections, no_cells, with_fit, with_checked_fit}
 use Rattle.lab_fit.specs.FitText.{FitWorld, fit_answer, fit_closes, fit_rules, fit_start, fit_steps}
-use Rattle.lab_fit.specs.FitLaws.{FitsAreLeast, FitsAreWritten, IsFitOf, cells_of_vc}
+use Rattle.lab_fit.specs.FitLaws.{ClassesAreAlone, FitsAreLeast, FitsAreWritten, IsFitOf, cells_of_class, cells_of_vc}
 use Rattle.lab_fit.specs.declared.connection_fit.ConnectionFit.{ConnectionFit}
 use Rattle.lab_fit.specs.declared.fault.FitFault.{FitFault}
 use Rattle.lab_fit.specs.declared.fault.FitFault.TheVariants.{TooManyConnections, TooLarge}
@@ -110,15 +110,16 @@ takes-cell increment fits vc moment number new is =
 record GoesOn (world : FitWorld) (counted : CountedCell) (next : FitWorld) : Type 0 where
   increment : next.increment ≡ world.increment
   side : next.side ≡ world.side
+  clp : next.clp ≡ world.clp
   silent : (fit_steps world counted).0 ≡ []
-  fits : (vc : Vc) (later : List CountedCell) → over world.increment vc (fit_in vc next.fits) (cells_of_vc world.side vc later)
-      ≡ over world.increment vc (fit_in vc world.fits) (cells_of_vc world.side vc (counted ∷ later))
+  fits : (vc : Vc) (later : List CountedCell) → over world.increment vc (fit_in vc next.fits) (cells_of_vc world.side vc (cells_of_class world.clp later))
+      ≡ over world.increment vc (fit_in vc world.fits) (cells_of_vc world.side vc (cells_of_class world.clp (counted ∷ later)))
 
 goes-by : (world : FitWorld) (counted : CountedCell) (next : FitWorld) (answer : Result (List ConnectionFit) FitFault)
     → fits_after world.increment world.fits (vc_of world.side counted.cell) counted.moment counted.number ≡ answer
-    → (fit_answer world counted.number answer).1 ≡ Some next → GoesOn world counted next
-goes-by world counted next (Err fault) is goes = absurd (let no : None ≡ Some next = goes in cc)
-goes-by world counted next (Ok new) is goes =
+    → is_of_class world.clp counted.cell ≡ true → (fit_answer world counted.number answer).1 ≡ Some next → GoesOn world counted next
+goes-by world counted next (Err fault) is of goes = absurd (let no : None ≡ Some next = goes in cc)
+goes-by world counted next (Ok new) is of goes =
     let to : FitWorld = record world { fits = new } in
     let same : to ≡ next = same_Some to next goes in
     let named = vc_of world.side counted.cell in
@@ -127,9 +128,13 @@ goes-by world counted next (Ok new) is goes =
     record {
       increment = ap (λ (w : FitWorld). w.increment) (sym same);
       side = ap (λ (w : FitWorld). w.side) (sym same);
-      silent = ap (λ (r : Result (List ConnectionFit) FitFault). (fit_answer world counted.number r).0) is;
+      clp = ap (λ (w : FitWorld). w.clp) (sym same);
+      silent = ap (λ b. (cond b (fit_answer world counted.number (fits_after world.increment world.fits named counted.moment counted.number)) ([], Some world)).0) of
+          ∙ ap (λ (r : Result (List ConnectionFit) FitFault). (fit_answer world counted.number r).0) is;
       fits = λ vc later.
-          let rest = cells_of_vc world.side vc later in
+          let few = cells_of_class world.clp later in
+          let rest = cells_of_vc world.side vc few in
+          let with_it : cells_of_class world.clp (counted ∷ later) ≡ counted ∷ few = ap (λ b. cond b (counted ∷ few) few) of in
           let choice : (b : Bool) → is_same_vc vc named ≡ b
           → over world.increment vc (fit_in vc new) rest
           ≡ over world.increment vc (fit_in vc world.fits) (cond b (counted ∷ rest) rest) = elim [
@@ -148,24 +153,44 @@ goes-by world counted next (Ok new) is goes =
                 ap (λ (found : Option ConnectionFit). over world.increment vc found rest) (takes.others vc away)
           ] in
           ap (λ (fs : List ConnectionFit). over world.increment vc (fit_in vc fs) rest) (sym fits)
-          ∙ choice (is_same_vc vc named) refl;
+          ∙ choice (is_same_vc vc named) refl
+          ∙ ap (λ (its : List CountedCell). over world.increment vc (fit_in vc world.fits) (cells_of_vc world.side vc its)) (sym with_it);
     }
 
 goes-on : (world : FitWorld) (counted : CountedCell) (next : FitWorld) → (fit_steps world counted).1 ≡ Some next → GoesOn world counted next
 goes-on world counted next goes =
-    goes-by world counted next (fits_after world.increment world.fits (vc_of world.side counted.cell) counted.moment counted.number) refl goes
+    let answer = fits_after world.increment world.fits (vc_of world.side counted.cell) counted.moment counted.number in
+    let choice : (b : Bool) → is_of_class world.clp counted.cell ≡ b
+    → (cond b (fit_answer world counted.number answer) ([], Some world)).1 ≡ Some next → GoesOn world counted next = elim [
+      | true ↦ λ of here. goes-by world counted next answer refl of here
+      | false ↦ λ of here.
+          let same : world ≡ next = same_Some world next here in
+          record {
+            increment = ap (λ (w : FitWorld). w.increment) (sym same);
+            side = ap (λ (w : FitWorld). w.side) (sym same);
+            clp = ap (λ (w : FitWorld). w.clp) (sym same);
+            silent = ap (λ b. (cond b (fit_answer world counted.number answer) ([], Some world)).0) of;
+            fits = λ vc later.
+                let few = cells_of_class world.clp later in
+                let without : cells_of_class world.clp (counted ∷ later) ≡ few = ap (λ b. cond b (counted ∷ few) few) of in
+                ap (λ (w : FitWorld). over world.increment vc (fit_in vc w.fits) (cells_of_vc world.side vc few)) (sym same)
+                ∙ ap (λ (its : List CountedCell). over world.increment vc (fit_in vc world.fits) (cells_of_vc world.side vc its)) (sym without);
+          }
+    ] in
+    choice (is_of_class world.clp counted.cell) refl goes
 
 -- The states of a run.
 run-fits : (world last : FitWorld) (cells : List CountedCell) → RunsThrough fit_rules world cells last → (vc : Vc)
-    → fit_in vc last.fits ≡ over world.increment vc (fit_in vc world.fits) (cells_of_vc world.side vc cells)
+    → fit_in vc last.fits ≡ over world.increment vc (fit_in vc world.fits) (cells_of_vc world.side vc (cells_of_class world.clp cells))
 run-fits world last [] leads vc = ap (λ (w : FitWorld). fit_in vc w.fits) leads
 run-fits world last (counted ∷ cells) (here, next, step, leads) vc =
     let goes = goes-on world counted next (ap (λ (s : List ℕ × Option FitWorld). s.1) step) in
-    let Rest : ℕ → Side → Type 0 = λ increment side.
-    fit_in vc last.fits ≡ over increment vc (fit_in vc next.fits) (cells_of_vc side vc cells) in
-    let rest : Rest next.increment next.side = run-fits next last cells leads vc in
-    let same : Rest world.increment world.side =
-    subst (λ (s : Side). Rest world.increment s) goes.side (subst (λ (n : ℕ). Rest n next.side) goes.increment rest) in
+    let Rest : ℕ → Side → Option ℕ → Type 0 = λ increment side clp.
+    fit_in vc last.fits ≡ over increment vc (fit_in vc next.fits) (cells_of_vc side vc (cells_of_class clp cells)) in
+    let rest : Rest next.increment next.side next.clp = run-fits next last cells leads vc in
+    let same : Rest world.increment world.side world.clp =
+    subst (λ (p : Option ℕ). Rest world.increment world.side p) goes.clp
+    (subst (λ (s : Side). Rest world.increment s next.clp) goes.side (subst (λ (n : ℕ). Rest n next.side next.clp) goes.increment rest)) in
     same ∙ goes.fits vc cells
 
 -- What the state is that a connection has after all its cells.
@@ -179,8 +204,42 @@ all-cells increment vc (cell ∷ cells) found is =
     subst (λ (f : Option ConnectionFit). MatchOption f (all ≡ []) (IsFitOf increment all)) there (through-is increment vc cell cells)
 
 pub fits-are-least : FitsAreLeast
-fits-are-least increment side cells last leads vc =
-    all-cells increment vc (cells_of_vc side vc cells) (fit_in vc last.fits) (run-fits (fit_start increment side) last cells leads vc)
+fits-are-least increment side clp cells last leads vc =
+    all-cells increment vc (cells_of_vc side vc (cells_of_class clp cells)) (fit_in vc last.fits) (run-fits (fit_start increment side clp) last cells leads vc)
+
+-- The state of a run without a class.
+abbrev of_all : FitWorld → FitWorld
+of_all world = record world { clp = None }
+
+-- Its answer to a cell is the same.
+same-answer : (world : FitWorld) (number : ℕ) (answer : Result (List ConnectionFit) FitFault)
+    → fit_answer (of_all world) number answer ≡ ((fit_answer world number answer).0, option_map of_all (fit_answer world number answer).1)
+same-answer world number (Ok fits) = refl
+same-answer world number (Err fault) = refl
+
+run-alone : (world last : FitWorld) (cells : List CountedCell) → RunsThrough fit_rules world cells last
+    → RunsThrough fit_rules (of_all world) (cells_of_class world.clp cells) (of_all last)
+run-alone world last [] leads = ap of_all leads
+run-alone world last (counted ∷ cells) (here, next, step, leads) =
+    let answer = fits_after world.increment world.fits (vc_of world.side counted.cell) counted.moment counted.number in
+    let goes = goes-on world counted next (ap (λ (s : List ℕ × Option FitWorld). s.1) step) in
+    let few = cells_of_class world.clp cells in
+    let rest : RunsThrough fit_rules (of_all next) few (of_all last) =
+    subst (λ (p : Option ℕ). RunsThrough fit_rules (of_all next) (cells_of_class p cells) (of_all last)) goes.clp (run-alone next last cells leads) in
+    let choice : (b : Bool) → cond b (fit_answer world counted.number answer) ([], Some world) ≡ (here, Some next)
+    → RunsThrough fit_rules (of_all world) (cond b (counted ∷ few) few) (of_all last) = elim [
+      | true ↦ λ is.
+          let same : fit_answer (of_all world) counted.number answer ≡ (here, Some (of_all next)) =
+          same-answer world counted.number answer ∙ ap (λ (s : List ℕ × Option FitWorld). (s.0, option_map of_all s.1)) is in
+          (here, of_all next, same, rest)
+      | false ↦ λ is.
+          subst (λ (w : FitWorld). RunsThrough fit_rules (of_all w) few (of_all last))
+          (sym (same_Some world next (ap (λ (s : List ℕ × Option FitWorld). s.1) is))) rest
+    ] in
+    choice (is_of_class world.clp counted.cell) step
+
+pub classes-are-alone : ClassesAreAlone
+classes-are-alone increment side clp cells last leads = run-alone (fit_start increment side clp) last cells leads
 
 -- The text of a run.
 run-text : (world last : FitWorld) (cells : List CountedCell) → RunsThrough fit_rules world cells last → (end : CellsEnd)
@@ -195,6 +254,6 @@ run-text world last (counted ∷ cells) (here, next, step, leads) end =
     ∙ run-text next last cells leads end
 
 pub fits-are-written : FitsAreWritten
-fits-are-written increment side cells last leads end text done =
-    fixed_only fit_steps fit_closes cells end (fit_start increment side) (text_at_end fit_rules last end) text (end_done end) done
-    (run-text (fit_start increment side) last cells leads end)
+fits-are-written increment side clp cells last leads end text done =
+    fixed_only fit_steps fit_closes cells end (fit_start increment side clp) (text_at_end fit_rules last end) text (end_done end) done
+    (run-text (fit_start increment side clp) last cells leads end)

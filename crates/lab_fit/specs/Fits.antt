@@ -1,12 +1,18 @@
 -- The least limit of a connection: the highest level that a cell finds in the bucket, if every cell conforms. Increment and limit are those
 -- of the continuous-state leaky bucket of ITU-T I.371, annex A.
-use Rattle.std.specs.Prelude.{ℕ, ◌+◌, ◌^◌, nat_lt, nat_le, max, Bool, ◌&&◌, if◌then◌else◌, Option, Some, None, Result, Ok, Err, List, [], ◌∷◌, length}
+use Rattle.std.specs.Prelude.{ℕ, ◌+◌, ◌^◌, nat_lt, nat_le, ◌==◌, max, Bool, true, ◌&&◌, if◌then◌else◌, Option, Some, None, Result, Ok, Err, List, [], ◌∷◌, length}
 use Rattle.leaky.specs.Bucket.{Bucket, level_at}
 use Rattle.upc_cell.specs.Connection.{is_same_vc}
+use Rattle.upc_cell.specs.Header.{clp_of}
 use Rattle.upc_cell.specs.declared.vc.Vc.{Vc}
 use Rattle.lab_fit.specs.declared.connection_fit.ConnectionFit.{ConnectionFit}
 use Rattle.lab_fit.specs.declared.fault.FitFault.{FitFault}
 use Rattle.lab_fit.specs.declared.fault.FitFault.TheVariants.{TooManyConnections, TooLarge}
+
+-- Whether a cell is of the class that is asked for: of this cell loss priority (CLP), if one is asked for.
+abbrev pub is_of_class : Option ℕ → List ℕ → Bool
+is_of_class None cell = true
+is_of_class (Some clp) cell = clp_of cell == clp
 
 -- The bucket after the cells so far.
 abbrev pub bucket_of : ConnectionFit → Bucket

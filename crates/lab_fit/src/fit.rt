@@ -3,7 +3,8 @@
 ghost use Rattle.std.specs.Prelude.{◌≡◌, ◌++◌, IfOk, IfSome, OnOk};
 ghost use Rattle.text_io.specs.Serving.{IsServed};
 ghost use Rattle.upc_cell.specs.Connection.{vc_of};
-ghost use Rattle.lab_fit.specs.Fits.{fits_after};
+ghost use Rattle.upc_cell.specs.Header.{clp_of};
+ghost use Rattle.lab_fit.specs.Fits.{fits_after, is_of_class};
 ghost use Rattle.lab_fit.specs.FitText.{IsFitText, fit_answer, fit_start};
 ghost use Rattle.lab_fit.specs.inner.FitShown.{TurnsFit, fit_world};
 
@@ -14,7 +15,24 @@ use lab_captures::{CellFollower, CountedCell, PassedOver, add_closing, follow_ce
 use std::alloc::{AllocError, Global};
 use std::thread::Threads;
 use text_io::{Done, Input, Output, RunFault, Turn};
-use upc_cell::Side;
+use upc_cell::{Cell, Side};
+
+/// Returns the cell loss priority of a cell.
+fn clp_number(cell: &Cell) -> u8
+    ensures { result ≡ clp_of cell.now }
+{
+    if cell.clp() { 1 } else { 0 }
+}
+
+/// Returns whether a cell has this cell loss priority, or none is asked for.
+fn is_of_class(cell: &Cell, clp: Option<u8>) -> bool
+    ensures { result ≡ is_of_class clp cell.now }
+{
+    match clp {
+        None => true,
+        Some(clp) => clp_number(cell) == clp,
+    }
+}
 
 /// A run of `fit`.
 #[derive(Drop)]
@@ -24,19 +42,22 @@ pub(crate) struct FitRun {
     increment: u64,
     /// The side at which headers are read.
     side: Side,
+    /// The cell loss priority of the cells that are read, if not all are.
+    clp: Option<u8>,
     connections: Connections,
 }
 
 impl FitRun {
     /// Starts a run. Returns None if an allocation fails.
-    fn new(alloc: Global, increment: u64, side: Side) -> Option<FitRun>
-        ensures { IfSome result (λ run. fit_world run ≡ fit_start increment side) }
+    fn new(alloc: Global, increment: u64, side: Side, clp: Option<u8>) -> Option<FitRun>
+        ensures { IfSome result (λ run. fit_world run ≡ fit_start increment side clp) }
     {
         let connections = Connections::new(alloc)?;
         Some(FitRun {
             alloc,
             increment,
             side,
+            clp,
             connections,
         })
     }
@@ -59,6 +80,9 @@ impl CellFollower for FitRun {
         counted: &CountedCell,
         answers: &mut Vec<u8>,
     ) -> Result<Turn, AllocError> {
+        if !is_of_class(&counted.cell, self.clp) {
+            return Ok(Turn::GoesOn);
+        }
         let vc = counted.cell.vc_at(self.side);
         match self
             .connections
@@ -89,7 +113,8 @@ impl CellFollower for FitRun {
 /// Answers a capture by the least limit of each of its connections, in ticks, under which all its cells conform to one bucket of this increment, in
 /// ticks: what is called the observed cell delay variation. A line for each connection, in order of path and channel, has its path, its
 /// channel, the number of its cells, the limit, and the number of the first record whose cell needs that limit. `upc-lab cells` writes the
-/// same cells at the same moments. Headers are read at this side.
+/// same cells at the same moments. Headers are read at this side. If a cell loss priority is asked for, a line is about the cells that have it, and the
+/// others count for nothing.
 ///
 /// A cell of a 65,536th connection ends the run, and so does one after which 64 bits don't hold the number of its connection's cells or the
 /// ticks in the bucket. If no link is asked for, a cell of a second link ends the run. Comments say how many records were passed
@@ -110,12 +135,13 @@ pub fn fit_capture<R: Threads, I: Input + Send, O: Output>(
     tick: Tick,
     link: Option<Link>,
     side: Side,
+    clp: Option<u8>,
     input: &mut I,
     output: &mut O,
 ) -> Result<Done, RunFault>
-    ensures { IsServed (IsFitText increment tick.nanoseconds link side) I.Input input.old input.new O.Output output.old output.new result }
+    ensures { IsServed (IsFitText increment tick.nanoseconds link side clp) I.Input input.old input.new O.Output output.old output.new result }
 {
-    let Some(mut run) = FitRun::new(alloc, increment, side) else {
+    let Some(mut run) = FitRun::new(alloc, increment, side, clp) else {
         return Err(RunFault::NoMemory);
     };
     follow_cells(rt, threads, alloc, tick, link, input, output, &mut run)

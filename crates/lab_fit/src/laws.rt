@@ -1,6 +1,8 @@
 //! Laws of the definitions that this crate's contracts cite. Each function does nothing; its contract is the law.
 
-ghost use Rattle.lab_fit.specs.FitLaws.{CapturesHaveOneFitText, FitsAreLeast, FitsAreWritten, LinesAreOfConnections, MomentsGoOn};
+ghost use Rattle.lab_fit.specs.FitLaws.{CapturesHaveOneFitText, ClassesAreAlone, FitsAreLeast, FitsAreWritten, LinesAreOfConnections, MomentsGoOn};
+ghost use Rattle.lab_fit.specs.LinkLaws.{LinksAreCounted, RowsAreFew};
+ghost use Rattle.lab_fit.specs.LinksText.{CapturesHaveOneLinksText};
 
 /// The limit of each connection is the least one under which all its cells conform, and the named record is the first whose cell doesn't conform
 /// under one less.
@@ -8,7 +10,12 @@ pub fn fits_are_least()
     ensures { FitsAreLeast }
 {}
 
-/// The moments of a connection's cells never go back.
+/// The cells of a class alone, without a class, have the states of the class.
+pub fn classes_are_alone()
+    ensures { ClassesAreAlone }
+{}
+
+/// The moments of a connection's cells of a class never go back.
 pub fn moments_go_on()
     ensures { MomentsGoOn }
 {}
@@ -23,7 +30,22 @@ pub fn lines_are_of_connections()
     ensures { LinesAreOfConnections }
 {}
 
-/// A file has one text of `fit`, for each increment, tick, link and side.
+/// A file has one text of `fit`, for each increment, tick, link, side and class.
 pub fn captures_have_one_text()
     ensures { CapturesHaveOneFitText }
+{}
+
+/// A file has one text of `links`.
+pub fn captures_have_one_links_text()
+    ensures { CapturesHaveOneLinksText }
+{}
+
+/// Each link of a cell has one row of `links`, which says what its records say, unless 4096 others have one.
+pub fn links_are_counted()
+    ensures { LinksAreCounted }
+{}
+
+/// At most 4096 links have a row.
+pub fn rows_are_few()
+    ensures { RowsAreFew }
 {}

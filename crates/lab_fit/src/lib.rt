@@ -1,4 +1,5 @@
-//! The least limit of each connection of a captured link, under which all its cells conform: the observed cell delay variation.
+//! What a capture says of its links, and of the connections of one: the cells, times and losses of each link (`upc-lab links`), and the least limit of
+//! each connection under which all its cells conform, which is the observed cell delay variation (`upc-lab fit`).
 #![tactic(auto)]
 
 mod connection_fit;
@@ -7,7 +8,15 @@ mod fault;
 mod fit;
 mod fit_lines;
 pub mod laws;
+mod link_lines;
+mod link_table;
+mod link_tally;
+mod links;
+mod links_driver;
+mod links_reading;
 
 pub use connection_fit::ConnectionFit;
 pub use fault::FitFault;
 pub use fit::fit_capture;
+pub use link_tally::LinkTally;
+pub use links::links_of_capture;

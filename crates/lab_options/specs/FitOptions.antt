@@ -9,7 +9,7 @@ use Rattle.command_line.specs.declared.stop.Stop.{Stop}
 use Rattle.lab_options.specs.CellsOptions.{link_rule, tick_rule}
 use Rattle.lab_options.specs.OptionAnswers.{Asks, IsOptionStop}
 use Rattle.lab_options.specs.LinkOption.{link_of}
-use Rattle.lab_options.specs.OptionValues.{fit_increment_of, fit_side_of, tick_of}
+use Rattle.lab_options.specs.OptionValues.{asked_clp_of, fit_increment_of, fit_side_of, tick_of}
 use Rattle.lab_options.specs.declared.fit.FitOptions.{FitOptions}
 use Rattle.upc_cell.specs.declared.side.Side.{Side}
 
@@ -21,16 +21,21 @@ increment_rule = argument_rule (codes "increment") true None true
 abbrev pub side_rule : Rule
 side_rule = argument_rule (codes "side") true (Some (codes "uni")) false
 
+-- The option `--clp CLP`.
+abbrev pub clp_rule : Rule
+clp_rule = argument_rule (codes "clp") true None false
+
 -- The command `upc-lab fit`: these options, those of `cells`, and that for help, which every command has.
 unfoldable pub fit_app : App
-fit_app = app_with_rules (codes "upc-lab fit") (increment_rule ∷ tick_rule ∷ link_rule ∷ side_rule ∷ [])
+fit_app = app_with_rules (codes "upc-lab fit") (increment_rule ∷ tick_rule ∷ link_rule ∷ side_rule ∷ clp_rule ∷ [])
 
--- What is asked for: the increment in ticks, the nanoseconds of a tick, the link, if any, and the side.
+-- What is asked for: the increment in ticks, the nanoseconds of a tick, the link, if any, the side, and the cell loss priority, if any.
 pub record FitAsked : Type 0 where
   pub increment : ℕ
   pub nanoseconds : ℕ
   pub link : Option Link
   pub side : Side
+  pub clp : Option ℕ
 
 -- What options of `fit` ask for.
 abbrev pub asked_by : FitOptions → FitAsked
@@ -39,22 +44,25 @@ asked_by options = record {
   nanoseconds = options.tick.nanoseconds;
   link = options.link;
   side = options.side;
+  clp = options.clp;
 }
 
 -- What these values spell, if each spells something.
-abbrev pub fit_values : Option Text → Option Text → Option Text → Option Text → Option FitAsked
-fit_values increment tick link side =
-    option_and_then (λ ticks. option_and_then (λ nanoseconds. option_and_then (λ asked. option_map (λ at. record {
+abbrev pub fit_values : Option Text → Option Text → Option Text → Option Text → Option Text → Option FitAsked
+fit_values increment tick link side clp =
+    option_and_then (λ ticks. option_and_then (λ nanoseconds. option_and_then (λ asked. option_and_then (λ at. option_map (λ priority. record {
       increment = ticks;
       nanoseconds = nanoseconds;
       link = asked;
       side = at;
-    }) (fit_side_of side)) (link_of link)) (tick_of tick)) (fit_increment_of increment)
+      clp = priority;
+    }) (asked_clp_of clp)) (fit_side_of side)) (link_of link)) (tick_of tick)) (fit_increment_of increment)
 
 -- What the values of the options in the words spell.
 abbrev pub fit_asked : List Text → Option FitAsked
 fit_asked words = fit_values (argument_value fit_app words (codes "increment")) (argument_value fit_app words (codes "tick"))
     (argument_value fit_app words (codes "link")) (argument_value fit_app words (codes "side"))
+    (argument_value fit_app words (codes "clp"))
 
 -- The words have no error for clap, and ask for this.
 abbrev pub AsksFit : List Text → FitAsked → Type 0

@@ -37,6 +37,18 @@ side_named word =
 abbrev pub fit_side_of : Option Text → Option Side
 fit_side_of text = option_and_then side_named text
 
+-- The cell loss priority (CLP) that a word names.
+abbrev pub clp_named : Text → Option ℕ
+clp_named word =
+    if bytes_eq word (codes "0") then Some 0
+    else if bytes_eq word (codes "1") then Some 1
+    else None
+
+-- The cell loss priority that is asked for, if one is.
+abbrev pub asked_clp_of : Option Text → Option (Option ℕ)
+asked_clp_of None = Some None
+asked_clp_of (Some word) = option_map Some (clp_named word)
+
 -- The name of a file that a word is, unless it is empty.
 abbrev pub file_named : Text → Option Text
 file_named word = if length word == 0 then None else Some word

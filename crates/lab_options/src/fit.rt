@@ -8,7 +8,8 @@ ghost use Rattle.lab_options.specs.inner.Answered.{AnswersValues, fit_spelled};
 
 use crate::link::link_of;
 use crate::values::{
-    LINK, TICK, WRONG_LINK, WRONG_TICK, fit_increment_of, fit_side_of, tick_of, wrong_value,
+    LINK, TICK, WRONG_LINK, WRONG_TICK, asked_clp_of, fit_increment_of, fit_side_of, tick_of,
+    wrong_value,
 };
 use captures::{Link, Tick};
 use command_line::{Argument, Form, Options, Stop, Value, values_of_words};
@@ -26,6 +27,8 @@ pub struct FitOptions {
     pub link: Option<Link>,
     /// The side at which headers are read.
     pub side: Side,
+    /// The cell loss priority (CLP) of the cells that are read, 0 or 1. Without one all cells are read.
+    pub clp: Option<u8>,
 }
 
 const INCREMENT: Argument = Argument {
@@ -44,15 +47,23 @@ const SIDE: Argument = Argument {
     help: "Where headers are read: uni, or nni between nodes",
 };
 
+const CLP: Argument = Argument {
+    name: "clp",
+    form: Form::Valued("CLP"),
+    default: None,
+    required: false,
+    help: "Only the cells of this cell loss priority, 0 or 1",
+};
+
 const FIT: Options = Options {
     name: "upc-lab fit",
     about: "Print the least limit under which all cells of each connection of a capture conform",
     after_help: "Standard input is an ERF file, or pcap or pcapng with ERF records.\nExample: examples/make-capture | upc-lab fit --increment 10 --tick 1us",
-    arguments: &[INCREMENT, TICK, LINK, SIDE],
+    arguments: &[INCREMENT, TICK, LINK, SIDE, CLP],
 };
 
 /// Reads the words after `upc-lab fit`: `--increment T`, `--tick TIME`, which is 100ns if it isn't given, `--link LINK`, and
-/// `--side SIDE`, which is uni if it isn't given. The forms of help that `clap` has request help. Any other word is an error,
+/// `--side SIDE`, which is uni if it isn't given, and `--clp CLP`. The forms of help that `clap` has request help. Any other word is an error,
 /// and so are a wrong value and words without an increment.
 pub fn fit_options(alloc: Global, words: Vec<String>) -> Result<FitOptions, Stop>
     ensures asked { IfOk result (λ options. AsksFit (map string_bytes words.items) (asked_by options)) }
@@ -83,11 +94,15 @@ fn read(alloc: Global, values: &[Value]) -> Result<FitOptions, Stop>
     let Some(side) = fit_side_of(values) else {
         return Err(wrong_value(alloc, "error: the value of '--side' is uni or nni\n"));
     };
+    let Some(clp) = asked_clp_of(values) else {
+        return Err(wrong_value(alloc, "error: the value of '--clp' is 0 or 1\n"));
+    };
     Ok(FitOptions {
         increment,
         tick,
         link,
         side,
+        clp,
     })
 }
 

@@ -2,7 +2,7 @@
 
 ghost use Rattle.std.specs.Prelude.{◌≡◌, codes, option_map};
 ghost use Rattle.command_line.specs.Arguments.{text_named, texts_of};
-ghost use Rattle.lab_options.specs.OptionValues.{asked_tick_of, cell_lines_of, fit_increment_of, fit_side_of, file_name_of, file_named, is_given, others_of, pairs_of, threads_of, tick_of};
+ghost use Rattle.lab_options.specs.OptionValues.{asked_clp_of, asked_tick_of, cell_lines_of, clp_named, fit_increment_of, fit_side_of, file_name_of, file_named, is_given, others_of, pairs_of, threads_of, tick_of};
 ghost use Rattle.lab_options.specs.inner.Answered.{IsWrongValue};
 
 use captures::Tick;
@@ -94,6 +94,27 @@ pub(crate) fn fit_side_of(values: &[Value]) -> Option<Side>
         "nni" => Some(Side::Nni),
         _ => None,
     }
+}
+
+/// Returns the cell loss priority that a word names.
+fn clp_named(word: &str) -> Option<u8>
+    ensures { result ≡ clp_named word.now }
+{
+    match word {
+        "0" => Some(0),
+        "1" => Some(1),
+        _ => None,
+    }
+}
+
+/// Returns the cell loss priority that the value of `--clp` names, if it is given. None if it names none.
+pub(crate) fn asked_clp_of(values: &[Value]) -> Option<Option<u8>>
+    ensures { result ≡ asked_clp_of (text_named (texts_of values.now) (codes "clp")) }
+{
+    let Some(word) = text_of(values, "clp") else {
+        return Some(None);
+    };
+    Some(Some(clp_named(word)?))
 }
 
 /// Returns the name of a file that a word is, unless it is empty.

@@ -7,7 +7,7 @@ use Rattle.lab_differ.proofs.Public.{some-differ_text, some-unused_text}
 use Rattle.lab_faults.proofs.Public.{some-explain_text}
 use Rattle.lab_forward.proofs.Public.{some_agreed_records}
 use Rattle.lab_fit.specs.FitText.{fit_closes, fit_rules, fit_start, fit_steps}
-use Rattle.lab_links.proofs.Public.{some_links_text}
+use Rattle.lab_fit.proofs.Public.{some_links_text}
 use Rattle.lab_programs.proofs.Public.{some-list_text, some-trace_text}
 use Rattle.lab_rules.proofs.Public.{some-asm_text, some-rules_text, some-why_text}
 use Rattle.lab_police.proofs.Public.{some_agreed_text}
@@ -37,7 +37,7 @@ some-asked_text (Police options) setup tick rules old octets =
     some_agreed_text options.lines tick (option_map (λ it. it.nanoseconds) options.tick) options.link setup rules octets
 some-asked_text (Fit options) setup tick rules old octets =
     some_capture_text fit_rules (fixed_total fit_steps fit_closes) (filter_start options.tick.nanoseconds options.link)
-    (fit_start options.increment options.side) octets tt
+    (fit_start options.increment options.side options.clp) octets tt
 some-asked_text (Forward options) setup tick rules old octets =
     some_agreed_records (others_asked options.others) tick (option_map (λ it. it.nanoseconds) options.tick) options.link setup rules octets
 some-asked_text (Differ options) setup tick rules old octets = some-differ_text (kinds_asked options.programs) options.all old octets

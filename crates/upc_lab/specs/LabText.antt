@@ -11,7 +11,7 @@ use Rattle.lab_forward.specs.AgreedForward.{MayBeForwardedAsAgreed}
 use Rattle.lab_forward.specs.Reporting.{HasReportedText}
 use Rattle.lab_forward.specs.declared.others.Others.{Others}
 use Rattle.lab_forward.specs.declared.others.Others.TheVariants.{Pass, Drop}
-use Rattle.lab_links.specs.LinksText.{IsLinksText}
+use Rattle.lab_fit.specs.LinksText.{IsLinksText}
 use Rattle.lab_options.specs.declared.programs.Programs.{Programs}
 use Rattle.lab_options.specs.declared.programs.Programs.TheVariants as which
 use Rattle.lab_programs.specs.ListedProgram.{IsListText}
@@ -56,7 +56,7 @@ IsAskedText setup tick rules old (Plain subcommand) = IsLabText subcommand
 IsAskedText setup tick rules old (Why options) = MayBeWhyText options.count
 IsAskedText setup tick rules old (Cells options) = IsCellsText options.tick.nanoseconds options.link
 IsAskedText setup tick rules old (Police options) = MayBePolicedAsAgreed options.lines tick (option_map (λ asked. asked.nanoseconds) options.tick) options.link setup rules
-IsAskedText setup tick rules old (Fit options) = IsFitText options.increment options.tick.nanoseconds options.link options.side
+IsAskedText setup tick rules old (Fit options) = IsFitText options.increment options.tick.nanoseconds options.link options.side options.clp
 IsAskedText setup tick rules old (Forward options) = HasReportedText (MayBeForwardedAsAgreed (others_asked options.others) tick
     (option_map (λ asked. asked.nanoseconds) options.tick) options.link setup rules)
 IsAskedText setup tick rules old (Differ options) = IsDifferAnswer (kinds_asked options.programs) options.all old

@@ -24,9 +24,8 @@ use command_line::{Stop, status, write_message};
 use lab_captures::cells_of_capture;
 use lab_differ::{Finding, TextKind, TextKinds, compare_texts, ended_by, unused_in_text};
 use lab_faults::{Ahead, explain_faults};
-use lab_fit::fit_capture;
+use lab_fit::{fit_capture, links_of_capture};
 use lab_forward::{Others, forward_as_agreed};
-use lab_links::links_of_capture;
 use lab_options::{DifferOptions, ForwardOptions, Programs};
 use lab_police::{PoliceChoice, police_as_agreed};
 use lab_programs::{list_program, trace_cells};
@@ -156,6 +155,7 @@ fn run<R: Threads, I: Ahead + Send, O: Output>(
             options.tick,
             options.link,
             options.side,
+            options.clp,
             input,
             output,
         ),

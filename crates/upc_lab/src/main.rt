@@ -19,8 +19,7 @@ pub use invocation::{carry_out, shell_status};
 pub use lab_captures::cells_of_capture;
 pub use lab_differ::{Finding, TextKind, TextKinds, compare_texts, unused_in_text};
 pub use lab_faults::{LookedAt, explain_faults};
-pub use lab_fit::fit_capture;
-pub use lab_links::links_of_capture;
+pub use lab_fit::{fit_capture, links_of_capture};
 pub use lab_options::{
     CellsOptions, DifferOptions, FitOptions, ForwardOptions, PoliceOptions, Programs, WhyOptions,
     cells_options, differ_options, fit_options, forward_options, police_options, why_options,

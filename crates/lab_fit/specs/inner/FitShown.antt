@@ -10,6 +10,7 @@ abbrev pub fit_world : FitRun → FitWorld
 fit_world run = record {
   increment = run.increment;
   side = run.side;
+  clp = run.clp;
   fits = run.connections;
 }
 

@@ -39,6 +39,7 @@ fn fitted(
         tick,
         link,
         Side::Uni,
+        None,
         &mut source,
         &mut sink,
     )?;

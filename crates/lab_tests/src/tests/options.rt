@@ -86,19 +86,21 @@ fn help_is_requested(rt: HostRuntime) -> Result<(), Fail> {
 #[test]
 fn fit_wants_an_increment(rt: HostRuntime) -> Result<(), Fail> {
     let tick = Tick::new(100).expect(&rt, "a tick");
-    for (line, increment, link, side) in [
-        ("--increment 1", 1, None, Side::Uni),
+    for (line, increment, link, side, clp) in [
+        ("--increment 1", 1, None, Side::Uni, None),
         (
             "--increment 281474976710656 --side nni",
             1 << 48,
             None,
             Side::Nni,
+            None,
         ),
         (
-            "--side=uni --link 3 --increment=10",
+            "--side=uni --link 3 --increment=10 --clp 0",
             10,
             Some(plain(3)),
             Side::Uni,
+            Some(0),
         ),
     ] {
         let options = FitOptions {
@@ -106,6 +108,7 @@ fn fit_wants_an_increment(rt: HostRuntime) -> Result<(), Fail> {
             tick,
             link,
             side,
+            clp,
         };
         let answer = fit_options(rt.alloc(), words_of(rt.alloc(), line)?);
         assert!(rt; matches!(answer, Ok(found) if found == options), "{line}");
@@ -118,6 +121,7 @@ fn fit_wants_an_increment(rt: HostRuntime) -> Result<(), Fail> {
         "--increment 1 --side both",
         "--increment 1 --tick 0s",
         "--increment 1 --link 8",
+        "--increment 1 --clp 2",
     ] {
         let answer = fit_options(rt.alloc(), words_of(rt.alloc(), line)?);
         assert!(rt; matches!(answer, Err(Stop::Words(_))), "{line}");

@@ -11,7 +11,7 @@ returns-in_default g c =
     record {
       text = λ ki ko. tt;
       front = λ ki ko.
-          no_front fit_rules (fixed_total fit_steps fit_closes) (filter_start c.args.tick.nanoseconds c.args.link) (fit_start c.args.increment c.args.side)
+          no_front fit_rules (fixed_total fit_steps fit_closes) (filter_start c.args.tick.nanoseconds c.args.link) (fit_start c.args.increment c.args.side c.args.clp)
           (g.I.Input.rest c.args.input.now) (g.O.Output.held c.args.output.now) tt;
       left = λ ki. tt;
       whole = λ ki same. cc;
@@ -20,4 +20,4 @@ returns-in_default g c =
     }
 
 pub returns : goal.returns
-returns g c = c.follow_cells.ensures (fit_start c.args.increment c.args.side) tt (sym c.in-Some.ensures)
+returns g c = c.follow_cells.ensures (fit_start c.args.increment c.args.side c.args.clp) tt (sym c.in-Some.ensures)

@@ -1,4 +1,0 @@
-pub mod LineLemmas
-pub mod LinksOfOctets
-pub mod LinksProgress
-pub mod Public

@@ -1,3 +1,0 @@
-pub mod LinkTallies
-pub mod LinksText
-pub mod inner

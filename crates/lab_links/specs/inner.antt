@@ -1,3 +1,0 @@
--- Definitions that only private functions and proofs use.
-pub mod LinkStates
-pub mod LinksSteps
