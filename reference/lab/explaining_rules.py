@@ -6,13 +6,13 @@ from rules.__main__ import LONG_CODE, MOST_OCTETS, OVER_LIMIT, may_be_too_long
 from rules.making import cells_for, mutated, padded
 from rules.making import text_of as any_text
 from rules.meaning import decision_of
-from rules.reader import Fault, read_rules, tokens_of
+from rules.reader import Fault, place_of, read_rules, tokens_of
 from rules.unused import holding, small_text
 from policer.text_lines import source_lines
 
 LONG_CODE_WORDS = "the code of these rules has more than 4096 instructions\n"
 UNDECIDED = "hint: not decided: too many cases\n"
-HINT = re.compile(r"hint line (\d+): this rule (holds of no cell|decides no cell; (line .*) takes? (?:its) cells)\n")
+HINT = re.compile(r"hint line (\d+)(?: column (\d+))?: this rule (holds of no cell|decides no cell; (line .*) takes? (?:its) cells)\n")
 
 
 def text_of(source):
@@ -27,7 +27,9 @@ def text_of(source):
 def begins_of(text, fault):
     """Returns how the explanation of a fault begins: without a column if no token is at its place."""
     tokens, _ = tokens_of(source_lines(text)[fault.line - 1])
-    column = f" column {fault.column}" if fault.column in [at for _, at in tokens] else ""
+    # `;` and the `}` after a line that ends too early are no tokens of the line.
+    blamed = [at for token, at in tokens if token != b";" and (token != b"}" or fault.name != "BadLine")]
+    column = f" column {fault.column}" if fault.column in blamed else ""
     return f"line {fault.line}{column}: "
 
 
@@ -43,9 +45,9 @@ def wrong_fault(text, fault, answer, status):
 
 def takers_named(words):
     """Returns the lines that a hint names, and how many more there are."""
-    numbers = [int(one) for one in re.findall(r"line (\d+)", words or "")]
+    places = [place_of(one) for one in re.findall(r"line (\d+(?::\d+)?)", words or "")]
     more = re.search(r" and (\d+) more$", words or "")
-    return numbers, int(more[1]) if more else 0
+    return places, int(more[1]) if more else 0
 
 
 def wrong_hints(reader, hints, cells, is_all):
@@ -60,10 +62,10 @@ def wrong_hints(reader, hints, cells, is_all):
         decided.add(line)
         for number in holding(reader, cell):
             takers[number].add(line)
-    hinted = [int(number) for number, _, _ in found]
+    hinted = [(int(line), int(column or 0)) for line, column, _, _ in found]
     if hinted != sorted(hinted) or not set(hinted) <= rules - decided or (is_all and set(hinted) != rules - decided):
         return f"hints about {hinted}, and {sorted(rules - decided)} decided none of the cells"
-    for number, (_, kind, words) in zip(hinted, found):
+    for number, (_, _, kind, words) in zip(hinted, found):
         named, more = takers_named(words)
         if kind.startswith("holds") != (not named) or len(named) > 8 or (more and len(named) < 8) or any(at >= number for at in named):
             return f"the lines of the hint about line {number}: {words!r}"

@@ -16,7 +16,7 @@ from policer.machine import value_and_steps
 
 from rules.making import cells_for, padded, text_of
 from rules.meaning import decision_of, value_of
-from rules.reader import Fault, read_rules
+from rules.reader import Fault, place_words, read_rules
 from rules.words import outcomes
 
 
@@ -51,15 +51,15 @@ def may_be_too_long(reader):
 
 def shown(decision):
     """Returns the answer of `why` to a cell."""
-    number, value = decision
-    return f"otherwise value {value}\n" if number is None else f"line {number} value {value}\n"
+    place, value = decision
+    return f"otherwise value {value}\n" if place is None else f"line {place_words(place)} value {value}\n"
 
 
 def counted(reader, decisions):
     """Returns the answer of `why --count` to cells that were decided so: a line for each rule, in order, and one for the others."""
-    decided = [number for number, _ in decisions]
-    numbers = [line[3] for line in reader.rules if line[0] == "rule"]
-    rules = "".join(f"line {number} cells {decided.count(number)}\n" for number in numbers)
+    decided = [place for place, _ in decisions]
+    places = [line[3] for line in reader.rules if line[0] == "rule"]
+    rules = "".join(f"line {place_words(place)} cells {decided.count(place)}\n" for place in places)
     return f"{rules}otherwise cells {decided.count(None)}\n"
 
 

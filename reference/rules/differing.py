@@ -13,16 +13,16 @@ import sys
 import tempfile
 
 from rules.__main__ import with_deep_stack
-from rules.making import cells_for, definitions, lines, mutated
+from rules.making import cells_for, definitions, joined, lines, mutated
 from rules.meaning import decision_of
-from rules.reader import Fault, read_rules
+from rules.reader import Fault, place_words, read_rules
 
 SAME = "same on every cell"
 NOT_DECIDED = "not decided: more than 4194304 cases\n"
 # Few pairs of texts may have so many cases that nothing is decided.
 MOST_UNDECIDED = 0.1
 LINE = re.compile(
-    r"old (line \d+|otherwise|program) value (\d+), new (line \d+|otherwise|program) value (\d+): ([a-z0-9 ]*): ([0-9a-f]{104})\n")
+    r"old (line \d+(?::\d+)?|otherwise|program) value (\d+), new (line \d+(?::\d+)?|otherwise|program) value (\d+): ([a-z0-9 ]*): ([0-9a-f]{104})\n")
 NUMBER = re.compile(r"\d+")
 
 
@@ -36,7 +36,7 @@ class OfRules:
     def given(self, cell):
         """Returns what decides the cell, in words, and its value."""
         line, value = decision_of(self.reader, cell)
-        return (f"line {line}" if line else "otherwise"), value
+        return (f"line {place_words(line)}" if line else "otherwise"), value
 
 
 def compared(program, old, new, words):
@@ -143,7 +143,7 @@ def text_of(source):
     source.tests, source.lists, source.contracts = [], [], []
     made = [source.choice(["side nni", "side uni"])] if source.random() < 0.1 else []
     made += definitions(source) if source.random() < 0.2 else []
-    return "\n".join(made + lines(source, source.choice([1, 2, 5, 12]), 3)) + source.choice(["", "\notherwise -> 7"])
+    return "\n".join(joined(source, made + lines(source, source.choice([1, 2, 5, 12]), 3))) + source.choice(["", "\notherwise -> 7"])
 
 
 def difference(program, source):

@@ -112,6 +112,19 @@ def definitions(source):
     return made
 
 
+def joined(source, lines):
+    """Returns lines with some of them on one source line, where `;` or a brace comes between them. No comment has a line after it."""
+    made, at_once = [], source.choice([0, 0, 0.2, 0.9])
+    for line in lines:
+        if not made or "#" in made[-1].rsplit("\n", 1)[-1] or source.random() >= at_once:
+            made.append(line)
+            continue
+        needs = not made[-1].endswith(("{", "}")) and line != "}"
+        made[-1] += source.choice(["; ", ";", " ; "]) if needs else source.choice([" ", "", "  ", "; "])
+        made[-1] += line
+    return made
+
+
 def lines(source, count, depth):
     """Returns lines."""
     made = []
@@ -130,7 +143,7 @@ def lines(source, count, depth):
 def mutated(source, text):
     """Returns the text with a small change."""
     at = source.randrange(len(text) + 1)
-    piece = source.choice(["", " ", "(", ")", "{", "}", "->", "..", "x", "9", "0x", "&", ",", "\n", "not ", "otherwise", "-", "99999999999", "gfc", "/", "*", "!", "=", "&&", "|"])
+    piece = source.choice(["", " ", "(", ")", "{", "}", "->", "..", "x", "9", "0x", "&", ",", "\n", "not ", "otherwise", "-", "99999999999", "gfc", "/", "*", "!", "=", "&&", "|", ";", ";", "}"])
     return text[:at] + piece + text[at + source.choice([0, 0, 1, 2]):]
 
 
@@ -183,6 +196,10 @@ AT_LIMITS = (
     "define a b = 1", "define a = 1 and vpi 1", "define a = 1, 2..1", "define a = 1,", "define a = 4294967296", "define a = 4294967295..0xffffffff", "define a = 0x/1",
     "define a = 1 / 2, 3", "define a = 256/1", "define a = (any", "define a = any)", "define a = any -> 1", "define a = (any {", "define a = (any and", "define a = b",
     "define a = }", "define a = refuse", "define a = vci 5..4", "contract", "contract a", "contract a =", "contract a = 1 2", "contract a = any", "contract a = 4294967296",
+    "any -> 1;", ";", " ; ;", "any -> 1; rm -> 2", "any -> 1 rm -> 2", "vpi 1 { oam -> 3; rm -> 4; any -> 1 }", "vpi 1 {}", "vpi 1 { } any -> 1", "(any; rm) -> 1",
+    "(any } -> 1", "any}", "any }", "any -> 1 } rm -> 2", "define a = 1; define b = 2; vci a, b -> 1", "any { rm -> 1 # }", "vpi 1{any->1}", "side nni; any -> 1",
+    "otherwise -> 1; any -> 1", "any -> 1}", "contract a = 1; any -> a", "any -> 1;;rm -> 2 # ; {", "(any\nor rm) { rm -> 1; any -> 2 }", "define a =; any -> 1",
+    "vpi 1 { vci 5 -> 2 }; }", "any { rm -> 1; } otherwise -> 2", "(any {", "(any\n; rm -> 1",
     "(any\n-> 1", "(any\nor rm\n) -> 1", "(\n(any\nand\n1/5)) {", "(any # )\n) -> 1", "(any\r\r\n)", "(any\n{", "(vpi\n1,\r\n256) -> 1",
     "define a = (any\nor\nrm)", "define a\n= any", "(any\n\n# (\n", "(any -\n) -> 1", "vci (\n5) -> 1",
     "contract a = 1x", "contract user = 1", "contract a = a", "contract a == drop", "voice", "vci customers, 5 -> 1", "customers/7 -> 1", "not voice or (voice) -> gold",
@@ -198,6 +215,7 @@ def text_of(source):
     if source.random() < 0.4:
         made += definitions(source)
     made += lines(source, source.choice([1, 2, 5, 12, 60]), 3)
+    made = joined(source, made)
     kind = source.random()
     if kind < 0.2:
         made.insert(source.randrange(len(made) + 1), source.choice(AT_LIMITS))

@@ -36,7 +36,7 @@ def is_met(nni, test, cell):
 
 
 def decision_of(reader, cell):
-    """Returns the source line of the rule that decides the cell, None if no rule does, and the value."""
+    """Returns the place of the rule that decides the cell, None if no rule does, and the value."""
     at = 0
     while at < len(reader.rules):
         line = reader.rules[at]

@@ -61,28 +61,59 @@ def tokens_of(line):
     return found, after
 
 
-def depth_after(depth, tokens):
-    """Returns how many parentheses are open after tokens, where this many were open before them. No test goes on after `->`, a `-` or `{`."""
-    for token, _ in tokens:
-        if token in (b"->", b"-", b"{"):
-            depth = 0
-        elif token in (b"(", b")"):
-            depth = max(depth + (1 if token == b"(" else -1), 0)
-    return depth
+def depth_after(depth, token):
+    """Returns how many parentheses are open after a token, where this many were open before it. No test goes on after `->`, a `-`, `;` or a brace."""
+    if token in (b"->", b"-", b";", b"{", b"}"):
+        return 0
+    return max(depth + {b"(": 1, b")": -1}.get(token, 0), 0)
+
+
+class Written:
+    """A line of rules as it is written: the place where it begins, its tokens, each with its place, and the place after the last. A place is a
+    line and a column from 1."""
+
+    def __init__(self, begin):
+        self.begin, self.tokens, self.after = begin, [], begin
+
+    def add(self, token, place):
+        """Adds a token at a place."""
+        self.tokens.append((token, place))
+        self.after = (place[0], place[1] + len(token))
+
+    def place(self):
+        """Returns the place that is printed: the line, and the column of the first token, which is 0 where the source line begins with this line
+        of rules."""
+        return (self.begin[0], 0 if self.begin[1] == 1 else self.tokens[0][1][1])
 
 
 def rule_lines(lines):
-    """Returns the lines of rules of source lines, in order: of each the number of the source line in which it begins, its tokens, each with
-    its line and column, and the line and column after the last. One goes on over the end of a source line inside parentheses."""
+    """Returns the lines of rules of source lines, in order. One goes on over the end of a source line inside parentheses, and ends after `;` and
+    after braces, and before `}`."""
     found, depth = [], 0
     for number, line in enumerate(lines, 1):
-        tokens, after = tokens_of(line)
         if depth == 0:
-            found.append((number, [], (number, after)))
-        begin, before, end = found[-1]
-        found[-1] = (begin, before + [(token, (number, column)) for token, column in tokens], (number, after) if tokens else end)
-        depth = depth_after(depth, tokens)
+            found.append(Written((number, 1)))
+        for token, column in tokens_of(line)[0]:
+            place = (number, column)
+            if token == b"}" and found[-1].begin != place:
+                found.append(Written(place))
+            if token != b";":
+                found[-1].add(token, place)
+            if token in (b";", b"{", b"}"):
+                found.append(Written((number, column + 1)))
+            depth = depth_after(depth, token)
     return found
+
+
+def place_words(place):
+    """Returns a place as it is printed."""
+    return f"{place[0]}:{place[1]}" if place[1] else f"{place[0]}"
+
+
+def place_of(words):
+    """Returns the place that is printed so."""
+    line, _, column = words.partition(":")
+    return int(line), int(column or 0)
 
 
 def is_word(token):
@@ -117,9 +148,9 @@ def number_of(token):
 class Line:
     """A line of rules that is read from left to right. `tokens` has its tokens with their places, and `after` is the place after the last."""
 
-    def __init__(self, reader, number, tokens, after):
-        self.reader, self.number = reader, number
-        self.tokens, self.after = tokens, after
+    def __init__(self, reader, written):
+        self.reader, self.written = reader, written
+        self.tokens, self.after = written.tokens, written.after
         self.at = 0
         # What ends a test.
         self.ends = (b"->", b"{")
@@ -355,9 +386,9 @@ class Reader:
         """Returns how many blocks are open."""
         return len(self.heads)
 
-    def read_line(self, number, tokens, after):
-        """Reads a line of rules, which begins in the source line of this number."""
-        line = Line(self, number, tokens, after)
+    def read_line(self, written):
+        """Reads a line of rules."""
+        line = Line(self, written)
         if not line.tokens:
             return
         if self.closed:
@@ -436,7 +467,7 @@ class Reader:
             line.take()
             value = line.value()
             line.end()
-            self.rules.append(("rule", test, value, line.number))
+            self.rules.append(("rule", test, value, line.written.place()))
         elif token == b"{":
             if self.depth() >= MOST_DEEP:
                 line.fault("TooDeep")
@@ -453,8 +484,8 @@ class Reader:
 def read_rules(text):
     """Returns the reader of a text, or raises its first fault."""
     reader = Reader()
-    for number, tokens, after in rule_lines(source_lines(text)):
-        reader.read_line(number, tokens, after)
+    for written in rule_lines(source_lines(text)):
+        reader.read_line(written)
     if reader.heads:
         raise Fault("Unbalanced", *reader.heads[0])
     return reader

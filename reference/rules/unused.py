@@ -13,15 +13,15 @@ import sys
 
 from rules.__main__ import with_deep_stack
 from rules.differing import text_of as any_text
-from rules.making import cells_for, mutated
+from rules.making import cells_for, joined, mutated
 from rules.meaning import decision_of, is_met
-from rules.reader import Fault, read_rules
+from rules.reader import Fault, place_of, read_rules
 
 ALL_DECIDE = "every rule decides some cell\n"
 NOT_DECIDED = "not decided: more than 4194304 cases\n"
 # Few texts may have so many cases that nothing is decided.
 MOST_UNDECIDED = 0.1
-LINE = re.compile(r"line (\d+) decides no cell: (?:it holds of none|taken by (line \d+(?:, line \d+)*))\n")
+LINE = re.compile(r"line (\d+(?::\d+)?) decides no cell: (?:it holds of none|taken by (line \d+(?::\d+)?(?:, line \d+(?::\d+)?)*))\n")
 
 
 def searched(program, text):
@@ -31,7 +31,7 @@ def searched(program, text):
 
 
 def holding(reader, cell):
-    """Returns the source lines of the rules that hold of a cell: their tests, and those of the blocks that they are in."""
+    """Returns the places of the rules that hold of a cell: their tests, and those of the blocks that they are in."""
     found, around = set(), []
     for line in reader.rules:
         if line[0] == "block":
@@ -67,7 +67,7 @@ def small_text(source):
             depth += 1
         else:
             made.append(f"{test} -> {source.randrange(9)}")
-    return "\n".join(made + ["}"] * depth) + source.choice(["", "\notherwise -> 7"])
+    return "\n".join(joined(source, made + ["}"] * depth)) + source.choice(["", "\notherwise -> 7"])
 
 
 def text_of(source):
@@ -80,7 +80,7 @@ def text_of(source):
 
 def fault_of_answer(reader, answer, cells, is_all):
     """Returns what is wrong with the answer to a text that has rules, or None."""
-    named = {int(one[0]): {int(number) for number in re.findall(r"\d+", one[1])} for one in LINE.findall(answer)}
+    named = {place_of(one[0]): {place_of(words) for words in re.findall(r"[\d:]+", one[1])} for one in LINE.findall(answer)}
     if answer != ALL_DECIDE and "".join(one.group() for one in LINE.finditer(answer)) != answer:
         return f"the form of {answer[:300]!r}"
     if list(named) != sorted(named) or (answer == ALL_DECIDE) != (not named):

@@ -1,5 +1,5 @@
 -- The listing with its comments adds comment lines to the listing.
-use Rattle.std.proofs.Common.{◌≡◌, ◌⊎◌, inl, inr, ℕ, zero, suc, ◌+◌, ◌-◌, ◌/◌, ◌%◌, ◌<◌, ◌==◌, ◌&&◌, not, Bool, true, false, if◌then◌else◌, List, [], ◌∷◌, ◌++◌, Result, Ok, Err, codes, decimal, length, map, take, get_or, slice_index, refl, sym, ap, subst, ◌∙◌, arith, append_assoc, append-nil}
+use Rattle.std.proofs.Common.{◌≡◌, ◌⊎◌, inl, inr, ℕ, zero, suc, ◌+◌, ◌-◌, ◌/◌, ◌%◌, ◌<◌, ◌==◌, ◌&&◌, not, Bool, true, false, if◌then◌else◌, List, [], ◌∷◌, ◌++◌, Result, Ok, Err, codes, decimal, length, map, take, drop, get_or, Option, Some, None, refl, sym, ap, subst, ◌∙◌, arith, append_assoc, append-nil}
 use Rattle.std.specs.Fmt.{digit_glyph, digits, digits_onto}
 use Rattle.std.proofs.lemmas.Bool.{agree_below_at}
 use Rattle.std.proofs.lemmas.Nat.{mod_below}
@@ -10,7 +10,9 @@ use Rattle.bpf_asm.specs.SourceLines.{source_lines}
 use Rattle.bpf_code.specs.declared.instr.Instr.{Instr}
 use Rattle.rules_text.specs.declared.compiler.NumberedCode.{NumberedCode}
 use Rattle.text_io.specs.Lines.{Line, begun_with, lines_of, line_content, without_return}
-use Rattle.lab_rules.specs.AsmText.{asm_text, comment_at, comment_line, comments_from, line_after, lines_with, next_length, rule_comment, whole_line}
+use Rattle.rules_text.specs.declared.place.RulePlace.{RulePlace}
+use Rattle.lab_rules.specs.RuleBegins.{begin_at, begin_text, column_text}
+use Rattle.lab_rules.specs.AsmText.{asm_text, comment_at, comment_line, comments_from, from_column, line_after, lines_with, next_length, rule_comment, whole_line}
 use Rattle.lab_rules.specs.CommentLines.{AddsComments, is_comment}
 use Rattle.lab_rules.proofs.CommentsAdded.{comments_mean_nothing}
 
@@ -45,6 +47,22 @@ onto_free (suc most) n digits f =
 decimal_free : (value : ℕ) → AllFree (decimal value)
 unfolding digits
 decimal_free value = onto_free 64 value [] tt
+
+column_free : (column : Option ℕ) → AllFree (column_text column)
+column_free None = tt
+column_free (Some column) = (refl, decimal_free column)
+
+begin_free : (begin : RulePlace) → AllFree (begin_text begin)
+begin_free begin = free_append (decimal begin.line) (column_text begin.column) (decimal_free begin.line) (column_free begin.column)
+
+free_drop : (count : ℕ) (octets : List ℕ) → AllFree octets → AllFree (drop count octets)
+free_drop zero octets f = f
+free_drop (suc count) [] f = tt
+free_drop (suc count) (octet ∷ octets) f = free_drop count octets f.1
+
+free_from : (column : Option ℕ) (line : List ℕ) → AllFree line → AllFree (from_column column line)
+free_from None line f = f
+free_from (Some column) line f = free_drop (column - 1) line f
 
 -- ---- the lines of a text have no line feed
 
@@ -142,22 +160,23 @@ puts_comment text f lines rest adds =
     let split : source_lines (comment_line text ++ rest) ≡ without_return line ∷ source_lines rest = ap source_lines same ∙ ended_source line rest free in
     subst (λ (ls : List (List ℕ)). AddsComments lines ls) (sym split) (inl (still_comment (get_or line (length line - 1) 0 == 13) 32 text, adds))
 
-module _ (lines : List (List ℕ)) (numbers : List ℕ) (free : AllLinesFree lines) where
-  puts_rule : (number : ℕ) → PutsComments (rule_comment lines number)
-  puts_rule number =
-      puts_comment (decimal number ++ (codes ": " ++ line_after lines (number - 1)))
-      (free_append (decimal number) (codes ": " ++ line_after lines (number - 1)) (decimal_free number)
-      (refl, (refl, line_free lines (number - 1) free)))
+module _ (lines : List (List ℕ)) (begins : List RulePlace) (free : AllLinesFree lines) where
+  puts_rule : (begin : RulePlace) → PutsComments (rule_comment lines begin)
+  puts_rule begin =
+      let line = from_column begin.column (line_after lines (begin.line - 1)) in
+      puts_comment (begin_text begin ++ (codes ": " ++ line))
+      (free_append (begin_text begin) (codes ": " ++ line) (begin_free begin)
+      (refl, (refl, free_from begin.column (line_after lines (begin.line - 1)) (line_free lines (begin.line - 1) free))))
 
   puts_if : (is : Bool) (text : List ℕ) → PutsComments text → PutsComments (if is then text else [])
   puts_if true text p = p
   puts_if false text p = puts_nothing
 
-  puts_from : (left place : ℕ) (lengths : List ℕ) → PutsComments (comments_from lines numbers left place lengths)
+  puts_from : (left place : ℕ) (lengths : List ℕ) → PutsComments (comments_from lines begins left place lengths)
   puts_from left place [] = puts_if (left == 1) (comment_line (codes "otherwise")) (puts_comment (codes "otherwise") (refl, (refl, (refl, (refl, (refl, (refl, (refl, (refl, (refl, tt))))))))))
   puts_from left place (size ∷ lengths) =
-      puts_both (comment_at lines numbers left place size (next_length lengths)) (comments_from lines numbers left (place + 1) lengths)
-      (puts_if (size == left && not (size == next_length lengths)) (rule_comment lines (slice_index numbers place)) (puts_rule (slice_index numbers place)))
+      puts_both (comment_at lines begins left place size (next_length lengths)) (comments_from lines begins left (place + 1) lengths)
+      (puts_if (size == left && not (size == next_length lengths)) (rule_comment lines (begin_at begins place)) (puts_rule (begin_at begins place)))
       (puts_from left (place + 1) lengths)
 
 -- ---- the whole
@@ -207,9 +226,9 @@ text_put put puts text = lines_put put puts 0 (lines_of text) (cut text)
 pub asm_means : (text : List ℕ) (made : NumberedCode) → IsMeaning (listing_of made.placed.code.items) made.placed.code.items → IsMeaning (asm_text (source_lines text) made) made.placed.code.items
 asm_means text made means =
     let code = made.placed.code.items in
-    let put : ℕ → List ℕ = λ place. comments_from (source_lines text) made.numbers.items (length code - place) 0 made.placed.lengths.items in
+    let put : ℕ → List ℕ = λ place. comments_from (source_lines text) made.begins.items (length code - place) 0 made.placed.lengths.items in
     comments_mean_nothing (listing_of code) (asm_text (source_lines text) made) code
-    (text_put put (λ place. puts_from (source_lines text) made.numbers.items (source_free text) (length code - place) 0 made.placed.lengths.items) (listing_of code)) means
+    (text_put put (λ place. puts_from (source_lines text) made.begins.items (source_free text) (length code - place) 0 made.placed.lengths.items) (listing_of code)) means
 
 -- What holds always holds if a call succeeds.
 pub always_ok : {T E : Type 0} {P : Type 0} (result : Result T E) → P → OnOk result P

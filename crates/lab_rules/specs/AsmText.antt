@@ -1,6 +1,6 @@
 -- The output of `upc-lab asm`. The whole input is a text of rules. The answer is a source of assembly: the listing of the program that
 -- the rules are compiled to, and before the code of each line of rules a comment with that line.
-use Rattle.std.specs.Prelude.{◌≡◌, ◌⊎◌, ℕ, zero, suc, ◌+◌, ◌-◌, ◌==◌, ◌&&◌, not, if◌then◌else◌, List, [], ◌∷◌, ◌++◌, length, codes, decimal, slice_index}
+use Rattle.std.specs.Prelude.{◌≡◌, ◌⊎◌, ℕ, zero, suc, ◌+◌, ◌-◌, ◌==◌, ◌&&◌, not, if◌then◌else◌, List, [], ◌∷◌, ◌++◌, length, codes, drop, Option, Some, None}
 use Rattle.bpf_asm.specs.Listing.{listing_of}
 use Rattle.bpf_asm.specs.Meaning.{IsMeaning}
 use Rattle.bpf_asm.specs.SourceLines.{source_lines}
@@ -8,9 +8,11 @@ use Rattle.bpf_verify.specs.Accepted.{IsAccepted}
 use Rattle.rules_text.specs.PlacesOfText.{IsNumberedCode}
 use Rattle.rules_text.specs.ValuesRead.{FollowsText}
 use Rattle.rules_text.specs.declared.compiler.NumberedCode.{NumberedCode}
+use Rattle.rules_text.specs.declared.place.RulePlace.{RulePlace}
 use Rattle.text_io.specs.Lines.{Line, lines_of}
 use Rattle.text_io.specs.declared.ending.Done.{Done}
 use Rattle.text_io.specs.declared.ending.Done.TheVariants.{Whole}
+use Rattle.lab_rules.specs.RuleBegins.{begin_at, begin_text}
 use Rattle.lab_rules.specs.RulesAnswers.{IsAnswerBy, MayBeAnswerBy, PrintsFault}
 
 -- The octets of a line, with its line feed if one ends it.
@@ -32,9 +34,14 @@ line_after [] before = []
 line_after (line ∷ lines) zero = line
 line_after (line ∷ lines) (suc before) = line_after lines before
 
--- The comment of a line of rules: the number of its source line, counted from 1, and the line itself.
-abbrev pub rule_comment : List (List ℕ) → ℕ → List ℕ
-rule_comment lines number = comment_line (decimal number ++ (codes ": " ++ line_after lines (number - 1)))
+-- A source line from a column on, counted from 1; the whole line if there is no column.
+abbrev pub from_column : Option ℕ → List ℕ → List ℕ
+from_column None line = line
+from_column (Some column) line = drop (column - 1) line
+
+-- The comment of a line of rules: where it begins, and its source line from there on.
+abbrev pub rule_comment : List (List ℕ) → RulePlace → List ℕ
+rule_comment lines begin = comment_line (begin_text begin ++ (codes ": " ++ from_column begin.column (line_after lines (begin.line - 1))))
 
 -- How many instructions the code has from the next line of rules on: the last return is one.
 abbrev pub next_length : List ℕ → ℕ
@@ -43,21 +50,21 @@ next_length (size ∷ lengths) = size
 
 -- The comment of the line of rules at this place, if its code begins where `left` instructions are left. `size` is the number of
 -- instructions from the line on, and `next` the number from the next line on.
-abbrev pub comment_at : List (List ℕ) → List ℕ → ℕ → ℕ → ℕ → ℕ → List ℕ
-comment_at lines numbers left place size next =
-    if size == left && not (size == next) then rule_comment lines (slice_index numbers place) else []
+abbrev pub comment_at : List (List ℕ) → List RulePlace → ℕ → ℕ → ℕ → ℕ → List ℕ
+comment_at lines begins left place size next =
+    if size == left && not (size == next) then rule_comment lines (begin_at begins place) else []
 
 -- The comments where `left` instructions are left: those of the lines of rules from this place on whose code begins there, and that
 -- of `otherwise` before the last instruction. `lengths` has the number of instructions from each line on.
-abbrev pub comments_from : List (List ℕ) → List ℕ → ℕ → ℕ → List ℕ → List ℕ
-comments_from lines numbers left place [] = if left == 1 then comment_line (codes "otherwise") else []
-comments_from lines numbers left place (size ∷ lengths) =
-    comment_at lines numbers left place size (next_length lengths) ++ comments_from lines numbers left (place + 1) lengths
+abbrev pub comments_from : List (List ℕ) → List RulePlace → ℕ → ℕ → List ℕ → List ℕ
+comments_from lines begins left place [] = if left == 1 then comment_line (codes "otherwise") else []
+comments_from lines begins left place (size ∷ lengths) =
+    comment_at lines begins left place size (next_length lengths) ++ comments_from lines begins left (place + 1) lengths
 
 -- The listing of a code of rules with its comments.
 abbrev pub asm_text : List (List ℕ) → NumberedCode → List ℕ
 asm_text lines made =
-    lines_with (λ place. comments_from lines made.numbers.items (length made.placed.code.items - place) 0 made.placed.lengths.items) 0
+    lines_with (λ place. comments_from lines made.begins.items (length made.placed.code.items - place) 0 made.placed.lengths.items) 0
     (lines_of (listing_of made.placed.code.items))
 
 -- The answer is the listing with its comments, and it means the code, which is accepted and on every cell gives the value of the

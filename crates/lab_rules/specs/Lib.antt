@@ -1,5 +1,6 @@
 -- The subcommands of `upc-lab`. Read the modules in this order:
 pub mod RuleFaults
+pub mod RuleBegins
 pub mod RulesAnswers
 pub mod RulesText
 pub mod RulesLaws

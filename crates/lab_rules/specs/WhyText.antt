@@ -8,6 +8,7 @@ use Rattle.cell_rules.specs.declared.deciding.Decision.{Decision}
 use Rattle.rules_text.specs.CodeOfText.{IsCodeOfText}
 use Rattle.rules_text.specs.DecisionsRead.{rules_decide}
 use Rattle.rules_text.specs.TextOfRules.{NumberedRead, numbered_in}
+use Rattle.rules_text.specs.declared.place.RulePlace.{RulePlace}
 use Rattle.text_io.specs.Gathered.{gathered}
 use Rattle.text_io.specs.Limits.{most_line_octets}
 use Rattle.text_io.specs.Lines.{Line, lines_of, line_content}
@@ -55,8 +56,8 @@ abbrev pub value_text : ℕ → List ℕ
 value_text value = line (codes " value " ++ decimal value)
 
 -- The answer to a cell: the line that decides it, and its value.
-abbrev pub decision_text : List ℕ → Decision → List ℕ
-decision_text numbers decision = decider_text numbers decision.line ++ value_text decision.value
+abbrev pub decision_text : List RulePlace → Decision → List ℕ
+decision_text begins decision = decider_text begins decision.line ++ value_text decision.value
 
 -- The cell that octets are, or the answer to another number of octets.
 abbrev pub cell_octets_read : List ℕ → Result (List ℕ) (List ℕ)
@@ -90,7 +91,7 @@ first_world counts numbered = record { numbered = numbered; counts = counts; dec
 
 -- The answer to a line after the line `cells`. A cell that is counted has none.
 abbrev pub why_text : NumberedRead → Bool → Result (List ℕ) (List ℕ) → List ℕ
-why_text numbered counts (Ok cell) = if counts then [] else decision_text numbered.numbers (rules_decide numbered.rules cell)
+why_text numbered counts (Ok cell) = if counts then [] else decision_text numbered.begins (rules_decide numbered.rules cell)
 why_text numbered counts (Err answer) = answer
 
 -- The world after such a line.

@@ -1,19 +1,20 @@
 //! The listing of a code of rules, with the rules as comments.
 
-ghost use Rattle.std.specs.Prelude.{◌≡◌, ◌≤◌, ◌<◌, ◌-◌, ◌++◌, ℕ, [], ◌∷◌, codes, decimal, length, IfOk, IfSome, MatchOption, OnOk, drop, slice_index};
+ghost use Rattle.std.specs.Prelude.{◌≡◌, ◌≤◌, ◌<◌, ◌-◌, ◌++◌, ℕ, [], ◌∷◌, codes, length, IfOk, IfSome, MatchOption, OnOk, drop};
 ghost use Rattle.bpf_asm.specs.Listing.{listing_of};
 ghost use Rattle.bpf_asm.specs.Meaning.{IsMeaning};
 ghost use Rattle.bpf_asm.specs.SourceLines.{source_lines};
 ghost use Rattle.text_io.specs.Lines.{Line, lines_of};
-ghost use Rattle.lab_rules.specs.AsmText.{asm_text, comment_line, comments_from, line_after, lines_with, next_length, whole_line};
+ghost use Rattle.lab_rules.specs.AsmText.{asm_text, comment_line, comments_from, from_column, line_after, lines_with, next_length, whole_line};
+ghost use Rattle.lab_rules.specs.RuleBegins.{begin_text};
 ghost use Rattle.lab_rules.specs.inner.Comments.{comment_if, otherwise_comment, written_at};
 
-use crate::deciding::number_at;
+use crate::begins::{add_begin, begin_at};
 use bpf_asm::next_line;
-use rules_text::NumberedCode;
+use rules_text::{NumberedCode, RulePlace};
 use std::alloc::{AllocError, Global};
 use text_io::first_feed;
-use upc_words::{add_number, add_text};
+use upc_words::add_text;
 
 /// The comment of a line of rules, and how many instructions the code has from that line's first on.
 #[derive(Drop)]
@@ -76,14 +77,35 @@ fn add_comment(answers: &mut Vec<u8>, text: &[u8]) -> Result<(), AllocError>
     Ok(())
 }
 
-/// The comment of a line of rules with this number.
+/// What is left of a line after this many octets.
+#[tactic(auto, using(crate::proofs::CommentsKept::nothing_left))]
+fn after_octets(line: &[u8], count: usize) -> &[u8]
+    ensures { result.now ≡ drop count line.now }
+{
+    if line.len() < count {
+        return &line[..0];
+    }
+    &line[count..]
+}
+
+/// A source line from a column on; the whole line if there is no column.
+fn from_column(line: &[u8], column: Option<usize>) -> &[u8]
+    ensures { result.now ≡ from_column column line.now }
+{
+    match column {
+        None => line,
+        Some(column) => after_octets(line, column.saturating_sub(1)),
+    }
+}
+
+/// The comment of a line of rules that begins at this place, with these octets of its source line.
 #[tactic(auto, using(std::proofs::lemmas::List::append_assoc))]
-fn rule_comment(alloc: Global, line: &[u8], number: usize) -> Result<Vec<u8>, AllocError>
-    ensures { IfOk result (λ text. text.items ≡ comment_line (decimal number ++ (codes ": " ++ line.now))) }
+fn rule_comment(alloc: Global, line: &[u8], begin: RulePlace) -> Result<Vec<u8>, AllocError>
+    ensures { IfOk result (λ text. text.items ≡ comment_line (begin_text begin ++ (codes ": " ++ line.now))) }
 {
     let mut text = Vec::new(alloc);
     add_text(&mut text, b"; ")?;
-    add_number(&mut text, number as u64)?;
+    add_begin(&mut text, begin)?;
     add_text(&mut text, b": ")?;
     add_text(&mut text, line)?;
     text.push(b'\n')?;
@@ -111,16 +133,16 @@ fn rest_after<'t>(text: &'t [u8], rest: &'t [u8], passed: usize, before: usize) 
     after_lines(rest, before - passed)
 }
 
-/// The comments of the lines of rules that have code of their own. They are found in one pass over the text, since the numbers of lines of
-/// rules rise.
+/// The comments of the lines of rules that have code of their own. They are found in one pass over the text, since the numbers of their
+/// source lines rise.
 fn comments_of(
     alloc: Global,
     text: &[u8],
-    numbers: &[usize],
+    begins: &[RulePlace],
     lengths: &[usize],
 ) -> Result<Vec<Comment>, AllocError>
     ensures { IfOk result (λ comments. (left : ℕ) → written_at left comments.items ++ otherwise_comment left
-        ≡ comments_from (source_lines text.now) numbers.now left 0 lengths.now) }
+        ≡ comments_from (source_lines text.now) begins.now left 0 lengths.now) }
 {
     let mut comments = Vec::new(alloc);
     let mut rest = text;
@@ -132,11 +154,12 @@ fn comments_of(
             place += 1;
             continue;
         }
-        let number = number_at(numbers, place);
-        let before = number.saturating_sub(1);
+        let begin = begin_at(begins, place);
+        let before = begin.line.saturating_sub(1);
         rest = rest_after(text, rest, passed, before);
         passed = before;
-        let comment = rule_comment(alloc, first_line(rest), number)?;
+        let line = from_column(first_line(rest), begin.column);
+        let comment = rule_comment(alloc, line, begin)?;
         comments.push(Comment {
             size,
             text: comment,
@@ -189,7 +212,7 @@ pub(crate) fn add_annotated(
     requires { listing.now ≡ listing_of made.now.placed.code.items }
     ensures { OnOk result (answers.new.items ≡ answers.old.items ++ asm_text (source_lines text.now) made.now) }
 {
-    let comments = comments_of(alloc, text, &made.numbers, &made.placed.lengths)?;
+    let comments = comments_of(alloc, text, &made.begins, &made.placed.lengths)?;
     let mut rest = listing;
     let mut place = 0usize;
     while let Some((line, after)) = whole_line(rest) {

@@ -6,9 +6,9 @@ ghost use Rattle.lab_rules.specs.CountText.{count_line, counts_by, rule_count};
 ghost use Rattle.lab_rules.specs.inner.Counted.{AreCounts, count_at};
 ghost use Rattle.rules_text.specs.RulesRead.{line_read};
 
-use crate::deciding::add_decider;
+use crate::begins::add_decider;
 use cell_rules::RuleLine;
-use rules_text::NumberedRules;
+use rules_text::{NumberedRules, RulePlace};
 use std::alloc::{AllocError, Global};
 use upc_words::{add_number, add_text};
 
@@ -37,12 +37,12 @@ fn reach(counts: &mut Vec<u64>, place: usize) -> Result<(), AllocError>
 fn add_count(
     answers: &mut Vec<u8>,
     counts: &Counts,
-    numbers: &[usize],
+    begins: &[RulePlace],
     place: Option<usize>,
 ) -> Result<(), AllocError>
-    ensures { OnOk result (answers.new.items ≡ answers.old.items ++ count_line numbers.now (count_at counts.now) place) }
+    ensures { OnOk result (answers.new.items ≡ answers.old.items ++ count_line begins.now (count_at counts.now) place) }
 {
-    add_decider(answers, numbers, place)?;
+    add_decider(answers, begins, place)?;
     add_text(answers, b" cells ")?;
     add_number(answers, counts.at(place))?;
     answers.push(b'\n')?;
@@ -53,14 +53,14 @@ fn add_count(
 fn add_rule_count(
     answers: &mut Vec<u8>,
     counts: &Counts,
-    numbers: &[usize],
+    begins: &[RulePlace],
     place: usize,
     line: &RuleLine,
 ) -> Result<(), AllocError>
-    ensures { OnOk result (answers.new.items ≡ answers.old.items ++ rule_count numbers.now (count_at counts.now) place (line_read line.now)) }
+    ensures { OnOk result (answers.new.items ≡ answers.old.items ++ rule_count begins.now (count_at counts.now) place (line_read line.now)) }
 {
     match line {
-        RuleLine::Rule { .. } => add_count(answers, counts, numbers, Some(place)),
+        RuleLine::Rule { .. } => add_count(answers, counts, begins, Some(place)),
         RuleLine::Block { .. } => Ok(()),
         RuleLine::End => Ok(()),
     }
@@ -114,10 +114,10 @@ impl Counts {
         let mut left = numbered.rules.lines.as_slice();
         let mut place = 0;
         while let [line, rest @ ..] = left {
-            add_rule_count(answers, self, &numbered.numbers, place, line)?;
+            add_rule_count(answers, self, &numbered.begins, place, line)?;
             place += 1;
             left = rest;
         }
-        add_count(answers, self, &numbered.numbers, None)
+        add_count(answers, self, &numbered.begins, None)
     }
 }

@@ -1,6 +1,6 @@
 //! `upc-lab why`: the line of rules that decides each cell.
 
-ghost use Rattle.std.specs.Prelude.{◌≡◌, ◌++◌, [], IfOk, IfSome, MatchOption, OnOk, Ok, is_some, option_map, slice_index};
+ghost use Rattle.std.specs.Prelude.{◌≡◌, ◌++◌, [], IfOk, IfSome, MatchOption, OnOk, Ok, is_some, option_map};
 ghost use Rattle.rules_text.specs.NumberedText.{numbered_read};
 ghost use Rattle.rules_text.specs.TextOfRules.{numbered_in};
 ghost use Rattle.text_io.specs.Devices.{Adds};
@@ -9,17 +9,17 @@ ghost use Rattle.text_io.specs.Words.{words_of};
 ghost use Rattle.text_io.specs.declared.ending.Done.TheVariants.{Ended};
 ghost use Rattle.upc_words.specs.Hexadecimal.{octets_of_digits};
 ghost use Rattle.lab_rules.specs.RulesAnswers.{AnswersBy, PrintsFault};
-ghost use Rattle.lab_rules.specs.CountText.{decider_text};
 ghost use Rattle.lab_rules.specs.WhyText.{HasCode, IsWhyText, MayBeWhyText, cell_line_read, cell_word_read, decision_text, value_text};
 ghost use Rattle.lab_rules.specs.inner.Counted.{AnswersWhyLine, AreCounts, IsLineRead};
 ghost use Rattle.lab_rules.specs.inner.Places.{FindsRules};
 
 use crate::before_cells::read_rules_before;
+use crate::begins::add_decider;
 use crate::counting::Counts;
 use crate::decider::Decider;
 use crate::fault_lines::add_rule_fault;
 use cell_rules::Decision;
-use rules_text::{RuleFault, RuleKind};
+use rules_text::{RuleFault, RuleKind, RulePlace};
 use std::alloc::{AllocError, Global};
 use text_io::{
     Done, Input, LineWords, Machine, Output, RunFault, Turn, answer_lines, give_last, line_words,
@@ -29,34 +29,6 @@ use upc_words::{
     CellWord, add_bad_hex, add_bad_line, add_number, add_text, add_too_long, add_wrong_length,
     cell_of_word,
 };
-
-/// The number of the source line of the line of rules at a place.
-pub(crate) fn number_at(numbers: &[usize], place: usize) -> usize
-    ensures { result ≡ slice_index numbers.now place }
-{
-    match numbers.get(place) {
-        Some(number) => *number,
-        None => 0,
-    }
-}
-
-/// Appends the line of the rule that decides, or `otherwise`.
-#[tactic(auto, using(std::proofs::lemmas::List::append_assoc))]
-pub(crate) fn add_decider(
-    answers: &mut Vec<u8>,
-    numbers: &[usize],
-    line: Option<usize>,
-) -> Result<(), AllocError>
-    ensures { OnOk result (answers.new.items ≡ answers.old.items ++ decider_text numbers.now line) }
-{
-    match line {
-        None => add_text(answers, b"otherwise"),
-        Some(place) => {
-            add_text(answers, b"line ")?;
-            add_number(answers, number_at(numbers, place) as u64)
-        }
-    }
-}
 
 /// Appends the value of a cell, and ends the answer's line.
 #[tactic(auto, using(std::proofs::lemmas::List::append_assoc))]
@@ -73,12 +45,12 @@ fn add_value(answers: &mut Vec<u8>, value: u32) -> Result<(), AllocError>
 #[tactic(auto, using(std::proofs::lemmas::List::append_assoc))]
 fn add_decision(
     answers: &mut Vec<u8>,
-    numbers: &[usize],
+    begins: &[RulePlace],
     decision: Decision,
 ) -> Result<(), AllocError>
-    ensures { OnOk result (answers.new.items ≡ answers.old.items ++ decision_text numbers.now decision) }
+    ensures { OnOk result (answers.new.items ≡ answers.old.items ++ decision_text begins.now decision) }
 {
-    add_decider(answers, numbers, decision.line)?;
+    add_decider(answers, begins, decision.line)?;
     add_value(answers, decision.value)
 }
 
@@ -136,7 +108,7 @@ fn answer_cell(
     let decision = deciding.decider.decide(cell);
     match &mut deciding.counts {
         Some(counts) => counts.count(decision.line),
-        None => add_decision(answers, &deciding.decider.numbered.numbers, decision),
+        None => add_decision(answers, &deciding.decider.numbered.begins, decision),
     }
 }
 

@@ -5,6 +5,7 @@ mod annotating;
 mod answering;
 mod assembling;
 mod before_cells;
+mod begins;
 mod compiling;
 mod counting;
 mod decider;
@@ -13,6 +14,7 @@ mod fault_lines;
 pub mod laws;
 
 pub use assembling::assemble_rules;
+pub use begins::{add_begin, add_decider, begin_at};
 pub use compiling::compile_rules;
 pub use deciding::decide_cells;
 pub use fault_lines::add_rule_fault;

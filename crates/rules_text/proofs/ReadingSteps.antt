@@ -1,6 +1,7 @@
 -- A line read token by token, and a text line by line.
 use Rattle.std.proofs.Common.{◌≡◌, ◌≢◌, inl, inr, IsErrAnd, IfErr, IfOk, ℕ, ◌+◌, Bool, true, false, if◌then◌else◌, List, [], ◌∷◌, Result, Ok, Err, refl, sym, ap, ◌∙◌, subst}
-use Rattle.rules_text.specs.ContinuedLines.{lines_within, rule_lines}
+use Rattle.rules_text.specs.ContinuedLines.{line_begin, place_past, rule_lines}
+use Rattle.rules_text.specs.declared.place.TextPlace.{TextPlace}
 use Rattle.rules_text.specs.LineGrammar.{LineContext, Reading, StatementRead, read_token, statement_at_end}
 use Rattle.rules_text.specs.Names.{NameRead, rule_form}
 use Rattle.rules_text.specs.NumberedText.{numbered_read}
@@ -40,84 +41,84 @@ unfolding statement_from
 statement_early context number column reading kind e = rw e refl
 
 -- One more line.
-pub rules_more : (text next : TextReading) (number : ℕ) (line : List ℕ) (rest : List (List ℕ))
-    → text_with_line text number line ≡ Ok next → numbered_from text number (line ∷ rest) ≡ numbered_from next (number + lines_within line) rest
+pub rules_more : (text next : TextReading) (begin : TextPlace) (line : List ℕ) (rest : List (List ℕ))
+    → text_with_line text begin line ≡ Ok next → numbered_from text begin (line ∷ rest) ≡ numbered_from next (place_past begin line) rest
 unfolding numbered_from
-rules_more text next number line rest e = rw e refl
+rules_more text next begin line rest e = rw e refl
 
 -- A line with a fault.
-pub rules_fault : (text : TextReading) (number : ℕ) (line : List ℕ) (rest : List (List ℕ)) (fault : RuleFault)
-    → text_with_line text number line ≡ Err fault → numbered_from text number (line ∷ rest) ≡ Err (fault_of_line number line fault)
+pub rules_fault : (text : TextReading) (begin : TextPlace) (line : List ℕ) (rest : List (List ℕ)) (fault : RuleFault)
+    → text_with_line text begin line ≡ Err fault → numbered_from text begin (line ∷ rest) ≡ Err (fault_of_line begin line fault)
 unfolding numbered_from
-rules_fault text number line rest fault e = rw e refl
+rules_fault text begin line rest fault e = rw e refl
 
 -- The end of the text.
-pub rules_end : (text : TextReading) (number : ℕ) → numbered_from text number [] ≡ numbered_at_end text
+pub rules_end : (text : TextReading) (begin : TextPlace) → numbered_from text begin [] ≡ numbered_at_end text
 unfolding numbered_from
-rules_end text number = refl
+rules_end text begin = refl
 
 -- A line without tokens.
-pub line_empty : (text : TextReading) (number : ℕ) (line : List ℕ) → rule_tokens line ≡ [] → text_with_line text number line ≡ Ok text
+pub line_empty : (text : TextReading) (begin : TextPlace) (line : List ℕ) → rule_tokens line ≡ [] → text_with_line text begin line ≡ Ok text
 unfolding text_with_line
-line_empty text number line e = rw e refl
+line_empty text begin line e = rw e refl
 
 -- A line after `otherwise`.
-pub line_closed : (text : TextReading) (number : ℕ) (line : List ℕ) (first : RuleFound) (rest : List RuleFound)
-    → rule_tokens line ≡ first ∷ rest → text.closed ≡ true → text_with_line text number line ≡ Err (placed_fault number first.column AfterOtherwise)
+pub line_closed : (text : TextReading) (begin : TextPlace) (line : List ℕ) (first : RuleFound) (rest : List RuleFound)
+    → rule_tokens line ≡ first ∷ rest → text.closed ≡ true → text_with_line text begin line ≡ Err (placed_fault begin.line first.column AfterOtherwise)
 unfolding text_with_line
-line_closed text number line first rest e closed = rw (e, closed) refl
+line_closed text begin line first rest e closed = rw (e, closed) refl
 
 open_by : (closed : Bool) (fault : RuleFault) (read : Result TextReading RuleFault) → closed ≡ false → (if closed then Err fault else read) ≡ read
 open_by true fault read e = cc
 open_by false fault read e = refl
 
 -- A line before `otherwise`.
-line_open : (text : TextReading) (number : ℕ) (line : List ℕ) (first : RuleFound) (rest : List RuleFound) → text.closed ≡ false
-    → text_with_tokens text number line (first ∷ rest) ≡ (
+line_open : (text : TextReading) (begin : TextPlace) (line : List ℕ) (first : RuleFound) (rest : List RuleFound) → text.closed ≡ false
+    → text_with_tokens text begin line (first ∷ rest) ≡ (
     if gives_name first.token
-    then read_then (name_given text number line first rest) (λ fault. fault) (λ name. Ok (text_with_name (text_with_room text line (first ∷ rest)) name))
-    else read_then (formed_statement (context_of text) text.names rule_form number line 1 (first ∷ rest)) (λ fault. fault)
-    (λ statement. Ok (text_with (text_with_room text line (first ∷ rest)) number first.column statement)))
-line_open text number line first rest closed = open_by text.closed _ _ closed
+    then read_then (name_given text begin.line line first rest) (λ fault. fault) (λ name. Ok (text_with_name (text_with_room text line (first ∷ rest)) name))
+    else read_then (formed_statement (context_of text) text.names rule_form begin.line line 1 (first ∷ rest)) (λ fault. fault)
+    (λ statement. Ok (text_with (text_with_room text line (first ∷ rest)) begin first.column statement)))
+line_open text begin line first rest closed = open_by text.closed _ _ closed
 
 -- A line with a statement.
-pub line_with_statement : (text : TextReading) (number : ℕ) (line : List ℕ) (first : RuleFound) (rest : List RuleFound) (statement : StatementRead) (spent : TextReading)
+pub line_with_statement : (text : TextReading) (begin : TextPlace) (line : List ℕ) (first : RuleFound) (rest : List RuleFound) (statement : StatementRead) (spent : TextReading)
     → text_with_room text line (rule_tokens line) ≡ spent → rule_tokens line ≡ first ∷ rest → text.closed ≡ false → gives_name first.token ≡ false
-    → formed_statement (context_of text) text.names rule_form number line 1 (rule_tokens line) ≡ Ok statement
-    → text_with_line text number line ≡ Ok (text_with spent number first.column statement)
+    → formed_statement (context_of text) text.names rule_form begin.line line 1 (rule_tokens line) ≡ Ok statement
+    → text_with_line text begin line ≡ Ok (text_with spent begin first.column statement)
 unfolding text_with_line
-line_with_statement text number line first rest statement spent spends e closed gives s =
+line_with_statement text begin line first rest statement spent spends e closed gives s =
     let room : text_with_room text line (first ∷ rest) ≡ spent = ap (text_with_room text line) (sym e) ∙ spends in
-    let t : formed_statement (context_of text) text.names rule_form number line 1 (first ∷ rest) ≡ Ok statement =
-    ap (formed_statement (context_of text) text.names rule_form number line 1) (sym e) ∙ s in
-    ap (text_with_tokens text number line) e ∙ line_open text number line first rest closed ∙ rw (gives, t) (ap (λ (x : TextReading). Ok (text_with x number first.column statement)) room)
+    let t : formed_statement (context_of text) text.names rule_form begin.line line 1 (first ∷ rest) ≡ Ok statement =
+    ap (formed_statement (context_of text) text.names rule_form begin.line line 1) (sym e) ∙ s in
+    ap (text_with_tokens text begin line) e ∙ line_open text begin line first rest closed ∙ rw (gives, t) (ap (λ (x : TextReading). Ok (text_with x begin first.column statement)) room)
 
 -- A line with a fault.
-pub line_fault : (text : TextReading) (number : ℕ) (line : List ℕ) (first : RuleFound) (rest : List RuleFound) (fault : RuleFault)
+pub line_fault : (text : TextReading) (begin : TextPlace) (line : List ℕ) (first : RuleFound) (rest : List RuleFound) (fault : RuleFault)
     → rule_tokens line ≡ first ∷ rest → text.closed ≡ false → gives_name first.token ≡ false
-    → formed_statement (context_of text) text.names rule_form number line 1 (rule_tokens line) ≡ Err fault
-    → text_with_line text number line ≡ Err fault
+    → formed_statement (context_of text) text.names rule_form begin.line line 1 (rule_tokens line) ≡ Err fault
+    → text_with_line text begin line ≡ Err fault
 unfolding text_with_line
-line_fault text number line first rest fault e closed gives s =
-    let t : formed_statement (context_of text) text.names rule_form number line 1 (first ∷ rest) ≡ Err fault =
-    ap (formed_statement (context_of text) text.names rule_form number line 1) (sym e) ∙ s in
+line_fault text begin line first rest fault e closed gives s =
+    let t : formed_statement (context_of text) text.names rule_form begin.line line 1 (first ∷ rest) ≡ Err fault =
+    ap (formed_statement (context_of text) text.names rule_form begin.line line 1) (sym e) ∙ s in
     rw (e, closed, gives, t) refl
 
 -- A line that gives a name.
-pub line_with_name : (text : TextReading) (number : ℕ) (line : List ℕ) (first : RuleFound) (rest : List RuleFound) (name : NameRead) (spent : TextReading)
-    → text_with_room text line (rule_tokens line) ≡ spent → rule_tokens line ≡ first ∷ rest → text.closed ≡ false → gives_name first.token ≡ true → name_given text number line first rest ≡ Ok name
-    → text_with_line text number line ≡ Ok (text_with_name spent name)
+pub line_with_name : (text : TextReading) (begin : TextPlace) (line : List ℕ) (first : RuleFound) (rest : List RuleFound) (name : NameRead) (spent : TextReading)
+    → text_with_room text line (rule_tokens line) ≡ spent → rule_tokens line ≡ first ∷ rest → text.closed ≡ false → gives_name first.token ≡ true → name_given text begin.line line first rest ≡ Ok name
+    → text_with_line text begin line ≡ Ok (text_with_name spent name)
 unfolding text_with_line
-line_with_name text number line first rest name spent spends e closed gives s =
+line_with_name text begin line first rest name spent spends e closed gives s =
     let room : text_with_room text line (first ∷ rest) ≡ spent = ap (text_with_room text line) (sym e) ∙ spends in
-    ap (text_with_tokens text number line) e ∙ line_open text number line first rest closed ∙ rw (gives, s) (ap (λ (x : TextReading). Ok (text_with_name x name)) room)
+    ap (text_with_tokens text begin line) e ∙ line_open text begin line first rest closed ∙ rw (gives, s) (ap (λ (x : TextReading). Ok (text_with_name x name)) room)
 
 -- A line that gives a name with a fault.
-pub line_name_fault : (text : TextReading) (number : ℕ) (line : List ℕ) (first : RuleFound) (rest : List RuleFound) (fault : RuleFault)
-    → rule_tokens line ≡ first ∷ rest → text.closed ≡ false → gives_name first.token ≡ true → name_given text number line first rest ≡ Err fault
-    → text_with_line text number line ≡ Err fault
+pub line_name_fault : (text : TextReading) (begin : TextPlace) (line : List ℕ) (first : RuleFound) (rest : List RuleFound) (fault : RuleFault)
+    → rule_tokens line ≡ first ∷ rest → text.closed ≡ false → gives_name first.token ≡ true → name_given text begin.line line first rest ≡ Err fault
+    → text_with_line text begin line ≡ Err fault
 unfolding text_with_line
-line_name_fault text number line first rest fault e closed gives s = rw (e, closed, gives, s) refl
+line_name_fault text begin line first rest fault e closed gives s = rw (e, closed, gives, s) refl
 
 -- A fault that has no place but its token's.
 pub other_fault : {A : Type 0} (read : Result A RuleFault) (reading : Reading) (number column : ℕ) (fault : RuleFault) (kind : RuleKind)
@@ -142,10 +143,10 @@ fault_onward part whole fault on (inl e) = inl e
 fault_onward part whole fault on (inr e) = inr (on e)
 
 -- A fault of a line of rules is one of the text, with its place there.
-pub fault_of_text : {A B : Type 0} (part : Result A RuleFault) (whole : Result B RuleFault) (number : ℕ) (line : List ℕ) (fault : RuleFault)
-    → ((own : RuleFault) → part ≡ Err own → whole ≡ Err (fault_of_line number line own)) → IsFaultOf part fault → IsFaultOf whole (fault_of_line number line fault)
-fault_of_text part whole number line fault on (inl e) = inl (ap (fault_of_line number line) e)
-fault_of_text part whole number line fault on (inr e) = inr (on fault e)
+pub fault_of_text : {A B : Type 0} (part : Result A RuleFault) (whole : Result B RuleFault) (begin : TextPlace) (line : List ℕ) (fault : RuleFault)
+    → ((own : RuleFault) → part ≡ Err own → whole ≡ Err (fault_of_line begin line own)) → IsFaultOf part fault → IsFaultOf whole (fault_of_line begin line fault)
+fault_of_text part whole begin line fault on (inl e) = inl (ap (fault_of_line begin line) e)
+fault_of_text part whole begin line fault on (inr e) = inr (on fault e)
 
 -- A fault that is returned at once.
 pub returned_fault : {T : Type 0} (returned : Result T RuleFault) (fault : RuleFault) (P : RuleFault → Type 0)
@@ -164,7 +165,7 @@ early_same fault number column kind e bad =
     e ∙ seen ∙ ap (placed_fault number column) (sym bad)
 
 -- The rules of a text, from its first line on.
-pub rules_begun : (octets : List ℕ) → numbered_in octets ≡ numbered_from no_text_read 1 (rule_lines octets)
+pub rules_begun : (octets : List ℕ) → numbered_in octets ≡ numbered_from no_text_read (line_begin 1) (rule_lines octets)
 unfolding numbered_in
 rules_begun octets = refl
 

@@ -1,75 +1,41 @@
 -- A text is its first line of rules and the rest.
-use Rattle.std.proofs.Common.{◌≡◌, ◌≤◌, ◌<◌, ℕ, zero, suc, ◌+◌, ◌-◌, ◌==◌, Bool, true, false, if◌then◌else◌, List, [], ◌∷◌, length, map, take, drop, slice_index, refl, sym, ap, ◌∙◌, arith, length-take}
+use Rattle.std.proofs.Common.{◌≡◌, ◌≤◌, ◌<◌, ℕ, zero, suc, ◌+◌, ◌==◌, Bool, true, false, if◌then◌else◌, List, [], ◌∷◌, ◌++◌, length, take, drop, refl, sym, ap, ◌∙◌, arith, take-append-drop}
 use Rattle.std.proofs.lemmas.Bool.{eqb-true}
-use Rattle.std.proofs.lemmas.List.{drop_all}
-use Rattle.text_io.specs.Lines.{begun_with, line_content, without_return}
-use Rattle.rules_text.specs.ContinuedLines.{Enclosing, around_next, ends_rule_line, lines_going_on, nothing_around, rule_lines}
+use Rattle.rules_text.specs.ContinuedLines.{Enclosing, around_next, ends_rule_line, first_begun_with, lines_going_on, nothing_around, rule_lines}
 use Rattle.rules_text.specs.inner.SeenLines.{line_size}
 
--- A line that ends before the end of the text.
-ended_at : (around : Enclosing) (text : List ℕ) → line_size around text < length text
-    → lines_going_on around text ≡ (record { octets = take (line_size around text) text; ended = true }) ∷ lines_going_on nothing_around (drop (line_size around text + 1) text)
+-- The lines of octets are those that the first has, and the lines of the rest.
+first_and_rest : (around : Enclosing) (octet : ℕ) (text : List ℕ)
+    → lines_going_on around (octet ∷ text)
+    ≡ take (line_size around (octet ∷ text)) (octet ∷ text) ∷ lines_going_on nothing_around (drop (line_size around (octet ∷ text)) (octet ∷ text))
 unfolding lines_going_on line_size
-ended_at around [] h = absurd (omega arith)
-ended_at around (octet ∷ rest) h = cut (ends_rule_line around octet) (ended_at (around_next around octet) rest) h
+first_and_rest around octet [] = alone (ends_rule_line around octet [])
   where
-    sized : Bool → ℕ
-    sized ends = if ends then 0 else suc (line_size (around_next around octet) rest)
+    alone : (ends : Bool)
+        → (if ends then (octet ∷ []) ∷ [] else first_begun_with octet [])
+        ≡ take (if ends then 1 else 1) (octet ∷ []) ∷ lines_going_on nothing_around (drop (if ends then 1 else 1) (octet ∷ []))
+    alone true = refl
+    alone false = refl
+first_and_rest around octet (next ∷ rest) = cut (ends_rule_line around octet (next ∷ rest)) (first_and_rest (around_next around octet) next rest)
+  where
+    size : ℕ
+    size = line_size (around_next around octet) (next ∷ rest)
 
     cut : (ends : Bool)
-        → (line_size (around_next around octet) rest < length rest
-        → lines_going_on (around_next around octet) rest
-        ≡ (record { octets = take (line_size (around_next around octet) rest) rest; ended = true })
-        ∷ lines_going_on nothing_around (drop (line_size (around_next around octet) rest + 1) rest))
-        → sized ends < suc (length rest)
+        → lines_going_on (around_next around octet) (next ∷ rest) ≡ take size (next ∷ rest) ∷ lines_going_on nothing_around (drop size (next ∷ rest))
         → (if ends
-        then (record { octets = []; ended = true }) ∷ lines_going_on nothing_around rest
-        else begun_with octet (lines_going_on (around_next around octet) rest))
-        ≡ (record { octets = take (sized ends) (octet ∷ rest); ended = true }) ∷ lines_going_on nothing_around (drop (sized ends + 1) (octet ∷ rest))
-    cut true later h = refl
-    cut false later h =
-        let size = line_size (around_next around octet) rest in
-        let more : suc (size + 1) ≡ suc size + 1 = omega arith in
-        ap (begun_with octet) (later (omega (arith, h)))
-        ∙ ap (λ (k : ℕ). (record { octets = octet ∷ take size rest; ended = true }) ∷ lines_going_on nothing_around (drop k (octet ∷ rest))) more
-
--- The last line.
-last_at : (around : Enclosing) (octet : ℕ) (text : List ℕ) → line_size around (octet ∷ text) ≡ suc (length text)
-    → lines_going_on around (octet ∷ text) ≡ (record { octets = octet ∷ text; ended = false }) ∷ []
-unfolding lines_going_on line_size
-last_at around octet [] h = alone (ends_rule_line around octet) h
-  where
-    alone : (ends : Bool) → ◌≡◌ {A = ℕ} (if ends then 0 else 1) 1
-        → (if ends then (record { octets = []; ended = true }) ∷ [] else begun_with octet []) ≡ (record { octets = octet ∷ []; ended = false }) ∷ []
-    alone true h = absurd (omega (arith, h))
-    alone false h = refl
-last_at around octet (next ∷ rest) h = cut (ends_rule_line around octet) (last_at (around_next around octet) next rest) h
-  where
-    cut : (ends : Bool)
-        → (line_size (around_next around octet) (next ∷ rest) ≡ suc (length rest)
-        → lines_going_on (around_next around octet) (next ∷ rest) ≡ (record { octets = next ∷ rest; ended = false }) ∷ [])
-        → (if ends then 0 else suc (line_size (around_next around octet) (next ∷ rest))) ≡ suc (suc (length rest))
-        → (if ends
-        then (record { octets = []; ended = true }) ∷ lines_going_on nothing_around (next ∷ rest)
-        else begun_with octet (lines_going_on (around_next around octet) (next ∷ rest)))
-        ≡ (record { octets = octet ∷ next ∷ rest; ended = false }) ∷ []
-    cut true later h = absurd (omega (arith, h))
-    cut false later h = ap (begun_with octet) (later (omega (arith, h)))
+        then (octet ∷ []) ∷ lines_going_on nothing_around (next ∷ rest)
+        else first_begun_with octet (lines_going_on (around_next around octet) (next ∷ rest)))
+        ≡ take (if ends then 1 else suc size) (octet ∷ next ∷ rest) ∷ lines_going_on nothing_around (drop (if ends then 1 else suc size) (octet ∷ next ∷ rest))
+    cut true later = refl
+    cut false later = ap (first_begun_with octet) later
 
 -- The first line of rules ends at this octet.
-pub rule_cut : (text : List ℕ) (at : ℕ) → at ≡ line_size nothing_around text → at < length text
-    → rule_lines text ≡ without_return (take at text) ∷ rule_lines (drop (at + 1) text)
+pub rule_cut : (text : List ℕ) (at : ℕ) → at ≡ line_size nothing_around text → 0 < length text
+    → rule_lines text ≡ take at text ∷ rule_lines (drop at text)
 unfolding rule_lines
-rule_cut text at e h = rw e (ap (map line_content) (ended_at nothing_around text (omega (arith, e))))
-
--- The first line of rules ends at the end of the text.
-pub rule_rest : (text : List ℕ) (at : ℕ) → at ≡ line_size nothing_around text → 0 < length text → at ≡ length text
-    → rule_lines text ≡ text ∷ rule_lines (drop at text)
-unfolding rule_lines lines_going_on
-rule_rest [] at e h whole = absurd (omega arith)
-rule_rest (octet ∷ rest) at e h whole =
-    let none : drop at (octet ∷ rest) ≡ [] = drop_all at (octet ∷ rest) (omega (arith, whole)) in
-    ap (map line_content) (last_at nothing_around octet rest (sym e ∙ whole)) ∙ ap (λ (r : List ℕ). (octet ∷ rest) ∷ rule_lines r) (sym none)
+rule_cut [] at e h = absurd (omega arith)
+rule_cut (octet ∷ rest) at e h = rw e (first_and_rest nothing_around octet rest)
 
 -- An empty text has no line.
 pub rule_none : (text : List ℕ) → length text ≡ 0 → rule_lines text ≡ []
@@ -77,13 +43,45 @@ unfolding rule_lines lines_going_on
 rule_none [] h = refl
 rule_none (octet ∷ rest) h = absurd (omega arith)
 
-return_within : (ends : Bool) (octets : List ℕ) (n : ℕ) → length (if ends then take n octets else octets) ≤ length octets
-return_within true octets n = omega (arith, length-take n octets)
-return_within false octets n = omega arith
+some_octets : (around : Enclosing) (octet : ℕ) (text : List ℕ) → 0 < line_size around (octet ∷ text)
+unfolding line_size
+some_octets around octet text = more (ends_rule_line around octet text)
+  where
+    more : (ends : Bool) → 0 < (if ends then 1 else suc (line_size (around_next around octet) text))
+    more true = omega arith
+    more false = omega arith
 
--- A carriage return is dropped, and nothing is added.
-pub content_within : (octets : List ℕ) → length (without_return octets) ≤ length octets
-content_within octets = return_within (slice_index octets (length octets - 1) == 13) octets (length octets - 1)
+-- A line of rules has an octet.
+pub line_some : (text : List ℕ) (at : ℕ) → at ≡ line_size nothing_around text → 0 < length text → 0 < at
+line_some [] at e h = absurd (omega arith)
+line_some (octet ∷ rest) at e h = rw e (some_octets nothing_around octet rest)
+
+-- A text whose first line of rules this is: the octets of the line, and the rest.
+pub record IsCutAt (text line : List ℕ) (later : List (List ℕ)) : Type 0 where
+  pub rest : List ℕ
+  pub parts : text ≡ line ++ rest
+  pub goes_on : rule_lines rest ≡ later
+
+abbrev first_is : List (List ℕ) → List ℕ
+first_is [] = []
+first_is (line ∷ lines) = line
+
+abbrev later_are : List (List ℕ) → List (List ℕ)
+later_are [] = []
+later_are (line ∷ lines) = lines
+
+-- The first line of rules and the rest are the text.
+pub cut_at : (text line : List ℕ) (later : List (List ℕ)) → rule_lines text ≡ line ∷ later → IsCutAt text line later
+cut_at [] line later e = let none : [] ≡ line ∷ later = sym (rule_none [] refl) ∙ e in cc
+cut_at (octet ∷ text) line later e =
+    let at = line_size nothing_around (octet ∷ text) in
+    let whole = octet ∷ text in
+    let same : take at whole ∷ rule_lines (drop at whole) ≡ line ∷ later = sym (rule_cut whole at refl (omega arith)) ∙ e in
+    record {
+      rest = drop at whole;
+      parts = sym (take-append-drop at whole) ∙ ap (λ (ls : List (List ℕ)). first_is ls ++ drop at whole) same;
+      goes_on = ap later_are same;
+    }
 
 -- A text that isn't empty has octets.
 pub has_some : (count : ℕ) (empty : Bool) → empty ≡ (count == 0) → empty ≡ false → 0 < count

@@ -1,167 +1,275 @@
--- The number of a line of rules is that of the source line in which it begins.
-use Rattle.std.proofs.Common.{◌≡◌, ℕ, ◌+◌, Bool, true, false, if◌then◌else◌, nat_lt, List, [], ◌∷◌, ◌++◌, length, Result, Ok, Err, refl, sym, ap, subst, ◌∙◌, arith, append_assoc}
+-- The place of a line of rules is that in which it begins.
+use Rattle.std.proofs.Common.{◌≡◌, ◌≤◌, ◌⊎◌, inl, inr, ℕ, zero, suc, ◌+◌, ◌-◌, ◌==◌, Bool, true, false, if◌then◌else◌, nat_lt, List, [], ◌∷◌, ◌++◌, length, Option, Some, None, Result, Ok, Err, refl, sym, ap, subst, ◌∙◌, arith, append_assoc, append-nil, length-append}
+use Rattle.std.proofs.lemmas.Bool.{eqb-true}
 use Rattle.bpf_asm.specs.SourceLines.{source_lines}
-use Rattle.rules_text.specs.ContinuedLines.{feed_count, lines_within, rule_lines}
-use Rattle.rules_text.specs.Laws.{AreLinesReadAt, IsLineReadAt, NumbersAreThoseOfTheLines}
+use Rattle.rules_text.specs.ContinuedLines.{feed_count, first_token_place, line_begin, place_next, place_past, rule_lines, rule_place}
+use Rattle.rules_text.specs.declared.place.TextPlace.{TextPlace}
+use Rattle.rules_text.specs.Laws.{AreLinesReadAt, IsLineReadAt, NumbersAreThoseOfTheLines, column_after}
 use Rattle.rules_text.specs.LineGrammar.{LineContext, StatementRead, blank_statement, side_statement, line_statement, otherwise_statement}
 use Rattle.rules_text.specs.Names.{NameRead, rule_form}
 use Rattle.rules_text.specs.RulesRead.{LineRead, rule_line, block_line, end_line}
-use Rattle.rules_text.specs.RuleTokens.{RuleFound, rule_tokens}
-use Rattle.rules_text.specs.TextOfRules.{NumberedRead, TextReading, context_of, fault_of_line, formed_statement, gives_name, name_given, no_text_read, numbered_from, placed_fault, read_then, text_with, text_with_line, text_with_tokens, text_with_name, text_with_room}
+use Rattle.rules_text.specs.RuleTokens.{RuleFound, before_feed, first_cut, found_at, rule_tokens, separates, tokens_from}
+use Rattle.rules_text.specs.TextOfRules.{NumberedRead, TextReading, context_of, fault_in_text, fault_of_line, formed_statement, gives_name, name_given, no_text_read, numbered_from, placed_fault, read_then, text_with, text_with_line, text_with_tokens, text_with_name, text_with_room}
 use Rattle.rules_text.specs.declared.fault.RuleFault.{RuleFault}
 use Rattle.rules_text.specs.declared.fault.RuleKind.TheVariants.{AfterOtherwise, Unbalanced}
-use Rattle.rules_text.proofs.FeedCounts.{IsCutAt, cut_at, feeds_joined, lines_apart, lines_counted}
+use Rattle.rules_text.specs.declared.place.RulePlace.{RulePlace}
+use Rattle.rules_text.proofs.FeedCounts.{feeds_joined, lines_apart, lines_counted}
 use Rattle.rules_text.proofs.ReadingSteps.{rules_begun, without_numbers}
+use Rattle.rules_text.proofs.RuleLineCuts.{IsCutAt, cut_at}
+
+-- ---- places
+
+no_feed : (octet : ℕ) → (octet == 10) ≡ false → feed_count (octet ∷ []) ≡ 0
+unfolding feed_count
+no_feed octet e = rw e refl
+
+one_feed : (octet : ℕ) → (octet == 10) ≡ true → feed_count (octet ∷ []) ≡ 1
+unfolding feed_count
+one_feed octet e = rw e refl
+
+no_octets : feed_count [] ≡ 0
+unfolding feed_count
+no_octets = refl
+
+-- Octets that are whole source lines.
+abbrev AreWhole : List ℕ → Type 0
+AreWhole octets = (octets ≡ []) ⊎ ((front : List ℕ) × (octets ≡ front ++ 10 ∷ []))
+
+-- The place after these octets: the source lines before its own, and what stands before it in its own.
+record IsPlaceAfter (passed : List ℕ) (place : TextPlace) : Type 0 where
+  pub before : List ℕ
+  pub begun : List ℕ
+  pub parts : passed ≡ before ++ begun
+  pub are_whole : AreWhole before
+  pub one_line : feed_count begun ≡ 0
+  pub line : place.line ≡ feed_count before + 1
+  pub column : place.column ≡ length begun + 1
+
+octet_passed : (feed : Bool) (passed : List ℕ) (place : TextPlace) (octet : ℕ) → (octet == 10) ≡ feed → IsPlaceAfter passed place
+    → IsPlaceAfter (passed ++ octet ∷ []) (if feed then line_begin (place.line + 1) else record place { column = place.column + 1 })
+octet_passed true passed place octet e is =
+    let one = one_feed octet e in
+    let is_feed : octet ≡ 10 = eqb-true octet 10 e in
+    let all : feed_count passed ≡ feed_count is.before + feed_count is.begun = ap feed_count is.parts ∙ feeds_joined is.before is.begun in
+    let more = feeds_joined passed (octet ∷ []) in
+    record {
+      before = passed ++ octet ∷ [];
+      begun = [];
+      parts = sym (append-nil (passed ++ octet ∷ []));
+      are_whole = inr (passed, ap (λ (o : ℕ). passed ++ o ∷ []) is_feed);
+      one_line = no_octets;
+      line = omega (arith, one, all, more, is.line, is.one_line);
+      column = refl;
+    }
+octet_passed false passed place octet e is =
+    let none = no_feed octet e in
+    let more = feeds_joined is.begun (octet ∷ []) in
+    record {
+      before = is.before;
+      begun = is.begun ++ octet ∷ [];
+      parts = ap (λ (front : List ℕ). front ++ octet ∷ []) is.parts ∙ append_assoc is.before is.begun (octet ∷ []);
+      are_whole = is.are_whole;
+      one_line = omega (arith, none, more, is.one_line);
+      line = is.line;
+      column = omega (arith, is.column, length-append is.begun (octet ∷ []));
+    }
+
+octets_passed : (line passed : List ℕ) (place : TextPlace) → IsPlaceAfter passed place → IsPlaceAfter (passed ++ line) (place_past place line)
+unfolding place_past
+octets_passed [] passed place is = subst (λ (octets : List ℕ). IsPlaceAfter octets place) (sym (append-nil passed)) is
+octets_passed (octet ∷ line) passed place is =
+    subst (λ (octets : List ℕ). IsPlaceAfter octets (place_past (place_next place octet) line)) (append_assoc passed (octet ∷ []) line)
+    (octets_passed line (passed ++ octet ∷ []) (place_next place octet) (octet_passed (octet == 10) passed place octet refl is))
+
+nothing_passed : IsPlaceAfter [] (line_begin 1)
+unfolding feed_count
+nothing_passed = record { before = []; begun = []; parts = refl; are_whole = inl refl; one_line = refl; line = refl; column = refl }
+
+-- Whole source lines aren't cut from what follows them.
+apart_by : (before rest : List ℕ) → AreWhole before → source_lines (before ++ rest) ≡ source_lines before ++ source_lines rest
+unfolding source_lines
+apart_by before rest (inl none) = rw none refl
+apart_by before rest (inr (front, is)) = rw is (ap source_lines (append_assoc front (10 ∷ []) rest) ∙ lines_apart front rest)
+
+counted_by : (before : List ℕ) → AreWhole before → length (source_lines before) ≡ feed_count before
+unfolding source_lines feed_count
+counted_by before (inl none) = rw none refl
+counted_by before (inr (front, is)) =
+    let joined = feeds_joined front (10 ∷ []) in
+    let one = one_feed 10 refl in
+    rw is (omega (arith, lines_counted front, joined, one))
+
+-- Tokens are from this column on.
+columns_from : (column passed : ℕ) (octets : List ℕ) (first : RuleFound) (more : List RuleFound) → tokens_from column passed octets ≡ first ∷ more → column ≤ first.column
+unfolding tokens_from
+columns_from column passed [] first more e = cc
+columns_from column (suc passed) (octet ∷ rest) first more e = let later = columns_from (column + 1) passed rest first more e in omega (arith, later)
+columns_from column zero (octet ∷ rest) first more e =
+    by (separates octet rest) (octet == 35) e (λ f. columns_from (column + 1) zero rest first more f) (λ f. columns_from (column + 1) (before_feed rest) rest first more f)
+  where
+    by : (blank comment : Bool)
+        → (if blank then tokens_from (column + 1) zero rest else (
+        if comment then tokens_from (column + 1) (before_feed rest) rest else (
+        (found_at column (first_cut (octet ∷ rest)) ∷ tokens_from (column + 1) ((first_cut (octet ∷ rest)).size - 1) rest))))
+        ≡ first ∷ more
+        → (tokens_from (column + 1) zero rest ≡ first ∷ more → column + 1 ≤ first.column)
+        → (tokens_from (column + 1) (before_feed rest) rest ≡ first ∷ more → column + 1 ≤ first.column)
+        → column ≤ first.column
+    by true comment e after_blank after_comment = let later = after_blank e in omega (arith, later)
+    by false true e after_blank after_comment = let later = after_comment e in omega (arith, later)
+    by false false e after_blank after_comment =
+        let same : found_at column (first_cut (octet ∷ rest)) ≡ first = cc in
+        let at : column ≡ first.column = ap (λ (found : RuleFound). found.column) same in
+        omega (arith, at)
+
+column_by : (first_of_line : Bool) (begun : List ℕ) (begin : TextPlace) (first : RuleFound) (more : List RuleFound) → (begin.column == 1) ≡ first_of_line
+    → begin.column ≡ length begun + 1 → 1 ≤ first.column
+    → (if first_of_line then None else Some (begin.column + (first.column - 1))) ≡ column_after begun (first ∷ more)
+column_by true [] begin first more e column some = refl
+column_by true (octet ∷ begun) begin first more e column some = let one = eqb-true begin.column 1 e in absurd (omega (arith, one, column))
+column_by false [] begin first more e column some =
+    let wrong : (begin.column == 1) ≡ true = ap (λ (k : ℕ). k == 1) column in
+    let both : true ≡ false = sym wrong ∙ e in
+    absurd (cc)
+column_by false (octet ∷ begun) begin first more e column some =
+    let same : begin.column + (first.column - 1) ≡ length (octet ∷ begun) + first.column = omega (arith, column, some) in
+    ap (λ (k : ℕ). Some k) same
 
 module _ (octets : List ℕ) where
-  statement_more : (numbers : List ℕ) (lines : List LineRead) (number : ℕ) (statement : LineRead) → AreLinesReadAt octets numbers lines → IsLineReadAt octets number statement
-      → AreLinesReadAt octets (numbers ++ number ∷ []) (lines ++ statement ∷ [])
-  statement_more [] [] number statement are is = (is, tt)
-  statement_more (n ∷ numbers) (l ∷ lines) number statement are is = (are.0, statement_more numbers lines number statement are.1 is)
-  statement_more [] (l ∷ lines) number statement are is = absurd are
-  statement_more (n ∷ numbers) [] number statement are is = absurd are
+  statement_more : (begins : List RulePlace) (lines : List LineRead) (place : RulePlace) (statement : LineRead) → AreLinesReadAt octets begins lines → IsLineReadAt octets place statement
+      → AreLinesReadAt octets (begins ++ place ∷ []) (lines ++ statement ∷ [])
+  statement_more [] [] place statement are is = (is, tt)
+  statement_more (n ∷ begins) (l ∷ lines) place statement are is = (are.0, statement_more begins lines place statement are.1 is)
+  statement_more [] (l ∷ lines) place statement are is = absurd are
+  statement_more (n ∷ begins) [] place statement are is = absurd are
 
   abbrev Holds : TextReading → Type 0
-  Holds text = AreLinesReadAt octets text.numbers text.lines
+  Holds text = AreLinesReadAt octets text.begins text.lines
 
-  by_statement : (text next : TextReading) (number column : ℕ) (statement : StatementRead) → text_with text number column statement ≡ next → Holds text
-      → ((l : LineRead) → statement ≡ line_statement l → IsLineReadAt octets number l) → Holds next
-  by_statement text next number column blank_statement e held is = subst Holds e held
-  by_statement text next number column (side_statement side) e held is = subst Holds e held
-  by_statement text next number column (otherwise_statement value) e held is = subst Holds e held
-  by_statement text next number column (line_statement (rule_line test value)) e held is =
-      subst Holds e (statement_more text.numbers text.lines number (rule_line test value) held (is (rule_line test value) refl))
-  by_statement text next number column (line_statement (block_line test)) e held is =
-      subst Holds e (statement_more text.numbers text.lines number (block_line test) held (is (block_line test) refl))
-  by_statement text next number column (line_statement end_line) e held is =
-      subst Holds e (statement_more text.numbers text.lines number end_line held (is end_line refl))
+  by_statement : (text next : TextReading) (begin : TextPlace) (column : ℕ) (statement : StatementRead) → text_with text begin column statement ≡ next → Holds text
+      → ((l : LineRead) → statement ≡ line_statement l → IsLineReadAt octets (rule_place begin column) l) → Holds next
+  by_statement text next begin column blank_statement e held is = subst Holds e held
+  by_statement text next begin column (side_statement side) e held is = subst Holds e held
+  by_statement text next begin column (otherwise_statement value) e held is = subst Holds e held
+  by_statement text next begin column (line_statement (rule_line test value)) e held is =
+      subst Holds e (statement_more text.begins text.lines (rule_place begin column) (rule_line test value) held (is (rule_line test value) refl))
+  by_statement text next begin column (line_statement (block_line test)) e held is =
+      subst Holds e (statement_more text.begins text.lines (rule_place begin column) (block_line test) held (is (block_line test) refl))
+  by_statement text next begin column (line_statement end_line) e held is =
+      subst Holds e (statement_more text.begins text.lines (rule_place begin column) end_line held (is end_line refl))
 
-  by_found : (text next : TextReading) (number column room : ℕ) (found : Result StatementRead RuleFault)
-      → read_then found (λ fault. fault) (λ statement. Ok (text_with (record text { room = room }) number column statement)) ≡ Ok next → Holds text
-      → ((l : LineRead) → found ≡ Ok (line_statement l) → IsLineReadAt octets number l) → Holds next
-  by_found text next number column room (Ok statement) e held is =
-      let same : text_with (record text { room = room }) number column statement ≡ next = cc in
-      by_statement (record text { room = room }) next number column statement same held (λ l f. is l (ap (λ (s : StatementRead). Ok s) f))
-  by_found text next number column room (Err fault) e held is = cc
+  by_found : (text next : TextReading) (begin : TextPlace) (column room : ℕ) (found : Result StatementRead RuleFault)
+      → read_then found (λ fault. fault) (λ statement. Ok (text_with (record text { room = room }) begin column statement)) ≡ Ok next → Holds text
+      → ((l : LineRead) → found ≡ Ok (line_statement l) → IsLineReadAt octets (rule_place begin column) l) → Holds next
+  by_found text next begin column room (Ok statement) e held is =
+      let same : text_with (record text { room = room }) begin column statement ≡ next = cc in
+      by_statement (record text { room = room }) next begin column statement same held (λ l f. is l (ap (λ (s : StatementRead). Ok s) f))
+  by_found text next begin column room (Err fault) e held is = cc
 
   by_name : (text next : TextReading) (room : ℕ) (given : Result NameRead RuleFault) → read_then given (λ fault. fault) (λ name. Ok (text_with_name (record text { room = room }) name)) ≡ Ok next → Holds text → Holds next
   by_name text next room (Ok name) e held = let same : text_with_name (record text { room = room }) name ≡ next = cc in subst Holds same held
   by_name text next room (Err fault) e held = cc
 
-  -- Each line of rules that is read of these tokens is the one that is read of the source line of this number.
-  abbrev Reads : ℕ → List ℕ → List RuleFound → Type 0
-  Reads number line tokens =
-      (context : LineContext) (names : List NameRead) (l : LineRead) → formed_statement context names rule_form number line 1 tokens ≡ Ok (line_statement l) → IsLineReadAt octets number l
+  -- Each line of rules that is read of these tokens is the one that begins at this place.
+  abbrev Reads : TextPlace → List ℕ → List RuleFound → Type 0
+  Reads begin line tokens =
+      (first : RuleFound) (rest : List RuleFound) → tokens ≡ first ∷ rest
+      → (context : LineContext) (names : List NameRead) (l : LineRead) → formed_statement context names rule_form begin.line line 1 tokens ≡ Ok (line_statement l) → IsLineReadAt octets (rule_place begin first.column) l
 
-  by_first : (closed gives : Bool) (text next : TextReading) (number : ℕ) (line : List ℕ) (first : RuleFound) (rest : List RuleFound)
-      → (if closed then Err (placed_fault number first.column AfterOtherwise) else (
+  by_first : (closed gives : Bool) (text next : TextReading) (begin : TextPlace) (line : List ℕ) (first : RuleFound) (rest : List RuleFound)
+      → (if closed then Err (placed_fault begin.line first.column AfterOtherwise) else (
       if gives
-      then read_then (name_given text number line first rest) (λ fault. fault) (λ name. Ok (text_with_name (text_with_room text line (first ∷ rest)) name))
-      else read_then (formed_statement (context_of text) text.names rule_form number line 1 (first ∷ rest)) (λ fault. fault)
-      (λ statement. Ok (text_with (text_with_room text line (first ∷ rest)) number first.column statement)))) ≡ Ok next
-      → Holds text → Reads number line (first ∷ rest) → Holds next
-  by_first true gives text next number line first rest e held is = cc
-  by_first false true text next number line first rest e held is = by_name text next (text_with_room text line (first ∷ rest)).room (name_given text number line first rest) e held
-  by_first false false text next number line first rest e held is =
-      by_found text next number first.column (text_with_room text line (first ∷ rest)).room (formed_statement (context_of text) text.names rule_form number line 1 (first ∷ rest)) e held (is (context_of text) text.names)
+      then read_then (name_given text begin.line line first rest) (λ fault. fault) (λ name. Ok (text_with_name (text_with_room text line (first ∷ rest)) name))
+      else read_then (formed_statement (context_of text) text.names rule_form begin.line line 1 (first ∷ rest)) (λ fault. fault)
+      (λ statement. Ok (text_with (text_with_room text line (first ∷ rest)) begin first.column statement)))) ≡ Ok next
+      → Holds text → Reads begin line (first ∷ rest) → Holds next
+  by_first true gives text next begin line first rest e held is = cc
+  by_first false true text next begin line first rest e held is = by_name text next (text_with_room text line (first ∷ rest)).room (name_given text begin.line line first rest) e held
+  by_first false false text next begin line first rest e held is =
+      by_found text next begin first.column (text_with_room text line (first ∷ rest)).room (formed_statement (context_of text) text.names rule_form begin.line line 1 (first ∷ rest)) e held (is first rest refl (context_of text) text.names)
 
-  by_tokens : (text next : TextReading) (number : ℕ) (line : List ℕ) (tokens : List RuleFound) → text_with_tokens text number line tokens ≡ Ok next → Holds text → Reads number line tokens → Holds next
-  by_tokens text next number line [] e held is = let same : text ≡ next = cc in subst Holds same held
-  by_tokens text next number line (first ∷ rest) e held is = by_first text.closed (gives_name first.token) text next number line first rest e held is
+  by_tokens : (text next : TextReading) (begin : TextPlace) (line : List ℕ) (tokens : List RuleFound) → text_with_tokens text begin line tokens ≡ Ok next → Holds text → Reads begin line tokens → Holds next
+  by_tokens text next begin line [] e held is = let same : text ≡ next = cc in subst Holds same held
+  by_tokens text next begin line (first ∷ rest) e held is = by_first text.closed (gives_name first.token) text next begin line first rest e held is
 
-  by_line : (text next : TextReading) (number : ℕ) (line : List ℕ) → text_with_line text number line ≡ Ok next → Holds text → Reads number line (rule_tokens line) → Holds next
+  by_line : (text next : TextReading) (begin : TextPlace) (line : List ℕ) → text_with_line text begin line ≡ Ok next → Holds text → Reads begin line (rule_tokens line) → Holds next
   unfolding text_with_line
-  by_line text next number line e held is = by_tokens text next number line (rule_tokens line) e held is
+  by_line text next begin line e held is = by_tokens text next begin line (rule_tokens line) e held is
 
-  at_end : (closed : Bool) (text : TextReading) (numbered : NumberedRead)
-      → (if closed then Err (placed_fault text.head_line text.head_column Unbalanced) else
-      Ok (record { rules = record { side = text.side; lines = text.lines; otherwise = text.otherwise }; numbers = text.numbers })) ≡ Ok numbered
-      → Holds text → AreLinesReadAt octets numbered.numbers numbered.rules.lines
+  at_end : (unclosed : Bool) (text : TextReading) (numbered : NumberedRead)
+      → (if unclosed then Err (fault_in_text text.head Unbalanced) else
+      Ok (record { rules = record { side = text.side; lines = text.lines; otherwise = text.otherwise }; begins = text.begins })) ≡ Ok numbered
+      → Holds text → AreLinesReadAt octets numbered.begins numbered.rules.lines
   at_end true text numbered e held = cc
   at_end false text numbered e held =
-      let same : ◌≡◌ {A = NumberedRead} (record { rules = record { side = text.side; lines = text.lines; otherwise = text.otherwise }; numbers = text.numbers }) numbered = cc in
-      subst (λ (n : NumberedRead). AreLinesReadAt octets n.numbers n.rules.lines) same held
+      let same : ◌≡◌ {A = NumberedRead} (record { rules = record { side = text.side; lines = text.lines; otherwise = text.otherwise }; begins = text.begins }) numbered = cc in
+      subst (λ (n : NumberedRead). AreLinesReadAt octets n.begins n.rules.lines) same held
 
-  one_feed : feed_count (10 ∷ []) ≡ 1
-  unfolding feed_count
-  one_feed = refl
+  -- A line of rules that begins after these octets.
+  record BeginsAfter (passed rest : List ℕ) (begin : TextPlace) : Type 0 where
+    pub parts : octets ≡ passed ++ rest
+    pub place : IsPlaceAfter passed begin
 
-  -- A line of rules that begins after this text.
-  record BeginsAfter (before rest : List ℕ) (number : ℕ) : Type 0 where
-    pub parts : octets ≡ before ++ rest
-    pub lines : source_lines octets ≡ source_lines before ++ source_lines rest
-    pub counted : number ≡ length (source_lines before) + 1
-    pub feeds : number ≡ feed_count before + 1
+  after_cut : (passed text line : List ℕ) (begin : TextPlace) (later : List (List ℕ)) → BeginsAfter passed text begin → (cut : IsCutAt text line later)
+      → BeginsAfter (passed ++ line) cut.rest (place_past begin line)
+  after_cut passed text line begin later begins cut = record {
+    parts = begins.parts ∙ ap (λ (r : List ℕ). passed ++ r) cut.parts ∙ sym (append_assoc passed line cut.rest);
+    place = octets_passed line passed begin begins.place;
+  }
 
-  after_cut : (before text line : List ℕ) (number : ℕ) (later : List (List ℕ)) → BeginsAfter before text number → (cut : IsCutAt text line later)
-      → BeginsAfter ((before ++ cut.front) ++ 10 ∷ []) cut.rest (number + lines_within line)
-  after_cut before text line number later begins cut =
-      let front = before ++ cut.front in
-      let whole : octets ≡ front ++ 10 ∷ cut.rest = begins.parts ∙ ap (λ (r : List ℕ). before ++ r) cut.parts ∙ sym (append_assoc before cut.front (10 ∷ cut.rest)) in
-      let fed : feed_count front ≡ feed_count before + feed_count cut.front = feeds_joined before cut.front in
-      let more : feed_count (front ++ 10 ∷ []) ≡ feed_count front + 1 = feeds_joined front (10 ∷ []) ∙ ap (λ (k : ℕ). feed_count front + k) one_feed in
-      let counted = lines_counted front in
-      record {
-        parts = whole ∙ sym (append_assoc front (10 ∷ []) cut.rest);
-        lines = ap source_lines whole ∙ lines_apart front cut.rest;
-        counted = omega (arith, begins.feeds, fed, cut.feeds, counted);
-        feeds = omega (arith, begins.feeds, fed, cut.feeds, more);
-      }
-
-  whole : (earlier lines : List (List ℕ)) (before rest : List ℕ) (text : TextReading) (number : ℕ) (numbered : NumberedRead)
-      → rule_lines octets ≡ earlier ++ lines → rule_lines rest ≡ lines → BeginsAfter before rest number
-      → Holds text → numbered_from text number lines ≡ Ok numbered → AreLinesReadAt octets numbered.numbers numbered.rules.lines
+  whole : (earlier lines : List (List ℕ)) (passed rest : List ℕ) (text : TextReading) (begin : TextPlace) (numbered : NumberedRead)
+      → rule_lines octets ≡ earlier ++ lines → rule_lines rest ≡ lines → BeginsAfter passed rest begin
+      → Holds text → numbered_from text begin lines ≡ Ok numbered → AreLinesReadAt octets numbered.begins numbered.rules.lines
   unfolding numbered_from
-  whole earlier [] before rest text number numbered parts first begins held e = at_end (nat_lt 0 text.blocks) text numbered e held
-  whole earlier (line ∷ later) before rest text number numbered parts first begins held e =
-      onward (text_with_line text number line) refl e (λ earlier_now before_now rest_now next number_now. whole earlier_now later before_now rest_now next number_now numbered)
+  whole earlier [] passed rest text begin numbered parts first begins held e = at_end (nat_lt 0 text.blocks) text numbered e held
+  whole earlier (line ∷ later) passed rest text begin numbered parts first begins held e =
+      onward (text_with_line text begin line) refl e
+      (λ earlier_now passed_now rest_now next begin_now. whole earlier_now later passed_now rest_now next begin_now numbered)
     where
       Deep : Type 0
-      Deep = (earlier_now : List (List ℕ)) (before_now rest_now : List ℕ) (next : TextReading) (number_now : ℕ)
-          → rule_lines octets ≡ earlier_now ++ later → rule_lines rest_now ≡ later → BeginsAfter before_now rest_now number_now
-          → Holds next → numbered_from next number_now later ≡ Ok numbered → AreLinesReadAt octets numbered.numbers numbered.rules.lines
+      Deep = (earlier_now : List (List ℕ)) (passed_now rest_now : List ℕ) (next : TextReading) (begin_now : TextPlace)
+          → rule_lines octets ≡ earlier_now ++ later → rule_lines rest_now ≡ later → BeginsAfter passed_now rest_now begin_now
+          → Holds next → numbered_from next begin_now later ≡ Ok numbered → AreLinesReadAt octets numbered.begins numbered.rules.lines
 
-      is_read : (context : LineContext) (names : List NameRead) (l : LineRead)
-          → formed_statement context names rule_form number line 1 (rule_tokens line) ≡ Ok (line_statement l) → IsLineReadAt octets number l
-      is_read context names l statement = record {
-        before = before;
-        rest = rest;
-        parts = begins.parts;
-        lines = begins.lines;
-        counted = begins.counted;
-        line = line;
-        earlier = earlier;
-        later = later;
-        rules = parts;
-        first = first;
-        context = context;
-        names = names;
-        read_as = statement;
-      }
+      is_read : Reads begin line (rule_tokens line)
+      is_read token tokens same context names l statement =
+          let is = begins.place in
+          let some = columns_from 1 0 line token tokens same in
+          record {
+            before = is.before;
+            begun = is.begun;
+            rest = rest;
+            parts = begins.parts ∙ ap (λ (front : List ℕ). front ++ rest) is.parts ∙ append_assoc is.before is.begun rest;
+            lines = ap source_lines (begins.parts ∙ ap (λ (front : List ℕ). front ++ rest) is.parts ∙ append_assoc is.before is.begun rest) ∙ apart_by is.before (is.begun ++ rest) is.are_whole;
+            one_line = is.one_line;
+            counted = omega (arith, is.line, counted_by is.before is.are_whole);
+            line = line;
+            earlier = earlier;
+            later = later;
+            rules = parts;
+            first = first;
+            column = column_by (begin.column == 1) is.begun begin token tokens refl is.column some ∙ ap (column_after is.begun) (sym same);
+            context = context;
+            names = names;
+            read_as = statement;
+          }
 
-      deep : (more : List (List ℕ)) → Deep → later ≡ more → (next : TextReading) → Holds next → numbered_from next (number + lines_within line) later ≡ Ok numbered
-          → AreLinesReadAt octets numbered.numbers numbered.rules.lines
-      deep [] go same next held_next read =
-          at_end (nat_lt 0 next.blocks) next numbered (sym (ap (numbered_from next (number + lines_within line)) same) ∙ read) held_next
-      deep (second ∷ more) go same next held_next read =
-          let cut = cut_at rest line second more (first ∙ ap (λ (ls : List (List ℕ)). line ∷ ls) same) in
-          go (earlier ++ line ∷ []) ((before ++ cut.front) ++ 10 ∷ []) cut.rest next (number + lines_within line)
-          (parts ∙ sym (append_assoc earlier (line ∷ []) later)) (cut.goes_on ∙ sym same)
-          (after_cut before rest line number (second ∷ more) begins cut) held_next read
-
-      onward : (found : Result TextReading RuleFault) → text_with_line text number line ≡ found
-          → read_then found (fault_of_line number line) (λ next. numbered_from next (number + lines_within line) later) ≡ Ok numbered
-          → Deep → AreLinesReadAt octets numbered.numbers numbered.rules.lines
-      onward (Ok next) is read go = deep later go refl next (by_line text next number line is held is_read) read
+      onward : (found : Result TextReading RuleFault) → text_with_line text begin line ≡ found
+          → read_then found (fault_of_line begin line) (λ next. numbered_from next (place_past begin line) later) ≡ Ok numbered
+          → Deep → AreLinesReadAt octets numbered.begins numbered.rules.lines
+      onward (Ok next) is read go =
+          let cut = cut_at rest line later first in
+          go (earlier ++ line ∷ []) (passed ++ line) cut.rest next (place_past begin line)
+          (parts ∙ sym (append_assoc earlier (line ∷ []) later)) cut.goes_on (after_cut passed rest line begin later begins cut)
+          (by_line text next begin line is held is_read) read
       onward (Err fault) is read go = cc
 
-none_before : (octets : List ℕ) → BeginsAfter octets [] octets 1
-unfolding source_lines feed_count
-none_before octets = record { parts = refl; lines = refl; counted = refl; feeds = refl }
+none_before : (octets : List ℕ) → BeginsAfter octets [] octets (line_begin 1)
+none_before octets = record { parts = refl; place = nothing_passed }
 
 -- For every text.
 pub statement_numbers : NumbersAreThoseOfTheLines
 statement_numbers octets numbered e = record {
   rules = without_numbers octets numbered e;
-  numbers = whole octets [] (rule_lines octets) [] octets no_text_read 1 numbered refl refl (none_before octets) tt (sym (rules_begun octets) ∙ e);
+  places = whole octets [] (rule_lines octets) [] octets no_text_read (line_begin 1) numbered refl refl (none_before octets) tt (sym (rules_begun octets) ∙ e);
 }

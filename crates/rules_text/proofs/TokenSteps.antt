@@ -30,7 +30,7 @@ feed_or true other = refl
 feed_or false other = refl
 
 feed_separates : (octet : ℕ) (rest : List ℕ) → (octet == 10) ≡ true → separates octet rest ≡ true
-feed_separates octet rest e = rw e (feed_or (is_blank octet) ((octet == 13) && begins_with_feed rest))
+feed_separates octet rest e = rw e (feed_or (is_blank octet) ((octet == 59) || ((octet == 13) && begins_with_feed rest)))
 
 passed_one : (column n octet : ℕ) (rest : List ℕ) → tokens_from column (suc n) (octet ∷ rest) ≡ tokens_from (column + 1) n rest
 unfolding tokens_from

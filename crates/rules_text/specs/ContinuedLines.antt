@@ -1,7 +1,8 @@
--- The lines of rules of a text, and the places of their octets. Inside parentheses a line end is a blank: there a line of rules goes on
--- over the ends of its source lines.
-use Rattle.std.specs.Prelude.{ℕ, ◌+◌, ◌-◌, ◌==◌, ◌&&◌, ◌||◌, Bool, true, false, if◌then◌else◌, List, [], ◌∷◌, map}
-use Rattle.text_io.specs.Lines.{Line, begun_with, line_content}
+-- The lines of rules of a text, and the places of their octets. A line of rules is a source line, but inside parentheses a line end is a
+-- blank, so there it goes on; and `;`, `{` and `}` end a line of rules before its source line ends.
+use Rattle.std.specs.Prelude.{ℕ, ◌+◌, ◌-◌, ◌==◌, ◌&&◌, ◌||◌, Bool, true, false, not, if◌then◌else◌, List, [], ◌∷◌, Some, None}
+use Rattle.rules_text.specs.declared.place.RulePlace.{RulePlace}
+use Rattle.rules_text.specs.declared.place.TextPlace.{TextPlace}
 
 -- What is around an octet of a line: how many parentheses are open there, and whether it is in a comment.
 pub record Enclosing : Type 0 where
@@ -12,14 +13,14 @@ pub record Enclosing : Type 0 where
 abbrev pub nothing_around : Enclosing
 nothing_around = record { parentheses = 0; comment = false }
 
--- What is around the octet after this one outside of comments. A comment begins at `#` (35). No test goes on after `{` (123), nor
--- after the first octet of `->` (45), which begins no other mark.
+-- What is around the octet after this one outside of comments. A comment begins at `#` (35). No test goes on after the first octet of
+-- `->` (45), which begins no other mark.
 abbrev pub around_after : Enclosing → ℕ → Enclosing
 around_after around octet =
     if octet == 35 then record around { comment = true } else (
     if octet == 40 then record around { parentheses = around.parentheses + 1 } else (
     if octet == 41 then record around { parentheses = around.parentheses - 1 } else (
-    if (octet == 123) || (octet == 45) then record around { parentheses = 0 } else around)))
+    if octet == 45 then record around { parentheses = 0 } else around)))
 
 -- What is around the next octet. A comment ends with its source line.
 abbrev pub around_next : Enclosing → ℕ → Enclosing
@@ -28,35 +29,42 @@ around_next around octet =
     then (if octet == 10 then record around { comment = false } else around)
     else around_after around octet
 
--- Whether a line of rules ends with this octet: a line feed (10) where no parenthesis is open.
-abbrev pub ends_rule_line : Enclosing → ℕ → Bool
-ends_rule_line around octet = (octet == 10) && (around.parentheses == 0)
+-- Whether a line of rules ends with this octet: a line feed (10) where no parenthesis is open; or outside of comments `;` (59), `{` (123)
+-- or `}` (125).
+abbrev pub is_line_end : Enclosing → ℕ → Bool
+is_line_end around octet =
+    if octet == 10 then around.parentheses == 0 else (not around.comment && ((octet == 59) || ((octet == 123) || (octet == 125))))
+
+-- Whether octets begin with a `}` that ends a block.
+abbrev pub closes_block : Enclosing → List ℕ → Bool
+closes_block around [] = false
+closes_block around (octet ∷ rest) = not around.comment && (octet == 125)
+
+-- Whether a line of rules ends with this octet, where these octets come after it. It also ends just before a `}`.
+abbrev pub ends_rule_line : Enclosing → ℕ → List ℕ → Bool
+ends_rule_line around octet rest = is_line_end around octet || closes_block (around_next around octet) rest
+
+-- Lines, the first of which begins with this octet.
+abbrev pub first_begun_with : ℕ → List (List ℕ) → List (List ℕ)
+first_begun_with octet [] = (octet ∷ []) ∷ []
+first_begun_with octet (line ∷ lines) = (octet ∷ line) ∷ lines
 
 -- The lines of rules of octets, the first of which goes on here.
-unfoldable pub lines_going_on : Enclosing → List ℕ → List Line
+unfoldable pub lines_going_on : Enclosing → List ℕ → List (List ℕ)
 lines_going_on around [] = []
 lines_going_on around (octet ∷ rest) =
-    if ends_rule_line around octet
-    then (record { octets = []; ended = true }) ∷ lines_going_on nothing_around rest
-    else begun_with octet (lines_going_on (around_next around octet) rest)
+    if ends_rule_line around octet rest
+    then (octet ∷ []) ∷ lines_going_on nothing_around rest
+    else first_begun_with octet (lines_going_on (around_next around octet) rest)
 
--- The lines of rules of a text. A carriage return just before the line feed that ends one is dropped.
+-- The lines of rules of a text. Each octet is in one of them.
 unfoldable pub rule_lines : List ℕ → List (List ℕ)
-rule_lines text = map line_content (lines_going_on nothing_around text)
+rule_lines text = lines_going_on nothing_around text
 
 -- How many line feeds octets have.
 unfoldable pub feed_count : List ℕ → ℕ
 feed_count [] = 0
 feed_count (octet ∷ rest) = if octet == 10 then feed_count rest + 1 else feed_count rest
-
--- In how many source lines a line of rules is written.
-abbrev pub lines_within : List ℕ → ℕ
-lines_within line = feed_count line + 1
-
--- A place in a text: a line and a column, both counted from 1.
-pub record TextPlace : Type 0 where
-  pub line : ℕ
-  pub column : ℕ
 
 -- The beginning of a source line.
 abbrev pub line_begin : ℕ → TextPlace
@@ -70,3 +78,16 @@ place_next place octet = if octet == 10 then line_begin (place.line + 1) else re
 unfoldable pub place_past : TextPlace → List ℕ → TextPlace
 place_past place [] = place
 place_past place (octet ∷ rest) = place_past (place_next place octet) rest
+
+-- The place of the first token of a line of rules that begins at this place, where the token is at this column of the line. No source
+-- line ends before that token.
+abbrev pub first_token_place : TextPlace → ℕ → TextPlace
+first_token_place begin column = record begin { column = begin.column + (column - 1) }
+
+-- What tells a line of rules from others: the number of the source line in which it begins, and where that source line doesn't begin
+-- with it, the column of its first token.
+abbrev pub rule_place : TextPlace → ℕ → RulePlace
+rule_place begin column = record {
+  line = begin.line;
+  column = (if begin.column == 1 then None else Some (first_token_place begin column).column);
+}

@@ -1,12 +1,13 @@
 -- What is proved of the definition itself.
-use Rattle.std.specs.Prelude.{◌≡◌, ◌≤◌, ◌<◌, ◌+◌, ℕ, List, [], ◌∷◌, ◌++◌, length, map, Ok}
+use Rattle.std.specs.Prelude.{◌≡◌, ◌≤◌, ◌<◌, ◌+◌, ℕ, List, [], ◌∷◌, ◌++◌, length, map, Option, Some, None, Ok}
 use Rattle.bpf_asm.specs.SourceLines.{source_lines}
 use Rattle.bpf_code.specs.declared.instr.Instr.{Instr}
 use Rattle.bpf_interp.specs.Value.{Value}
 use Rattle.cell_rules.specs.Fields.{IsCell}
 use Rattle.cell_rules.specs.declared.deciding.Decision.{Decision}
 use Rattle.rules_text.specs.CodeOfText.{IsCodeOfText}
-use Rattle.rules_text.specs.ContinuedLines.{rule_lines}
+use Rattle.rules_text.specs.ContinuedLines.{feed_count, rule_lines}
+use Rattle.rules_text.specs.declared.place.RulePlace.{RulePlace}
 use Rattle.rules_text.specs.DecisionsRead.{rules_decide}
 use Rattle.rules_text.specs.LineGrammar.{LineContext, nothing_read, line_statement}
 use Rattle.rules_text.specs.Names.{NameRead, rule_form}
@@ -64,37 +65,47 @@ OnlyWrittenHeadsAreRead =
     → statement_from context number nothing_read 1 found ≡ Ok (line_statement (block_line read))
     → IsHeadWritten (map (λ it. it.token) found) read
 
--- A line of rules of the text is read as this one, and the source line in which it begins has this number, counted from 1.
-pub record IsLineReadAt (octets : List ℕ) (number : ℕ) (read : LineRead) : Type 0 where
-  -- the text before the line, and from the line on
+-- The column of the first of these tokens of a line of rules, before which these octets stand in its source line; none if no octet does.
+abbrev pub column_after : List ℕ → List RuleFound → Option ℕ
+column_after [] tokens = None
+column_after (octet ∷ begun) [] = None
+column_after (octet ∷ begun) (first ∷ rest) = Some (length (octet ∷ begun) + first.column)
+
+-- A line of rules of the text is read as this one, and begins at this place.
+pub record IsLineReadAt (octets : List ℕ) (place : RulePlace) (read : LineRead) : Type 0 where
+  -- the source lines before the one in which the line begins, what stands in that one before the line, and the text from the line on
   pub before : List ℕ
+  pub begun : List ℕ
   pub rest : List ℕ
-  pub parts : octets ≡ before ++ rest
-  -- no source line is cut, and the first of the rest has the number
-  pub lines : source_lines octets ≡ source_lines before ++ source_lines rest
-  pub counted : number ≡ length (source_lines before) + 1
+  pub parts : octets ≡ before ++ (begun ++ rest)
+  -- the number is that of the source line, counted from 1
+  pub lines : source_lines octets ≡ source_lines before ++ source_lines (begun ++ rest)
+  pub one_line : feed_count begun ≡ 0
+  pub counted : place.line ≡ length (source_lines before) + 1
   -- the line is a line of rules of the text, and the first of the rest
   pub line : List ℕ
   pub earlier : List (List ℕ)
   pub later : List (List ℕ)
   pub rules : rule_lines octets ≡ earlier ++ line ∷ later
   pub first : rule_lines rest ≡ line ∷ later
+  -- the column is that of its first token in the source line, if the source line doesn't begin with it
+  pub column : place.column ≡ column_after begun (rule_tokens line)
   -- which is read in this way
   pub context : LineContext
   pub names : List NameRead
-  pub read_as : formed_statement context names rule_form number line 1 (rule_tokens line) ≡ Ok (line_statement read)
+  pub read_as : formed_statement context names rule_form place.line line 1 (rule_tokens line) ≡ Ok (line_statement read)
 
--- Lines of rules that begin in the source lines of these numbers are read as these lines: as many, in order.
-abbrev pub AreLinesReadAt : List ℕ → List ℕ → List LineRead → Type 0
+-- Lines of rules that begin at these places are read as these lines: as many, in order.
+abbrev pub AreLinesReadAt : List ℕ → List RulePlace → List LineRead → Type 0
 AreLinesReadAt octets [] [] = Unit {0}
-AreLinesReadAt octets (number ∷ numbers) (read ∷ lines) = IsLineReadAt octets number read × AreLinesReadAt octets numbers lines
+AreLinesReadAt octets (place ∷ places) (read ∷ lines) = IsLineReadAt octets place read × AreLinesReadAt octets places lines
 AreLinesReadAt octets [] (read ∷ lines) = ⊥
-AreLinesReadAt octets (number ∷ numbers) [] = ⊥
+AreLinesReadAt octets (place ∷ places) [] = ⊥
 
--- What is read with numbers are the rules of the text, each with the number of the source line in which it begins.
+-- What is read with places are the rules of the text, each with the place where its line begins.
 pub record AreNumbered (octets : List ℕ) (numbered : NumberedRead) : Type 0 where
   pub rules : rules_in octets ≡ Ok numbered.rules
-  pub numbers : AreLinesReadAt octets numbered.numbers numbered.rules.lines
+  pub places : AreLinesReadAt octets numbered.begins numbered.rules.lines
 
 -- For every text.
 abbrev pub NumbersAreThoseOfTheLines : Type 0

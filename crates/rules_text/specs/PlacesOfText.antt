@@ -1,4 +1,4 @@
--- Which source line each part of a code is of.
+-- Which line of rules each part of a code is of.
 use Rattle.std.specs.Prelude.{◌≡◌, ℕ, List}
 use Rattle.cell_rules.specs.PlainOf.{ArePlainLines}
 use Rattle.match_code.specs.LineCode.{lines_code}
@@ -8,12 +8,11 @@ use Rattle.rules_text.specs.NumberedText.{HasNumbered}
 use Rattle.rules_text.specs.declared.compiler.NumberedCode.{NumberedCode}
 use Rattle.rules_text.specs.declared.reader.NumberedRules.{NumberedRules}
 
--- The code is that of the text's rules, the lengths are those of their lines, and the numbers are those of the source lines that have
--- them.
+-- The code is that of the text's rules, the lengths are those of their lines, and the places are where these begin.
 pub record IsNumberedCode (octets : List ℕ) (made : NumberedCode) : Type 0 where
   pub numbered : NumberedRules
   pub read : HasNumbered octets numbered
-  pub numbers : made.numbers.items ≡ numbered.numbers.items
+  pub begins : made.begins.items ≡ numbered.begins.items
   pub lines : List Line
   pub plain : ArePlainLines numbered.rules.side numbered.rules.lines.items lines
   pub code : made.placed.code.items ≡ lines_code lines numbered.rules.otherwise

@@ -168,10 +168,10 @@ abbrev pub begins_with_feed : List ℕ → Bool
 begins_with_feed [] = false
 begins_with_feed (octet ∷ rest) = octet == 10
 
--- Whether an octet with these after it separates tokens: a space, a tab, or a line end, which is a line feed, or a carriage return (13)
--- before one.
+-- Whether an octet with these after it separates tokens: a space, a tab, a line end, which is a line feed, or a carriage return (13)
+-- before one, or `;` (59), which is always the last octet of its line.
 abbrev pub separates : ℕ → List ℕ → Bool
-separates octet rest = is_blank octet || ((octet == 10) || ((octet == 13) && begins_with_feed rest))
+separates octet rest = is_blank octet || ((octet == 10) || ((octet == 59) || ((octet == 13) && begins_with_feed rest)))
 
 -- How many octets come before the end of a source line.
 unfoldable pub before_feed : List ℕ → ℕ

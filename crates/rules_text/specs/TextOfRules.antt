@@ -5,7 +5,9 @@ use Rattle.bpf_asm.specs.Tokens.{is_word}
 use Rattle.text_io.specs.Words.{is_digit}
 use Rattle.upc_cell.specs.declared.side.Side.{Side}
 use Rattle.upc_cell.specs.declared.side.Side.TheVariants.{Uni}
-use Rattle.rules_text.specs.ContinuedLines.{TextPlace, line_begin, lines_within, place_past, rule_lines}
+use Rattle.rules_text.specs.ContinuedLines.{first_token_place, line_begin, place_past, rule_lines, rule_place}
+use Rattle.rules_text.specs.declared.place.TextPlace.{TextPlace}
+use Rattle.rules_text.specs.declared.place.RulePlace.{RulePlace}
 use Rattle.rules_text.specs.RulesRead.{LineRead, RulesRead, equal_sign, rule_line, block_line, end_line}
 use Rattle.rules_text.specs.RuleTokens.{RuleFound, RuleToken, contract_value, contract_word, define_word, rule_tokens, sign_mark}
 use Rattle.rules_text.specs.LineGrammar.{LineContext, Reading, StatementRead, blank_statement, side_statement, line_statement, otherwise_statement, may_be_name, read_token, statement_at_end}
@@ -48,8 +50,8 @@ pub record TextReading : Type 0 where
   pub side : Side
   -- the lines of rules so far
   pub lines : List LineRead
-  -- the numbers of these lines in the text, counted from 1
-  pub numbers : List ℕ
+  -- where these lines begin
+  pub begins : List RulePlace
   -- the names, in the order in which they were given
   pub names : List NameRead
   -- how many tokens they may still add
@@ -59,8 +61,7 @@ pub record TextReading : Type 0 where
   -- how many blocks are open
   pub blocks : ℕ
   -- the place of the outermost of them
-  pub head_line : ℕ
-  pub head_column : ℕ
+  pub head : TextPlace
   -- whether a line with tokens was read
   pub begun : Bool
   -- whether `otherwise` was read
@@ -71,42 +72,40 @@ abbrev pub no_text_read : TextReading
 no_text_read = record {
   side = Uni;
   lines = [];
-  numbers = [];
+  begins = [];
   names = [];
   room = most_added;
   otherwise = 0;
   blocks = 0;
-  head_line = 0;
-  head_column = 0;
+  head = record { line = 0; column = 0 };
   begun = false;
   closed = false;
 }
 
--- What was read, with one more line of rules, which begins at this place.
-abbrev pub with_line : TextReading → LineRead → ℕ → ℕ → TextReading
-with_line text (rule_line test value) line column =
-    record text { lines = text.lines ++ rule_line test value ∷ []; numbers = text.numbers ++ line ∷ []; begun = true }
-with_line text (block_line test) line column = record text {
+-- What was read, with one more line of rules, which begins at this place and has its first token at this column.
+abbrev pub with_line : TextReading → LineRead → TextPlace → ℕ → TextReading
+with_line text (rule_line test value) begin column =
+    record text { lines = text.lines ++ rule_line test value ∷ []; begins = text.begins ++ rule_place begin column ∷ []; begun = true }
+with_line text (block_line test) begin column = record text {
   lines = text.lines ++ block_line test ∷ [];
-  numbers = text.numbers ++ line ∷ [];
+  begins = text.begins ++ rule_place begin column ∷ [];
   blocks = text.blocks + 1;
-  head_line = (if nat_lt 0 text.blocks then text.head_line else line);
-  head_column = (if nat_lt 0 text.blocks then text.head_column else column);
+  head = (if nat_lt 0 text.blocks then text.head else first_token_place begin column);
   begun = true;
 }
-with_line text end_line line column = record text {
+with_line text end_line begin column = record text {
   lines = text.lines ++ end_line ∷ [];
-  numbers = text.numbers ++ line ∷ [];
+  begins = text.begins ++ rule_place begin column ∷ [];
   blocks = text.blocks - 1;
   begun = true;
 }
 
--- What was read, with the statement of a line that begins at this place.
-abbrev pub text_with : TextReading → ℕ → ℕ → StatementRead → TextReading
-text_with text line column blank_statement = text
-text_with text line column (side_statement side) = record text { side = side; begun = true }
-text_with text line column (otherwise_statement value) = record text { otherwise = value; closed = true; begun = true }
-text_with text line column (line_statement statement) = with_line text statement line column
+-- What was read, with the statement of a line that begins at this place and has its first token at this column.
+abbrev pub text_with : TextReading → TextPlace → ℕ → StatementRead → TextReading
+text_with text begin column blank_statement = text
+text_with text begin column (side_statement side) = record text { side = side; begun = true }
+text_with text begin column (otherwise_statement value) = record text { otherwise = value; closed = true; begun = true }
+text_with text begin column (line_statement statement) = with_line text statement begin column
 
 -- What a line must know of the text before it.
 abbrev pub context_of : TextReading → LineContext
@@ -198,51 +197,51 @@ text_with_name text name = record text { names = text.names ++ name ∷ []; begu
 abbrev pub text_with_room : TextReading → List ℕ → List RuleFound → TextReading
 text_with_room text line tokens = record text { room = room_left text.names text.room line tokens }
 
--- What was read, with a line of these tokens.
-abbrev pub text_with_tokens : TextReading → ℕ → List ℕ → List RuleFound → Result TextReading RuleFault
-text_with_tokens text number line [] = Ok text
-text_with_tokens text number line (first ∷ rest) =
-    if text.closed then Err (placed_fault number first.column AfterOtherwise) else (
+-- What was read, with a line of these tokens, which begins at this place.
+abbrev pub text_with_tokens : TextReading → TextPlace → List ℕ → List RuleFound → Result TextReading RuleFault
+text_with_tokens text begin line [] = Ok text
+text_with_tokens text begin line (first ∷ rest) =
+    if text.closed then Err (placed_fault begin.line first.column AfterOtherwise) else (
     if gives_name first.token
-    then read_then (name_given text number line first rest) (λ fault. fault) (λ name. Ok (text_with_name (text_with_room text line (first ∷ rest)) name))
-    else read_then (formed_statement (context_of text) text.names rule_form number line 1 (first ∷ rest)) (λ fault. fault)
-    (λ statement. Ok (text_with (text_with_room text line (first ∷ rest)) number first.column statement)))
+    then read_then (name_given text begin.line line first rest) (λ fault. fault) (λ name. Ok (text_with_name (text_with_room text line (first ∷ rest)) name))
+    else read_then (formed_statement (context_of text) text.names rule_form begin.line line 1 (first ∷ rest)) (λ fault. fault)
+    (λ statement. Ok (text_with (text_with_room text line (first ∷ rest)) begin first.column statement)))
 
--- What was read, with a line of rules, which begins in the source line of this number. The column of a fault is counted from the
--- beginning of the line of rules.
-unfoldable pub text_with_line : TextReading → ℕ → List ℕ → Result TextReading RuleFault
-text_with_line text number line = text_with_tokens text number line (rule_tokens line)
+-- What was read, with a line of rules, which begins at this place. The column of a fault is counted from the beginning of the line of
+-- rules.
+unfoldable pub text_with_line : TextReading → TextPlace → List ℕ → Result TextReading RuleFault
+text_with_line text begin line = text_with_tokens text begin line (rule_tokens line)
 
 -- A fault of this kind at this place.
 abbrev pub fault_in_text : TextPlace → RuleKind → RuleFault
 fault_in_text place kind = placed_fault place.line place.column kind
 
--- A fault of the line of rules of these octets, which begins in the source line of this number, with its place in the text: it is
--- where the octets before its column end. A fault without a place has none.
-abbrev pub fault_of_line : ℕ → List ℕ → RuleFault → RuleFault
-fault_of_line number line fault =
-    if fault.column == 0 then fault else fault_in_text (place_past (line_begin number) (take (fault.column - 1) line)) fault.kind
+-- A fault of the line of rules of these octets, which begins at this place, with its place in the text: it is where the octets before
+-- its column end. A fault without a place has none.
+abbrev pub fault_of_line : TextPlace → List ℕ → RuleFault → RuleFault
+fault_of_line begin line fault =
+    if fault.column == 0 then fault else fault_in_text (place_past begin (take (fault.column - 1) line)) fault.kind
 
--- Rules, and for each of their lines the number of the source line in which it begins, counted from 1.
+-- Rules, and where each of their lines begins.
 pub record NumberedRead : Type 0 where
   pub rules : RulesRead
-  pub numbers : List ℕ
+  pub begins : List RulePlace
 
 -- The rules, where the text ends. Each block must be closed.
 abbrev pub numbered_at_end : TextReading → Result NumberedRead RuleFault
 numbered_at_end text =
-    if nat_lt 0 text.blocks then Err (placed_fault text.head_line text.head_column Unbalanced) else
-    Ok (record { rules = record { side = text.side; lines = text.lines; otherwise = text.otherwise }; numbers = text.numbers })
+    if nat_lt 0 text.blocks then Err (fault_in_text text.head Unbalanced) else
+    Ok (record { rules = record { side = text.side; lines = text.lines; otherwise = text.otherwise }; begins = text.begins })
 
--- The rules of the lines, read on from here. The first of them begins in the source line of this number.
-unfoldable pub numbered_from : TextReading → ℕ → List (List ℕ) → Result NumberedRead RuleFault
-numbered_from text number [] = numbered_at_end text
-numbered_from text number (line ∷ rest) =
-    read_then (text_with_line text number line) (fault_of_line number line) (λ next. numbered_from next (number + lines_within line) rest)
+-- The rules of the lines, read on from here. The first of them begins at this place.
+unfoldable pub numbered_from : TextReading → TextPlace → List (List ℕ) → Result NumberedRead RuleFault
+numbered_from text begin [] = numbered_at_end text
+numbered_from text begin (line ∷ rest) =
+    read_then (text_with_line text begin line) (fault_of_line begin line) (λ next. numbered_from next (place_past begin line) rest)
 
--- The rules of a text and the numbers of their lines, or its first fault.
+-- The rules of a text and where their lines begin, or its first fault.
 unfoldable pub numbered_in : List ℕ → Result NumberedRead RuleFault
-numbered_in octets = numbered_from no_text_read 1 (rule_lines octets)
+numbered_in octets = numbered_from no_text_read (line_begin 1) (rule_lines octets)
 
 -- The rules of a text, or its first fault.
 unfoldable pub rules_in : List ℕ → Result RulesRead RuleFault

@@ -11,6 +11,7 @@ ghost use Rattle.rules_text.specs.TextFaults.{IsCompilingFault};
 ghost use Rattle.rules_text.specs.ValuesRead.{FollowsText};
 
 use crate::fault::{RuleFault, RuleKind, fault_at};
+use crate::place::RulePlace;
 use crate::reader::{read_numbered, read_rules};
 use bpf_code::Instr;
 use cell_rules::{CodeFault, PlacedCode, compile, compile_placed};
@@ -38,17 +39,17 @@ pub fn compile_text(alloc: Global, text: &[u8]) -> Result<Vec<Instr>, RuleFault>
     }
 }
 
-/// The code of a text of rules, and which source line each part of it is of.
+/// The code of a text of rules, and which line of rules each part of it is of.
 #[derive(Debug, Drop)]
 pub struct NumberedCode {
     /// The code, and where that of each line of rules begins.
     pub placed: PlacedCode,
-    /// For each line of rules the number of its source line, counted from 1.
-    pub numbers: Vec<usize>,
+    /// For each line of rules where it begins.
+    pub begins: Vec<RulePlace>,
 }
 
-/// Compiles a text of rules: returns a code that gives each cell the value of the rules, with the place of each line's code and the
-/// number of its source line.
+/// Compiles a text of rules: returns a code that gives each cell the value of the rules, with the place of each line's code and
+/// where the line begins.
 ///
 /// # Errors
 ///
@@ -63,7 +64,7 @@ pub fn compile_numbered(alloc: Global, text: &[u8]) -> Result<NumberedCode, Rule
     match compile_placed(alloc, &numbered.rules) {
         Ok(placed) => Ok(NumberedCode {
             placed,
-            numbers: numbered.numbers,
+            begins: numbered.begins,
         }),
         Err(CodeFault::TooLong) => Err(fault_at(RuleKind::TooLong, 0, 0)),
         Err(CodeFault::NoMemory) => Err(fault_at(RuleKind::NoMemory, 0, 0)),

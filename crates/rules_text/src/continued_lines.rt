@@ -1,12 +1,8 @@
-//! The lines of rules: inside parentheses a line end is a blank, and a line goes on.
+//! The lines of rules: inside parentheses a line end is a blank, and a line goes on; `;`, `{` and `}` end one before its source line ends.
 
 ghost use Rattle.std.specs.Prelude.{◌≡◌, ◌+◌, ◌≤◌, ◌<◌, ◌^◌, ◌∷◌, [], length, MatchOption, IfSome};
-ghost use Rattle.rules_text.specs.ContinuedLines.{around_after, around_next, ends_rule_line, line_begin, lines_within, nothing_around, place_next, place_past, rule_lines};
-ghost use Rattle.rules_text.specs.TextOfRules.{fault_of_line};
-ghost use Rattle.rules_text.specs.inner.SeenLines.{around_seen, line_size, text_place_seen};
-
-use crate::fault::RuleFault;
-use text_io::before_return;
+ghost use Rattle.rules_text.specs.ContinuedLines.{around_after, around_next, closes_block, ends_rule_line, is_line_end, nothing_around, rule_lines};
+ghost use Rattle.rules_text.specs.inner.SeenLines.{around_seen, line_size};
 
 /// What is around an octet of a line.
 #[derive(Clone, Copy)]
@@ -29,11 +25,24 @@ impl Around {
         }
     }
 
-    /// Whether a line of rules ends with this octet.
-    fn ends_line(self, octet: u8) -> bool
-        ensures { result ≡ ends_rule_line (around_seen self) octet }
+    /// Whether a line of rules ends with this octet, whatever comes after it.
+    fn ends_with(self, octet: u8) -> bool
+        ensures { result ≡ is_line_end (around_seen self) octet }
     {
-        octet == b'\n' && self.parentheses == 0
+        if octet == b'\n' {
+            return self.parentheses == 0;
+        }
+        !self.comment && (octet == b';' || (octet == b'{' || octet == b'}'))
+    }
+
+    /// Whether octets begin with a `}` that ends a block.
+    fn closes_block(self, octets: &[u8]) -> bool
+        ensures { result ≡ closes_block (around_seen self) octets.now }
+    {
+        match octets {
+            [] => false,
+            [octet, ..] => !self.comment && *octet == b'}',
+        }
     }
 
     /// The same parentheses, but in a comment or not.
@@ -57,7 +66,7 @@ impl Around {
             b'#' => return self.commented(true),
             b'(' => self.parentheses + 1,
             b')' => self.parentheses.saturating_sub(1),
-            b'{' | b'-' => 0,
+            b'-' => 0,
             _ => return self,
         };
         Around {
@@ -93,111 +102,28 @@ fn rule_line_len(text: &[u8]) -> usize
     let mut left = text;
     let mut at = 0;
     while let [octet, rest @ ..] = left {
-        if around.ends_line(*octet) {
+        let next = around.next(*octet);
+        at += 1;
+        if around.ends_with(*octet) || next.closes_block(rest) {
             return at;
         }
-        around = around.next(*octet);
-        at += 1;
+        around = next;
         left = rest;
     }
     at
 }
 
-/// Returns the first line of rules of a text and the rest. It goes on over the end of a source line inside parentheses.
+/// Returns the first line of rules of a text and the rest. It goes on over the end of a source line inside parentheses, and has the
+/// octets that end it: the line feed or `;`.
 pub fn next_rule_line(text: &[u8]) -> Option<(&[u8], &[u8])>
     ensures lines { MatchOption result (rule_lines text.now ≡ [])
         (λ found. rule_lines text.now ≡ found.0.now ∷ rule_lines found.1.now) }
     ensures shorter { IfSome result (λ found. length found.1.now < length text.now) }
-    ensures within { IfSome result (λ found. length found.0.now + length found.1.now ≤ length text.now) }
+    ensures within { IfSome result (λ found. length found.0.now + length found.1.now ≡ length text.now) }
 {
     if text.is_empty() {
         return None;
     }
     let at = rule_line_len(text);
-    if at == text.len() {
-        return Some((text, &text[at..]));
-    }
-    Some((before_return(&text[..at]), &text[at + 1..]))
-}
-
-/// Returns in how many source lines a line of rules is written.
-#[tactic(auto, unfolding(crate::specs::ContinuedLines::feed_count))]
-pub fn lines_within(line: &[u8]) -> usize
-    ensures count { result ≡ lines_within line.now }
-    ensures few { result ≤ length line.now + 1 }
-{
-    let mut left = line;
-    let mut count = 1;
-    while let [octet, rest @ ..] = left {
-        if *octet == b'\n' {
-            count += 1;
-        }
-        left = rest;
-    }
-    count
-}
-
-/// A place in a text, both numbers counted from 1.
-#[derive(Clone, Copy)]
-pub(crate) struct Place {
-    pub line: usize,
-    pub column: usize,
-}
-
-impl Place {
-    /// The place after an octet at this place.
-    fn next(self, octet: u8) -> Place
-        requires line { self.line + 1 < 2 ^ 64 }
-        requires column { self.column + 1 < 2 ^ 64 }
-        ensures seen { text_place_seen result ≡ place_next (text_place_seen self) octet }
-        ensures line { result.line ≤ self.line + 1 }
-        ensures column { result.column ≤ self.column + 1 }
-    {
-        if octet == b'\n' {
-            Place {
-                line: self.line + 1,
-                column: 1,
-            }
-        } else {
-            Place {
-                line: self.line,
-                column: self.column + 1,
-            }
-        }
-    }
-}
-
-/// The place after octets that begin a source line of this number.
-#[tactic(auto, unfolding(crate::specs::ContinuedLines::place_past))]
-fn place_after(number: usize, octets: &[u8]) -> Place
-    requires { number + length octets.now < 2 ^ 64 }
-    ensures { text_place_seen result ≡ place_past (line_begin number) octets.now }
-{
-    let mut place = Place {
-        line: number,
-        column: 1,
-    };
-    let mut left = octets;
-    while let [octet, rest @ ..] = left {
-        place = place.next(*octet);
-        left = rest;
-    }
-    place
-}
-
-/// A fault of a line of rules, which begins in the source line of this number, with its place in the text.
-pub(crate) fn fault_of_line(number: usize, line: &[u8], fault: RuleFault) -> RuleFault
-    requires { number + length line.now < 2 ^ 64 }
-    ensures { result ≡ fault_of_line number line.now fault }
-{
-    if fault.column == 0 {
-        return fault;
-    }
-    let before = line.len().min(fault.column - 1);
-    let place = place_after(number, &line[..before]);
-    RuleFault {
-        line: place.line,
-        column: place.column,
-        kind: fault.kind,
-    }
+    Some((&text[..at], &text[at..]))
 }

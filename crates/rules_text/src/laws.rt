@@ -23,7 +23,7 @@ pub fn only_written_heads_are_read()
     ensures { OnlyWrittenHeadsAreRead }
 {}
 
-/// The number of a line of rules is that of the source line that it was read from.
+/// The place of a line of rules is that in which it begins.
 pub fn numbers_are_those_of_the_lines()
     ensures { NumbersAreThoseOfTheLines }
 {}

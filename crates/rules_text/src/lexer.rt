@@ -247,7 +247,9 @@ fn separates(line: &[u8], at: usize) -> bool
     ensures { result ≡ separates (slice_index line.now at) (drop (at + 1) line.now) }
 {
     let octet = line[at];
-    blank(octet) || (octet == b'\n' || (octet == b'\r' && begins_with_feed(&line[at + 1..])))
+    blank(octet)
+        || (octet == b'\n'
+            || (octet == b';' || (octet == b'\r' && begins_with_feed(&line[at + 1..]))))
 }
 
 /// Whether a comment begins at an octet.
@@ -306,7 +308,7 @@ pub(crate) fn begins_word(octet: u8) -> bool
     letter(octet) && !digit(octet)
 }
 
-/// Returns the column after spaces, tabs, line ends and comments of a line of rules, from a column on; both are counted from 0.
+/// Returns the column after spaces, tabs, line ends, `;` and comments of a line of rules, from a column on; both are counted from 0.
 pub fn after_blanks(line: &[u8], from: usize) -> usize
     requires { from ≤ length line.now }
     ensures least { from ≤ result }

@@ -14,13 +14,15 @@ mod line_reader;
 mod list;
 mod name_table;
 mod names;
+mod place;
 mod reader;
 mod statement_reader;
 mod subject;
 mod test_reader;
 
 pub use compiler::{NumberedCode, compile_numbered, compile_text};
-pub use continued_lines::{lines_within, next_rule_line};
+pub use continued_lines::next_rule_line;
 pub use fault::{RuleFault, RuleKind};
 pub use lexer::after_blanks;
+pub use place::{RulePlace, TextPlace, place_after};
 pub use reader::{NumberedRules, read_numbered, read_rules};

@@ -12,13 +12,14 @@ ghost use Rattle.rules_text.specs.inner.Seen.{found_seen};
 ghost use Rattle.rules_text.specs.inner.SeenNameTable.{IsFoundByLetters};
 ghost use Rattle.rules_text.specs.inner.SeenReading.{context_seen, line_statement_seen, name_seen, names_seen, text_seen};
 
-use crate::continued_lines::{Place, fault_of_line, lines_within, next_rule_line};
+use crate::continued_lines::next_rule_line;
 use crate::definition::{is_giving, name_at, name_place};
 use crate::fault::{RuleFault, RuleKind, fault_at};
 use crate::lexer::{Found, next_token};
 use crate::line_reader::{Context, Statement};
 use crate::name_table::NameTable;
 use crate::names::{Form, Name};
+use crate::place::{RulePlace, TextPlace, fault_of_line, place_after};
 use crate::statement_reader::{room_after_line, statement_in};
 use cell_rules::{RuleLine, Rules};
 use std::alloc::Global;
@@ -27,13 +28,13 @@ use upc_cell::Side;
 /// The most tokens that the names of a text add.
 const MOST_ADDED: usize = 262_144;
 
-/// Rules, and the source lines in which they begin.
+/// Rules, and where they begin.
 #[derive(Debug, Drop)]
 pub struct NumberedRules {
     /// The rules.
     pub rules: Rules,
-    /// For each line of the rules the number of the source line in which it begins, counted from 1.
-    pub numbers: Vec<usize>,
+    /// For each line of the rules where it begins.
+    pub begins: Vec<RulePlace>,
 }
 
 /// What was read of a text.
@@ -41,16 +42,16 @@ pub struct NumberedRules {
 struct TextReader {
     /// The rules.
     rules: Rules,
-    /// The numbers of the source lines in which their lines begin.
-    numbers: Vec<usize>,
+    /// Where their lines begin.
+    begins: Vec<RulePlace>,
     /// The names.
     names: NameTable,
     /// How many tokens they may still add.
     room: usize,
     /// How many blocks are open.
     blocks: usize,
-    /// The head of the outermost of them.
-    head: Place,
+    /// The place of the head of the outermost of them.
+    head: TextPlace,
     /// Whether a line with a token was read.
     begun: bool,
     /// Whether `otherwise` was read.
@@ -58,10 +59,12 @@ struct TextReader {
 }
 
 impl TextReader {
-    /// Takes a line of rules, which begins at a place.
-    fn take_line(&mut self, line: RuleLine, place: Place) -> Result<(), RuleKind>
-        requires { self.old.blocks < 2 ^ 63 }
-        ensures ok { IfOk result (λ _. with_line (text_seen self.old) (line_read line) place.line place.column ≡ text_seen self.new) }
+    /// Takes a line of rules, which begins at a place, and has its first token at a column of it, counted from 1.
+    fn take_line(&mut self, line: RuleLine, begin: TextPlace, column: usize) -> Result<(), RuleKind>
+        requires blocks { self.old.blocks < 2 ^ 63 }
+        requires some { 0 < column }
+        requires within { begin.column + column < 2 ^ 64 }
+        ensures ok { IfOk result (λ _. with_line (text_seen self.old) (line_read line) begin column ≡ text_seen self.new) }
         ensures blocks { self.new.blocks ≤ self.old.blocks + 1 }
         ensures names { self.new.names ≡ self.old.names }
         ensures err { IfErr result (λ kind. kind ≡ NoMemory) }
@@ -69,7 +72,7 @@ impl TextReader {
         match line {
             RuleLine::Block { .. } => {
                 if self.blocks == 0 {
-                    self.head = place;
+                    self.head = begin.of_first_token(column);
                 }
                 self.blocks += 1;
             }
@@ -78,14 +81,21 @@ impl TextReader {
         }
         self.begun = true;
         self.rules.lines.push(line)?;
-        self.numbers.push(place.line)?;
+        self.begins.push(begin.of_rule(column))?;
         Ok(())
     }
 
-    /// Takes the statement of a line, which begins at a place.
-    fn take(&mut self, statement: Statement, place: Place) -> Result<(), RuleKind>
-        requires { self.old.blocks < 2 ^ 63 }
-        ensures ok { IfOk result (λ _. text_with (text_seen self.old) place.line place.column (line_statement_seen statement) ≡ text_seen self.new) }
+    /// Takes the statement of a line, which begins at a place, and has its first token at a column of it, counted from 1.
+    fn take(
+        &mut self,
+        statement: Statement,
+        begin: TextPlace,
+        column: usize,
+    ) -> Result<(), RuleKind>
+        requires blocks { self.old.blocks < 2 ^ 63 }
+        requires some { 0 < column }
+        requires within { begin.column + column < 2 ^ 64 }
+        ensures ok { IfOk result (λ _. text_with (text_seen self.old) begin column (line_statement_seen statement) ≡ text_seen self.new) }
         ensures blocks { self.new.blocks ≤ self.old.blocks + 1 }
         ensures names { self.new.names ≡ self.old.names }
         ensures err { IfErr result (λ kind. kind ≡ NoMemory) }
@@ -103,7 +113,7 @@ impl TextReader {
                 self.begun = true;
                 Ok(())
             }
-            Statement::Line(line) => self.take_line(line, place),
+            Statement::Line(line) => self.take_line(line, begin, column),
         }
     }
 
@@ -191,16 +201,17 @@ impl TextReader {
         Ok(())
     }
 
-    /// Reads a line of rules, which begins in the source line of this number, counted from 1. The column of a fault is counted from
-    /// the beginning of the line of rules.
-    fn read_line(&mut self, alloc: Global, number: usize, line: &[u8]) -> Result<(), RuleFault>
+    /// Reads a line of rules, which begins at a place. The column of a fault is counted from the beginning of the line of rules.
+    fn read_line(&mut self, alloc: Global, begin: TextPlace, line: &[u8]) -> Result<(), RuleFault>
         requires names { IsFoundByLetters self.old.names }
         requires blocks { self.old.blocks < 2 ^ 63 }
+        requires column { begin.column + length line.now < 2 ^ 64 }
         ensures names { IfOk result (λ _. IsFoundByLetters self.new.names) }
-        ensures ok { IfOk result (λ _. text_with_line (text_seen self.old) number line.now ≡ Ok (text_seen self.new)) }
+        ensures ok { IfOk result (λ _. text_with_line (text_seen self.old) begin line.now ≡ Ok (text_seen self.new)) }
         ensures blocks { self.new.blocks ≤ self.old.blocks + 1 }
-        ensures err { IfErr result (IsFaultOf (text_with_line (text_seen self.old) number line.now)) }
+        ensures err { IfErr result (IsFaultOf (text_with_line (text_seen self.old) begin line.now)) }
     {
+        let number = begin.line;
         let Some(first) = next_token(line, 0) else {
             return Ok(());
         };
@@ -215,11 +226,7 @@ impl TextReader {
         }
         let statement = self.statement(alloc, number, line)?;
         self.spend(line);
-        let place = Place {
-            line: number,
-            column,
-        };
-        match self.take(statement, place) {
+        match self.take(statement, begin, column) {
             Ok(()) => Ok(()),
             Err(kind) => Err(fault_at(kind, number, column)),
         }
@@ -235,13 +242,12 @@ impl TextReader {
         }
         Ok(NumberedRules {
             rules: self.rules,
-            numbers: self.numbers,
+            begins: self.begins,
         })
     }
 }
 
-/// Reads a text of rules: returns the rules that are defined for it, with the numbers of the source lines in which their lines
-/// begin (`numbered_in`).
+/// Reads a text of rules: returns the rules that are defined for it, with the places where their lines begin (`numbered_in`).
 ///
 /// # Errors
 ///
@@ -258,21 +264,21 @@ pub fn read_numbered(alloc: Global, text: &[u8]) -> Result<NumberedRules, RuleFa
             lines: Vec::new(alloc),
             otherwise: 0,
         },
-        numbers: Vec::new(alloc),
+        begins: Vec::new(alloc),
         names: NameTable::new(alloc),
         room: MOST_ADDED,
         blocks: 0,
-        head: Place { line: 0, column: 0 },
+        head: TextPlace { line: 0, column: 0 },
         begun: false,
         closed: false,
     };
     let mut left = text;
-    let mut number = 1usize;
+    let mut begin = TextPlace { line: 1, column: 1 };
     while let Some((line, rest)) = next_rule_line(left) {
-        if let Err(fault) = reader.read_line(alloc, number, line) {
-            return Err(fault_of_line(number, line, fault));
+        if let Err(fault) = reader.read_line(alloc, begin, line) {
+            return Err(fault_of_line(begin, line, fault));
         }
-        number += lines_within(line);
+        begin = place_after(begin, line);
         left = rest;
     }
     reader.finish()

@@ -109,13 +109,12 @@ abbrev pub text_seen : TextReader → TextReading
 text_seen reader = record {
   side = reader.rules.side;
   lines = map line_read reader.rules.lines.items;
-  numbers = reader.numbers.items;
+  begins = reader.begins.items;
   names = names_seen reader.names;
   room = reader.room;
   otherwise = reader.rules.otherwise;
   blocks = reader.blocks;
-  head_line = reader.head.line;
-  head_column = reader.head.column;
+  head = reader.head;
   begun = reader.begun;
   closed = reader.closed;
 }

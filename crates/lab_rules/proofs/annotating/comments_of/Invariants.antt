@@ -8,8 +8,8 @@ abbrev pub invariant-loop-place : goal.invariant-loop-place
 invariant-loop-place l = record {
   within : l.place ≤ length l.lengths;
   passed : source_lines l.rest ≡ drop l.passed (source_lines l.text);
-  made : (left : ℕ) → written_at left l.comments.items ++ comments_from (source_lines l.text) l.numbers left l.place (drop l.place l.lengths)
-      ≡ comments_from (source_lines l.text) l.numbers left 0 l.lengths;
+  made : (left : ℕ) → written_at left l.comments.items ++ comments_from (source_lines l.text) l.begins left l.place (drop l.place l.lengths)
+      ≡ comments_from (source_lines l.text) l.begins left 0 l.lengths;
 }
 
 abbrev pub decreases-loop-place : goal.decreases-loop-place

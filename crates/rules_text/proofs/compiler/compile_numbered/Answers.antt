@@ -19,7 +19,7 @@ returns-in-Ok-clause-text c =
 pub returns-in-Ok-clause-places : goal.returns-in-Ok-clause-places
 returns-in-Ok-clause-places c =
     let placed = c.in-Ok.ensures.code in
-    record { numbered = c.in_ok-numbered.numbered; read = c.in_ok-numbered.ensures.rules; numbers = refl; lines = placed.0; plain = placed.1; code = placed.2; lengths = placed.3 }
+    record { numbered = c.in_ok-numbered.numbered; read = c.in_ok-numbered.ensures.rules; begins = refl; lines = placed.0; plain = placed.1; code = placed.2; lengths = placed.3 }
 
 pub returns-in-Err-TooLong-clause-fault : goal.returns-in-Err-TooLong-clause-fault
 returns-in-Err-TooLong-clause-fault c =

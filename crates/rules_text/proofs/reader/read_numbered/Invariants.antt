@@ -8,10 +8,11 @@ use Rattle.rules_text.proofs.reader.read_numbered.Given as goal
 
 abbrev pub invariant-loop-line : goal.invariant-loop-line
 invariant-loop-line l = record {
-  counted : l.number + (length l.left + length l.left) ≤ length l.text + length l.text + 1;
+  line : l.begin.line + length l.left ≤ length l.text + 1;
+  column : l.begin.column + length l.left ≤ length l.text + 1;
   blocks : l.reader.blocks + length l.left ≤ length l.text;
   names : IsFoundByLetters l.reader.names;
-  rest : numbered_from (text_seen l.reader) l.number (rule_lines l.left) ≡ numbered_in l.text;
+  rest : numbered_from (text_seen l.reader) l.begin (rule_lines l.left) ≡ numbered_in l.text;
 }
 
 abbrev pub decreases-loop-line : goal.decreases-loop-line

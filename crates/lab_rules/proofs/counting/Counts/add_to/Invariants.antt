@@ -8,8 +8,8 @@ use Rattle.lab_rules.proofs.counting.Counts.add_to.Given as goal
 abbrev pub invariant-loop-left : goal.invariant-loop-left
 invariant-loop-left l = record {
   within : l.place + length l.left ≤ length l.numbered.rules.lines.items;
-  lines : l.answers.items ++ rule_counts l.numbered.numbers.items (count_at l.self) l.place (map line_read l.left)
-      ≡ l.fn.answers.items ++ rule_counts l.numbered.numbers.items (count_at l.self) 0 (map line_read l.numbered.rules.lines.items);
+  lines : l.answers.items ++ rule_counts l.numbered.begins.items (count_at l.self) l.place (map line_read l.left)
+      ≡ l.fn.answers.items ++ rule_counts l.numbered.begins.items (count_at l.self) 0 (map line_read l.numbered.rules.lines.items);
 }
 
 abbrev pub decreases-loop-left : goal.decreases-loop-left
