@@ -18,7 +18,7 @@ from captures.policing import policed, tick_of
 
 # A script and a capture, and words that are refused.
 ONE = Case(b"card 1 1 1 1\n", b"", 100, None, "all")
-WRONG_WORDS = ["", "''", "{} {}", "{} --lines", "{} --lines some", "{} --lines=", "{} --tick 0us", "{} --tick 10", "{} --link 8", "{} --link 0/1", "{} --link x:0", "{} --side nni", "{} --threads", "{} --threads 0", "{} --threads 65", "{} --threads all"]
+WRONG_WORDS = ["", "''", "{} {}", "{} --lines", "{} --lines some", "{} --lines=", "{} --tick 0us", "{} --tick 10", "{} --link 8", "{} --link 0/1", "{} --link x:0", "{} --side nni", "{} --threads", "{} --threads 0", "{} --threads 65", "{} --threads all", "{} --every", "{} --every 0s", "{} --every 1", "{} --every=", "{} --every 18446744074s"]
 THREADS = [[], [], ["--threads", "1"], ["--threads=2"], ["--threads", "64"]]
 UNREADABLE = ["{}.missing", "/"]
 
@@ -45,6 +45,7 @@ class Program:
         # The setup may come between the options.
         words += [self.setup] if case.link is None else [self.setup, f"--link={case.link}"]
         words += [] if case.lines == "all" else ["--lines", case.lines]
+        words += [] if case.every is None else ["--every", f"{case.every}ns"]
         return self.ran([*words, *threads], case.octets)
 
     def police_file(self, case, threads):
@@ -83,7 +84,7 @@ def compared(program, cases):
     """Yields for each case what is wrong with its answer, or None."""
     for number, case in cases:
         ours, theirs = program.police(case, THREADS[number % len(THREADS)]), wanted(program, case)
-        asked = f"a tick of {case.tick} ns, link {case.link}, lines {case.lines}"
+        asked = f"a tick of {case.tick} ns, link {case.link}, lines {case.lines}, spans of {case.every} ns"
         yield None if ours == theirs else f"capture {number} ({asked}): {wrong_lines(ours, theirs)}"
 
 
@@ -154,7 +155,7 @@ def words_tried(program):
             output, messages, ended = program.refused(words)
             yield None if not output and messages and ended == status else f"police {words} ends with {ended}: {messages}"
     output, _, ended = program.ran(["police", "--help"], b"")
-    is_whole = all(word in output for word in (b"--tick <TIME>", b"--link <LINK>", b"--lines <", b"[default: all]", b"`tick TIME`", b"--threads <N>", b"[default: 2]"))
+    is_whole = all(word in output for word in (b"--tick <TIME>", b"--link <LINK>", b"--lines <", b"[default: all]", b"`tick TIME`", b"--every <TIME>", b"--threads <N>", b"[default: 2]"))
     yield None if is_whole and ended == 0 else f"police --help prints {output}"
 
 

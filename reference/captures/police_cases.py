@@ -19,9 +19,9 @@ from trials import cells
 from trials.numbers_at_limits import near
 from trials.scripts import Script
 
-# What `police` is asked: the script, the capture, the tick in nanoseconds or None, the word of a link or None, and which lines. A tick of 100
-# isn't asked for, since it is the one without any.
-Case = namedtuple("Case", "script octets tick link lines")
+# What `police` is asked: the script, the capture, the tick in nanoseconds or None, the word of a link or None, which lines, and the nanoseconds of
+# a span or None. A tick of 100 isn't asked for, since it is the one without any.
+Case = namedtuple("Case", "script octets tick link lines every", defaults=[None])
 
 TICKS = [1, 100, 100, 333, 1000, 10**6]
 LINES = ["all", "all", "refused", "none"]
@@ -151,7 +151,14 @@ def case_of(seed, number):
     count = random_.choice([0, 1, 10, 30, 60, 100, 200, 300])
     octets = capture_of(random_, script, tick, count)
     script, asked = with_tick(random_, script, tick)
-    return Case(script, octets, asked, link_for(random_, octets), random_.choice(LINES))
+    link, lines = link_for(random_, octets), random_.choice(LINES)
+    return Case(script, octets, asked, link, lines, span_for(random_, tick))
+
+
+def span_for(random_, tick):
+    """Returns the nanoseconds of a span, or None."""
+    ticks = random_.choice([None, None, 1, 2, 10, 100, 10**6])
+    return ticks and max(1, near(random_, ticks * tick, 2**64 - 1) if random_.random() < 0.5 else ticks * tick)
 
 
 def with_tick(random_, script, tick):
@@ -172,7 +179,8 @@ def long_case(seed, number):
     lines = without_faults(usual_lines(random_))
     script, tick = b"\n".join(lines) + b"\n", random_.choice(TICKS)
     count = random_.choice([7_000, 7_800, 9_000, 16_000, 25_000])
-    return Case(script, capture_of(random_, script, tick, count), tick, random_.choice([None, "0"]), random_.choice(LINES))
+    octets, link, lines = capture_of(random_, script, tick, count), random_.choice([None, "0"]), random_.choice(LINES)
+    return Case(script, octets, tick, link, lines, span_for(random_, tick))
 
 
 def cell_at(ticks, header=0x00100640, flags=0, kind=3):
@@ -231,6 +239,11 @@ def edges():
     named = [b"tick 1us\n", b"tick 1000ns\r\n", b"# a remark\n\n  tick\t1us  \n", b"tick 0ns\n", b"tick 1us 1us\n", b"tick\n", b"Tick 1us\n", b"#tick 1us\n", b"tick 1us\ntick 1us\n"]
     cases += [Case(line + one, ones, tick, None, "all") for line in named for tick in (None, 1000, 1001)]
     cases += [Case(one + named[0], ones, 1000, None, "all"), Case(b"tick 1us", ones, None, None, "all"), Case(b"tick" + b" " * 70_000 + b"1us\n" + one, ones, None, None, "all")]
+    # Spans: shorter than a tick, with and without cells, with cells that aren't judged, and up to the last moment.
+    apart = ones + cell_at(20, 0x00100650) + cell_at(31, 0x00100650) + cell_at(45) + cell_at(45)
+    cases += [Case(one, apart, 1000, None, lines, every) for lines in ("all", "none") for every in (1, 999, 1000, 4000, 5000, 5999, 20_000, 10**6, 2**64 - 1)]
+    cases += [Case(one, both, 1000, link, "none", 1000) for link in (None, "0", "1")]
+    cases += [Case(one, octets, 1000, None, "none", 1000) for octets in (b"", ones[:-1], ones + ones[:16])]
     # Cells after a loss.
     cases += [Case(one, ones[:68] + lossy(cell_at(4)) + cell_at(5), 1000, None, lines) for lines in ("all", "none")]
     return cases + [Case(one, cell_at(0) + record(LAST_TIME, bytes.fromhex("00100641")), tick, None, "all") for tick in (1, 100, 10**9)]

@@ -1,6 +1,6 @@
 """What `upc-lab police` prints of a script and a capture, and its exit status.
 
-    python3 -m captures.policing SETUP [--tick NANOSECONDS] [--link LINK] [--lines all|refused|none] < CAPTURE
+    python3 -m captures.policing SETUP [--tick NANOSECONDS] [--link LINK] [--lines all|refused|none] [--every NANOSECONDS] < CAPTURE
 
 The first line of SETUP with words may be `tick TIME`.
 """
@@ -15,6 +15,7 @@ from policer.text_lines import asks_nothing, limited_lines, raw_lines, without_r
 from sizes.contract import SizeFault, time
 
 HEADING = ("record", "moment", "vpi", "vci", "clp", "value", "verdict", "bucket", "excess")
+SPAN_HEADING = ("span", "moment", "vpi", "vci", "passed", "tagged", "discarded", "refused")
 TABLE = ("vpi", "vci", "passed", "tagged", "discarded", "refused")
 VERDICTS = ("pass", "tag", "discard", "refuse")
 
@@ -92,27 +93,56 @@ def run_comments(tick, capture):
     return "".join([f"# a tick is {tick} ns\n", *losses])
 
 
+def spans_of(judged_cells, ticks):
+    """Returns for the beginning of each span with judged cells the lines of its connections."""
+    verdicts = {}
+    for vc, moment, verdict in judged_cells:
+        verdicts.setdefault(moment // ticks * ticks, {}).setdefault(vc, []).append(verdict)
+    return {begin: [("span", begin, *vc, *(of.count(it) for it in VERDICTS)) for vc, of in sorted(its.items())] for begin, its in verdicts.items()}
+
+
 class Policed:
     """The cells of a capture on a card: the lines of those that have one, and the records of those that aren't judged."""
 
-    def __init__(self, card, lines):
+    def __init__(self, card, lines, ticks=None):
         self.card = card
         self.lines = lines
-        self.rows = []
+        # How many ticks a span has, or None.
+        self.ticks = ticks
+        # The lines of cells, each with its moment.
+        self.of_cells = []
+        # The connection, the moment and the verdict of each judged cell.
+        self.judged_cells = []
+        # The moment of the latest cell.
+        self.latest = None
         self.unjudged = {reason: [] for reason in REASONS}
 
     def take(self, counted):
         """Brings a cell to the card."""
+        self.latest = counted.moment
         vc = connection_of(counted.cell, self.card.side)
         value, verdict, bucket, excess = judged(self.card, vc, counted.moment, counted.cell)
         if verdict in REASONS:
             self.unjudged[verdict].append(counted.number)
+        else:
+            self.judged_cells.append((vc, counted.moment, verdict))
         if self.lines == "all" or self.lines == "refused" and verdict != "pass":
-            self.rows.append((counted.number, counted.moment, *vc, priority_of(counted.cell), value, verdict, bucket, excess))
+            self.of_cells.append((counted.moment, (counted.number, counted.moment, *vc, priority_of(counted.cell), value, verdict, bucket, excess)))
 
-    def cells(self):
-        """Returns the lines of cells, below their heading."""
-        return "".join(row(it) for it in [HEADING] * bool(self.rows) + self.rows)
+    def rows(self, is_whole):
+        """Returns the lines of cells and of spans, each span after the cells before its end, and before the first of each kind its heading. If
+        the run was ended, the last span has none."""
+        lines = [(moment, 1, line) for moment, line in self.of_cells]
+        spans = spans_of(self.judged_cells, self.ticks) if self.ticks else {}
+        latest = self.latest // self.ticks * self.ticks if self.ticks and self.latest is not None else 0
+        lines += [(begin + self.ticks, 0, line) for begin, its in spans.items() for line in its if is_whole or begin < latest]
+        # Sorting keeps the order of lines at one place.
+        rows = [line for _, _, line in sorted(lines, key=lambda it: it[:2])]
+        for heading, is_span in ((HEADING, False), (SPAN_HEADING, True)):
+            first = next((place for place, line in enumerate(rows) if (line[0] == "span") == is_span), None)
+            if first is not None:
+                rows.insert(first, heading)
+        return rows
 
     def table(self):
         """Returns the counts of each connection, and the comments about cells that weren't judged."""
@@ -123,12 +153,12 @@ class Policed:
             for reason, why in REASONS.items()
             if self.unjudged[reason]
         ]
-        return "\n" * bool(self.rows) + "".join(row(it) for it in [TABLE] + counts) + "".join(comments)
+        return "\n" * bool(self.rows(True)) + "".join(row(it) for it in [TABLE] + counts) + "".join(comments)
 
 
-def policed(script, octets, asked, link, lines):
-    """Returns the output and the exit status, or None if `upc-lab explain` has a fault line for the script without its tick. No tick need be
-    asked for."""
+def policed(script, octets, asked, link, lines, every=None):
+    """Returns the output and the exit status, or None if `upc-lab explain` has a fault line for the script without its tick. Neither a tick nor
+    spans need be asked for."""
     named, script = tick_of(script)
     if None not in (named, asked) and named != asked:
         return f"fault tick 1 Differs {named} {asked}\n".encode(), 1
@@ -139,12 +169,13 @@ def policed(script, octets, asked, link, lines):
     capture = Capture(octets, tick, link)
     if capture.refused:
         return capture.refused.encode(), 1
-    cells = Policed(card, lines)
+    cells = Policed(card, lines, every and max(1, every // tick))
     for counted in capture.cells:
         cells.take(counted)
     # A cell of a second link ends the run at once.
     ended = capture.several or cells.table() + run_comments(tick, capture) + capture.closing()
-    return (cells.cells() + ended).encode(), 1 if capture.several or capture.fault else 0
+    rows = "".join(row(it) for it in cells.rows(not capture.several))
+    return (rows + ended).encode(), 1 if capture.several or capture.fault else 0
 
 
 def main():
@@ -154,8 +185,9 @@ def main():
     reader.add_argument("--tick", type=int)
     reader.add_argument("--link")
     reader.add_argument("--lines", choices=("all", "refused", "none"), default="all")
+    reader.add_argument("--every", type=int)
     asked = reader.parse_args()
-    given = policed(asked.setup.read(), sys.stdin.buffer.read(), asked.tick, asked.link, asked.lines)
+    given = policed(asked.setup.read(), sys.stdin.buffer.read(), asked.tick, asked.link, asked.lines, asked.every)
     if given is None:
         print("a line of the script has a fault: upc-lab explain says where", file=sys.stderr)
         return 1

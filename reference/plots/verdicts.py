@@ -41,8 +41,11 @@ class Cells:
 
 def read_verdicts(lines, wanted):
     """Returns the cells of each connection that has some, or of those that are wanted, and the line at which policing ended, if it didn't
-    end with the capture."""
+    end with the capture. Lines about spans are passed over."""
+    lines = (line for line in lines if not line.startswith("span\t"))
     heading, cells, wanted = next(lines, ""), {}, wanted and set(wanted)
+    # Spans alone have an empty line after them.
+    heading = heading if heading != "\n" else next(lines, "")
     if heading.split("\t")[: len(TABLE)] == list(TABLE) or heading.rstrip("\n") == "\t".join(TABLE):
         raise NoVerdicts("no cell has a line: police the capture with --lines all")
     if heading.rstrip("\n") != "\t".join(HEADING):

@@ -22,6 +22,11 @@ abbrev pub asked_tick_of : Option Text → Option (Option ℕ)
 asked_tick_of None = Some None
 asked_tick_of (Some word) = option_map Some (tick_of (Some word))
 
+-- The nanoseconds of a span that is asked for, if one is: a time of `upc-lab size` that isn't 0.
+abbrev pub every_of : Option Text → Option (Option ℕ)
+every_of None = Some None
+every_of (Some word) = option_map Some (option_and_then positive (duration_of word))
+
 -- An increment that a bucket can have: 1 to 2^48 ticks.
 abbrev pub fit_increment_of : Option Text → Option ℕ
 fit_increment_of text = option_and_then (λ word. option_and_then positive (number_up_to (2 ^ 48) word)) text

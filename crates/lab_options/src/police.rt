@@ -8,8 +8,8 @@ ghost use Rattle.lab_options.specs.inner.Answered.{AnswersValues, police_spelled
 
 use crate::link::link_of;
 use crate::values::{
-    ASKED_TICK, LINK, SETUP, WRONG_LINK, WRONG_TICK, asked_tick_of, cell_lines_of, setup_name_of,
-    threads_of, wrong_value,
+    ASKED_TICK, LINK, SETUP, WRONG_LINK, WRONG_TICK, asked_tick_of, cell_lines_of, every_of,
+    setup_name_of, threads_of, wrong_value,
 };
 use captures::{Link, Tick};
 use command_line::{Argument, Form, Options, Stop, Value, values_of_words};
@@ -27,6 +27,8 @@ pub struct PoliceOptions {
     pub link: Option<Link>,
     /// Which cells have lines.
     pub lines: CellLines,
+    /// How many nanoseconds a span has, above 0, if the counts of each span of time are written.
+    pub every: Option<u64>,
     /// How many threads may work at once, 1 to 64.
     pub threads: u8,
 }
@@ -37,6 +39,14 @@ const LINES: Argument = Argument {
     default: Some("all"),
     required: false,
     help: "The cells that have lines: all, refused or none",
+};
+
+const EVERY: Argument = Argument {
+    name: "every",
+    form: Form::Valued("TIME"),
+    default: None,
+    required: false,
+    help: "Write the counts of each connection after each span of this length: a number with ns, us, ms or s",
 };
 
 const THREADS: Argument = Argument {
@@ -51,11 +61,11 @@ const POLICE: Options = Options {
     name: "upc-lab police",
     about: "Police the ATM cells of a capture by the contracts of a setup script",
     after_help: "Standard input is an ERF file, or pcap or pcapng with ERF records.\nExample: examples/make-capture | upc-lab police examples/police.setup",
-    arguments: &[SETUP, ASKED_TICK, LINK, LINES, THREADS],
+    arguments: &[SETUP, ASKED_TICK, LINK, LINES, EVERY, THREADS],
 };
 
 /// Reads the words after `upc-lab police`: the name of a file, `--tick TIME`, `--link LINK`,
-/// `--lines LINES`, which is all if it isn't given, and `--threads N`, which is 2 if it isn't given. The forms of help that `clap` has
+/// `--lines LINES`, which is all if it isn't given, `--every TIME`, and `--threads N`, which is 2 if it isn't given. The forms of help that `clap` has
 /// request help. Any other word is an error, and so are a wrong value, an empty name and words without a name.
 pub fn police_options(alloc: Global, words: Vec<String>) -> Result<PoliceOptions, Stop>
     ensures asked { IfOk result (λ options. AsksPolice (map string_bytes words.items) (police_asked_by options)) }
@@ -86,6 +96,12 @@ fn read(alloc: Global, values: &[Value]) -> Result<PoliceOptions, Stop>
             "error: the value of '--lines' is all, refused or none\n",
         ));
     };
+    let Some(every) = every_of(values) else {
+        return Err(wrong_value(
+            alloc,
+            "error: the value of '--every' is a number above 0 with ns, us, ms or s, as 1s\n",
+        ));
+    };
     let Some(threads) = threads_of(values) else {
         return Err(wrong_value(
             alloc,
@@ -100,6 +116,7 @@ fn read(alloc: Global, values: &[Value]) -> Result<PoliceOptions, Stop>
         tick,
         link,
         lines,
+        every,
         threads,
     })
 }

@@ -2,7 +2,7 @@
 
 ghost use Rattle.std.specs.Prelude.{◌≡◌, codes, option_map};
 ghost use Rattle.command_line.specs.Arguments.{text_named, texts_of};
-ghost use Rattle.lab_options.specs.OptionValues.{asked_clp_of, asked_tick_of, cell_lines_of, clp_named, fit_increment_of, fit_side_of, file_name_of, file_named, is_given, others_of, pairs_of, threads_of, tick_of};
+ghost use Rattle.lab_options.specs.OptionValues.{asked_clp_of, asked_tick_of, cell_lines_of, clp_named, every_of, fit_increment_of, fit_side_of, file_name_of, file_named, is_given, others_of, pairs_of, threads_of, tick_of};
 ghost use Rattle.lab_options.specs.inner.Answered.{IsWrongValue};
 
 use captures::Tick;
@@ -72,6 +72,19 @@ pub(crate) fn asked_tick_of(values: &[Value]) -> Option<Option<Tick>>
     match text_of(values, "tick") {
         None => Some(None),
         Some(_) => Some(Some(tick_of(values)?)),
+    }
+}
+
+/// Returns the nanoseconds of a span that the value of `--every` spells, if it is given and has some. None if it is no time, or 0.
+pub(crate) fn every_of(values: &[Value]) -> Option<Option<u64>>
+    ensures { result ≡ every_of (text_named (texts_of values.now) (codes "every")) }
+{
+    let Some(text) = text_of(values, "every") else {
+        return Some(None);
+    };
+    match duration(text.as_bytes()) {
+        Some(nanoseconds) if 0 < nanoseconds => Some(Some(nanoseconds)),
+        _ => None,
     }
 }
 

@@ -7,7 +7,7 @@ use Rattle.card_core.specs.World.{Connection, World, connection_in}
 use Rattle.upc_cell.proofs.Public.{vc_is}
 use Rattle.upc_cell.specs.declared.vc.Vc.{Vc}
 use Rattle.lab_police.specs.ConnectionCounts.{counts_below, counts_if_any, connection_counts, vc_numbered}
-use Rattle.lab_police.specs.inner.OrderNumber.{order_number}
+use Rattle.lab_police.specs.OrderNumber.{order_number}
 
 -- The smallest number that comes after a connection.
 abbrev pub number_after : Option Vc → ℕ

@@ -8,8 +8,7 @@ use Rattle.text_io.specs.Gathered.{gathered}
 use Rattle.text_io.specs.Lines.{Line, lines_of}
 use Rattle.text_io.specs.declared.ending.Done.{Done}
 use Rattle.text_io.specs.declared.ending.Done.TheVariants.{Ended}
-use Rattle.captures.specs.declared.link.Link.{Link}
-use Rattle.lab_captures.specs.declared.cell_lines.CellLines.{CellLines}
+use Rattle.lab_police.specs.declared.scope.PoliceScope.{PoliceScope}
 use Rattle.lab_police.proofs.EachCapture.{some_police_text}
 use Rattle.lab_rules.specs.RuleFaults.{rule_fault}
 use Rattle.lab_rules.specs.RulesAnswers.{AnswersBy, most_rules_octets}
@@ -67,15 +66,15 @@ leads_on : (lines : List Line) (met : ℕ) (texts : List (List ℕ)) → LeadsOn
 leads_on [] met texts = inr ([], refl)
 leads_on (line ∷ lines) met texts = line_leads (named_rules line) met line lines texts refl (leads_on lines (met + 1) texts)
 
-polices : (lines : CellLines) (tick : ℕ) (link : Option Link) (setup : List ℕ) (texts : List (List ℕ)) (octets : List ℕ) → LeadsOn 0 (lines_of setup) texts
-    → (text : List ℕ) × (done : Done) × MayBeSetupPoliced lines tick link setup texts octets text done
-polices lines tick link setup texts octets (inl faulty) = (faulty.0, Ended, inl (faulty.1, refl))
-polices lines tick link setup texts octets (inr made) =
-    let printed = some_police_text lines tick link made.0 octets in
+polices : (scope : PoliceScope) (tick : ℕ) (setup : List ℕ) (texts : List (List ℕ)) (octets : List ℕ) → LeadsOn 0 (lines_of setup) texts
+    → (text : List ℕ) × (done : Done) × MayBeSetupPoliced scope tick setup texts octets text done
+polices scope tick setup texts octets (inl faulty) = (faulty.0, Ended, inl (faulty.1, refl))
+polices scope tick setup texts octets (inr made) =
+    let printed = some_police_text scope tick made.0 octets in
     (printed.0, printed.1, inr (made.0, made.1, printed.2))
 
 pub polices_each : PolicesEachSetup
-polices_each lines tick link setup texts octets = polices lines tick link setup texts octets (leads_on (lines_of setup) 0 texts)
+polices_each scope tick setup texts octets = polices scope tick setup texts octets (leads_on (lines_of setup) 0 texts)
 
 -- ---- a fault of rules that is reported is one that may be reported
 
@@ -94,10 +93,10 @@ fault_may [] met texts text is = is
 fault_may (line ∷ lines) met texts text is =
     fault_at_may (named_rules line) met lines texts text (λ texts is. fault_may lines (met + 1) texts text is) is
 
-pub may_be_policed : (lines : CellLines) (tick : ℕ) (link : Option Link) (setup : List ℕ) (texts : List (List ℕ)) (octets text : List ℕ) (done : Done)
-    → IsSetupPoliced lines tick link setup texts octets text done → MayBeSetupPoliced lines tick link setup texts octets text done
-may_be_policed lines tick link setup texts octets text done (inl (faulty, ends)) = inl (fault_may (lines_of setup) 0 texts text faulty, ends)
-may_be_policed lines tick link setup texts octets text done (inr made) = inr made
+pub may_be_policed : (scope : PoliceScope) (tick : ℕ) (setup : List ℕ) (texts : List (List ℕ)) (octets text : List ℕ) (done : Done)
+    → IsSetupPoliced scope tick setup texts octets text done → MayBeSetupPoliced scope tick setup texts octets text done
+may_be_policed scope tick setup texts octets text done (inl (faulty, ends)) = inl (fault_may (lines_of setup) 0 texts text faulty, ends)
+may_be_policed scope tick setup texts octets text done (inr made) = inr made
 
 -- ---- at the tick that is agreed
 
@@ -106,7 +105,7 @@ at_tick : (IsTextAt : ℕ → List ℕ → List ℕ → Done → Type 0) (agreed
 at_tick IsTextAt (Ok tick) octets each = each tick
 at_tick IsTextAt (Err (named, asked)) octets each = (ticks_differ named asked, Ended, (refl, refl))
 
-pub polices_as_agreed : (lines : CellLines) (named asked : Option ℕ) (link : Option Link) (setup : List ℕ) (texts : List (List ℕ)) (octets : List ℕ)
-    → (text : List ℕ) × (done : Done) × MayBePolicedAsAgreed lines named asked link setup texts octets text done
-polices_as_agreed lines named asked link setup texts octets =
-    at_tick (λ tick. MayBeSetupPoliced lines tick link setup texts) (agreed_tick named asked) octets (λ tick. polices_each lines tick link setup texts octets)
+pub polices_as_agreed : (scope : PoliceScope) (named asked : Option ℕ) (setup : List ℕ) (texts : List (List ℕ)) (octets : List ℕ)
+    → (text : List ℕ) × (done : Done) × MayBePolicedAsAgreed scope named asked setup texts octets text done
+polices_as_agreed scope named asked setup texts octets =
+    at_tick (λ tick. MayBeSetupPoliced scope tick setup texts) (agreed_tick named asked) octets (λ tick. polices_each scope tick setup texts octets)

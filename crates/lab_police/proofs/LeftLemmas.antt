@@ -26,16 +26,16 @@ use Rattle.lab_police.specs.PoliceText.{MayBeCut, TakesCell, TakesCellWithRoom, 
 use Rattle.lab_police.specs.inner.ExcessLeft.{LeavesConnection}
 
 -- A state that is written to place 0 is there.
-written : (states : List PortState) (old new : PortState) → slice_get states 0 ≡ Some old → slice_get (slice_set states 0 new) 0 ≡ Some new
+pub written : (states : List PortState) (old new : PortState) → slice_get states 0 ≡ Some old → slice_get (slice_set states 0 new) 0 ≡ Some new
 written [] old new e = cc
 written (state ∷ states) old new e = refl
 
 -- The connection that was put in is found.
-put_found : (connections : List (Vc × Connection)) (vc : Vc) (connection : Connection) → connection_in (with_connection connections vc connection) vc ≡ Some connection
+pub put_found : (connections : List (Vc × Connection)) (vc : Vc) (connection : Connection) → connection_in (with_connection connections vc connection) vc ≡ Some connection
 put_found connections vc connection = rw (vc_itself vc) refl
 
 -- A cell enters the port.
-enters : (before after : World) (cell : List ℕ) (moment : ℕ) (reply : Reply) → PortIs before outside
+pub enters : (before after : World) (cell : List ℕ) (moment : ℕ) (reply : Reply) → PortIs before outside
     → WorldStep before (Enter 0 cell moment) reply after → after ≡ with_port before 0 (entered cell moment)
 enters before after cell moment reply free step =
     let Cases : Option PortState → Type 0 = λ o. MatchOption (enter_refusal o)
@@ -93,20 +93,27 @@ chained P false here rest given is later e = later given e
 last_reason : (P : Answer → Type 0) (here : Answer) (given : Answer) → P here → Some here ≡ Some given → P given
 last_reason P here given is e = subst P (let same : Some here ≡ Some given = e in cc) is
 
-cell_silent : (world : World) (connection : Connection) (moment : ℕ) (given : Answer) → cell_refusal world connection moment ≡ Some given → Silent given
-cell_silent world connection moment given =
-    chained Silent (nat_lt (2 ^ 62) moment) answer.MomentTooLate _ given (λ one other vc clp. tt) (λ later.
-    chained Silent (nat_lt moment (last_moment 0 connection.history)) (answer.MomentBack (last_moment 0 connection.history)) _ later (λ one other vc clp. tt) (λ third.
-    chained Silent (nat_le world.shape.journal (length (kept_cells connection))) answer.JournalFull _ third (λ one other vc clp. tt) (λ fourth.
-    chained Silent (nat_le (2 ^ 62) (length (world.verdicts connection.line))) answer.JournalFull None fourth (λ one other vc clp. tt) (λ fifth no. cc))))
+cell_reason : (P : Answer → Type 0) → P answer.MomentTooLate → ((last : ℕ) → P (answer.MomentBack last)) → P answer.JournalFull
+    → (world : World) (connection : Connection) (moment : ℕ) (given : Answer) → cell_refusal world connection moment ≡ Some given → P given
+cell_reason P late back full world connection moment given =
+    chained P (nat_lt (2 ^ 62) moment) answer.MomentTooLate _ given late (λ later.
+    chained P (nat_lt moment (last_moment 0 connection.history)) (answer.MomentBack (last_moment 0 connection.history)) _ later (back (last_moment 0 connection.history)) (λ third.
+    chained P (nat_le world.shape.journal (length (kept_cells connection))) answer.JournalFull _ third full (λ fourth.
+    chained P (nat_le (2 ^ 62) (length (world.verdicts connection.line))) answer.JournalFull None fourth full (λ fifth no. cc))))
+
+-- Each reason for which a picked cell isn't judged has a property if these have it.
+pub refusal_reason : (P : Answer → Type 0) → P answer.MomentTooLate → ((last : ℕ) → P (answer.MomentBack last)) → P answer.JournalFull → P answer.Released
+    → (world : World) (picking : Picking) (found : Option Connection) (given : Answer) → picking_refusal world picking found ≡ Some given → P given
+refusal_reason P late back full gone world picking None given e = last_reason P answer.Released given gone e
+refusal_reason P late back full gone world picking (Some connection) given e = by (connection.incarnation == picking.incarnation) e
+  where
+    by : (b : Bool) → (if b then cell_refusal world connection picking.moment else Some answer.Released) ≡ Some given → P given
+    by true e = cell_reason P late back full world connection picking.moment given e
+    by false e = last_reason P answer.Released given gone e
 
 refusal_silent : (world : World) (picking : Picking) (found : Option Connection) (given : Answer) → picking_refusal world picking found ≡ Some given → Silent given
-refusal_silent world picking None given e = last_reason Silent answer.Released given (λ one other vc clp. tt) e
-refusal_silent world picking (Some connection) given e = by (connection.incarnation == picking.incarnation) e
-  where
-    by : (b : Bool) → (if b then cell_refusal world connection picking.moment else Some answer.Released) ≡ Some given → Silent given
-    by true e = cell_silent world connection picking.moment given e
-    by false e = last_reason Silent answer.Released given (λ one other vc clp. tt) e
+refusal_silent =
+    refusal_reason Silent (λ one other vc clp. tt) (λ last one other vc clp. tt) (λ one other vc clp. tt) (λ one other vc clp. tt)
 
 -- A cell that isn't refused comes no earlier than the last one.
 passes_test : (test : Bool) (here : Answer) (rest : Option Answer) → (if test then Some here else rest) ≡ None → (test ≡ false) × (rest ≡ None)
@@ -263,6 +270,9 @@ cut_keeps before after vc reply =
     ))
     (λ l. unchanged_keeps before after vc l.world)
     (λ fault r. unchanged_keeps before after vc r.world)
+
+pub cut_shaped : (before after : World) (vc : Vc) (reply : Reply) → WorldStep before (Cut vc) reply after → after.shape ≡ before.shape
+cut_shaped before after vc reply stepped = (cut_keeps before after vc reply stepped).0
 
 -- What a cell leaves after a cut is what it would leave without it.
 cut_leaves : (before middle : World) (after : List (Vc × Connection)) (vc : Vc) (clp : Bool) (given : Answer) → CutKeeps before vc middle

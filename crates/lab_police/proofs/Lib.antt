@@ -1,3 +1,6 @@
+pub mod SpanLemmas
+pub mod SpanRows
+pub mod SpanSums
 pub mod SetUpLemmas
 pub mod CardLemmas
 pub mod CountsLemmas

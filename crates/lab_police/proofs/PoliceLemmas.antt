@@ -25,13 +25,26 @@ use Rattle.lab_police.specs.ConnectionCounts.{counts_heading, counts_lines}
 use Rattle.lab_police.specs.NotJudgedCells.{not_judged_after, not_judged_lines}
 use Rattle.lab_police.specs.PoliceLines.{excess_of_answer, has_line, police_line, verdict_heading}
 use Rattle.lab_police.specs.RunComments.{run_comments}
-use Rattle.lab_police.specs.PoliceText.{PoliceWorld, after_cell, policed_text, connection_of_cell, police_closes, police_gap, police_rules}
+use Rattle.lab_police.specs.PoliceText.{PoliceWorld, after_cell, policed_text, connection_of_cell, has_lines_before, police_closes, police_gap, police_rules}
+use Rattle.lab_police.specs.SpanCounts.{SpansWorld, ended_text, is_begun_after, present_text, spans_after, spans_at}
 use Rattle.lab_police.specs.declared.not_judged.NotJudged.{NotJudged}
 use Rattle.lab_police.specs.declared.police.PoliceRun.{PoliceRun}
 use Rattle.lab_police.specs.inner.CardArrival.{ArrivesWithRoom}
 use Rattle.lab_police.specs.inner.ExcessLeft.{LeavesConnection}
 use Rattle.lab_police.proofs.LeftLemmas.{room_leaves}
+use Rattle.lab_police.specs.declared.spans.Spans.{Spans}
 use Rattle.lab_police.specs.inner.PoliceShown.{AddsCell, ShowsPolice, lined}
+use Rattle.lab_police.specs.inner.SpansShown.{ShowsSpans, own_begun_after, own_ended_text, own_text}
+use Rattle.lab_police.proofs.SpanLemmas.{begun_same, ended_same, text_same}
+
+-- The spans go on to this moment, with the text about the one that ends.
+pub record SpansGoOn (before : Spans) (moment : ℕ) (after : Spans) (old new : List ℕ) : Type 0 where
+  pub added : new ≡ old ++ own_ended_text before moment
+  pub spans : (spans : SpansWorld) → ShowsSpans before spans → ShowsSpans after (spans_at spans moment)
+
+-- A cell of this connection is counted, with this answer.
+abbrev pub SpansCount : Spans → Vc → Answer → Spans → Type 0
+SpansCount before vc given after = (spans : SpansWorld) → ShowsSpans before spans → ShowsSpans after (spans_after spans vc given)
 
 -- A text that has a line only if it is wanted depends on its excess only then.
 lined_same : (wanted : Bool) (front : List ℕ) (line : Option Excess → List ℕ) (one other : Option Excess) → (wanted ≡ true → one ≡ other)
@@ -41,14 +54,19 @@ lined_same false front line one other same = refl
 
 -- A cell that arrived, with the text for it.
 pub polices_by : (before : PoliceRun) (core : CoreView) (given : Answer) (vc : Vc) (counted : CountedCell)
-    (begun : Bool) (not_judged : NotJudged) (old new : List ℕ)
+    (begun : Bool) (at_moment spans : Spans) (not_judged : NotJudged) (old ended new : List ℕ)
+    → SpansGoOn before.spans counted.moment at_moment old ended
     → ArrivesWithRoom before.core counted.cell counted.moment (Some given) core → vc ≡ vc_of before.core.shape.side counted.cell
-    → AddsCell before.lines before.begun counted.number counted.moment vc (has_low_priority counted.cell) given core old new begun
+    → AddsCell before.lines before.begun counted.number counted.moment vc (has_low_priority counted.cell) given core ended new begun
+    → SpansCount at_moment vc given spans
     → not_judged ≡ not_judged_after before.not_judged counted.number given
-    → FollowsCell police_rules (ShowsPolice before) counted GoesOn (ShowsPolice (record before { core = core; begun = begun; not_judged = not_judged })) old new
-polices_by before core given vc counted begun not_judged old new arrives named adds counts = (
-  lined before.lines before.begun counted.number counted.moment vc (has_low_priority counted.cell) given adds.excess,
-  adds.added,
+    → FollowsCell police_rules (ShowsPolice before) counted GoesOn
+    (ShowsPolice (record before { core = core; begun = begun; spans = spans; not_judged = not_judged })) old new
+polices_by before core given vc counted begun at_moment spans not_judged old ended new goes arrives named adds more counts = (
+  own_ended_text before.spans counted.moment ++ lined before.lines before.begun counted.number counted.moment vc (has_low_priority counted.cell) given adds.excess,
+  adds.added
+      ∙ ap (λ xs. xs ++ lined before.lines before.begun counted.number counted.moment vc (has_low_priority counted.cell) given adds.excess) goes.added
+      ∙ append_assoc old (own_ended_text before.spans counted.moment) _,
   λ world led shown.
       let number = counted.number in
       let moment = counted.moment in
@@ -69,51 +87,70 @@ polices_by before core given vc counted begun not_judged old new arrives named a
       ∙ ap (λ (lines : CellLines). Text lines before.begun vc given) shown.lines ∙ ap (λ b. Text world.lines b vc given) shown.begun
       ∙ ap (λ (v : Vc). Text world.lines world.begun v given) here ∙ ap (λ (a : Answer). Text world.lines world.begun (connection_of_cell world.card cell) a) same
       in (
-        after_cell world number on.0 on.2,
+        after_cell world counted on.0 on.2,
         record {
           lines = shown.lines;
           tick = shown.tick;
           agrees = on.4;
           begun = adds.written ∙ ap (λ b. b || has_line before.lines given) shown.begun ∙ ap (λ (lines : CellLines). world.begun || has_line lines given) shown.lines
               ∙ ap (λ (a : Answer). world.begun || has_line world.lines a) same;
+          spans = subst (λ (v : Vc). ShowsSpans spans (spans_after (spans_at world.spans moment) v on.0)) here
+              (subst (λ (a : Answer). ShowsSpans spans (spans_after (spans_at world.spans moment) vc a)) same
+              (more (spans_at world.spans moment) (goes.spans world.spans shown.spans)));
           not_judged = counts ∙ ap (λ (cells : NotJudged). not_judged_after cells number given) shown.not_judged
               ∙ ap (λ (a : Answer). not_judged_after world.not_judged number a) same;
         },
-        record { given = on.0; card = on.2; taken = on.3; written = text; after = refl },
+        record {
+          given = on.0;
+          card = on.2;
+          taken = on.3;
+          written = ap (λ xs. xs ++ lined before.lines before.begun number moment vc clp given adds.excess) (ended_same before.spans world.spans moment shown.spans)
+              ∙ ap (λ xs. ended_text world.spans moment ++ xs) text;
+          after = refl;
+        },
       ),
 )
 
 -- No represented card leaves a cell without an answer.
-pub polices_never : (before after : PoliceRun) (core : CoreView) (counted : CountedCell) (old : List ℕ)
-    → ArrivesWithRoom before.core counted.cell counted.moment None core → FollowsCell police_rules (ShowsPolice before) counted GoesOn (ShowsPolice after) old old
-polices_never before after core counted old arrives =
-    ([], sym (append-nil old), λ world led shown. let on = arrives world.card led shown.agrees in let no = on.1 in cc)
+pub polices_never : (before after : PoliceRun) (core : CoreView) (counted : CountedCell) (at_moment : Spans) (old new : List ℕ)
+    → SpansGoOn before.spans counted.moment at_moment old new
+    → ArrivesWithRoom before.core counted.cell counted.moment None core → FollowsCell police_rules (ShowsPolice before) counted GoesOn (ShowsPolice after) old new
+polices_never before after core counted at_moment old new goes arrives =
+    (own_ended_text before.spans counted.moment, goes.added, λ world led shown. let on = arrives world.card led shown.agrees in let no = on.1 in cc)
 
 -- The parts of the end, one after another.
-joined : (old gap heading counts cells comments closing : List ℕ) → ((((old ++ gap) ++ (heading ++ counts)) ++ cells) ++ comments) ++ closing
-    ≡ old ++ (gap ++ (heading ++ (counts ++ (cells ++ (comments ++ closing)))))
-joined old gap heading counts cells comments closing =
-    append_assoc (((old ++ gap) ++ (heading ++ counts)) ++ cells) comments closing
-    ∙ append_assoc ((old ++ gap) ++ (heading ++ counts)) cells (comments ++ closing)
-    ∙ append_assoc (old ++ gap) (heading ++ counts) (cells ++ (comments ++ closing))
-    ∙ append_assoc old gap ((heading ++ counts) ++ (cells ++ (comments ++ closing)))
-    ∙ ap (λ xs. old ++ (gap ++ xs)) (append_assoc heading counts (cells ++ (comments ++ closing)))
+joined : (old spans gap heading counts cells comments closing : List ℕ) → (((((old ++ spans) ++ gap) ++ (heading ++ counts)) ++ cells) ++ comments) ++ closing
+    ≡ old ++ (spans ++ (gap ++ (heading ++ (counts ++ (cells ++ (comments ++ closing))))))
+joined old spans gap heading counts cells comments closing =
+    append_assoc ((((old ++ spans) ++ gap) ++ (heading ++ counts)) ++ cells) comments closing
+    ∙ append_assoc (((old ++ spans) ++ gap) ++ (heading ++ counts)) cells (comments ++ closing)
+    ∙ append_assoc ((old ++ spans) ++ gap) (heading ++ counts) (cells ++ (comments ++ closing))
+    ∙ append_assoc (old ++ spans) gap ((heading ++ counts) ++ (cells ++ (comments ++ closing)))
+    ∙ append_assoc old spans (gap ++ ((heading ++ counts) ++ (cells ++ (comments ++ closing))))
+    ∙ ap (λ xs. old ++ (spans ++ (gap ++ xs))) (append_assoc heading counts (cells ++ (comments ++ closing)))
 
 -- The end of a capture.
-pub closes_by : (run : PoliceRun) (world : PoliceWorld) (passed : PassedOver) (ending : Option Fault) (old one two three four new : List ℕ) → ShowsPolice run world
-    → one ≡ old ++ police_gap run.begun → two ≡ one ++ (counts_heading ++ counts_lines world.card.world) → three ≡ two ++ not_judged_lines run.not_judged
-    → four ≡ three ++ run_comments run.tick.nanoseconds passed → new ≡ four ++ closing_lines passed ending → new ≡ old ++ police_closes world passed ending
-closes_by run world passed ending old one two three four new shown first second third fourth last =
-    let gap = police_gap run.begun in
+pub closes_by : (run : PoliceRun) (world : PoliceWorld) (passed : PassedOver) (ending : Option Fault) (old one two three four five new : List ℕ)
+    → ShowsPolice run world → one ≡ old ++ own_text run.spans
+    → two ≡ one ++ police_gap (run.begun || own_begun_after run.spans) → three ≡ two ++ (counts_heading ++ counts_lines world.card.world)
+    → four ≡ three ++ not_judged_lines run.not_judged → five ≡ four ++ run_comments run.tick.nanoseconds passed → new ≡ five ++ closing_lines passed ending
+    → new ≡ old ++ police_closes world passed ending
+closes_by run world passed ending old one two three four five new shown zeroth first second third fourth last =
+    let after = own_begun_after run.spans in
+    let here = own_text run.spans in
+    let gap = police_gap (run.begun || after) in
     let counts = counts_lines world.card.world in
     let closing = closing_lines passed ending in
-    let Closes : Bool → NotJudged → ℕ → List ℕ = λ begun cells tick.
-    old ++ (police_gap begun ++ (counts_heading ++ (counts ++ (not_judged_lines cells ++ (run_comments tick passed ++ closing))))) in
+    let Closes : List ℕ → Bool → NotJudged → ℕ → List ℕ = λ here begun cells tick.
+    old ++ (here ++ (police_gap begun ++ (counts_heading ++ (counts ++ (not_judged_lines cells ++ (run_comments tick passed ++ closing)))))) in
     last ∙ ap (λ xs. xs ++ closing) (fourth ∙ ap (λ xs. xs ++ run_comments run.tick.nanoseconds passed) (third ∙ ap (λ xs. xs ++ not_judged_lines run.not_judged)
-    (second ∙ ap (λ xs. xs ++ (counts_heading ++ counts)) first)))
-    ∙ joined old gap counts_heading counts (not_judged_lines run.not_judged) (run_comments run.tick.nanoseconds passed) closing
-    ∙ ap (λ b. Closes b run.not_judged run.tick.nanoseconds) shown.begun ∙ ap (λ (cells : NotJudged). Closes world.begun cells run.tick.nanoseconds) shown.not_judged
-    ∙ ap (λ tick. Closes world.begun world.not_judged tick) shown.tick
+    (second ∙ ap (λ xs. xs ++ (counts_heading ++ counts)) (first ∙ ap (λ xs. xs ++ gap) zeroth))))
+    ∙ joined old here gap counts_heading counts (not_judged_lines run.not_judged) (run_comments run.tick.nanoseconds passed) closing
+    ∙ ap (λ here. Closes here (run.begun || after) run.not_judged run.tick.nanoseconds) (text_same run.spans world.spans shown.spans)
+    ∙ ap (λ b. Closes (present_text world.spans) (b || after) run.not_judged run.tick.nanoseconds) shown.begun
+    ∙ ap (λ b. Closes (present_text world.spans) (world.begun || b) run.not_judged run.tick.nanoseconds) (begun_same run.spans world.spans shown.spans)
+    ∙ ap (λ (cells : NotJudged). Closes (present_text world.spans) (has_lines_before world) cells run.tick.nanoseconds) shown.not_judged
+    ∙ ap (λ tick. Closes (present_text world.spans) (has_lines_before world) world.not_judged tick) shown.tick
 
 -- A text of a capture by the card that a script leads to is a text of `police`.
 module _ {Source Sink : Type 0} (I : InputView Source) (O : OutputView Sink) (source source' : Source) (sink sink' : Sink) (result : Result Done RunFault) where

@@ -11,7 +11,8 @@ use Rattle.upc_run.specs.RunText.{IsLed}
 use Rattle.lab_police.specs.ConnectionCounts.{counts_heading, counts_lines}
 use Rattle.lab_police.specs.NotJudgedCells.{not_judged_after, not_judged_lines}
 use Rattle.lab_police.specs.RunComments.{run_comments}
-use Rattle.lab_police.specs.PolicedCards.{PolicedWorld, PolicesOneCell, ShowsPoliced, policed_report, verdict_given}
+use Rattle.lab_police.specs.PolicedCards.{PolicedWorld, PolicesOneCell, ShowsPoliced, policed_report}
+use Rattle.lab_police.specs.PoliceLines.{verdict_given}
 use Rattle.lab_police.specs.declared.not_judged.NotJudged.{NotJudged}
 use Rattle.lab_police.specs.declared.policed_card.PolicedCard.{PolicedCard}
 use Rattle.lab_police.specs.inner.CardArrival.{ArrivesWithRoom}

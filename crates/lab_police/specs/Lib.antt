@@ -2,9 +2,12 @@
 pub mod PoliceLines
 pub mod NotJudgedCells
 pub mod ConnectionCounts
+pub mod OrderNumber
+pub mod SpanCounts
 pub mod RunComments
 pub mod PoliceText
 pub mod PoliceLaws
+pub mod SpanLaws
 pub mod RulesLines
 pub mod RulesFiles
 pub mod SetupPrograms

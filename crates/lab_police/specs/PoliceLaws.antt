@@ -1,11 +1,10 @@
 -- What is proved of the texts of `police`.
 use Rattle.std.specs.Prelude.{ℕ, List, Option}
-use Rattle.captures.specs.declared.link.Link.{Link}
-use Rattle.lab_captures.specs.declared.cell_lines.CellLines.{CellLines}
+use Rattle.lab_police.specs.declared.scope.PoliceScope.{PoliceScope}
 use Rattle.text_io.specs.declared.ending.Done.{Done}
 use Rattle.lab_police.specs.PoliceText.{IsPoliceText}
 
--- A setup script and a capture have a text, for each choice of lines, tick and link.
+-- A setup script and a capture have a text, for each scope and tick.
 abbrev pub PolicesEachCapture : Type 0
-PolicesEachCapture = (lines : CellLines) (tick : ℕ) (link : Option Link) (script octets : List ℕ)
-    → (text : List ℕ) × (done : Done) × IsPoliceText lines tick link script octets text done
+PolicesEachCapture = (scope : PoliceScope) (tick : ℕ) (script octets : List ℕ)
+    → (text : List ℕ) × (done : Done) × IsPoliceText scope tick script octets text done

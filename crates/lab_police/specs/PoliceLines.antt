@@ -70,6 +70,11 @@ police_line number moment vc clp given excess =
     in_column (decimal number) ++ (in_column (decimal moment) ++ (in_column (decimal vc.vpi) ++ (in_column (decimal vc.vci)
     ++ (in_column (decimal (priority_digit clp)) ++ answer_columns given excess))))
 
+-- The verdict in an answer. A cell that isn't judged has none.
+abbrev pub verdict_given : Answer → Option Verdict
+verdict_given (answer.Judged line number moment value program verdict leaving) = Some verdict
+verdict_given _ = None
+
 -- Whether the cell passes.
 abbrev pub is_pass_answer : Answer → Bool
 is_pass_answer (answer.Judged line number moment value program verdict.Pass leaving) = true

@@ -1,12 +1,11 @@
 -- The text of `police`. A script sets up a card, as `upc run` does; its faults are explained, and then nothing is policed. Otherwise the card
 -- judges the cells of a capture, at port 0 and in order.
-use Rattle.std.specs.Prelude.{◌≡◌, ◌≤◌, ◌⊎◌, ℕ, ◌^◌, ◌||◌, Bool, false, if◌then◌else◌, List, [], ◌++◌, codes, length, Option, Some, None}
+use Rattle.std.specs.Prelude.{◌≡◌, ◌≤◌, ◌⊎◌, ℕ, ◌^◌, ◌||◌, Bool, false, if◌then◌else◌, List, [], ◌++◌, codes, length, Option, Some, None, option_map}
 use Rattle.captures.specs.declared.fault.Fault.{Fault}
 use Rattle.card_core.specs.World.{Connection, World, connection_in}
 use Rattle.card_core.specs.declared.answer.Answer.{Answer}
 use Rattle.card_core.specs.declared.answer.Answer.TheVariants.{JournalFull}
 use Rattle.card_core.specs.declared.step.Step.TheVariants.{Cut}
-use Rattle.captures.specs.declared.link.Link.{Link}
 use Rattle.lab_captures.specs.CaptureText.{IsCaptureText}
 use Rattle.lab_captures.specs.CellFilter.{filter_start}
 use Rattle.lab_captures.specs.CellRules.{CellRules}
@@ -28,20 +27,30 @@ use Rattle.lab_police.specs.ConnectionCounts.{counts_heading, counts_lines}
 use Rattle.lab_police.specs.NotJudgedCells.{all_judged, not_judged_after, not_judged_lines}
 use Rattle.lab_police.specs.RunComments.{run_comments}
 use Rattle.lab_police.specs.PoliceLines.{excess_of_answer, has_line, police_line, verdict_heading}
+use Rattle.lab_police.specs.SpanCounts.{SpansWorld, ended_text, is_begun_after, present_text, spans_after, spans_at, spans_start, ticks_of_span}
 use Rattle.lab_police.specs.declared.not_judged.NotJudged.{NotJudged}
+use Rattle.lab_police.specs.declared.scope.PoliceScope.{PoliceScope}
 
--- The state of a run: which cells have lines, the nanoseconds of a tick, the card, whether the heading of the lines was written, and the cells
--- that were not judged.
+-- The state of a run: which cells have lines, the nanoseconds of a tick, the card, whether the heading of the lines was written, the spans of
+-- time, and the cells that were not judged.
 pub record PoliceWorld : Type 0 where
   pub lines : CellLines
   pub tick : ℕ
   pub card : Card
   pub begun : Bool
+  pub spans : SpansWorld
   pub not_judged : NotJudged
 
--- The state at first.
-abbrev pub police_start : CellLines → ℕ → Card → PoliceWorld
-police_start lines tick card = record { lines = lines; tick = tick; card = card; begun = false; not_judged = all_judged }
+-- The state at first, where a tick has this many nanoseconds.
+abbrev pub police_start : PoliceScope → ℕ → Card → PoliceWorld
+police_start scope tick card = record {
+  lines = scope.lines;
+  tick = tick;
+  card = card;
+  begun = false;
+  spans = spans_start (option_map (λ nanoseconds. ticks_of_span nanoseconds tick) scope.every);
+  not_judged = all_judged;
+}
 
 -- The connection that the cell's header names, read at the card's side.
 abbrev pub connection_of_cell : Card → List ℕ → Vc
@@ -82,32 +91,37 @@ policed_text before counted given =
     (excess_of_answer before.card.world (connection_of_cell before.card counted.cell) (has_low_priority counted.cell) given)
     else []
 
--- The state after a cell with this answer, whose record has this number.
-abbrev pub after_cell : PoliceWorld → ℕ → Answer → Card → PoliceWorld
-after_cell before number given card = record before {
+-- The state after a cell with this answer.
+abbrev pub after_cell : PoliceWorld → CountedCell → Answer → Card → PoliceWorld
+after_cell before counted given card = record before {
   card = card;
   begun = before.begun || has_line before.lines given;
-  not_judged = not_judged_after before.not_judged number given;
+  spans = spans_after (spans_at before.spans counted.moment) (connection_of_cell before.card counted.cell) given;
+  not_judged = not_judged_after before.not_judged counted.number given;
 }
 
--- A cell is policed: this text answers it, and leads to the next state.
+-- A cell is policed: this text answers it, and leads to the next state. If the cell ends a span, the text begins with the lines of that span.
 pub record PolicesCounted (before : PoliceWorld) (counted : CountedCell) (text : List ℕ) (next : Option PoliceWorld) : Type 0 where
   pub given : Answer
   pub card : Card
   pub taken : TakesCellWithRoom before.card counted.cell counted.moment given card
-  pub written : text ≡ policed_text before counted given
-  pub after : next ≡ Some (after_cell before counted.number given card)
+  pub written : text ≡ ended_text before.spans counted.moment ++ policed_text before counted given
+  pub after : next ≡ Some (after_cell before counted given card)
+
+-- Whether lines are written before the table: those of cells, or those of spans.
+abbrev pub has_lines_before : PoliceWorld → Bool
+has_lines_before world = world.begun || is_begun_after world.spans
 
 -- An empty line, if there are lines before it.
 abbrev pub police_gap : Bool → List ℕ
 police_gap begun = if begun then codes "\n" else []
 
--- The text at the end: an empty line after the lines about cells, if there are any; the table of the connections; the comments; and the
--- fault at which the reading ended.
+-- The text at the end: the lines of the last span; an empty line after the lines about cells and spans, if there are any; the table of the
+-- connections; the comments; and the fault at which the reading ended.
 abbrev pub police_closes : PoliceWorld → PassedOver → Option Fault → List ℕ
 police_closes world passed ending =
-    police_gap world.begun ++ (counts_heading ++ (counts_lines world.card.world
-    ++ (not_judged_lines world.not_judged ++ (run_comments world.tick passed ++ closing_lines passed ending))))
+    present_text world.spans ++ (police_gap (has_lines_before world) ++ (counts_heading ++ (counts_lines world.card.world
+    ++ (not_judged_lines world.not_judged ++ (run_comments world.tick passed ++ closing_lines passed ending)))))
 
 -- The rules of `police`.
 abbrev pub police_rules : CellRules PoliceWorld
@@ -121,7 +135,7 @@ pub record IsSetUpBy (script : List ℕ) (card : Card) : Type 0 where
   pub reached : EndsAt run_rules 0 None (lines_of script) answers (Some card)
 
 -- The text for a setup script and a whole capture, and how the run ends.
-abbrev pub IsPoliceText : CellLines → ℕ → Option Link → List ℕ → List ℕ → List ℕ → Done → Type 0
-IsPoliceText lines tick link script octets text done =
+abbrev pub IsPoliceText : PoliceScope → ℕ → List ℕ → List ℕ → List ℕ → Done → Type 0
+IsPoliceText scope tick script octets text done =
     (IsScriptExplained script text Ended × (done ≡ Ended))
-    ⊎ ((card : Card) × IsSetUpBy script card × IsCaptureText police_rules (filter_start tick link) (police_start lines tick card) octets text done)
+    ⊎ ((card : Card) × IsSetUpBy script card × IsCaptureText police_rules (filter_start tick scope.link) (police_start scope tick card) octets text done)

@@ -1,9 +1,8 @@
 -- The card of a setup script, for programs that ask it cell by cell how each goes on.
-use Rattle.std.specs.Prelude.{◌≡◌, ◌⊎◌, ℕ, List, ◌++◌, Option, Some, None}
+use Rattle.std.specs.Prelude.{◌≡◌, ◌⊎◌, ℕ, List, ◌++◌, Option}
 use Rattle.captures.specs.declared.fault.Fault.{Fault}
 use Rattle.card_core.specs.Agreement.{CoreAgrees}
 use Rattle.card_core.specs.declared.answer.Answer.{Answer}
-use Rattle.card_core.specs.declared.answer.Answer.TheVariants.{Judged}
 use Rattle.lab_captures.specs.RunLines.{closing_lines}
 use Rattle.lab_captures.specs.declared.counted.CountedCell.{CountedCell}
 use Rattle.lab_captures.specs.declared.passed.PassedOver.{PassedOver}
@@ -14,6 +13,7 @@ use Rattle.upc_run.specs.RunText.{Card, IsLed}
 use Rattle.lab_police.specs.ConnectionCounts.{counts_heading, counts_lines}
 use Rattle.lab_police.specs.FaultyRules.{HasFaultyRules}
 use Rattle.lab_police.specs.NotJudgedCells.{all_judged, not_judged_after, not_judged_lines}
+use Rattle.lab_police.specs.PoliceLines.{verdict_given}
 use Rattle.lab_police.specs.PoliceText.{IsSetUpBy, TakesCellWithRoom}
 use Rattle.lab_police.specs.RulesFiles.{IsFaultOfRules}
 use Rattle.lab_police.specs.RunComments.{run_comments}
@@ -32,11 +32,6 @@ pub record PolicedWorld : Type 0 where
 -- The state at first.
 abbrev pub policed_start : ℕ → Card → PolicedWorld
 policed_start tick card = record { card = card; tick = tick; not_judged = all_judged }
-
--- The verdict in an answer. A cell that isn't judged has none.
-abbrev pub verdict_given : Answer → Option Verdict
-verdict_given (Judged line number moment value program verdict leaving) = Some verdict
-verdict_given _ = None
 
 -- A cell arrives at the card as in `police`, with this verdict.
 pub record PolicesOneCell (before : PolicedWorld) (counted : CountedCell) (verdict : Option Verdict) (after : PolicedWorld) : Type 0 where

@@ -2,8 +2,7 @@
 use Rattle.std.specs.Prelude.{◌≡◌, ℕ, List, [], ◌∷◌, length, Option, Some, MatchOption}
 use Rattle.bpf_code.specs.Encoding.{code_octets}
 use Rattle.bpf_code.specs.declared.instr.Instr.{Instr}
-use Rattle.captures.specs.declared.link.Link.{Link}
-use Rattle.lab_captures.specs.declared.cell_lines.CellLines.{CellLines}
+use Rattle.lab_police.specs.declared.scope.PoliceScope.{PoliceScope}
 use Rattle.text_io.specs.Lines.{Line, lines_of, line_content}
 use Rattle.text_io.specs.Words.{words_of}
 use Rattle.text_io.specs.declared.ending.Done.{Done}
@@ -16,10 +15,10 @@ use Rattle.lab_police.specs.RulesLines.{named_rules, rules_names}
 use Rattle.lab_police.specs.SetupPrograms.{HasPrograms, load_command}
 use Rattle.lab_police.specs.SetupText.{MayBeSetupPoliced}
 
--- A setup script, texts of rules and a capture have a text, for each choice of lines, tick and link.
+-- A setup script, texts of rules and a capture have a text, for each scope and tick.
 abbrev pub PolicesEachSetup : Type 0
-PolicesEachSetup = (lines : CellLines) (tick : ℕ) (link : Option Link) (setup : List ℕ) (texts : List (List ℕ)) (octets : List ℕ)
-    → (text : List ℕ) × (done : Done) × MayBeSetupPoliced lines tick link setup texts octets text done
+PolicesEachSetup = (scope : PoliceScope) (tick : ℕ) (setup : List ℕ) (texts : List (List ℕ)) (octets : List ℕ)
+    → (text : List ℕ) × (done : Done) × MayBeSetupPoliced scope tick setup texts octets text done
 
 -- The second lines are the first, one for one: each line `rules NAME` is replaced by one whose command loads a program of its
 -- text, and every other line is as it is.

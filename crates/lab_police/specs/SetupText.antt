@@ -1,8 +1,7 @@
 -- The text of `police` for a setup script with files of rules. If the rules of a line have a fault, it is about the first such line, and
 -- nothing is policed. Otherwise the cells of the capture are policed by the script with its programs.
 use Rattle.std.specs.Prelude.{◌≡◌, ◌⊎◌, ℕ, List, Option, Result, Ok, Err}
-use Rattle.captures.specs.declared.link.Link.{Link}
-use Rattle.lab_captures.specs.declared.cell_lines.CellLines.{CellLines}
+use Rattle.lab_police.specs.declared.scope.PoliceScope.{PoliceScope}
 use Rattle.lab_police.specs.PoliceText.{IsPoliceText}
 use Rattle.text_io.specs.declared.ending.Done.{Done}
 use Rattle.text_io.specs.declared.ending.Done.TheVariants.{Ended}
@@ -13,18 +12,18 @@ use Rattle.lab_police.specs.SetupTick.{agreed_tick, ticks_differ}
 
 -- The text for a setup script, the texts of its files of rules and a whole capture, and how the run ends. `IsFault` says which line is the
 -- fault line of a text of rules.
-abbrev pub IsSetupPolicedBy : (List ℕ → List ℕ → Type 0) → CellLines → ℕ → Option Link → List ℕ → List (List ℕ) → List ℕ → List ℕ → Done → Type 0
-IsSetupPolicedBy IsFault lines tick link setup texts octets text done =
+abbrev pub IsSetupPolicedBy : (List ℕ → List ℕ → Type 0) → PoliceScope → ℕ → List ℕ → List (List ℕ) → List ℕ → List ℕ → Done → Type 0
+IsSetupPolicedBy IsFault scope tick setup texts octets text done =
     (HasFaultyRules IsFault setup texts text × (done ≡ Ended))
-    ⊎ ((script : List ℕ) × HasPrograms setup texts script × IsPoliceText lines tick link script octets text done)
+    ⊎ ((script : List ℕ) × HasPrograms setup texts script × IsPoliceText scope tick script octets text done)
 
 -- The same, where the fault line is that of `upc-lab rules`.
-abbrev pub IsSetupPoliced : CellLines → ℕ → Option Link → List ℕ → List (List ℕ) → List ℕ → List ℕ → Done → Type 0
+abbrev pub IsSetupPoliced : PoliceScope → ℕ → List ℕ → List (List ℕ) → List ℕ → List ℕ → Done → Type 0
 IsSetupPoliced = IsSetupPolicedBy IsFaultOfRules
 
 -- The same, but that the code of any rules may be reported as too long. Every setup script, texts and capture have such a text, so if a call
 -- fails, what was written is the beginning of one.
-abbrev pub MayBeSetupPoliced : CellLines → ℕ → Option Link → List ℕ → List (List ℕ) → List ℕ → List ℕ → Done → Type 0
+abbrev pub MayBeSetupPoliced : PoliceScope → ℕ → List ℕ → List (List ℕ) → List ℕ → List ℕ → Done → Type 0
 MayBeSetupPoliced = IsSetupPolicedBy MayBeFaultOfRules
 
 -- The text for a run with the tick that is agreed: the text at that tick, or the answer about two ticks that differ.
@@ -34,9 +33,9 @@ AsAgreed IsTextAt (Err (named, asked)) octets text done = (text ≡ ticks_differ
 
 -- The text for a setup script that names this tick, if it names one, the texts of its files of rules, and a whole capture, where this tick is
 -- asked for, if one is; and how the run ends.
-abbrev pub IsPolicedAsAgreed : CellLines → Option ℕ → Option ℕ → Option Link → List ℕ → List (List ℕ) → List ℕ → List ℕ → Done → Type 0
-IsPolicedAsAgreed lines named asked link setup texts = AsAgreed (λ tick. IsSetupPoliced lines tick link setup texts) (agreed_tick named asked)
+abbrev pub IsPolicedAsAgreed : PoliceScope → Option ℕ → Option ℕ → List ℕ → List (List ℕ) → List ℕ → List ℕ → Done → Type 0
+IsPolicedAsAgreed scope named asked setup texts = AsAgreed (λ tick. IsSetupPoliced scope tick setup texts) (agreed_tick named asked)
 
 -- The same, but that the code of any rules may be reported as too long.
-abbrev pub MayBePolicedAsAgreed : CellLines → Option ℕ → Option ℕ → Option Link → List ℕ → List (List ℕ) → List ℕ → List ℕ → Done → Type 0
-MayBePolicedAsAgreed lines named asked link setup texts = AsAgreed (λ tick. MayBeSetupPoliced lines tick link setup texts) (agreed_tick named asked)
+abbrev pub MayBePolicedAsAgreed : PoliceScope → Option ℕ → Option ℕ → List ℕ → List (List ℕ) → List ℕ → List ℕ → Done → Type 0
+MayBePolicedAsAgreed scope named asked setup texts = AsAgreed (λ tick. MayBeSetupPoliced scope tick setup texts) (agreed_tick named asked)

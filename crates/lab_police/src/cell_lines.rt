@@ -2,7 +2,7 @@
 
 ghost use Rattle.std.specs.Prelude.{◌≡◌, ◌++◌, ℕ, List, [], None, OnOk, decimal, if◌then◌else◌};
 ghost use Rattle.card_core.specs.Sections.{answer_to, unjudged_answer};
-ghost use Rattle.lab_police.specs.PoliceLines.{answer_columns, excess_columns, has_line, in_column, is_pass_answer, police_line, priority_digit, verdict_heading, verdict_word};
+ghost use Rattle.lab_police.specs.PoliceLines.{answer_columns, excess_columns, has_line, in_column, is_pass_answer, police_line, priority_digit, verdict_given, verdict_heading, verdict_word};
 
 use card_core::{Judgement, Unjudged};
 use lab_captures::CellLines;
@@ -175,6 +175,17 @@ pub(crate) fn has_line(lines: CellLines, decision: &Result<Judgement, Unjudged>)
         CellLines::All => true,
         CellLines::Nothing => false,
         CellLines::Refused => !is_pass_answer(decision),
+    }
+}
+
+/// Returns the verdict in an answer, if the cell was judged.
+#[inline(always)]
+pub(crate) fn verdict_in(decision: &Result<Judgement, Unjudged>) -> Option<Verdict>
+    ensures { (cell : List ℕ) → result ≡ verdict_given (answer_to cell decision.now) }
+{
+    match decision {
+        Ok(judged) => Some(judged.verdict),
+        Err(_) => None,
     }
 }
 

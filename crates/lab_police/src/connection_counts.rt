@@ -5,7 +5,7 @@ ghost use Rattle.card_core.specs.Agreement.{CoreAgrees};
 ghost use Rattle.card_core.specs.World.{World};
 ghost use Rattle.lab_police.specs.PoliceLines.{in_column};
 ghost use Rattle.lab_police.specs.ConnectionCounts.{connection_counts, counts_heading, counts_line, counts_lines};
-ghost use Rattle.lab_police.specs.inner.OrderNumber.{order_number};
+ghost use Rattle.lab_police.specs.OrderNumber.{order_number};
 
 use crate::cell_lines::add_number_column;
 use card_core::Core;
@@ -45,7 +45,11 @@ fn add_last_count(answers: &mut Vec<u8>, count: u64) -> Result<(), AllocError>
 }
 
 /// Appends the line of a connection.
-fn add_counts_line(answers: &mut Vec<u8>, vc: Vc, counts: Tally) -> Result<(), AllocError>
+pub(crate) fn add_counts_line(
+    answers: &mut Vec<u8>,
+    vc: Vc,
+    counts: Tally,
+) -> Result<(), AllocError>
     ensures { OnOk result (answers.new.items ≡ answers.old.items ++ counts_line vc counts) }
 {
     add_first_counts(answers, vc, counts)?;
@@ -63,7 +67,7 @@ fn add_counts_of(answers: &mut Vec<u8>, core: &Core, vc: Vc) -> Result<(), Alloc
 }
 
 /// Returns the number of a connection in the order of path and channel.
-fn order_number(vc: Vc) -> u64
+pub(crate) fn order_number(vc: Vc) -> u64
     ensures number { result ≡ order_number vc }
     ensures bounded { result < 2 ^ 28 }
     ensures channel { vc.vci < 65536 }

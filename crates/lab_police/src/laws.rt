@@ -1,14 +1,25 @@
 //! Laws of the definitions that this crate's contracts cite. Each function does nothing; its contract is the law.
 
 ghost use Rattle.lab_police.specs.PoliceLaws.{PolicesEachCapture};
+ghost use Rattle.lab_police.specs.SpanLaws.{RowsCountCells, SpansAddUp};
 ghost use Rattle.lab_police.specs.SetupLaws.{LoadCommandsLoad, PolicesEachSetup, ProgramsKeepLines, ScriptsWithoutRulesStay};
 
-/// A setup script and a capture have a text, for each choice of lines, tick and link.
+/// A setup script and a capture have a text, for each scope and tick.
 pub fn each_capture_has_a_text()
     ensures { PolicesEachCapture }
 {}
 
-/// A setup script, the texts of its files of rules and a capture have a text, for each choice of lines, tick and link.
+/// The rows of a span have the counts of each connection's cells in it.
+pub fn rows_count_cells()
+    ensures { RowsCountCells }
+{}
+
+/// The counts of a connection in all spans of a run are what the run adds to the counts of its line.
+pub fn spans_add_up()
+    ensures { SpansAddUp }
+{}
+
+/// A setup script, the texts of its files of rules and a capture have a text, for each scope and tick.
 pub fn each_setup_has_a_text()
     ensures { PolicesEachSetup }
 {}

@@ -1,6 +1,6 @@
 //! The cells of a capture, policed.
 
-ghost use Rattle.std.specs.Prelude.{◌≡◌, ◌≢◌, ◌≤◌, ◌++◌, List, ℕ, Err, IfOk, OnErr, OnOk, option_map};
+ghost use Rattle.std.specs.Prelude.{◌≡◌, ◌≢◌, ◌≤◌, ◌++◌, ◌||◌, List, ℕ, Err, IfOk, OnErr, OnOk, option_map};
 ghost use Rattle.card_core.specs.Sections.{answer_to};
 ghost use Rattle.card_core.specs.Agreement.{CoreAgrees};
 ghost use Rattle.card_core.specs.World.{Connection, World};
@@ -12,14 +12,19 @@ ghost use Rattle.lab_police.specs.PoliceLines.{excess_of_answer};
 ghost use Rattle.lab_police.specs.PoliceText.{IsPoliceText, police_gap};
 ghost use Rattle.lab_police.specs.inner.CardArrival.{ArrivesWithRoom};
 ghost use Rattle.lab_police.specs.inner.ExcessLeft.{IsKeptOnLine, LeavesConnection, excess_left, first_met};
+ghost use Rattle.lab_police.specs.SpanCounts.{spans_start, ticks_of_span};
 ghost use Rattle.lab_police.specs.inner.PoliceShown.{AddsCell};
+ghost use Rattle.lab_police.specs.inner.SpansShown.{ShowsSpans, own_begun_after};
 
 use crate::cell_lines::{add_line, has_line};
 use crate::connection_counts::add_counts;
 use crate::not_judged::{NotJudged, add_not_judged};
 use crate::run_comments::add_run_comments;
+use crate::scope::PoliceScope;
 use crate::setting_up::{SetUp, set_up};
-use captures::{Fault, Link, Tick};
+use crate::span_length::SpanLength;
+use crate::spans::Spans;
+use captures::{Fault, Tick};
 use card_core::{Core, Judgement, Unjudged};
 use lab_captures::{CellFollower, CellLines, CountedCell, PassedOver, add_closing, follow_cells};
 use leaky::{Excess, Levels, Verdict, excess_at};
@@ -142,15 +147,20 @@ fn add_gap(answers: &mut Vec<u8>, begun: bool) -> Result<(), AllocError>
     Ok(())
 }
 
+/// Returns whether lines are written before the table.
+fn has_lines_before(begun: bool, spans: &Spans) -> bool
+    ensures { result ≡ (begun || own_begun_after spans.now) }
+{
+    begun || spans.is_begun_after()
+}
+
 /// What is chosen for a run of `police`.
 #[derive(Clone, Copy, Debug)]
 pub struct PoliceChoice {
     /// How many threads may work at once.
     pub threads: usize,
-    /// Which cells have lines.
-    pub lines: CellLines,
-    /// The link whose cells are read. Without one the cells of a capture may be of one link only.
-    pub link: Option<Link>,
+    /// Which cells are policed, and what is written about them.
+    pub scope: PoliceScope,
 }
 
 /// A run of `police`.
@@ -163,6 +173,7 @@ pub(crate) struct PoliceRun {
     core: Core,
     /// Whether the heading was written.
     begun: bool,
+    spans: Spans,
     not_judged: NotJudged,
 }
 
@@ -186,6 +197,7 @@ impl CellFollower for PoliceRun {
         let cell = &counted.cell;
         let moment = counted.moment;
         let vc = cell.vc_at(self.core.shape().side);
+        self.spans.go_on(moment, answers)?;
         let Some(decision) = arrive_with_room(&mut self.core, cell, moment) else {
             return Ok(Turn::GoesOn);
         };
@@ -200,6 +212,7 @@ impl CellFollower for PoliceRun {
             &decision,
             &self.core,
         )?;
+        self.spans.count(vc, &decision)?;
         self.not_judged.count(counted.number, &decision);
         Ok(Turn::GoesOn)
     }
@@ -210,7 +223,8 @@ impl CellFollower for PoliceRun {
         ending: Option<Fault>,
         answers: &mut Vec<u8>,
     ) -> Result<(), AllocError> {
-        add_gap(answers, self.begun)?;
+        self.spans.add_present(answers)?;
+        add_gap(answers, has_lines_before(self.begun, &self.spans))?;
         add_counts(answers, &self.core)?;
         add_not_judged(answers, &self.not_judged)?;
         add_run_comments(answers, self.tick, passed)?;
@@ -218,6 +232,17 @@ impl CellFollower for PoliceRun {
     }
 
     ghost is_total = { police-total };
+}
+
+/// Returns the spans of a run at first.
+fn spans_of(alloc: Global, scope: PoliceScope, tick: Tick) -> Spans
+    ensures { ShowsSpans result (spans_start (option_map (λ nanoseconds. ticks_of_span nanoseconds tick.nanoseconds) scope.every)) }
+{
+    let length = match scope.every {
+        Some(nanoseconds) => Some(SpanLength::new(nanoseconds, tick)),
+        None => None,
+    };
+    Spans::new(alloc, length)
 }
 
 /// Writes a text about faults in place of a policed capture.
@@ -237,12 +262,13 @@ pub fn write_faults<O: Output>(output: &mut O, mut text: Vec<u8>) -> Result<Done
 
 /// Polices the cells of a capture by a card that a setup script opens. A script with a fault is explained, and nothing is policed. Cells
 /// count, and have their moments, as in `upc-lab cells`. Long journals are dropped, so that any number of cells is judged.
-/// A table has the counts of each connection. docs/LAB.md has the format.
+/// A table has the counts of each connection. If spans are asked for, so have lines for each span of time, after the last of its cells.
+/// docs/LAB.md has the format.
 ///
 /// With more than one thread, records are read on one thread while the cells of earlier ones are judged on another, as in
 /// [`follow_cells`]. The output is the same.
 ///
-/// Memory is bounded: that of the card, and that of [`follow_cells`].
+/// Memory is bounded: that of the card, of the counts of each connection in one span, and that of [`follow_cells`].
 ///
 /// # Errors
 ///
@@ -257,17 +283,18 @@ pub fn police_capture<R: Threads, I: Input + Send, O: Output>(
     input: &mut I,
     output: &mut O,
 ) -> Result<Done, RunFault>
-    ensures { IsServed (IsPoliceText choice.lines tick.nanoseconds choice.link setup.now) I.Input input.old input.new O.Output output.old output.new result }
+    ensures { IsServed (IsPoliceText choice.scope tick.nanoseconds setup.now) I.Input input.old input.new O.Output output.old output.new result }
 {
     match set_up(alloc, setup) {
         Err(_) => Err(RunFault::NoMemory),
         Ok(SetUp::Faulty(text)) => write_faults(output, text),
         Ok(SetUp::Ready(core)) => {
             let mut run = PoliceRun {
-                lines: choice.lines,
+                lines: choice.scope.lines,
                 tick,
                 core,
                 begun: false,
+                spans: spans_of(alloc, choice.scope, tick),
                 not_judged: NotJudged::none(),
             };
             follow_cells(
@@ -275,7 +302,7 @@ pub fn police_capture<R: Threads, I: Input + Send, O: Output>(
                 choice.threads,
                 alloc,
                 tick,
-                choice.link,
+                choice.scope.link,
                 input,
                 output,
                 &mut run,

@@ -1,11 +1,11 @@
 //! The card of a setup script, for programs that ask it cell by cell.
 
-ghost use Rattle.std.specs.Prelude.{◌≡◌, ◌++◌, List, ℕ, IfOk, OnOk};
-ghost use Rattle.card_core.specs.Sections.{answer_to};
+ghost use Rattle.std.specs.Prelude.{◌≡◌, ◌++◌, IfOk, OnOk};
 ghost use Rattle.upc_run.specs.RunText.{IsLed};
-ghost use Rattle.lab_police.specs.PolicedCards.{OpensPolicedCard, OpensSetup, PolicedWorld, PolicesOneCell, ShowsPoliced, policed_report, verdict_given};
+ghost use Rattle.lab_police.specs.PolicedCards.{OpensPolicedCard, OpensSetup, PolicedWorld, PolicesOneCell, ShowsPoliced, policed_report};
 ghost use Rattle.lab_police.specs.RulesFiles.{octets_of_texts};
 
+use crate::cell_lines::verdict_in;
 use crate::connection_counts::add_counts;
 use crate::expanding::{Expanded, expand_setup};
 use crate::not_judged::{NotJudged, add_not_judged};
@@ -14,7 +14,7 @@ use crate::run_comments::add_run_comments;
 use crate::setting_up::{SetUp, set_up};
 use crate::shared_text::SharedText;
 use captures::{Fault, Tick};
-use card_core::{Core, Judgement, Unjudged};
+use card_core::Core;
 use lab_captures::{CountedCell, PassedOver, add_closing};
 use leaky::Verdict;
 use std::alloc::{AllocError, Global};
@@ -35,16 +35,6 @@ pub enum OpenedCard {
     Faulty(Vec<u8>),
     /// A card.
     Ready(PolicedCard),
-}
-
-/// Returns the verdict in an answer, if the cell was judged.
-fn verdict_in(decision: &Result<Judgement, Unjudged>) -> Option<Verdict>
-    ensures { (cell : List ℕ) → result ≡ verdict_given (answer_to cell decision.now) }
-{
-    match decision {
-        Ok(judged) => Some(judged.verdict),
-        Err(_) => None,
-    }
 }
 
 impl PolicedCard {

@@ -37,10 +37,10 @@ pub fn police_setup<R: Threads, I: Input + Send, O: Output>(
     input: &mut I,
     output: &mut O,
 ) -> Result<Done, RunFault>
-    ensures served { IsServed (MayBeSetupPoliced choice.lines tick.nanoseconds choice.link setup.now (octets_of_texts texts.now))
+    ensures served { IsServed (MayBeSetupPoliced choice.scope tick.nanoseconds setup.now (octets_of_texts texts.now))
         I.Input input.old input.new O.Output output.old output.new result }
     ensures policed { I.is_known → O.is_known → IfOk result (λ done.
-        Adds (λ text. IsSetupPoliced choice.lines tick.nanoseconds choice.link setup.now (octets_of_texts texts.now) (I.rest input.old) text done)
+        Adds (λ text. IsSetupPoliced choice.scope tick.nanoseconds setup.now (octets_of_texts texts.now) (I.rest input.old) text done)
         (O.held output.old) (O.held output.new)) }
 {
     match expand_setup(alloc, setup, texts) {
@@ -71,11 +71,11 @@ pub fn police_as_agreed<R: Threads, I: Input + Send, O: Output>(
     input: &mut I,
     output: &mut O,
 ) -> Result<Done, RunFault>
-    ensures served { IsServed (MayBePolicedAsAgreed choice.lines (option_map (λ tick. tick.nanoseconds) named) (option_map (λ tick. tick.nanoseconds) asked)
-        choice.link setup.now (octets_of_texts texts.now)) I.Input input.old input.new O.Output output.old output.new result }
+    ensures served { IsServed (MayBePolicedAsAgreed choice.scope (option_map (λ tick. tick.nanoseconds) named) (option_map (λ tick. tick.nanoseconds) asked)
+        setup.now (octets_of_texts texts.now)) I.Input input.old input.new O.Output output.old output.new result }
     ensures policed { I.is_known → O.is_known → IfOk result (λ done.
-        Adds (λ text. IsPolicedAsAgreed choice.lines (option_map (λ tick. tick.nanoseconds) named) (option_map (λ tick. tick.nanoseconds) asked)
-        choice.link setup.now (octets_of_texts texts.now) (I.rest input.old) text done)
+        Adds (λ text. IsPolicedAsAgreed choice.scope (option_map (λ tick. tick.nanoseconds) named) (option_map (λ tick. tick.nanoseconds) asked)
+        setup.now (octets_of_texts texts.now) (I.rest input.old) text done)
         (O.held output.old) (O.held output.new)) }
 {
     match agreed_tick(named, asked) {

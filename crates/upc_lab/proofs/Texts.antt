@@ -12,7 +12,7 @@ use Rattle.lab_programs.proofs.Public.{some-list_text, some-trace_text}
 use Rattle.lab_rules.proofs.Public.{some-asm_text, some-rules_text, some-why_text}
 use Rattle.lab_police.proofs.Public.{some_agreed_text}
 use Rattle.lab_sizes.proofs.Public.{some-sizes_text}
-use Rattle.upc_lab.specs.LabText.{IsAskedText, IsLabText, kinds_asked, others_asked}
+use Rattle.upc_lab.specs.LabText.{IsAskedText, IsLabText, kinds_asked, others_asked, scope_asked}
 use Rattle.upc_lab.specs.declared.choice.Asked.{Asked}
 use Rattle.upc_lab.specs.declared.choice.Asked.TheVariants.{Plain, Why, Cells, Fit, Police, Differ, Forward}
 use Rattle.upc_lab.specs.declared.choice.Subcommand.{Subcommand}
@@ -34,7 +34,7 @@ some-asked_text (Plain subcommand) setup tick rules old octets = some-lab_text s
 some-asked_text (Why options) setup tick rules old octets = some-why_text options.count octets
 some-asked_text (Cells options) setup tick rules old octets = some_cells_text options.tick.nanoseconds options.link octets
 some-asked_text (Police options) setup tick rules old octets =
-    some_agreed_text options.lines tick (option_map (λ it. it.nanoseconds) options.tick) options.link setup rules octets
+    some_agreed_text (scope_asked options) tick (option_map (λ it. it.nanoseconds) options.tick) setup rules octets
 some-asked_text (Fit options) setup tick rules old octets =
     some_capture_text fit_rules (fixed_total fit_steps fit_closes) (filter_start options.tick.nanoseconds options.link)
     (fit_start options.increment options.side options.clp) octets tt

@@ -19,7 +19,9 @@ use Rattle.lab_programs.specs.Trace.{IsTraceText}
 use Rattle.lab_rules.specs.AsmText.{MayBeAsmText}
 use Rattle.lab_rules.specs.RulesText.{MayBeRulesText}
 use Rattle.lab_rules.specs.WhyText.{MayBeWhyText}
+use Rattle.lab_options.specs.declared.police.PoliceOptions.{PoliceOptions}
 use Rattle.lab_police.specs.SetupText.{MayBePolicedAsAgreed}
+use Rattle.lab_police.specs.declared.scope.PoliceScope.{PoliceScope}
 use Rattle.lab_sizes.specs.SizeText.{IsSizesText}
 use Rattle.text_io.specs.declared.ending.Done.{Done}
 use Rattle.upc_lab.specs.declared.choice.Asked.{Asked}
@@ -42,6 +44,10 @@ IsLabText lab.Links = IsLinksText
 abbrev pub others_asked : Bool → Others
 others_asked others = if others then Pass else Drop
 
+-- The scope that options of `police` ask for.
+abbrev pub scope_asked : PoliceOptions → PoliceScope
+scope_asked options = record { link = options.link; lines = options.lines; every = options.every }
+
 -- What the texts are of which these are programs.
 abbrev pub kinds_asked : Programs → TextKinds
 kinds_asked which.Neither = record { old = Rules; new = Rules }
@@ -55,7 +61,7 @@ abbrev pub IsAskedText : List ℕ → Option ℕ → List (List ℕ) → List �
 IsAskedText setup tick rules old (Plain subcommand) = IsLabText subcommand
 IsAskedText setup tick rules old (Why options) = MayBeWhyText options.count
 IsAskedText setup tick rules old (Cells options) = IsCellsText options.tick.nanoseconds options.link
-IsAskedText setup tick rules old (Police options) = MayBePolicedAsAgreed options.lines tick (option_map (λ asked. asked.nanoseconds) options.tick) options.link setup rules
+IsAskedText setup tick rules old (Police options) = MayBePolicedAsAgreed (scope_asked options) tick (option_map (λ asked. asked.nanoseconds) options.tick) setup rules
 IsAskedText setup tick rules old (Fit options) = IsFitText options.increment options.tick.nanoseconds options.link options.side options.clp
 IsAskedText setup tick rules old (Forward options) = HasReportedText (MayBeForwardedAsAgreed (others_asked options.others) tick
     (option_map (λ asked. asked.nanoseconds) options.tick) options.link setup rules)

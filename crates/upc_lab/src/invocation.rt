@@ -14,7 +14,7 @@ ghost use Rattle.text_io.specs.declared.ending.RunFault.{RunFault as Failed};
 ghost use Rattle.upc_lab.specs.Comparison.{CarriesFinding, finding_status};
 ghost use Rattle.upc_lab.specs.ForwardRun.{CarriesForward};
 ghost use Rattle.upc_lab.specs.LabMessages.{lab_failure_line, shell_status_of};
-ghost use Rattle.upc_lab.specs.LabText.{IsAskedText, IsLabText, kinds_asked, others_asked};
+ghost use Rattle.upc_lab.specs.LabText.{IsAskedText, IsLabText, kinds_asked, others_asked, scope_asked};
 ghost use Rattle.upc_lab.specs.SetupFile.{CarriesAllOut, CarriesOther, CarriesPlain, CarriesWith, ForwardsAsked, IsStatusIn, MayForwardAsked, asks_unused, differ_in, forward_in, rules_in_files, tick_in_files};
 
 use crate::choice::{Asked, Subcommand};
@@ -26,8 +26,8 @@ use lab_differ::{Finding, TextKind, TextKinds, compare_texts, ended_by, unused_i
 use lab_faults::{Ahead, explain_faults};
 use lab_fit::{fit_capture, links_of_capture};
 use lab_forward::{Others, forward_as_agreed};
-use lab_options::{DifferOptions, ForwardOptions, Programs};
-use lab_police::{PoliceChoice, police_as_agreed};
+use lab_options::{DifferOptions, ForwardOptions, PoliceOptions, Programs};
+use lab_police::{PoliceChoice, PoliceScope, police_as_agreed};
 use lab_programs::{list_program, trace_cells};
 use lab_rules::{assemble_rules, compile_rules, decide_cells};
 use lab_sizes::size_contracts;
@@ -111,6 +111,17 @@ fn others_asked(others: bool) -> Others
     if others { Others::Pass } else { Others::Drop }
 }
 
+/// Returns the scope that options of `police` ask for.
+fn scope_asked(options: &PoliceOptions) -> PoliceScope
+    ensures { result ≡ scope_asked options.now }
+{
+    PoliceScope {
+        link: options.link,
+        lines: options.lines,
+        every: options.every,
+    }
+}
+
 /// Returns what the texts are of which these are programs.
 fn kinds_asked(programs: Programs) -> TextKinds
     ensures { result ≡ kinds_asked programs }
@@ -166,8 +177,7 @@ fn run<R: Threads, I: Ahead + Send, O: Output>(
             files.rules.as_slice(),
             PoliceChoice {
                 threads: usize::from(options.threads),
-                lines: options.lines,
-                link: options.link,
+                scope: scope_asked(options),
             },
             files.tick,
             options.tick,

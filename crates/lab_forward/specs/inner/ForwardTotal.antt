@@ -1,7 +1,8 @@
 -- The rules of `forward` are total: each cell has an answer. This law is in `specs/` because the judge cites it.
 use Rattle.std.proofs.Common.{refl}
 use Rattle.lab_police.specs.NotJudgedCells.{not_judged_after}
-use Rattle.lab_police.specs.PolicedCards.{PolicedWorld, verdict_given}
+use Rattle.lab_police.specs.PoliceLines.{verdict_given}
+use Rattle.lab_police.specs.PolicedCards.{PolicedWorld}
 use Rattle.lab_police.specs.inner.PoliceTotal.{room_led, room_some}
 use Rattle.lab_forward.specs.ForwardText.{forward_rules, onward_by}
 use Rattle.lab_forward.specs.JudgeRules.{JudgesEachCell}

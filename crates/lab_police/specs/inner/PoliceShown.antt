@@ -10,6 +10,7 @@ use Rattle.lab_police.specs.PoliceLines.{excess_of_answer, has_line, police_line
 use Rattle.lab_police.specs.PoliceText.{PoliceWorld}
 use Rattle.lab_police.specs.declared.police.PoliceRun.{PoliceRun}
 use Rattle.lab_police.specs.inner.ExcessLeft.{LeavesConnection}
+use Rattle.lab_police.specs.inner.SpansShown.{ShowsSpans}
 
 -- The run has what the state has.
 pub record ShowsPolice (run : PoliceRun) (world : PoliceWorld) : Type 0 where
@@ -17,6 +18,7 @@ pub record ShowsPolice (run : PoliceRun) (world : PoliceWorld) : Type 0 where
   pub tick : run.tick.nanoseconds ≡ world.tick
   pub agrees : CoreAgrees run.core world.card.world
   pub begun : run.begun ≡ world.begun
+  pub spans : ShowsSpans run.spans world.spans
   pub not_judged : run.not_judged ≡ world.not_judged
 
 -- The text for a cell with this answer and this excess.

@@ -1,11 +1,12 @@
 -- The rules of `police` are total: each cell has an answer. This law is in `specs/` because the run cites it.
-use Rattle.std.proofs.Common.{◌≡◌, ◌⊎◌, inl, inr, ℕ, List, Some, refl, subst, sym}
+use Rattle.std.proofs.Common.{◌≡◌, ◌⊎◌, inl, inr, ℕ, List, ◌++◌, Some, refl, subst, sym}
 use Rattle.std.proofs.lemmas.Option.{same_Some}
 use Rattle.card_core.specs.declared.answer.Answer.{Answer}
 use Rattle.lab_captures.specs.CellRules.{AnswersEachCell}
 use Rattle.upc_run.specs.RunText.{Card, IsLed}
 use Rattle.upc_run.specs.inner.RunLaws.{arrived-led, cell-some, cut-led, cut-some}
 use Rattle.upc_cell.specs.declared.vc.Vc.{Vc}
+use Rattle.lab_police.specs.SpanCounts.{ended_text}
 use Rattle.lab_police.specs.PoliceText.{MayBeCut, PoliceWorld, TakesCell, TakesCellWithRoom, after_cell, policed_text, connection_of_cell, police_rules}
 
 -- A cell that arrives leads to a card that a log leads to.
@@ -42,12 +43,12 @@ room_some before cell moment led =
 pub police-total : AnswersEachCell police_rules
 police-total = record {
   keeps = λ before counted text after led polices.
-      subst (λ (world : PoliceWorld). IsLed world.card) (sym (same_Some after (after_cell before counted.number polices.given polices.card) polices.after))
+      subst (λ (world : PoliceWorld). IsLed world.card) (sym (same_Some after (after_cell before counted polices.given polices.card) polices.after))
       (room_led before.card polices.card counted.cell counted.moment polices.given led polices.taken);
   step = λ before counted led.
       let room = room_some before.card counted.cell counted.moment led in (
-        policed_text before counted room.0,
-        Some (after_cell before counted.number room.0 room.1),
+        ended_text before.spans counted.moment ++ policed_text before counted room.0,
+        Some (after_cell before counted room.0 room.1),
         record { given = room.0; card = room.1; taken = room.2; written = refl; after = refl },
       );
 }

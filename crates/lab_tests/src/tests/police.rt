@@ -3,7 +3,7 @@
 use super::link::record_of;
 use captures::Tick;
 use lab_captures::CellLines;
-use lab_police::{PoliceChoice, police_capture};
+use lab_police::{PoliceChoice, PoliceScope, police_capture};
 use std::alloc::{AllocError, Global};
 use std::test::Fail;
 use std::thread::Threads;
@@ -32,8 +32,11 @@ fn policed(
         setup,
         PoliceChoice {
             threads,
-            lines,
-            link: None,
+            scope: PoliceScope {
+                link: None,
+                lines,
+                every: None,
+            },
         },
         tick,
         &mut source,

@@ -3,7 +3,7 @@
 use super::link::record_of;
 use captures::Tick;
 use lab_captures::CellLines;
-use lab_police::{PoliceChoice, SharedText, files_read, police_setup};
+use lab_police::{PoliceChoice, PoliceScope, SharedText, files_read, police_setup};
 use std::alloc::{AllocError, Global};
 use std::test::Fail;
 use std::thread::Threads;
@@ -58,8 +58,11 @@ fn policed(
         texts,
         PoliceChoice {
             threads: 1,
-            lines: CellLines::All,
-            link: None,
+            scope: PoliceScope {
+                link: None,
+                lines: CellLines::All,
+                every: None,
+            },
         },
         tick,
         &mut source,

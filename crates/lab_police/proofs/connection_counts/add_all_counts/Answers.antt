@@ -4,7 +4,7 @@ use Rattle.std.specs.Option.{MatchOption}
 use Rattle.card_core.specs.ConnectionState.{IsLastVc, IsNextVc}
 use Rattle.upc_cell.specs.declared.vc.Vc.{Vc}
 use Rattle.lab_police.specs.ConnectionCounts.{counts_below, connection_counts}
-use Rattle.lab_police.specs.inner.OrderNumber.{order_number}
+use Rattle.lab_police.specs.OrderNumber.{order_number}
 use Rattle.lab_police.proofs.CountsLemmas.{last_line, next_is_after, next_line, no_numbers, number_after}
 use Rattle.lab_police.proofs.connection_counts.add_all_counts.Goals as goal
 

@@ -17,9 +17,9 @@ pub returns-in-Err : goal.returns-in-Err
 returns-in-Err g c = record {
   text = λ ki ko. tt;
   front = λ ki ko.
-      nothing-begins (IsPoliceText c.args.choice.lines c.args.tick.nanoseconds c.args.choice.link c.args.setup.now (g.I.Input.rest c.args.input.now))
+      nothing-begins (IsPoliceText c.args.choice.scope c.args.tick.nanoseconds c.args.setup.now (g.I.Input.rest c.args.input.now))
       (g.O.Output.held c.args.output.now)
-      (some_police_text c.args.choice.lines c.args.tick.nanoseconds c.args.choice.link c.args.setup.now (g.I.Input.rest c.args.input.now));
+      (some_police_text c.args.choice.scope c.args.tick.nanoseconds c.args.setup.now (g.I.Input.rest c.args.input.now));
   left = λ ki. tt;
   whole = λ ki same. cc;
   reading = refl;
@@ -30,7 +30,7 @@ pub returns-in-Ok-Faulty : goal.returns-in-Ok-Faulty
 returns-in-Ok-Faulty g c =
     let all = g.I.Input.rest c.args.input.now in
     let line = c.in-Ok-Faulty.text.items in
-    let IsText = IsPoliceText c.args.choice.lines c.args.tick.nanoseconds c.args.choice.link c.args.setup.now in
+    let IsText = IsPoliceText c.args.choice.scope c.args.tick.nanoseconds c.args.setup.now in
     let printed : (octets : List ℕ) → IsText octets line Ended = λ octets.
     inl (subst (λ (s : SetUp). LeadsScriptTo c.args.setup.now s) c.in-Ok-Faulty.field-0-is c.in-Ok-Faulty.ensures, refl) in
     record {
@@ -49,8 +49,8 @@ pub returns-in-Ok-Ready : goal.returns-in-Ok-Ready
 returns-in-Ok-Ready g c =
     let set : IsSetUpAs c.args.setup.now c.in-Ok-Ready.core =
     subst (λ (s : SetUp). LeadsScriptTo c.args.setup.now s) c.in-Ok-Ready.field-0-is c.in-Ok-Ready.ensures in
-    let first = police_start c.args.choice.lines c.args.tick.nanoseconds set.card in
+    let first = police_start c.args.choice.scope c.args.tick.nanoseconds set.card in
     served_as g.I.Input g.O.Output c.args.input.now c.follow_cells.new.input c.args.output.now c.follow_cells.new.output c.follow_cells.result
-    (IsCaptureText police_rules (filter_start c.args.tick.nanoseconds c.args.choice.link) first) (IsPoliceText c.args.choice.lines c.args.tick.nanoseconds c.args.choice.link c.args.setup.now)
+    (IsCaptureText police_rules (filter_start c.args.tick.nanoseconds c.args.choice.scope.link) first) (IsPoliceText c.args.choice.scope c.args.tick.nanoseconds c.args.setup.now)
     (λ octets text done printed. inr (set.card, set.reached, printed))
-    (c.follow_cells.ensures first set.led (record { lines = refl; tick = refl; agrees = set.agrees; begun = refl; not_judged = c.none.ensures }))
+    (c.follow_cells.ensures first set.led (record { lines = refl; tick = refl; agrees = set.agrees; begun = refl; spans = c.spans_of.ensures; not_judged = c.none.ensures }))

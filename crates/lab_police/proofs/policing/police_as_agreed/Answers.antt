@@ -20,14 +20,14 @@ nanoseconds_of tick = option_map (λ (tick : Tick). tick.nanoseconds) tick
 pub returns-in-Ok-clause-served : goal.returns-in-Ok-clause-served
 returns-in-Ok-clause-served g c =
     subst (λ (agreed : Result ℕ (ℕ × ℕ)). IsServed
-    (AsAgreed (λ tick. MayBeSetupPoliced c.args.choice.lines tick c.args.choice.link c.args.setup.now (octets_of_texts c.args.texts.now)) agreed)
+    (AsAgreed (λ tick. MayBeSetupPoliced c.args.choice.scope tick c.args.setup.now (octets_of_texts c.args.texts.now)) agreed)
     g.I.Input c.args.input.now c.police_setup.new.input g.O.Output c.args.output.now c.police_setup.new.output c.police_setup.result)
     c.in-Ok.ensures c.police_setup.ensures.served
 
 pub returns-in-Ok-clause-policed : goal.returns-in-Ok-clause-policed
 returns-in-Ok-clause-policed g c ki ko =
     let Text : Result ℕ (ℕ × ℕ) → List ℕ → List ℕ → Done → Type 0 =
-    AsAgreed (λ tick. IsSetupPoliced c.args.choice.lines tick c.args.choice.link c.args.setup.now (octets_of_texts c.args.texts.now)) in
+    AsAgreed (λ tick. IsSetupPoliced c.args.choice.scope tick c.args.setup.now (octets_of_texts c.args.texts.now)) in
     IfOk-weaker c.police_setup.result _ _
     (λ done adds. (adds.0, adds.1, subst (λ (agreed : Result ℕ (ℕ × ℕ)). Text agreed (g.I.Input.rest c.args.input.now) adds.0 done) c.in-Ok.ensures adds.2))
     (c.police_setup.ensures.policed ki ko)
@@ -40,9 +40,9 @@ returns-in-Err-add_ticks_differ-clause-served g c =
     record {
       text = λ ki ko. tt;
       front = λ ki ko.
-          nothing-begins (MayBePolicedAsAgreed c.args.choice.lines named asked c.args.choice.link c.args.setup.now texts (g.I.Input.rest c.args.input.now))
+          nothing-begins (MayBePolicedAsAgreed c.args.choice.scope named asked c.args.setup.now texts (g.I.Input.rest c.args.input.now))
           (g.O.Output.held c.args.output.now)
-          (polices_as_agreed c.args.choice.lines named asked c.args.choice.link c.args.setup.now texts (g.I.Input.rest c.args.input.now));
+          (polices_as_agreed c.args.choice.scope named asked c.args.setup.now texts (g.I.Input.rest c.args.input.now));
       left = λ ki. tt;
       whole = λ ki same. cc;
       reading = refl;

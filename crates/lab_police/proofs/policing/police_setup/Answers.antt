@@ -22,9 +22,9 @@ returns-in-Err-clause-served g c =
     record {
       text = λ ki ko. tt;
       front = λ ki ko.
-          nothing-begins (MayBeSetupPoliced c.args.choice.lines c.args.tick.nanoseconds c.args.choice.link c.args.setup.now texts (g.I.Input.rest c.args.input.now))
+          nothing-begins (MayBeSetupPoliced c.args.choice.scope c.args.tick.nanoseconds c.args.setup.now texts (g.I.Input.rest c.args.input.now))
           (g.O.Output.held c.args.output.now)
-          (polices_each c.args.choice.lines c.args.tick.nanoseconds c.args.choice.link c.args.setup.now texts (g.I.Input.rest c.args.input.now));
+          (polices_each c.args.choice.scope c.args.tick.nanoseconds c.args.setup.now texts (g.I.Input.rest c.args.input.now));
       left = λ ki. tt;
       whole = λ ki same. cc;
       reading = refl;
@@ -36,11 +36,11 @@ returns-in-Ok-Faulty-clause-served g c =
     let all = g.I.Input.rest c.args.input.now in
     let line = c.in-Ok-Faulty.text.items in
     let texts = octets_of_texts c.args.texts.now in
-    let IsText = MayBeSetupPoliced c.args.choice.lines c.args.tick.nanoseconds c.args.choice.link c.args.setup.now texts in
+    let IsText = MayBeSetupPoliced c.args.choice.scope c.args.tick.nanoseconds c.args.setup.now texts in
     let faulty : HasFaultyRules IsFaultOfRules c.args.setup.now texts line =
     subst (λ (e : Expanded). ExpandsTo c.args.setup.now texts e) c.in-Ok-Faulty.field-0-is c.in-Ok-Faulty.ensures in
     let printed : (octets : List ℕ) → IsText octets line Ended = λ octets.
-    may_be_policed c.args.choice.lines c.args.tick.nanoseconds c.args.choice.link c.args.setup.now texts octets line Ended (inl (faulty, refl)) in
+    may_be_policed c.args.choice.scope c.args.tick.nanoseconds c.args.setup.now texts octets line Ended (inl (faulty, refl)) in
     record {
       text = λ ki ko.
           if_given c.write_faults.result Ended _ _ c.write_faults.ensures.done (c.write_faults.ensures.given ko) (λ gives. (line, gives, printed all));
@@ -68,8 +68,8 @@ returns-in-Ok-Itself-clause-served g c =
     let made : HasPrograms c.args.setup.now texts c.args.setup.now =
     subst (λ (e : Expanded). ExpandsTo c.args.setup.now texts e) c.in-Ok-Itself.field-0-is c.in-Ok-Itself.ensures in
     served_as g.I.Input g.O.Output c.args.input.now c.police_capture.new.input c.args.output.now c.police_capture.new.output c.police_capture.result
-    (IsPoliceText c.args.choice.lines c.args.tick.nanoseconds c.args.choice.link c.args.setup.now)
-    (MayBeSetupPoliced c.args.choice.lines c.args.tick.nanoseconds c.args.choice.link c.args.setup.now texts)
+    (IsPoliceText c.args.choice.scope c.args.tick.nanoseconds c.args.setup.now)
+    (MayBeSetupPoliced c.args.choice.scope c.args.tick.nanoseconds c.args.setup.now texts)
     (λ octets text done printed. inr (c.args.setup.now, made, printed)) c.police_capture.ensures
 
 pub returns-in-Ok-Itself-clause-policed : goal.returns-in-Ok-Itself-clause-policed
@@ -87,7 +87,7 @@ returns-in-Ok-Replaced-clause-served g c =
     subst (λ (e : Expanded). ExpandsTo c.args.setup.now texts e) c.in-Ok-Replaced.field-0-is c.in-Ok-Replaced.ensures in
     served_as g.I.Input g.O.Output c.args.input.now c.police_capture-in-Ok-Replaced.new.input c.args.output.now c.police_capture-in-Ok-Replaced.new.output
     c.police_capture-in-Ok-Replaced.result
-    (IsPoliceText c.args.choice.lines c.args.tick.nanoseconds c.args.choice.link c.deref.result.now)
-    (MayBeSetupPoliced c.args.choice.lines c.args.tick.nanoseconds c.args.choice.link c.args.setup.now texts)
+    (IsPoliceText c.args.choice.scope c.args.tick.nanoseconds c.deref.result.now)
+    (MayBeSetupPoliced c.args.choice.scope c.args.tick.nanoseconds c.args.setup.now texts)
     (λ octets text done printed. inr (c.deref.result.now, subst (HasPrograms c.args.setup.now texts) (sym c.deref.ensures.value) made, printed))
     c.police_capture-in-Ok-Replaced.ensures

@@ -1,10 +1,13 @@
+use Rattle.std.proofs.Common.{◌++◌, ◌∙◌, ap}
 use Rattle.lab_captures.proofs.Public.{on_done}
+use Rattle.lab_police.specs.PoliceText.{police_gap}
 use Rattle.lab_police.proofs.PoliceLemmas.{closes_by}
 use Rattle.lab_police.proofs.police.PoliceRunCellFollower.close.Goals as goal
 
 pub returns : goal.returns
 returns c =
     on_done c.add_closing.result _ _ c.add_closing.ensures
-    (λ grew world led shown. closes_by c.args.self.now world c.args.passed.now c.args.ending c.args.answers.now.items c.add_gap.new.answers.items
+    (λ grew world led shown. closes_by c.args.self.now world c.args.passed.now c.args.ending c.args.answers.now.items c.add_present.new.answers.items c.add_gap.new.answers.items
     c.add_counts.new.answers.items c.add_not_judged.new.answers.items c.add_run_comments.new.answers.items c.add_closing.new.answers.items shown
-    c.in_ok-add_gap.ensures (c.in_ok-add_counts.ensures world.card.world shown.agrees) c.in_ok-add_not_judged.ensures c.in_ok-add_run_comments.ensures grew)
+    c.in_ok-add_present.ensures
+    (c.in_ok-add_gap.ensures ∙ ap (λ b. c.add_present.new.answers.items ++ police_gap b) c.has_lines_before.ensures) (c.in_ok-add_counts.ensures world.card.world shown.agrees) c.in_ok-add_not_judged.ensures c.in_ok-add_run_comments.ensures grew)

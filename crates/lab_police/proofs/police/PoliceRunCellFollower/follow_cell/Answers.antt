@@ -14,7 +14,8 @@ returns-in_default c =
     let counted = c.args.counted.now in
     let run = c.args.self.now in
     let core = c.arrive_with_room.new.core in
-    polices_never run (record run { core = core }) core counted c.args.answers.now.items
+    polices_never run (record run { core = core; spans = c.go_on.new.self }) core counted c.go_on.new.self c.args.answers.now.items c.go_on.new.answers.items
+    (record { added = c.in_ok-go_on.ensures.text; spans = c.in_ok-go_on.ensures.spans })
     (subst (λ (o : Option (Result Judgement Unjudged)). ArrivesWithRoom run.core counted.cell counted.moment (option_map (λ decision. answer_to counted.cell decision) o) core)
     c.in_default.is c.arrive_with_room.ensures)
 
@@ -25,11 +26,13 @@ returns c =
     let run = c.args.self.now in
     let core = c.arrive_with_room.new.core in
     let given = answer_to cell c.in-Some.decision in
-    polices_by run core given c.vc_at-vc.result counted c.in_ok-self.field-0 c.count.new.self
-    c.args.answers.now.items c.add_cell.new.answers.items
+    polices_by run core given c.vc_at-vc.result counted c.in_ok-self.field-0 c.go_on.new.self c.count.new.self c.count-2.new.self
+    c.args.answers.now.items c.go_on.new.answers.items c.add_cell.new.answers.items
+    (record { added = c.in_ok-go_on.ensures.text; spans = c.in_ok-go_on.ensures.spans })
     (subst (λ (o : Option (Result Judgement Unjudged)). ArrivesWithRoom run.core cell counted.moment (option_map (λ decision. answer_to cell decision) o) core)
     c.in-Some.is c.arrive_with_room.ensures)
     (c.vc_at-vc.ensures.connection ∙ ap (λ (shape : Shape). vc_of shape.side cell) c.shape.ensures)
     (subst (λ (clp : Bool). AddsCell run.lines run.begun counted.number counted.moment c.vc_at-vc.result clp given core
-    c.args.answers.now.items c.add_cell.new.answers.items c.in_ok-self.field-0) c.clp.ensures.test (c.in_ok-self.ensures cell))
-    (c.count.ensures cell)
+    c.go_on.new.answers.items c.add_cell.new.answers.items c.in_ok-self.field-0) c.clp.ensures.test (c.in_ok-self.ensures cell))
+    (λ spans shown. c.in_ok-count.ensures spans cell shown)
+    (c.count-2.ensures cell)
