@@ -12,6 +12,7 @@ use Rattle.cell_rules.specs.declared.rules.RuleLine.{RuleLine}
 use Rattle.cell_rules.specs.declared.rules.RuleLine.TheVariants.{Rule, Block, End}
 use Rattle.cell_rules.specs.declared.rules.Rules.{Rules}
 use Rattle.cell_rules.specs.declared.test.Test.{Test}
+use Rattle.rules_text.specs.declared.place.RulePlace.{RulePlace}
 use Rattle.rules_text.specs.RulesRead.{LineRead, RulesRead, TestRead, line_read, rule_line, rules_read, test_read}
 use Rattle.rules_text.specs.TextOfRules.{NumberedRead}
 use Rattle.rules_text.specs.ValuesRead.{test_holds}
@@ -157,20 +158,20 @@ takers_same rules others same one other is also e =
     same_lists (λ n. n) one.takers.items other.takers.items (ascending_ids one.takers.items is.ascending) (ascending_ids other.takers.items also.ascending)
     (taker_moved rules others same one other is also e) (taker_moved others rules (sym same) other one also is (sym e))
 
-lines_same : (numbers : List ℕ) (rules others : Rules) → rules_read rules ≡ rules_read others → (unused named : List Unused) → All (IsUnused rules) unused → All (IsUnused others) named
+lines_same : (begins : List RulePlace) (rules others : Rules) → rules_read rules ≡ rules_read others → (unused named : List Unused) → All (IsUnused rules) unused → All (IsUnused others) named
     → map (λ (u : Unused). u.place) unused ≡ map (λ (u : Unused). u.place) named
-    → (unused_text numbers unused ≡ unused_text numbers named) × (unused_finding unused ≡ unused_finding named) × (unused_lines numbers unused ≡ unused_lines numbers named)
-lines_same numbers rules others same [] [] all also e = (refl, refl, refl)
-lines_same numbers rules others same [] (v ∷ more) all also e = absurd (cc)
-lines_same numbers rules others same (u ∷ more) [] all also e = absurd (cc)
-lines_same numbers rules others same (u ∷ more) (v ∷ rest) all also e =
+    → (unused_text begins unused ≡ unused_text begins named) × (unused_finding unused ≡ unused_finding named) × (unused_lines begins unused ≡ unused_lines begins named)
+lines_same begins rules others same [] [] all also e = (refl, refl, refl)
+lines_same begins rules others same [] (v ∷ more) all also e = absurd (cc)
+lines_same begins rules others same (u ∷ more) [] all also e = absurd (cc)
+lines_same begins rules others same (u ∷ more) (v ∷ rest) all also e =
     let first : u.place ≡ v.place = cc in
     let later : map (λ (w : Unused). w.place) more ≡ map (λ (w : Unused). w.place) rest = cc in
     let takers = takers_same rules others same u v (All-head (IsUnused rules) u more all) (All-head (IsUnused others) v rest also) first in
-    let after = lines_same numbers rules others same more rest (All-tail (IsUnused rules) u more all) (All-tail (IsUnused others) v rest also) later in
-    let line : unused_line numbers u.place u.takers.items ≡ unused_line numbers v.place v.takers.items =
-    ap (λ n. unused_line numbers n u.takers.items) first ∙ ap (λ (ts : List ℕ). unused_line numbers v.place ts) takers in
-    let whole = ap (λ t. t ++ unused_lines numbers more) line ∙ ap (λ t. unused_line numbers v.place v.takers.items ++ t) after.2 in
+    let after = lines_same begins rules others same more rest (All-tail (IsUnused rules) u more all) (All-tail (IsUnused others) v rest also) later in
+    let line : unused_line begins u.place u.takers.items ≡ unused_line begins v.place v.takers.items =
+    ap (λ n. unused_line begins n u.takers.items) first ∙ ap (λ (ts : List ℕ). unused_line begins v.place ts) takers in
+    let whole = ap (λ t. t ++ unused_lines begins more) line ∙ ap (λ t. unused_line begins v.place v.takers.items ++ t) after.2 in
     (whole, refl, whole)
 
 searched_same : (numbered : NumberedRead) (answer other : List ℕ) (finding also : Finding) → IsSearched numbered answer finding → IsSearched numbered other also → (answer ≡ other) × (finding ≡ also)
@@ -180,7 +181,7 @@ searched_same numbered answer other finding also one two =
     (ascending_places one.unused one.are_unused.ascending) (ascending_places two.unused two.are_unused.ascending)
     (place_moved one.rules two.rules same one.unused two.unused one.are_unused two.are_unused)
     (place_moved two.rules one.rules (sym same) two.unused one.unused two.are_unused one.are_unused) in
-    let all = lines_same numbered.numbers one.rules two.rules same one.unused two.unused one.are_unused.all two.are_unused.all places in
+    let all = lines_same numbered.begins one.rules two.rules same one.unused two.unused one.are_unused.all two.are_unused.all places in
     (one.prints ∙ (all.0 ∙ sym two.prints), one.finds ∙ (all.1 ∙ sym two.finds))
 
 search_same : (numbered : NumberedRead) (answer other : List ℕ) (finding also : Finding) → IsDecisive finding → IsDecisive also → PrintsSearch numbered answer finding

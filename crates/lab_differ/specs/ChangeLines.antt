@@ -1,10 +1,12 @@
 -- The lines of `upc-lab differ`: what decides a cell before the change and after it, which is a line of rules or a program, both values, and
 -- the cell.
-use Rattle.std.specs.Prelude.{ℕ, ◌==◌, ◌&&◌, ◌||◌, not, Bool, false, if◌then◌else◌, List, [], ◌∷◌, ◌++◌, codes, decimal, slice_index, Option, Some, None}
+use Rattle.std.specs.Prelude.{ℕ, ◌==◌, ◌&&◌, ◌||◌, not, Bool, true, false, if◌then◌else◌, List, [], ◌∷◌, ◌++◌, codes, decimal, Option, Some, None}
 use Rattle.hex.specs.Hex.{encode_lower}
 use Rattle.cell_diagrams.specs.declared.case.Case.{Case}
 use Rattle.cell_rules.specs.declared.deciding.Decision.{Decision}
 use Rattle.lab_rules.specs.CountText.{decider_text}
+use Rattle.lab_rules.specs.RuleBegins.{begin_at}
+use Rattle.rules_text.specs.declared.place.RulePlace.{RulePlace}
 use Rattle.upc_cell.specs.Header.{gfc_of, vci_of, pti_of, clp_of}
 use Rattle.upc_cell.specs.Side.{vpi_at}
 use Rattle.upc_cell.specs.declared.side.Side.{Side}
@@ -28,7 +30,7 @@ fields_text side cell =
 
 -- What decides a cell: a line of rules, or the program.
 abbrev pub side_decider : SideRead → Option ℕ → List ℕ
-side_decider (side_rules numbered) line = decider_text numbered.numbers line
+side_decider (side_rules numbered) line = decider_text numbered.begins line
 side_decider (side_program code) line = codes "program"
 
 -- What a side gives a cell: what decides it, and the value.
@@ -53,14 +55,25 @@ shown_side (side_program code) (side_program other) = Uni
 abbrev pub change_text : SideRead → SideRead → Decision → Decision → List ℕ → List ℕ
 change_text old new was is cell = both_text old new was is ++ cell_with_fields (shown_side old new) cell
 
--- The number of the source line that decides, 0 for `otherwise`.
-abbrev pub source_number : List ℕ → Option ℕ → ℕ
-source_number numbers None = 0
-source_number numbers (Some place) = slice_index numbers place
+-- Where the line of rules that decides begins; line 0 for `otherwise`.
+abbrev pub source_begin : List RulePlace → Option ℕ → RulePlace
+source_begin begins None = record { line = 0; column = None }
+source_begin begins (Some place) = begin_at begins place
 
--- Whether one line of rules, by its number, decides on both sides. A program is none.
+-- Whether both columns are the same, or neither is there.
+abbrev pub is_same_column : Option ℕ → Option ℕ → Bool
+is_same_column None None = true
+is_same_column None (Some other) = false
+is_same_column (Some column) None = false
+is_same_column (Some column) (Some other) = column == other
+
+-- Whether lines of rules begin at the same place of their texts.
+abbrev pub is_same_begin : RulePlace → RulePlace → Bool
+is_same_begin one other = (one.line == other.line) && is_same_column one.column other.column
+
+-- Whether one line of rules, by where it begins, decides on both sides. A program is none.
 abbrev pub is_one_line : SideRead → SideRead → Option ℕ → Option ℕ → Bool
-is_one_line (side_rules old) (side_rules new) was is = source_number old.numbers was == source_number new.numbers is
+is_one_line (side_rules old) (side_rules new) was is = is_same_begin (source_begin old.begins was) (source_begin new.begins is)
 is_one_line (side_rules old) (side_program code) was is = false
 is_one_line (side_program code) new was is = false
 

@@ -7,7 +7,7 @@ use Rattle.cell_rules.specs.declared.deciding.Decision.{Decision}
 use Rattle.rules_text.specs.DecisionsRead.{rules_decide}
 use Rattle.rules_text.specs.TextOfRules.{NumberedRead}
 
--- What was read: rules with the numbers of their lines, or the code of a program.
+-- What was read: rules and where their lines begin, or the code of a program.
 pub data SideRead : Type 0 where
   side_rules : NumberedRead → SideRead
   side_program : List Instr → SideRead

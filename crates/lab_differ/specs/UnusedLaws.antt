@@ -22,7 +22,7 @@ NeverDecides rules place = (cell : List ℕ) → IsCell cell → (rules_decide r
 -- The answer has a line for each rule that decides no cell, in order, and no other line; or it says that there is none.
 pub record NamesUnused (numbered : NumberedRead) (answer : List ℕ) : Type 0 where
   pub named : List Unused
-  pub prints : answer ≡ unused_text numbered.numbers named
+  pub prints : answer ≡ unused_text numbered.begins named
   pub rules : All (λ (one : Unused). IsRuleRead numbered.rules one.place) named
   pub never : All (λ (one : Unused). NeverDecides numbered.rules one.place) named
   pub each : (place : ℕ) → IsRuleRead numbered.rules place → NeverDecides numbered.rules place → HasPlace named place

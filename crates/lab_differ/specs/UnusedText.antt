@@ -7,6 +7,7 @@ use Rattle.lab_rules.specs.RulesAnswers.{most_rules_octets}
 use Rattle.lab_rules.specs.CountText.{decider_text}
 use Rattle.rules_text.specs.RulesRead.{rules_read}
 use Rattle.rules_text.specs.TextOfRules.{NumberedRead}
+use Rattle.rules_text.specs.declared.place.RulePlace.{RulePlace}
 use Rattle.text_io.specs.Gathered.{gathered}
 use Rattle.text_io.specs.declared.ending.Done.{Done}
 use Rattle.upc_words.specs.FaultLines.{line}
@@ -15,41 +16,41 @@ use Rattle.lab_differ.specs.Findings.{IsAnswerWith}
 use Rattle.lab_differ.specs.declared.finding.Finding.{Finding}
 use Rattle.lab_differ.specs.declared.finding.Finding.TheVariants.{Nothing, Something, Faulty, Undecided}
 
--- The source line of the rule at a place.
-abbrev pub rule_text : List ℕ → ℕ → List ℕ
-rule_text numbers place = decider_text numbers (Some place)
+-- Where the rule at a place begins.
+abbrev pub rule_text : List RulePlace → ℕ → List ℕ
+rule_text begins place = decider_text begins (Some place)
 
--- The source lines of rules after the first.
-abbrev pub more_rules_text : List ℕ → List ℕ → List ℕ
-more_rules_text numbers [] = []
-more_rules_text numbers (place ∷ more) = codes ", " ++ (rule_text numbers place ++ more_rules_text numbers more)
+-- Where the rules after the first begin.
+abbrev pub more_rules_text : List RulePlace → List ℕ → List ℕ
+more_rules_text begins [] = []
+more_rules_text begins (place ∷ more) = codes ", " ++ (rule_text begins place ++ more_rules_text begins more)
 
 -- The rules that decide the cells of a rule: the first of them, and the others.
-abbrev pub taken_by_text : List ℕ → ℕ → List ℕ → List ℕ
-taken_by_text numbers first more = codes " decides no cell: taken by " ++ (rule_text numbers first ++ more_rules_text numbers more)
+abbrev pub taken_by_text : List RulePlace → ℕ → List ℕ → List ℕ
+taken_by_text begins first more = codes " decides no cell: taken by " ++ (rule_text begins first ++ more_rules_text begins more)
 
 -- The rules that decide the cells of a rule, if it holds of any.
-abbrev pub takers_text : List ℕ → List ℕ → List ℕ
-takers_text numbers [] = codes " decides no cell: it holds of none"
-takers_text numbers (first ∷ more) = taken_by_text numbers first more
+abbrev pub takers_text : List RulePlace → List ℕ → List ℕ
+takers_text begins [] = codes " decides no cell: it holds of none"
+takers_text begins (first ∷ more) = taken_by_text begins first more
 
 -- The line of a rule that decides no cell.
-abbrev pub unused_line : List ℕ → ℕ → List ℕ → List ℕ
-unused_line numbers place takers = line (rule_text numbers place ++ takers_text numbers takers)
+abbrev pub unused_line : List RulePlace → ℕ → List ℕ → List ℕ
+unused_line begins place takers = line (rule_text begins place ++ takers_text begins takers)
 
 -- The lines of rules that decide no cell.
-abbrev pub unused_lines : List ℕ → List Unused → List ℕ
-unused_lines numbers [] = []
-unused_lines numbers (one ∷ more) = unused_line numbers one.place one.takers.items ++ unused_lines numbers more
+abbrev pub unused_lines : List RulePlace → List Unused → List ℕ
+unused_lines begins [] = []
+unused_lines begins (one ∷ more) = unused_line begins one.place one.takers.items ++ unused_lines begins more
 
 -- The answer that says that there is none.
 abbrev pub all_decide : List ℕ
 all_decide = codes "every rule decides some cell\n"
 
 -- The answer by all rules that decide no cell.
-abbrev pub unused_text : List ℕ → List Unused → List ℕ
-unused_text numbers [] = all_decide
-unused_text numbers (one ∷ more) = unused_lines numbers (one ∷ more)
+abbrev pub unused_text : List RulePlace → List Unused → List ℕ
+unused_text begins [] = all_decide
+unused_text begins (one ∷ more) = unused_lines begins (one ∷ more)
 
 -- Whether there is one.
 abbrev pub unused_finding : List Unused → Finding
@@ -62,7 +63,7 @@ pub record IsSearched (numbered : NumberedRead) (answer : List ℕ) (finding : F
   pub read : numbered.rules ≡ rules_read rules
   pub unused : List Unused
   pub are_unused : AreUnused rules unused
-  pub prints : answer ≡ unused_text numbered.numbers unused
+  pub prints : answer ≡ unused_text numbered.begins unused
   pub finds : finding ≡ unused_finding unused
 
 -- The answer to a text with these rules.

@@ -1,38 +1,50 @@
 //! The lines of cases.
 
-ghost use Rattle.std.specs.Prelude.{◌≡◌, ◌++◌, codes, slice_index, OnOk};
+ghost use Rattle.std.specs.Prelude.{◌≡◌, ◌++◌, codes, OnOk};
 ghost use Rattle.hex.specs.Hex.{encode_lower};
-ghost use Rattle.lab_rules.specs.CountText.{decider_text};
 ghost use Rattle.upc_cell.specs.Header.{clp_of};
 ghost use Rattle.upc_words.specs.FaultLines.{line};
-ghost use Rattle.lab_differ.specs.ChangeLines.{both_text, case_text, cases_text, change_text, field_text, fields_text, given_text, is_listed, is_one_line, path_text, cell_with_fields, shown_side, side_decider, source_number};
+ghost use Rattle.lab_differ.specs.ChangeLines.{both_text, case_text, cases_text, change_text, field_text, fields_text, given_text, is_listed, is_one_line, is_same_begin, is_same_column, path_text, cell_with_fields, shown_side, side_decider, source_begin};
 ghost use Rattle.lab_differ.specs.inner.SidesRead.{side_read};
 
 use crate::sides::SideText;
 use cell_diagrams::Case;
 use cell_rules::Decision;
+use lab_rules::{add_decider, begin_at};
+use rules_text::RulePlace;
 use std::alloc::AllocError;
 use upc_cell::{CELL_OCTETS, Cell, Side};
 use upc_words::{add_number, add_text};
 
-/// The number of the source line of the line of rules at a place.
-fn number_at(numbers: &[usize], place: usize) -> usize
-    ensures { result ≡ slice_index numbers.now place }
+/// Where the line of rules that decides begins; line 0 for `otherwise`.
+fn source_begin(begins: &[RulePlace], line: Option<usize>) -> RulePlace
+    ensures { result ≡ source_begin begins.now line }
 {
-    match numbers.get(place) {
-        Some(number) => *number,
-        None => 0,
+    match line {
+        None => RulePlace {
+            line: 0,
+            column: None,
+        },
+        Some(place) => begin_at(begins, place),
     }
 }
 
-/// The number of the source line that decides, 0 for `otherwise`.
-fn source_number(numbers: &[usize], line: Option<usize>) -> usize
-    ensures { result ≡ source_number numbers.now line }
+/// Whether both columns are the same, or neither is there.
+fn is_same_column(one: Option<usize>, other: Option<usize>) -> bool
+    ensures { result ≡ is_same_column one other }
 {
-    match line {
-        None => 0,
-        Some(place) => number_at(numbers, place),
+    match (one, other) {
+        (None, None) => true,
+        (Some(column), Some(another)) => column == another,
+        (None, Some(_)) | (Some(_), None) => false,
     }
+}
+
+/// Whether lines of rules begin at the same place of their texts.
+fn is_same_begin(one: RulePlace, other: RulePlace) -> bool
+    ensures { result ≡ is_same_begin one other }
+{
+    one.line == other.line && is_same_column(one.column, other.column)
 }
 
 /// Appends the name of a field and its number.
@@ -76,24 +88,6 @@ fn add_fields(answers: &mut Vec<u8>, side: Side, cell: &Cell) -> Result<(), Allo
     add_field(answers, b" clp ", priority(cell))
 }
 
-/// Appends the line of rules that decides, or `otherwise`.
-#[tactic(auto, using(std::proofs::lemmas::List::append_assoc))]
-pub(crate) fn add_decider(
-    answers: &mut Vec<u8>,
-    numbers: &[usize],
-    line: Option<usize>,
-) -> Result<(), AllocError>
-    ensures { OnOk result (answers.new.items ≡ answers.old.items ++ decider_text numbers.now line) }
-{
-    match line {
-        None => add_text(answers, b"otherwise"),
-        Some(place) => {
-            add_text(answers, b"line ")?;
-            add_number(answers, number_at(numbers, place) as u64)
-        }
-    }
-}
-
 /// Appends what decides a cell: the line of rules, or the program.
 fn add_side_decider(
     answers: &mut Vec<u8>,
@@ -103,7 +97,7 @@ fn add_side_decider(
     ensures { OnOk result (answers.new.items ≡ answers.old.items ++ side_decider (side_read side.now) line) }
 {
     match side {
-        SideText::Rules(numbered) => add_decider(answers, &numbered.numbers, line),
+        SideText::Rules(numbered) => add_decider(answers, &numbered.begins, line),
         SideText::Program(_) => add_text(answers, b"program"),
     }
 }
@@ -191,13 +185,16 @@ fn add_change(
     add_cell(answers, shown_side(old, new), &case.cell)
 }
 
-/// Whether one line of rules, by its number, decides on both sides.
+/// Whether one line of rules, by where it begins, decides on both sides.
 fn is_one_line(old: &SideText, new: &SideText, was: Option<usize>, is: Option<usize>) -> bool
     ensures { result ≡ is_one_line (side_read old.now) (side_read new.now) was is }
 {
     match (old, new) {
         (SideText::Rules(old), SideText::Rules(new)) => {
-            source_number(&old.numbers, was) == source_number(&new.numbers, is)
+            is_same_begin(
+                source_begin(&old.begins, was),
+                source_begin(&new.begins, is),
+            )
         }
         (SideText::Rules(_), SideText::Program(_)) | (SideText::Program(_), _) => false,
     }

@@ -37,7 +37,7 @@ fn add_searched(
     requires { AreUnused numbered.now.rules unused.now }
     ensures { IfOk result (λ finding. Adds (λ answer. IsSearched (numbered_read numbered.now) answer finding) answers.old.items answers.new.items) }
 {
-    add_unused_text(answers, &numbered.numbers, unused)?;
+    add_unused_text(answers, &numbered.begins, unused)?;
     Ok(finding_of(unused))
 }
 

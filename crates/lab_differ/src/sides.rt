@@ -12,7 +12,7 @@ use std::alloc::Global;
 /// A text that was read.
 #[derive(Drop)]
 pub(crate) enum SideText {
-    /// Its rules, with the numbers of their lines.
+    /// Its rules, and where their lines begin.
     Rules(NumberedRules),
     /// The code of its program.
     Program(Vec<Instr>),

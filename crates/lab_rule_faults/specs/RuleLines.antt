@@ -1,19 +1,38 @@
 -- The lines of a text of rules.
-use Rattle.std.specs.Prelude.{ℕ, ◌+◌, ◌-◌, ◌==◌, Bool, true, false, ◌&&◌, if◌then◌else◌, nat_lt, min, length, List, [], ◌∷◌, Option, Some, None}
+use Rattle.std.specs.Prelude.{ℕ, ◌+◌, ◌-◌, ◌==◌, Bool, true, false, not, ◌&&◌, ◌||◌, if◌then◌else◌, nat_lt, min, length, List, [], ◌∷◌, Option, Some, None}
 use Rattle.std.specs.Str.{bytes_eq}
 use Rattle.lab_rule_faults.specs.Parts.{part_of}
 use Rattle.lab_rule_faults.specs.WordsFound.{rule_word_octets, words_found}
 use Rattle.lab_rule_faults.specs.declared.parts.Part.{Part}
 use Rattle.lab_rule_faults.specs.declared.parts.Part.TheVariants as part
-use Rattle.rules_text.specs.ContinuedLines.{lines_within}
+use Rattle.rules_text.specs.ContinuedLines.{place_past}
+use Rattle.rules_text.specs.declared.fault.RuleKind.{RuleKind}
+use Rattle.rules_text.specs.declared.fault.RuleKind.TheVariants as kind
+use Rattle.rules_text.specs.declared.place.TextPlace.{TextPlace}
 use Rattle.lab_rule_faults.specs.declared.words_found.RuleWord.{RuleWord}
 
--- The line of rules that has the source line of the last number, after the number of the source line in which it begins. The first of
--- these lines begins in the source line of the first number.
-abbrev pub line_holding : ℕ → List (List ℕ) → ℕ → ℕ × List ℕ
-line_holding number [] wanted = (number, [])
-line_holding number (line ∷ lines) wanted =
-    if nat_lt wanted (number + lines_within line) then (number, line) else line_holding (number + lines_within line) lines wanted
+-- Whether a place comes before another.
+abbrev pub comes_before : TextPlace → TextPlace → Bool
+comes_before one other = nat_lt one.line other.line || ((one.line == other.line) && nat_lt one.column other.column)
+
+-- Whether octets begin with `}` (125).
+abbrev pub begins_with_close : List ℕ → Bool
+begins_with_close [] = false
+begins_with_close (octet ∷ rest) = octet == 125
+
+-- Whether a line of rules that ends at this place has a fault of this kind at that one, where these lines follow. The last line has each
+-- that no line before it has. A line that ends too early before a `}` has its fault at the `}`, which begins the next line.
+abbrev pub has_fault : RuleKind → TextPlace → TextPlace → List (List ℕ) → Bool
+has_fault kind fault end [] = true
+has_fault kind.BadLine fault end (next ∷ lines) = comes_before fault end || (begins_with_close next && not (comes_before end fault))
+has_fault _ fault end (next ∷ lines) = comes_before fault end
+
+-- The line of rules that has a fault of this kind at this place, after the place where it begins. The first of these lines begins at the
+-- first place.
+abbrev pub line_holding : TextPlace → List (List ℕ) → RuleKind → TextPlace → TextPlace × List ℕ
+line_holding begin [] kind fault = (begin, [])
+line_holding begin (line ∷ lines) kind fault =
+    if has_fault kind fault (place_past begin line) lines then (begin, line) else line_holding (place_past begin line) lines kind fault
 
 -- How many octets a line of rules has up to the end of so many of its source lines.
 abbrev pub octets_before : ℕ → List ℕ → ℕ
@@ -21,9 +40,13 @@ octets_before source_lines [] = 0
 octets_before source_lines (octet ∷ rest) =
     if source_lines == 0 then 0 else octets_before (if octet == 10 then source_lines - 1 else source_lines) rest + 1
 
--- The column, counted in a line of rules, that is this one of a source line after so many others.
-abbrev pub column_within : List ℕ → ℕ → ℕ → ℕ
-column_within line source_lines column = octets_before source_lines line + min column (length line + 1)
+-- A column of the source line in which a line of rules begins, counted in the line of rules; a column of any other source line as it is.
+abbrev pub column_from : TextPlace → TextPlace → ℕ
+column_from begin place = if nat_lt begin.line place.line then place.column else place.column - (begin.column - 1)
+
+-- The column of a place, counted in the line of rules that begins at another.
+abbrev pub column_within : List ℕ → TextPlace → TextPlace → ℕ
+column_within line begin place = octets_before (place.line - begin.line) line + min (column_from begin place) (length line + 1)
 
 -- Whether a line that begins with this token gives a name.
 abbrev pub begins_giving : Part → Bool
@@ -37,10 +60,12 @@ gives name text [] = false
 gives name text (first ∷ []) = false
 gives name text (first ∷ second ∷ words) = begins_giving (part_of (rule_word_octets text first)) && bytes_eq (rule_word_octets text second) name
 
--- The number of the first line that gives this name, if one does. The first line of these has this number.
-abbrev pub giving_line : List ℕ → ℕ → List (List ℕ) → Option ℕ
-giving_line name number [] = None
-giving_line name number (line ∷ lines) = if gives name line (words_found line) then Some number else giving_line name (number + 1) lines
+-- The number of the source line in which the first line of rules begins that gives this name, if one does. The first of these lines begins
+-- at this place.
+abbrev pub giving_line : List ℕ → TextPlace → List (List ℕ) → Option ℕ
+giving_line name begin [] = None
+giving_line name begin (line ∷ lines) =
+    if gives name line (words_found line) then Some begin.line else giving_line name (place_past begin line) lines
 
 -- How many parentheses are open after a token.
 abbrev pub depth_after : Part → ℕ → ℕ

@@ -1,6 +1,5 @@
 -- The explanation of a fault of a text of rules: its source line, the column of the token that is wrong, and a sentence.
 use Rattle.std.specs.Prelude.{ℕ, ◌==◌, ◌-◌, if◌then◌else◌, nat_lt, List, [], ◌∷◌, ◌++◌, codes, decimal, unwrap_or, Option, Some, None}
-use Rattle.bpf_asm.specs.SourceLines.{source_lines}
 use Rattle.lab_rule_faults.specs.MeantWords.{unknown_word_sentence}
 use Rattle.lab_rule_faults.specs.Parts.{part_of}
 use Rattle.lab_rule_faults.specs.Reasons.{expected, number_reason, offsets, reason, too_large_words}
@@ -14,10 +13,11 @@ use Rattle.lab_rule_faults.specs.declared.spots.Place.TheVariants as here
 use Rattle.lab_rule_faults.specs.declared.spots.Spot.{Spot}
 use Rattle.lab_rule_faults.specs.declared.words_found.RuleWord.{RuleWord}
 use Rattle.lab_scripts.specs.Places.{place_words, quoted}
-use Rattle.rules_text.specs.ContinuedLines.{rule_lines}
+use Rattle.rules_text.specs.ContinuedLines.{line_begin, rule_lines}
 use Rattle.rules_text.specs.declared.fault.RuleFault.{RuleFault}
 use Rattle.rules_text.specs.declared.fault.RuleKind.{RuleKind}
 use Rattle.rules_text.specs.declared.fault.RuleKind.TheVariants as kind
+use Rattle.rules_text.specs.declared.place.TextPlace.{TextPlace}
 use Rattle.upc_words.specs.FaultLines.{line}
 
 -- The sentence about a token that doesn't fit, for this reason.
@@ -76,7 +76,7 @@ rule_sentence lines kind.TooDeep content spot octets = codes "at most 64 blocks 
 rule_sentence lines kind.TooLong content spot octets = too_long_sentence spot.place
 rule_sentence lines kind.NoMemory content spot octets = []
 rule_sentence lines kind.UnknownName content spot octets = unknown_word_sentence spot octets
-rule_sentence lines kind.NameTaken content spot octets = taken_sentence octets (part_of octets) (giving_line octets 1 lines)
+rule_sentence lines kind.NameTaken content spot octets = taken_sentence octets (part_of octets) (giving_line octets (line_begin 1) lines)
 
 -- The column of a fault, if there is a token.
 abbrev pub rule_word_column : ℕ → Option RuleWord → Option ℕ
@@ -101,10 +101,10 @@ placed_explanation lines fault column content words =
     (rule_sentence lines fault.kind content (spot_from content column first_spot words) (blamed_octets content (word_at column words))
     ++ inside_words fault.kind (depth_before content column 0 words))
 
--- The explanation of a fault on this line of rules, after the number of the source line in which it begins.
-abbrev pub explanation_within : List (List ℕ) → RuleFault → ℕ × List ℕ → List ℕ
+-- The explanation of a fault on this line of rules, after the place where it begins.
+abbrev pub explanation_within : List (List ℕ) → RuleFault → TextPlace × List ℕ → List ℕ
 explanation_within lines fault held =
-    placed_explanation lines fault (column_within held.1 (fault.line - held.0) fault.column) held.1 (words_found held.1)
+    placed_explanation lines fault (column_within held.1 held.0 (record { line = fault.line; column = fault.column })) held.1 (words_found held.1)
 
 -- The sentence about a code that is too long.
 abbrev pub long_code_sentence : List ℕ
@@ -114,4 +114,4 @@ long_code_sentence = codes "the code of these rules has more than 4096 instructi
 abbrev pub rule_explanation : List ℕ → RuleFault → List ℕ
 rule_explanation text fault =
     if fault.line == 0 then line long_code_sentence
-    else explanation_within (source_lines text) fault (line_holding 1 (rule_lines text) fault.line)
+    else explanation_within (rule_lines text) fault (line_holding (line_begin 1) (rule_lines text) fault.kind (record { line = fault.line; column = fault.column }))

@@ -17,7 +17,7 @@ use Rattle.text_io.specs.declared.ending.Done.TheVariants.{Whole, Ended}
 use Rattle.upc_words.specs.FaultLines.{line}
 
 -- The fault of a text, as `upc-lab rules` has it: the one that reading it meets, or that the code of its rules is too long. (`rules_in` is
--- `numbered_in` without the numbers of lines, and has the same fault.)
+-- `numbered_in` without the places of lines, and has the same fault.)
 abbrev pub IsFaultOfText : List ℕ → RuleFault → Type 0
 IsFaultOfText text fault = (numbered_in text ≡ Err fault) ⊎ ((fault ≡ placed_fault 0 0 TooLong) × IsTooLong text)
 

@@ -2,7 +2,7 @@
 
 ghost use Rattle.std.specs.Prelude.{◌≡◌, ◌++◌, [], codes, OnOk};
 ghost use Rattle.lab_scripts.specs.Places.{quoted};
-ghost use Rattle.bpf_asm.specs.SourceLines.{source_lines};
+ghost use Rattle.rules_text.specs.ContinuedLines.{rule_lines};
 ghost use Rattle.lab_rule_faults.specs.WordsFound.{words_found};
 ghost use Rattle.lab_rule_faults.specs.RuleReasons.{rule_misfit_sentence, rule_word_column, given_sentence, misfit_sentence, no_rule_number_sentence, blamed_octets, inside_words, outside_sentence, placed_explanation, rule_explanation, rule_sentence, taken_sentence, too_large_sentence, too_long_sentence, unbalanced_sentence};
 
@@ -15,7 +15,7 @@ use crate::rule_lines::{
 use crate::spots::{Place, Spot, spot_before};
 use crate::words_found::{RuleWord, rule_word_octets, words_found};
 use lab_scripts::{add_place, add_quoted};
-use rules_text::{RuleFault, RuleKind};
+use rules_text::{RuleFault, RuleKind, TextPlace};
 use std::alloc::{AllocError, Global};
 use upc_words::{add_number, add_text};
 
@@ -160,7 +160,7 @@ fn add_sentence(
     octets: &[u8],
 ) -> Result<(), AllocError>
     requires { words.now ≡ words_found content.now }
-    ensures { OnOk result (answers.new.items ≡ answers.old.items ++ rule_sentence (source_lines text.now) kind content.now spot octets.now) }
+    ensures { OnOk result (answers.new.items ≡ answers.old.items ++ rule_sentence (rule_lines text.now) kind content.now spot octets.now) }
 {
     match kind {
         RuleKind::BadLine => add_bad_line(answers, spot, octets),
@@ -233,7 +233,7 @@ fn add_placed(
     content: &[u8],
 ) -> Result<(), AllocError>
     ensures { OnOk result (answers.new.items
-        ≡ answers.old.items ++ placed_explanation (source_lines text.now) fault column content.now (words_found content.now)) }
+        ≡ answers.old.items ++ placed_explanation (rule_lines text.now) fault column content.now (words_found content.now)) }
 {
     let words = words_found(alloc, content)?;
     let blamed = word_at(column, &words);
@@ -263,7 +263,11 @@ pub(crate) fn add_rule_explanation(
             b"the code of these rules has more than 4096 instructions\n",
         );
     }
-    let (number, line) = line_holding(text, fault.line);
-    let column = column_within(line, fault.line.saturating_sub(number), fault.column);
+    let place = TextPlace {
+        line: fault.line,
+        column: fault.column,
+    };
+    let (begin, line) = line_holding(text, fault.kind, place);
+    let column = column_within(line, begin, place);
     add_placed(alloc, answers, text, fault, column, line)
 }

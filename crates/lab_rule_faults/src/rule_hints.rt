@@ -1,37 +1,30 @@
 //! The hints about rules that decide no cell.
 
-ghost use Rattle.std.specs.Prelude.{◌≡◌, ◌++◌, slice_index, OnOk};
+ghost use Rattle.std.specs.Prelude.{◌≡◌, ◌++◌, OnOk};
 ghost use Rattle.cell_diagrams.specs.UnusedRules.{AreUnused};
 ghost use Rattle.rules_text.specs.NumberedText.{numbered_read};
 ghost use Rattle.text_io.specs.Devices.{Adds};
 ghost use Rattle.lab_rule_faults.specs.RuleHints.{AreRuleHints, all_takers, hint_sentence, left_out, more_takers, rule_hint, rule_hints, rule_line_words, separator, take_words, taken_words};
 
 use cell_diagrams::{Undecided, Unused, unused_rules};
+use lab_rules::{add_decider, begin_at};
 use lab_scripts::add_place;
-use rules_text::NumberedRules;
+use rules_text::{NumberedRules, RulePlace};
 use std::alloc::{AllocError, Global};
 use upc_words::{add_number, add_text};
 
 /// How many rules are named after the first.
 const MOST_NAMED: usize = 7;
 
-/// Returns the number of the source line of the rule at a place.
-fn number_at(numbers: &[usize], place: usize) -> usize
-    ensures { result ≡ slice_index numbers.now place }
+/// Appends where the rule at a place begins.
+fn add_rule_name(
+    answers: &mut Vec<u8>,
+    begins: &[RulePlace],
+    place: usize,
+) -> Result<(), AllocError>
+    ensures { OnOk result (answers.new.items ≡ answers.old.items ++ rule_line_words begins.now place) }
 {
-    match numbers.get(place) {
-        Some(number) => *number,
-        None => 0,
-    }
-}
-
-/// Appends the source line of the rule at a place.
-#[tactic(auto, using(std::proofs::lemmas::List::append_assoc))]
-fn add_rule_name(answers: &mut Vec<u8>, numbers: &[usize], place: usize) -> Result<(), AllocError>
-    ensures { OnOk result (answers.new.items ≡ answers.old.items ++ rule_line_words numbers.now place) }
-{
-    add_text(answers, b"line ")?;
-    add_number(answers, number_at(numbers, place) as u64)
+    add_decider(answers, begins, Some(place))
 }
 
 /// Returns what comes before a rule that these follow.
@@ -54,28 +47,28 @@ fn add_left_out(answers: &mut Vec<u8>, count: usize) -> Result<(), AllocError>
     add_text(answers, b" more")
 }
 
-/// Appends the source line of a rule after the first, which these follow.
+/// Appends where a rule after the first begins, which these follow.
 #[tactic(auto, using(std::proofs::lemmas::List::append_assoc))]
 fn add_taker(
     answers: &mut Vec<u8>,
-    numbers: &[usize],
+    begins: &[RulePlace],
     place: usize,
     more: &[usize],
 ) -> Result<(), AllocError>
-    ensures { OnOk result (answers.new.items ≡ answers.old.items ++ (separator more.now ++ rule_line_words numbers.now place)) }
+    ensures { OnOk result (answers.new.items ≡ answers.old.items ++ (separator more.now ++ rule_line_words begins.now place)) }
 {
     add_text(answers, separator(more))?;
-    add_rule_name(answers, numbers, place)
+    add_rule_name(answers, begins, place)
 }
 
-/// Appends the source lines of rules after the first.
+/// Appends where the rules after the first begin.
 #[tactic(auto, using(std::proofs::lemmas::List::append_assoc))]
 fn add_more_takers(
     answers: &mut Vec<u8>,
-    numbers: &[usize],
+    begins: &[RulePlace],
     takers: &[usize],
 ) -> Result<(), AllocError>
-    ensures { OnOk result (answers.new.items ≡ answers.old.items ++ more_takers numbers.now 7 takers.now) }
+    ensures { OnOk result (answers.new.items ≡ answers.old.items ++ more_takers begins.now 7 takers.now) }
 {
     let mut left = takers;
     let mut room = MOST_NAMED;
@@ -83,7 +76,7 @@ fn add_more_takers(
         if room == 0 {
             return add_left_out(answers, left.len());
         }
-        add_taker(answers, numbers, *place, more)?;
+        add_taker(answers, begins, *place, more)?;
         room -= 1;
         left = more;
     }
@@ -104,27 +97,27 @@ fn take_words(more: &[usize]) -> &'static [u8]
 #[tactic(auto, using(std::proofs::lemmas::List::append_assoc))]
 fn add_all_takers(
     answers: &mut Vec<u8>,
-    numbers: &[usize],
+    begins: &[RulePlace],
     first: usize,
     more: &[usize],
 ) -> Result<(), AllocError>
-    ensures { OnOk result (answers.new.items ≡ answers.old.items ++ all_takers numbers.now first more.now) }
+    ensures { OnOk result (answers.new.items ≡ answers.old.items ++ all_takers begins.now first more.now) }
 {
-    add_rule_name(answers, numbers, first)?;
-    add_more_takers(answers, numbers, more)
+    add_rule_name(answers, begins, first)?;
+    add_more_takers(answers, begins, more)
 }
 
 /// Appends that these rules take the cells of a rule.
 #[tactic(auto, using(std::proofs::lemmas::List::append_assoc))]
 fn add_taking(
     answers: &mut Vec<u8>,
-    numbers: &[usize],
+    begins: &[RulePlace],
     first: usize,
     more: &[usize],
 ) -> Result<(), AllocError>
-    ensures { OnOk result (answers.new.items ≡ answers.old.items ++ (all_takers numbers.now first more.now ++ take_words more.now)) }
+    ensures { OnOk result (answers.new.items ≡ answers.old.items ++ (all_takers begins.now first more.now ++ take_words more.now)) }
 {
-    add_all_takers(answers, numbers, first, more)?;
+    add_all_takers(answers, begins, first, more)?;
     add_text(answers, take_words(more))
 }
 
@@ -132,28 +125,28 @@ fn add_taking(
 #[tactic(auto, using(std::proofs::lemmas::List::append_assoc))]
 fn add_taken(
     answers: &mut Vec<u8>,
-    numbers: &[usize],
+    begins: &[RulePlace],
     first: usize,
     more: &[usize],
 ) -> Result<(), AllocError>
-    ensures { OnOk result (answers.new.items ≡ answers.old.items ++ taken_words numbers.now first more.now) }
+    ensures { OnOk result (answers.new.items ≡ answers.old.items ++ taken_words begins.now first more.now) }
 {
     add_text(answers, b"this rule decides no cell; ")?;
-    add_taking(answers, numbers, first, more)?;
+    add_taking(answers, begins, first, more)?;
     Ok(())
 }
 
 /// Appends the sentence about a rule that decides no cell, by the rules that take its cells.
 fn add_hint_sentence(
     answers: &mut Vec<u8>,
-    numbers: &[usize],
+    begins: &[RulePlace],
     takers: &[usize],
 ) -> Result<(), AllocError>
-    ensures { OnOk result (answers.new.items ≡ answers.old.items ++ hint_sentence numbers.now takers.now) }
+    ensures { OnOk result (answers.new.items ≡ answers.old.items ++ hint_sentence begins.now takers.now) }
 {
     match takers {
         [] => add_text(answers, b"this rule holds of no cell"),
-        [first, more @ ..] => add_taken(answers, numbers, *first, more),
+        [first, more @ ..] => add_taken(answers, begins, *first, more),
     }
 }
 
@@ -161,37 +154,42 @@ fn add_hint_sentence(
 #[tactic(auto, using(std::proofs::lemmas::List::append_assoc))]
 fn add_rule_hint(
     answers: &mut Vec<u8>,
-    numbers: &[usize],
+    begins: &[RulePlace],
     place: usize,
     takers: &[usize],
 ) -> Result<(), AllocError>
-    ensures { OnOk result (answers.new.items ≡ answers.old.items ++ rule_hint numbers.now place takers.now) }
+    ensures { OnOk result (answers.new.items ≡ answers.old.items ++ rule_hint begins.now place takers.now) }
 {
     add_text(answers, b"hint ")?;
-    add_place(answers, number_at(numbers, place), None)?;
-    add_hint_sentence(answers, numbers, takers)?;
+    let begin = begin_at(begins, place);
+    add_place(answers, begin.line, begin.column)?;
+    add_hint_sentence(answers, begins, takers)?;
     answers.push(b'\n')?;
     Ok(())
 }
 
 /// Appends the hint about one of the rules that decide no cell.
-fn add_unused(answers: &mut Vec<u8>, numbers: &[usize], unused: &Unused) -> Result<(), AllocError>
-    ensures { OnOk result (answers.new.items ≡ answers.old.items ++ rule_hint numbers.now unused.now.place unused.now.takers.items) }
+fn add_unused(
+    answers: &mut Vec<u8>,
+    begins: &[RulePlace],
+    unused: &Unused,
+) -> Result<(), AllocError>
+    ensures { OnOk result (answers.new.items ≡ answers.old.items ++ rule_hint begins.now unused.now.place unused.now.takers.items) }
 {
-    add_rule_hint(answers, numbers, unused.place, &unused.takers)
+    add_rule_hint(answers, begins, unused.place, &unused.takers)
 }
 
 /// Appends the hints about rules that decide no cell.
 #[tactic(auto, using(std::proofs::lemmas::List::append_assoc))]
 fn add_all_hints(
     answers: &mut Vec<u8>,
-    numbers: &[usize],
+    begins: &[RulePlace],
     unused: &[Unused],
 ) -> Result<(), AllocError>
-    ensures { OnOk result (answers.new.items ≡ answers.old.items ++ rule_hints numbers.now unused.now) }
+    ensures { OnOk result (answers.new.items ≡ answers.old.items ++ rule_hints begins.now unused.now) }
 {
     for one in unused {
-        add_unused(answers, numbers, one)?;
+        add_unused(answers, begins, one)?;
     }
     Ok(())
 }
@@ -205,7 +203,7 @@ fn add_searched(
     requires { AreUnused numbered.now.rules unused.now }
     ensures { OnOk result (Adds (AreRuleHints (numbered_read numbered.now)) answers.old.items answers.new.items) }
 {
-    add_all_hints(answers, &numbered.numbers, unused)?;
+    add_all_hints(answers, &numbered.begins, unused)?;
     Ok(())
 }
 

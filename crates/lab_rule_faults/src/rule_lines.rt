@@ -1,34 +1,70 @@
 //! The lines of a text of rules.
 
 ghost use Rattle.std.specs.Prelude.{◌≡◌, ◌≤◌, length, IfOk};
-ghost use Rattle.bpf_asm.specs.SourceLines.{source_lines};
-ghost use Rattle.rules_text.specs.ContinuedLines.{rule_lines};
+ghost use Rattle.rules_text.specs.ContinuedLines.{line_begin, rule_lines};
 ghost use Rattle.lab_rule_faults.specs.WordsFound.{words_found};
-ghost use Rattle.lab_rule_faults.specs.RuleLines.{begins_giving, column_within, depth_before, depth_from, ends_test, gives, giving_line, line_holding, octets_before, word_at};
+ghost use Rattle.lab_rule_faults.specs.RuleLines.{begins_giving, begins_with_close, column_within, comes_before, depth_before, depth_from, ends_test, gives, giving_line, has_fault, line_holding, octets_before, word_at};
 
 use crate::parts::{Part, part_of};
 use crate::words_found::{RuleWord, rule_word_octets, words_found};
-use bpf_asm::next_line;
-use rules_text::{lines_within, next_rule_line};
+use rules_text::{RuleKind, TextPlace, next_rule_line, place_after};
 use std::alloc::{AllocError, Global};
 
-/// Returns the line of rules that has the source line of this number, and the number of the source line in which it begins. It is empty
-/// if there is none.
-pub(crate) fn line_holding(text: &[u8], wanted: usize) -> (usize, &[u8])
-    ensures number { result.0 ≡ (line_holding 1 (rule_lines text.now) wanted).0 }
-    ensures line { result.1.now ≡ (line_holding 1 (rule_lines text.now) wanted).1 }
+/// Where a text begins.
+fn text_begin() -> TextPlace
+    ensures { result ≡ line_begin 1 }
+{
+    TextPlace { line: 1, column: 1 }
+}
+
+/// Returns whether a place comes before another.
+fn comes_before(one: TextPlace, other: TextPlace) -> bool
+    ensures { result ≡ comes_before one other }
+{
+    one.line < other.line || (one.line == other.line && one.column < other.column)
+}
+
+/// Returns whether octets begin with `}`.
+fn begins_with_close(octets: &[u8]) -> bool
+    ensures { result ≡ begins_with_close octets.now }
+{
+    match octets {
+        [] => false,
+        [octet, ..] => *octet == b'}',
+    }
+}
+
+/// Returns whether a line of rules that ends at a place has a fault of this kind at another, where this rest of the text follows.
+fn has_fault(kind: RuleKind, fault: TextPlace, end: TextPlace, rest: &[u8]) -> bool
+    ensures { result ≡ has_fault kind fault end (rule_lines rest.now) }
+{
+    let Some((next, _)) = next_rule_line(rest) else {
+        return true;
+    };
+    match kind {
+        RuleKind::BadLine => {
+            comes_before(fault, end) || (begins_with_close(next) && !comes_before(end, fault))
+        }
+        _ => comes_before(fault, end),
+    }
+}
+
+/// Returns the line of rules that has a fault of this kind at a place, and the place where it begins. It is empty if there is none.
+pub(crate) fn line_holding(text: &[u8], kind: RuleKind, fault: TextPlace) -> (TextPlace, &[u8])
+    ensures begin { result.0 ≡ (line_holding (line_begin 1) (rule_lines text.now) kind fault).0 }
+    ensures line { result.1.now ≡ (line_holding (line_begin 1) (rule_lines text.now) kind fault).1 }
 {
     let mut left = text;
-    let mut number = 1usize;
+    let mut begin = text_begin();
     while let Some((line, rest)) = next_rule_line(left) {
-        let next = number + lines_within(line);
-        if wanted < next {
-            return (number, line);
+        let end = place_after(begin, line);
+        if has_fault(kind, fault, end, rest) {
+            return (begin, line);
         }
-        number = next;
+        begin = end;
         left = rest;
     }
-    (number, &[])
+    (begin, &[])
 }
 
 /// Returns how many octets a line of rules has up to the end of so many of its source lines.
@@ -52,11 +88,16 @@ fn octets_before(line: &[u8], source_lines: usize) -> usize
     count
 }
 
-/// Returns the column, counted in a line of rules, that is this one of a source line after so many others.
-pub(crate) fn column_within(line: &[u8], source_lines: usize, column: usize) -> usize
-    ensures { result ≡ column_within line.now source_lines column }
+/// Returns the column of a place, counted in the line of rules that begins at another.
+pub(crate) fn column_within(line: &[u8], begin: TextPlace, place: TextPlace) -> usize
+    ensures { result ≡ column_within line.now begin place }
 {
-    octets_before(line, source_lines) + column.min(line.len() + 1)
+    let column = if begin.line < place.line {
+        place.column
+    } else {
+        place.column.saturating_sub(begin.column.saturating_sub(1))
+    };
+    octets_before(line, place.line.saturating_sub(begin.line)) + column.min(line.len() + 1)
 }
 
 /// Returns whether a line that begins with a token gives a name.
@@ -91,21 +132,21 @@ fn line_gives(alloc: Global, name: &[u8], line: &[u8]) -> Result<bool, AllocErro
     Ok(gives(name, line, &words))
 }
 
-/// Returns the number of the first line that gives this name, if one does.
+/// Returns the number of the source line in which the first line of rules begins that gives this name, if one does.
 pub(crate) fn giving_line(
     alloc: Global,
     text: &[u8],
     name: &[u8],
 ) -> Result<Option<usize>, AllocError>
-    ensures { IfOk result (λ number. number ≡ giving_line name.now 1 (source_lines text.now)) }
+    ensures { IfOk result (λ number. number ≡ giving_line name.now (line_begin 1) (rule_lines text.now)) }
 {
     let mut left = text;
-    let mut count = 0;
-    while let Some((line, rest)) = next_line(left) {
+    let mut begin = text_begin();
+    while let Some((line, rest)) = next_rule_line(left) {
         if line_gives(alloc, name, line)? {
-            return Ok(Some(count + 1));
+            return Ok(Some(begin.line));
         }
-        count += 1;
+        begin = place_after(begin, line);
         left = rest;
     }
     Ok(None)

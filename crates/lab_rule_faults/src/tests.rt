@@ -4,7 +4,7 @@ use crate::explaining::explain_text;
 use std::test::Fail;
 
 /// Texts of rules, and the whole answer to each.
-const ANSWERS: [(&[u8], &[u8]); 65] = [
+const ANSWERS: [(&[u8], &[u8]); 68] = [
     (
         b"(vpi 1 or\n vpi 2\nclp 1 -> 3\n",
         b"fault rules 1 BadLine 3 1\nline 3 column 1: `clp` doesn't fit here; `..`, `,`, `and`, `or`, `->` or `{` comes next; a `(` is open here\n",
@@ -12,6 +12,18 @@ const ANSWERS: [(&[u8], &[u8]); 65] = [
     (
         b"vpi 1 and (rm or # (\n\n oam\n",
         b"fault rules 1 BadLine 3 5\nline 3: the line ends too early; `and`, `or`, `->` or `{` comes next; a `(` is open here\n",
+    ),
+    (
+        b"vpi 1 { oam}\n",
+        b"fault rules 1 BadLine 1 12\nline 1: the line ends too early; `and`, `or`, `->` or `{` comes next\n",
+    ),
+    (
+        b"define a = 1; define a = 2\n",
+        b"fault rules 11 NameTaken 1 22\nline 1 column 22: `a` is given by line 1; a name is given once\n",
+    ),
+    (
+        b"vpi 1 { oam -> 3; oamf4 -> 4 }\n",
+        b"no fault in 2 rules\nhint line 1 column 19: this rule decides no cell; line 1:9 takes its cells\n",
     ),
     (
         b"vpi 1 => 2\n",

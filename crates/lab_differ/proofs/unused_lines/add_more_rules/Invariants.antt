@@ -4,4 +4,4 @@ use Rattle.lab_differ.proofs.unused_lines.add_more_rules.Given as goal
 
 abbrev pub invariant-loop-place : goal.invariant-loop-place
 invariant-loop-place l =
-    l.answers.items ++ more_rules_text l.numbers (drop l.place-index l.places) ≡ l.fn.answers.items ++ more_rules_text l.numbers l.places
+    l.answers.items ++ more_rules_text l.begins (drop l.place-index l.places) ≡ l.fn.answers.items ++ more_rules_text l.begins l.places

@@ -4,4 +4,4 @@ use Rattle.lab_rule_faults.specs.RuleHints.{rule_hints}
 use Rattle.lab_rule_faults.proofs.rule_hints.add_all_hints.Given as goal
 
 abbrev pub invariant-loop-one : goal.invariant-loop-one
-invariant-loop-one l = l.answers.items ++ rule_hints l.numbers (drop l.one-index l.unused) ≡ l.fn.answers.items ++ rule_hints l.numbers l.unused
+invariant-loop-one l = l.answers.items ++ rule_hints l.begins (drop l.one-index l.unused) ≡ l.fn.answers.items ++ rule_hints l.begins l.unused

@@ -4,7 +4,7 @@ use Rattle.lab_rule_faults.specs.RuleHints.{more_takers}
 use Rattle.lab_rule_faults.proofs.rule_hints.add_more_takers.Given as goal
 
 abbrev pub invariant-loop-left : goal.invariant-loop-left
-invariant-loop-left l = l.answers.items ++ more_takers l.numbers l.room l.left ≡ l.fn.answers.items ++ more_takers l.numbers 7 l.takers
+invariant-loop-left l = l.answers.items ++ more_takers l.begins l.room l.left ≡ l.fn.answers.items ++ more_takers l.begins 7 l.takers
 
 abbrev pub decreases-loop-left : goal.decreases-loop-left
 decreases-loop-left l = length l.left

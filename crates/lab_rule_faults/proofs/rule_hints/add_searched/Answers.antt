@@ -5,7 +5,7 @@ use Rattle.lab_rule_faults.proofs.rule_hints.add_searched.Goals as goal
 
 pub returns : goal.returns
 returns c = (
-  rule_hints c.args.numbered.now.numbers.items c.args.unused.now,
+  rule_hints c.args.numbered.now.begins.items c.args.unused.now,
   c.in_ok-add_all_hints.ensures ∙ ap (λ xs. c.args.answers.now.items ++ rule_hints xs c.args.unused.now) c.deref.ensures.value,
   inl (record {
     rules = c.args.numbered.now.rules;

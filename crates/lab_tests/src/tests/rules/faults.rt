@@ -76,6 +76,33 @@ fn faults_inside_parentheses_have_their_places(rt: HostRuntime) {
 }
 
 #[test]
+fn faults_of_lines_in_one_source_line_have_their_places(rt: HostRuntime) {
+    let rows: [(&[u8], RuleFault); 9] = [
+        (b"any -> 1; foo -> 2", at(RuleKind::UnknownName, 1, 11)),
+        (b"vpi 1 { oam }", at(RuleKind::BadLine, 1, 12)),
+        (b"vpi 1 { oam}", at(RuleKind::BadLine, 1, 12)),
+        (b"any -> 1 }", at(RuleKind::Unbalanced, 1, 10)),
+        (b"vpi 1 { rm -> 1", at(RuleKind::Unbalanced, 1, 1)),
+        (b"(any; rm) -> 1", at(RuleKind::BadLine, 1, 5)),
+        (b"any -> 1 # ; }\n}", at(RuleKind::Unbalanced, 2, 1)),
+        (
+            b"otherwise -> 1; rm -> 2",
+            at(RuleKind::AfterOtherwise, 1, 17),
+        ),
+        (
+            b"oam -> 1; (rm or\n vci 5) {\n any -> 1 } }",
+            at(RuleKind::Unbalanced, 3, 13),
+        ),
+    ];
+    for (text, want) in rows {
+        match read_rules(rt.alloc(), text) {
+            Ok(_) => assert_eq!(rt; 0, want.column),
+            Err(fault) => assert_eq!(rt; fault, want),
+        }
+    }
+}
+
+#[test]
 fn faults_of_names_have_their_places(rt: HostRuntime) {
     let rows: [(&[u8], RuleFault); 14] = [
         (b"define any = 1", at(RuleKind::NameTaken, 1, 8)),
