@@ -58,15 +58,15 @@ module _ (RulesText : List ℕ → List ℕ → Done → Type 0) where
 
   pub of_faults : (octets lines text : List ℕ) (done : Done) → source_after octets ≡ None → rules_after octets ≡ None → faults_after octets ≡ Some lines
       → IsFaultsText lines text done → IsExplainedBy RulesText octets text done
-  of_faults octets lines text done none no is answered =
+  of_faults octets lines text done none other is answered =
       let P : Option (List ℕ) → Type 0 = λ found. MatchOption found (IsScriptExplained octets text done) (λ lines. IsFaultsText lines text done) in
-      of_last octets text done none no (subst P (sym is) answered)
+      of_last octets text done none other (subst P (sym is) answered)
 
   pub of_script : (octets text : List ℕ) (done : Done) → source_after octets ≡ None → rules_after octets ≡ None → faults_after octets ≡ None
       → IsScriptExplained octets text done → IsExplainedBy RulesText octets text done
-  of_script octets text done none no is answered =
+  of_script octets text done none other is answered =
       let P : Option (List ℕ) → Type 0 = λ found. MatchOption found (IsScriptExplained octets text done) (λ lines. IsFaultsText lines text done) in
-      of_last octets text done none no (subst P (sym is) answered)
+      of_last octets text done none other (subst P (sym is) answered)
 
 -- The front of an output with a text.
 front_as : (One Other : List ℕ → Done → Type 0) (before after : List ℕ) → ((text : List ℕ) (done : Done) → One text done → Other text done)
@@ -194,11 +194,11 @@ module _ (octets needed later : List ℕ) (cut : octets ≡ needed ++ later) (no
     (no_faults : faults_after octets ≡ None) (text : List ℕ) (done : Done) (answered : IsScriptExplained needed text done) where
   last_answer : source_after needed ≡ None → rules_after needed ≡ None → (found : Option (List ℕ)) → faults_after needed ≡ found
       → (text' : List ℕ) × IsExplainText needed text' done
-  last_answer none no None is = (text, of_script MayBeRulesExplained needed text done none no is answered)
-  last_answer none no (Some lines) is =
+  last_answer none other None is = (text, of_script MayBeRulesExplained needed text done none other is answered)
+  last_answer none other (Some lines) is =
       let here = alone_here (codes "faults") octets needed later lines text done faults_opens_none cut no_faults is answered in (
         [],
-        subst (λ (d : Done). IsExplainText needed [] d) (sym here.ends) (of_faults MayBeRulesExplained needed [] [] Ended none no here.empty no-faults_answer),
+        subst (λ (d : Done). IsExplainText needed [] d) (sym here.ends) (of_faults MayBeRulesExplained needed [] [] Ended none other here.empty no-faults_answer),
       )
 
   other_answer : source_after needed ≡ None → (found : Option (List ℕ)) → rules_after needed ≡ found → (text' : List ℕ) × IsExplainText needed text' done

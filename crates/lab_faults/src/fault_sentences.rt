@@ -26,10 +26,7 @@ const FAULT_SENTENCES: [(&[u8], &[u8]); 32] = [
         b"file 2 OtherLink",
         b"the packets of this pcap file have link type %, and only 197, ERF, is read",
     ),
-    (
-        b"file 3 Text",
-        b"this file is a text, and no capture",
-    ),
+    (b"file 3 Text", b"this file is a text, and no capture"),
     (
         b"file 4 Xz",
         b"xz compressed this file: pass it through unxz first",
@@ -126,10 +123,7 @@ const FAULT_SENTENCES: [(&[u8], &[u8]); 32] = [
         b"size 2 BadNumber",
         b"a RATE is as 10000 or 149.76Mbit/s, a TIME as 250us, and a tick has 1ns to 1s",
     ),
-    (
-        b"size 3 ZeroRate",
-        b"a rate is 0",
-    ),
+    (b"size 3 ZeroRate", b"a rate is 0"),
     (
         b"size 4 TooFast",
         b"a rate is above one cell in a tick: name a shorter tick",
@@ -198,7 +192,7 @@ fn add_sentence(
     second: &[u8],
 ) -> Result<(), AllocError>
     ensures { OnOk result (answers.new.items ≡ answers.old.items
-        ++ sentence_text (option_map (λ sentence. sentence.now) sentence) first.now second.now) }
+        ++ sentence_text (option_map (λ sentence. sentence.now) sentence.entry) first.now second.now) }
 {
     match sentence {
         Some(sentence) => add_filled(answers, sentence, first, second),
@@ -274,11 +268,7 @@ fn add_explained_line(
 }
 
 /// Appends the answer to a text of fault lines.
-fn add_explained_lines(
-    alloc: Global,
-    answers: &mut Vec<u8>,
-    text: &[u8],
-) -> Result<(), AllocError>
+fn add_explained_lines(alloc: Global, answers: &mut Vec<u8>, text: &[u8]) -> Result<(), AllocError>
     ensures { OnOk result (answers.new.items ≡ answers.old.items ++ faults_text text.now) }
 {
     let mut left = text;

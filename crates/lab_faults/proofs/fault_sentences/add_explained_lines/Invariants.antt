@@ -3,8 +3,8 @@ use Rattle.std.proofs.Common.{◌≡◌, ◌++◌, length}
 use Rattle.lab_faults.specs.FaultSentences.{faults_text}
 use Rattle.lab_faults.proofs.fault_sentences.add_explained_lines.Given as goal
 
-abbrev pub invariant-loop-answers-left : goal.invariant-loop-answers-left
-invariant-loop-answers-left l = l.answers.items ++ faults_text l.left ≡ l.fn.answers.items ++ faults_text l.text
+abbrev pub invariant-loop-content : goal.invariant-loop-content
+invariant-loop-content l = l.answers.items ++ faults_text l.left ≡ l.fn.answers.items ++ faults_text l.text
 
-abbrev pub decreases-loop-answers-left : goal.decreases-loop-answers-left
-decreases-loop-answers-left l = length l.left
+abbrev pub decreases-loop-content : goal.decreases-loop-content
+decreases-loop-content l = length l.left
