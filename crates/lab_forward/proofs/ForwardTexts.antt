@@ -1,5 +1,5 @@
 -- What is forwarded for a setup script, and what is reported.
-use Rattle.std.proofs.Common.{◌≡◌, ◌++◌, inl, inr, ℕ, List, [], Option, Result, Ok, Err, IfOk, refl, sym, subst, append-nil}
+use Rattle.std.proofs.Common.{◌≡◌, ◌++◌, inl, inr, ℕ, List, [], Option, None, Result, Ok, Err, IfOk, refl, sym, subst, append-nil}
 use Rattle.std.proofs.lemmas.Result.{IfOk-weaker}
 use Rattle.std.specs.Global.{Vec}
 use Rattle.std.specs.Result.{OnErr, OnOk}
@@ -11,6 +11,7 @@ use Rattle.lab_police.proofs.SetUpLemmas.{set_up_some}
 use Rattle.lab_police.specs.PolicedCards.{OpensSetup, policed_start}
 use Rattle.lab_police.specs.SetupText.{MayBeSetupPoliced}
 use Rattle.lab_police.specs.declared.policed_card.OpenedCard.TheVariants.{Faulty}
+use Rattle.lab_police.specs.declared.scope.PoliceScope.{PoliceScope}
 use Rattle.lab_scripts.proofs.Public.{some-script_text}
 use Rattle.lab_scripts.specs.ScriptText.{IsScriptExplained}
 use Rattle.text_io.specs.Lines.{lines_of}
@@ -43,8 +44,12 @@ some_forwarded others tick link script octets =
     let explained = some-script_text script in
     forwards_some others tick link script octets explained.0 explained.1 explained.2
 
+-- A scope without lines.
+abbrev silent : Option Link → PoliceScope
+silent link = record { link = link; lines = lines.Nothing; every = None }
+
 setup_some : (others : Others) (tick : ℕ) (link : Option Link) (setup : List ℕ) (texts : List (List ℕ)) (octets text : List ℕ) (done : Done)
-    → MayBeSetupPoliced lines.Nothing tick link setup texts octets text done
+    → MayBeSetupPoliced (silent link) tick setup texts octets text done
     → (text : List ℕ) × (done : Done) × HasReportedText (MayBeSetupForwarded others tick link setup texts) octets text done
 setup_some others tick link setup texts octets text done (inl (faulty, ends)) = ([], Ended, (text, inl (refl, faulty, refl)))
 setup_some others tick link setup texts octets text done (inr (script, made, printed)) =
@@ -54,7 +59,7 @@ setup_some others tick link setup texts octets text done (inr (script, made, pri
 pub some_setup_forwarded : (others : Others) (tick : ℕ) (link : Option Link) (setup : List ℕ) (texts : List (List ℕ)) (octets : List ℕ)
     → (text : List ℕ) × (done : Done) × HasReportedText (MayBeSetupForwarded others tick link setup texts) octets text done
 some_setup_forwarded others tick link setup texts octets =
-    let policed = polices_each lines.Nothing tick link setup texts octets in
+    let policed = polices_each (silent link) tick setup texts octets in
     setup_some others tick link setup texts octets policed.0 policed.1 policed.2
 
 -- What is forwarded by the rules as they are is so where the code of any rules may be reported as too long.
