@@ -5,7 +5,8 @@ pub returns-in-Police : goal.returns-in-Police
 returns-in-Police g c =
     let served = c.police_as_agreed.ensures.served in
     let scripted = rw c.as_slice.ensures.value at served in
-    let here = rw c.as_slice-in-Police.ensures.value at scripted in
+    let ruled = rw c.as_slice-in-Police.ensures.value at scripted in
+    let here = rw c.scope_asked.ensures at ruled in
     rw c.in-Police.is here
 
 pub returns-in-Forward : goal.returns-in-Forward
