@@ -55,13 +55,13 @@ abbrev pub meant_octet : List ℕ → List ℕ → ℕ → List ℕ
 meant_octet first second octet = if octet == 37 then first else if octet == 64 then second else octet ∷ []
 
 -- A sentence with these numbers in place of its marks.
-abbrev pub filled : List ℕ → List ℕ → List ℕ → List ℕ
-filled first second sentence = flat_map (meant_octet first second) sentence
+abbrev pub with_numbers : List ℕ → List ℕ → List ℕ → List ℕ
+with_numbers first second sentence = flat_map (meant_octet first second) sentence
 
 -- The sentence with its numbers, or where there is a sentence for the fault.
 abbrev pub sentence_text : Option (List ℕ) → List ℕ → List ℕ → List ℕ
 sentence_text None first second = codes "the script, the source or the rules themselves have a sentence for it: explain them"
-sentence_text (Some sentence) first second = filled first second sentence
+sentence_text (Some sentence) first second = with_numbers first second sentence
 
 -- The family, the number and the name, with spaces between them.
 abbrev pub fault_key : List ℕ → List ℕ → List ℕ → List ℕ

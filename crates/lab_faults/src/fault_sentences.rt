@@ -5,7 +5,7 @@ ghost use Rattle.bpf_asm.specs.SourceLines.{source_lines};
 ghost use Rattle.text_io.specs.Devices.{Adds};
 ghost use Rattle.text_io.specs.Serving.{IsServed};
 ghost use Rattle.text_io.specs.Words.{words_of};
-ghost use Rattle.lab_faults.specs.FaultSentences.{IsFaultsText, explained_line, fault_key, fault_sentences, faults_text, filled, sentence_among, sentence_text};
+ghost use Rattle.lab_faults.specs.FaultSentences.{IsFaultsText, explained_line, fault_key, fault_sentences, faults_text, with_numbers, sentence_among, sentence_text};
 
 use bpf_asm::next_line;
 use std::alloc::{AllocError, Global};
@@ -170,7 +170,7 @@ fn add_filled(
     first: &[u8],
     second: &[u8],
 ) -> Result<(), AllocError>
-    ensures { OnOk result (answers.new.items ≡ answers.old.items ++ filled first.now second.now sentence.now) }
+    ensures { OnOk result (answers.new.items ≡ answers.old.items ++ with_numbers first.now second.now sentence.now) }
 {
     let mut left = sentence;
     while let [octet, rest @ ..] = left {

@@ -4,7 +4,7 @@ use Rattle.card_core.specs.declared.answer.Answer.{Answer}
 use Rattle.leaky.specs.declared.verdict.Verdict.{Verdict}
 use Rattle.line_record.specs.declared.tally.Tally.{Tally}
 use Rattle.upc_cell.specs.declared.vc.Vc.{Vc}
-use Rattle.lab_police.specs.SpanCounts.{SpansWorld, begin_at, ended_text, ends_span, has_rows, is_begun_after, next_span, present_text, rows_text, span_rows, spans_at}
+use Rattle.lab_police.specs.SpanCounts.{SpansWorld, span_begin, ended_text, ends_span, has_rows, is_begun_after, next_span, present_text, rows_text, span_rows, spans_at}
 use Rattle.lab_police.specs.declared.spans.Spans.{Spans}
 use Rattle.lab_police.specs.inner.SpansShown.{ShowsSpans, length_ticks, own_begun_after, own_ended_text, own_text}
 
@@ -19,10 +19,10 @@ begun_same spans world shown = ap (λ b. b || has_rows spans.rows.entries) shown
 
 -- A moment ends the one if it ends the other.
 pub ends_same : (spans : Spans) (world : SpansWorld) (moment : ℕ) → ShowsSpans spans world
-    → nat_lt spans.begin (begin_at (length_ticks spans.length) moment) ≡ ends_span world moment
+    → nat_lt spans.begin (span_begin (length_ticks spans.length) moment) ≡ ends_span world moment
 ends_same spans world moment shown =
-    ap (λ n. nat_lt n (begin_at (length_ticks spans.length) moment)) shown.begin
-    ∙ ap (λ ticks. nat_lt world.present.begin (begin_at ticks moment)) shown.length
+    ap (λ n. nat_lt n (span_begin (length_ticks spans.length) moment)) shown.begin
+    ∙ ap (λ ticks. nat_lt world.present.begin (span_begin ticks moment)) shown.length
 
 pub ended_same : (spans : Spans) (world : SpansWorld) (moment : ℕ) → ShowsSpans spans world → own_ended_text spans moment ≡ ended_text world moment
 ended_same spans world moment shown =

@@ -29,7 +29,7 @@ use Rattle.upc_run.specs.inner.PortZero.{PortIs}
 use Rattle.upc_run.specs.inner.RunLaws.{cut-led}
 use Rattle.lab_police.specs.PoliceLines.{verdict_given}
 use Rattle.lab_police.specs.PoliceText.{MayBeCut, PoliceWorld, TakesCell, TakesCellWithRoom, after_cell, connection_of_cell, police_rules, police_start}
-use Rattle.lab_police.specs.SpanCounts.{JudgedCell, SpansWorld, begin_at, ends_span, judged_after, next_span, spans_after, spans_at, ticks_of_span}
+use Rattle.lab_police.specs.SpanCounts.{JudgedCell, SpansWorld, span_begin, ends_span, judged_after, next_span, spans_after, spans_at, ticks_of_span}
 use Rattle.lab_police.specs.SpanLaws.{SpansAddUp, all_spans, count_in_spans, verdicts_of}
 use Rattle.lab_police.specs.inner.PoliceTotal.{room_led}
 use Rattle.lab_police.proofs.LeftLemmas.{cut_shaped, enters, put_found, refusal_reason, written}
@@ -401,7 +401,7 @@ at_moment : (spans : SpansWorld) (moment : ℕ) (vc : Vc) (verdict : Verdict)
     → count_in_spans vc verdict (all_spans (spans_at spans moment)) ≡ count_in_spans vc verdict (all_spans spans)
 at_moment spans moment vc verdict = by (ends_span spans moment)
   where
-    by : (b : Bool) → count_in_spans vc verdict (all_spans (if b then next_span spans (begin_at spans.ticks moment) else spans))
+    by : (b : Bool) → count_in_spans vc verdict (all_spans (if b then next_span spans (span_begin spans.ticks moment) else spans))
         ≡ count_in_spans vc verdict (all_spans spans)
     by true = let none = no_cells vc verdict in omega (arith, none)
     by false = refl
@@ -409,7 +409,7 @@ at_moment spans moment vc verdict = by (ends_span spans moment)
 ticks_at : (spans : SpansWorld) (moment : ℕ) → (spans_at spans moment).ticks ≡ spans.ticks
 ticks_at spans moment = by (ends_span spans moment)
   where
-    by : (b : Bool) → (if b then next_span spans (begin_at spans.ticks moment) else spans).ticks ≡ spans.ticks
+    by : (b : Bool) → (if b then next_span spans (span_begin spans.ticks moment) else spans).ticks ≡ spans.ticks
     by true = refl
     by false = refl
 

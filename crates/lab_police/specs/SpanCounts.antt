@@ -106,13 +106,13 @@ next_span spans begin = record {
 }
 
 -- The moment at which the span of this moment begins, if spans are written.
-abbrev pub begin_at : Option ℕ → ℕ → ℕ
-begin_at None moment = 0
-begin_at (Some ticks) moment = begin_of_span ticks moment
+abbrev pub span_begin : Option ℕ → ℕ → ℕ
+span_begin None moment = 0
+span_begin (Some ticks) moment = begin_of_span ticks moment
 
 -- Whether a cell at this moment ends the present span.
 abbrev pub ends_span : SpansWorld → ℕ → Bool
-ends_span spans moment = nat_lt spans.present.begin (begin_at spans.ticks moment)
+ends_span spans moment = nat_lt spans.present.begin (span_begin spans.ticks moment)
 
 -- The text about the present span, if a cell at this moment ends it.
 abbrev pub ended_text : SpansWorld → ℕ → List ℕ
@@ -120,7 +120,7 @@ ended_text spans moment = if ends_span spans moment then present_text spans else
 
 -- The spans at this moment.
 abbrev pub spans_at : SpansWorld → ℕ → SpansWorld
-spans_at spans moment = if ends_span spans moment then next_span spans (begin_at spans.ticks moment) else spans
+spans_at spans moment = if ends_span spans moment then next_span spans (span_begin spans.ticks moment) else spans
 
 -- The judged cells with one more, if it was judged.
 abbrev pub judged_after : List JudgedCell → Vc → Option Verdict → List JudgedCell

@@ -2,7 +2,7 @@
 
 ghost use Rattle.std.specs.Prelude.{◌≡◌, ◌++◌, List, ℕ, OnOk, option_map};
 ghost use Rattle.card_core.specs.Sections.{answer_to};
-ghost use Rattle.lab_police.specs.SpanCounts.{SpansWorld, begin_at, next_span, spans_after, spans_at, spans_start};
+ghost use Rattle.lab_police.specs.SpanCounts.{SpansWorld, span_begin, next_span, spans_after, spans_at, spans_start};
 ghost use Rattle.lab_police.specs.inner.SpansShown.{ShowsSpans, length_ticks, own_begun_after, own_ended_text, own_text};
 
 use crate::cell_lines::verdict_in;
@@ -41,8 +41,8 @@ impl Spans {
 
     /// Returns the moment at which the span of this moment begins, or 0 if spans aren't written.
     #[inline(always)]
-    fn begin_at(&self, moment: u64) -> u64
-        ensures { result ≡ begin_at (length_ticks self.now.length) moment }
+    fn span_begin(&self, moment: u64) -> u64
+        ensures { result ≡ span_begin (length_ticks self.now.length) moment }
     {
         match self.length {
             Some(length) => length.begin_of(moment),
@@ -82,7 +82,7 @@ impl Spans {
         ensures text { OnOk result (answers.new.items ≡ answers.old.items ++ own_ended_text self.old moment) }
         ensures spans { (spans : SpansWorld) → ShowsSpans self.old spans → OnOk result (ShowsSpans self.new (spans_at spans moment)) }
     {
-        let begin = self.begin_at(moment);
+        let begin = self.span_begin(moment);
         if self.begin >= begin {
             return Ok(());
         }

@@ -2,7 +2,7 @@
 use Rattle.std.specs.Prelude.{◌≡◌, ◌||◌, ℕ, nat_lt, Bool, if◌then◌else◌, List, [], Option, option_map}
 use Rattle.leaky.specs.declared.verdict.Verdict.{Verdict}
 use Rattle.upc_cell.specs.declared.vc.Vc.{Vc}
-use Rattle.lab_police.specs.SpanCounts.{JudgedCell, SpansWorld, begin_at, has_rows, rows_text, span_rows}
+use Rattle.lab_police.specs.SpanCounts.{JudgedCell, SpansWorld, span_begin, has_rows, rows_text, span_rows}
 use Rattle.lab_police.specs.declared.span_length.SpanLength.{SpanLength}
 use Rattle.lab_police.specs.declared.spans.Spans.{Spans}
 
@@ -27,7 +27,7 @@ own_text spans = rows_text spans.begun spans.begin spans.rows.entries
 
 -- The same if a cell at this moment ends the span.
 abbrev pub own_ended_text : Spans → ℕ → List ℕ
-own_ended_text spans moment = if nat_lt spans.begin (begin_at (length_ticks spans.length) moment) then own_text spans else []
+own_ended_text spans moment = if nat_lt spans.begin (span_begin (length_ticks spans.length) moment) then own_text spans else []
 
 -- Whether the heading is written after the present span, as it is stored.
 abbrev pub own_begun_after : Spans → Bool
