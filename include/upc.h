@@ -243,20 +243,23 @@ uint32_t upc_burst_tolerance(uint64_t mbs, uint64_t sustained_increment, uint64_
 
 enum { UPC_CELL_OCTETS = 52 };
 
-/* The interface of a header: the user network interface, or that between nodes of the network. */
-enum upc_side { UPC_UNI = 0, UPC_NNI = 1 };
+/* The interface of a header: the user network interface, or that between nodes of the network. On a card of UPC_UNI_PATHS
+ * or UPC_NNI_PATHS each connection is a virtual path with the cells of all its channels. Its calls take channel 0 for it;
+ * a connection set up there on another channel gets no cells. */
+enum upc_side { UPC_UNI = 0, UPC_NNI = 1, UPC_UNI_PATHS = 2, UPC_NNI_PATHS = 3 };
 
 /* The fields of a header. */
 typedef struct upc_fields {
-	uint16_t vpi; /* virtual path, 0 to 255 (UPC_UNI) or 0 to 4095 (UPC_NNI) */
-	uint16_t vci; /* virtual channel */
-	uint8_t gfc;  /* generic flow control, 0 to 15; 0 at UPC_NNI */
+	uint16_t vpi; /* virtual path, 0 to 255 (UPC_UNI, UPC_UNI_PATHS) or 0 to 4095 (UPC_NNI, UPC_NNI_PATHS) */
+	uint16_t vci; /* virtual channel, at each side that of the header */
+	uint8_t gfc;  /* generic flow control, 0 to 15; 0 at UPC_NNI and UPC_NNI_PATHS */
 	uint8_t pti;  /* payload type, 0 to 7 */
 	uint8_t clp;  /* cell loss priority, 0 or 1 */
 } upc_fields;
 UPC_SIZE(upc_fields, 8);
 
-/* The fields of the cell with these 52 octets. Faults: UPC_CELL_WRONG_LENGTH, then UPC_UNKNOWN_SIDE. */
+/* Reads the VPI, VCI and other fields of a cell. It has 52 octets.
+ * Faults: UPC_CELL_WRONG_LENGTH, then UPC_UNKNOWN_SIDE. */
 uint32_t upc_cell_fields(const uint8_t *octets, size_t length, uint32_t side, upc_fields *fields,
                          upc_fault *fault) UPC_RESULT;
 
@@ -396,7 +399,7 @@ UPC_SIZE(upc_state, 80);
 typedef struct upc_cursor {
 	uint32_t begun; /* 0 before the first connection; the other two are then free */
 	uint16_t path;
-	uint16_t channel;
+	uint16_t channel; /* 0 for a virtual path */
 } upc_cursor;
 UPC_SIZE(upc_cursor, 8);
 
@@ -419,8 +422,8 @@ uint32_t upc_card_load(upc_card *card, const uint8_t *octets, size_t length, upc
  * Faults: UPC_NO_CARD, then UPC_DESK_NO_PROGRAM, UPC_DESK_IN_USE. */
 uint32_t upc_card_retire(upc_card *card, const upc_id *program, upc_fault *fault) UPC_RESULT;
 
-/* Sets up a connection on this path and channel. For each of its cells the program names one of the one to four
- * contracts, the first by 1.
+/* Sets up a connection on this path and channel, which is 0 for a virtual path. For each of its cells the program names
+ * one of the one to four contracts, the first by 1.
  * Faults: UPC_MANY_CONTRACTS, then those of upc_contract_check of the first faulty contract, then UPC_NO_CARD,
  * UPC_LARGE_PATH, then UPC_DESK_NO_PROGRAM, UPC_DESK_TAKEN, UPC_DESK_BAD_CONTRACTS (there is none), UPC_DESK_NO_LINE,
  * UPC_DESK_EXHAUSTED. */

@@ -3,10 +3,12 @@
     python3 -m captures UPC_LAB [COUNT] [SEED]
 
 A capture has ERF records, in a third of the cases inside a pcap file, of a few connections and now and then of others; some records hold
-no good cell, some times go back, some captures are cut off or have a changed octet. The last line is 'N passed, M failed'.
+no good cell, some times go back, some captures are cut off or have a changed octet. Half of the cases have a text of rules, and some connections are
+virtual paths. The last line is 'N passed, M failed'.
 """
 import subprocess
 import sys
+import tempfile
 
 from captures.fitting import fitted
 from captures.fit_cases import case_of, edges
@@ -17,7 +19,13 @@ def ran(program, case):
     words = [program, "fit", "--increment", str(case.increment), "--tick", f"{case.tick}ns", "--side", case.side]
     words += [] if case.link is None else ["--link", case.link]
     words += [] if case.clp is None else ["--clp", str(case.clp)]
-    it = subprocess.run(words, input=case.octets, stdout=subprocess.PIPE, stderr=subprocess.PIPE)
+    words += ["--paths"] if case.paths else []
+    with tempfile.NamedTemporaryFile() as rules:
+        if case.rules is not None:
+            rules.write(case.rules)
+            rules.flush()
+            words += ["--rules", rules.name]
+        it = subprocess.run(words, input=case.octets, stdout=subprocess.PIPE, stderr=subprocess.PIPE)
     return it.stdout.decode() + it.stderr.decode(), it.returncode
 
 

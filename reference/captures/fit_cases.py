@@ -4,12 +4,15 @@ import struct
 from collections import namedtuple
 
 from captures.reading import link_for
+from rules.making import text_of
 
 SECOND = 2**32
 LONGEST = 65535
-# What `fit` is asked: the octets, the increment in ticks, the tick in nanoseconds, the word of a link or None, the side, and the cell loss priority
-# or None.
-Case = namedtuple("Case", "octets increment tick link side clp", defaults=[None])
+# What `fit` is asked: the octets, the increment in ticks, the tick in nanoseconds, the word of a link or None, the side, the cell loss priority or
+# None, whether connections are virtual paths, and a text of rules or None.
+Case = namedtuple("Case", "octets increment tick link side clp paths rules", defaults=[None, False, None])
+# More rules than a code of 4096 instructions holds, so that they are tried in order.
+MANY_RULES = b"".join(b"octet %d = %d and octet 4 != 0 -> %d\n" % (5 + it % 47, it % 256, it) for it in range(3000)) + b"vci 0..99 -> 7\n"
 
 
 def record(time, header, kind=3, flags=0, octets=52, extensions=0, length=None):
@@ -72,7 +75,26 @@ def edges():
         Case(65536 * record(0, bytes(4)), 2**48, 1, None, "uni"),
         Case(record(0, bytes(4)) + record(2**64 - 1, bytes(4)), 2**48, 1, None, "nni"),
         Case(65536 * record(0, bytes(4)), 2**48, 1, None, "uni", 1),
+        Case(of_connections(65536), 1, 1, None, "uni", paths=True),
+        Case(of_connections(32768), 1, 1, None, "uni", rules=b"otherwise 4294967295\n"),
+        Case(of_connections(65536), 1, 1, None, "nni", paths=True, rules=b"vci 0..32767 -> 1\n"),
+        Case(of_connections(65536), 1, 1, None, "uni", rules=b"otherwise 1\n"),
+        Case(of_connections(200), 1, 1, None, "uni", rules=MANY_RULES),
+        Case(of_connections(2), 1, 1, None, "uni", rules=(b"#" * 1023 + b"\n") * 1024),
+        Case(of_connections(2), 1, 1, None, "uni", rules=(b"#" * 1023 + b"\n") * 1024 + b"\n"),
+        Case(b"", 1, 1, None, "uni", rules=b"vpi\n"),
+        Case(b"", 1, 1, None, "uni", rules=b""),
     ]
+
+
+def rules_for(random_):
+    """Returns a text of rules, or None. Some have a fault."""
+    kind = random_.random()
+    if kind < 0.5:
+        return None
+    if kind < 0.7:
+        return random_.choice([b"clp 0 -> 1\notherwise 2\n", b"pti 0, 1 -> 3\nclp 1 -> refuse\n", b"any { clp 1 -> 2\n pti 3..7 -> 1\n}\n", b"side nni\ngfc 1 -> 2\n"])
+    return text_of(random_)
 
 
 def case_of(seed, number):
@@ -89,4 +111,5 @@ def case_of(seed, number):
     if random_.random() < 0.05 and len(octets) > 11:
         at = random_.randrange(len(octets))
         octets = octets[:at] + bytes([random_.randrange(256)]) + octets[at + 1 :]
-    return Case(octets, increment, tick, link_for(random_, octets), random_.choice(["uni", "nni"]), random_.choice([None, None, 0, 1]))
+    link, side, clp = link_for(random_, octets), random_.choice(["uni", "nni"]), random_.choice([None, None, 0, 1])
+    return Case(octets, increment, tick, link, side, clp, random_.random() < 0.2, rules_for(random_))

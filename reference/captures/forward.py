@@ -18,6 +18,7 @@ from captures.policing import card_of, tick_of
 from captures.fit_cases import as_pcap
 from captures.making import in_pcapng
 from captures.reading import link_for, records_of
+from captures.timing import TimedScript
 from captures.formats import Block
 
 TABLE_COLUMNS = 6
@@ -53,7 +54,7 @@ def wanted(program, script, octets, tick, link, others):
     """Returns what the program has to answer."""
     given = forwarded(script, octets, tick, link, others)
     if given is None:
-        explained = program.ran(["explain"], tick_of(script)[1])
+        explained = program.ran(["explain"], TimedScript(tick_of(script)[1]).faulty())
         return b"", explained[0], explained[2]
     return given
 

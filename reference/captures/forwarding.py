@@ -8,8 +8,9 @@ import sys
 
 from captures import formats
 from captures.counting import Capture
-from captures.policing import card_of, judged, policed, tick_of
+from captures.policing import judged, policed, tick_of
 from captures.reading import CHANNEL, EXTENSION, HEADER, MORE, record_of
+from captures.timing import Commands, TimedScript
 from policer.cell import connection_of
 
 
@@ -55,8 +56,10 @@ def until_second_link(octets, link):
         yield number, own
 
 
-def goes_on(card, counted, octets):
+def goes_on(commands, counted, octets):
     """Returns what is written of the record of a cell that counts."""
+    commands.due(counted.moment)
+    card = commands.card
     verdict = judged(card, connection_of(counted.cell, card.side), counted.moment, counted.cell)[1]
     if verdict == "pass":
         return whole(octets)
@@ -64,19 +67,26 @@ def goes_on(card, counted, octets):
 
 
 def forwarded(script, octets, asked, link, others):
-    """Returns the output, the report and the exit status, or None if `upc-lab explain` has a fault line for the script without its tick. No tick
-    need be asked for."""
+    """Returns the output, the report and the exit status, or None if `upc-lab explain` has a fault line for the script without its tick and its
+    times. No tick need be asked for."""
     report = policed(script, octets, asked, link, "none")
     named, script = tick_of(script)
     if None not in (named, asked) and named != asked:
         return b"", *report
-    card, tick = card_of(script), named or asked or 100
-    if card is None:
+    timed, tick = TimedScript(script), named or asked or 100
+    if timed.falls:
+        return b"", *report
+    if timed.faulty() is not None:
         return None
-    counted = {it.number: it for it in Capture(octets, tick, link).cells}
+    commands = Commands(timed, tick)
+    capture = Capture(octets, tick, link)
+    if capture.several:
+        # The report has the fault alone.
+        report = capture.several.encode(), 1
+    counted = {it.number: it for it in capture.cells}
     other = whole if others == "pass" else lambda own: b""
     written = [
-        goes_on(card, counted[number], own) if number in counted else other(own)
+        goes_on(commands, counted[number], own) if number in counted else other(own)
         for number, own in until_second_link(octets, link)
     ]
     return b"".join(written), report[0], report[1]

@@ -3,7 +3,8 @@
     python3 -m captures.police UPC_LAB [COUNT] [SEED]
 
 Where a line of the script has a fault, the output is that of `upc-lab explain`. Some scripts name files of rules: then the output is
-that for the script with the programs that `upc-lab rules` makes of them, or the fault of the first file that has one. The last line is
+that for the script with the programs that `upc-lab rules` makes of them, or the fault of the first file that has one; and standard error has the
+comments of `upc-lab rules`, with the names of the files. The last line is
 'N passed, M failed'.
 """
 import os
@@ -15,6 +16,7 @@ import tempfile
 
 from captures.police_cases import Case, case_of, edges, long_case
 from captures.policing import policed, tick_of
+from captures.timing import TimedScript
 
 # A script and a capture, and words that are refused.
 ONE = Case(b"card 1 1 1 1\n", b"", 100, None, "all")
@@ -68,7 +70,7 @@ def wanted(program, case):
     """Returns what the program has to answer to a case."""
     given = policed(*case) if case.tick != 100 else policed(*case._replace(tick=None))
     if given is None:
-        return program.ran(["explain"], tick_of(case.script)[1])
+        return program.ran(["explain"], TimedScript(tick_of(case.script)[1]).faulty())
     return given[0], b"", given[1]
 
 
@@ -111,7 +113,7 @@ class Rules:
     """A case with files of rules in place of some of its programs."""
 
     def __init__(self, program, case, random_):
-        self.program, self.fault = program, None
+        self.program, self.fault, self.comments = program, None, b""
         self.named, self.expanded = [], []
         for number, line in enumerate(case.script.split(b"\n"), 1):
             is_replaced = line.startswith(b"load ") and random_.random() < 0.7
@@ -129,7 +131,8 @@ class Rules:
         name = before + b"%d.rules" % number
         with open(os.path.join(os.path.dirname(self.program.setup), name.decode()), "wb") as it:
             it.write(text)
-        output, _, status = self.program.ran(["rules"], text)
+        output, comments, status = self.program.ran(["rules"], text)
+        self.comments += b"".join(b"# %s: %s" % (name, it[2:]) for it in comments.splitlines(keepends=True))
         if status and self.fault is None:
             self.fault = output + b"line %d: in the rules of `%s`\n" % (number, name)
         self.add(b" rules  %s" % name, b"load " + output.split(b"\n")[1])
@@ -137,7 +140,8 @@ class Rules:
     def wrong(self):
         """Returns what is wrong with the answer, or None."""
         ours = self.program.police(self.named_case)
-        theirs = (self.fault, b"", 1) if self.fault else wanted(self.program, self.expanded_case)
+        output, _, status = (self.fault, b"", 1) if self.fault else wanted(self.program, self.expanded_case)
+        theirs = (output, self.comments, status)
         return None if ours == theirs else wrong_lines(ours, theirs)
 
 

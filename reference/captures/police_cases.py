@@ -12,6 +12,7 @@ from captures.making import in_pcapng
 from captures.policing import card_of, judged
 from captures.reading import link_for
 from policer.card import LAST_MOMENT
+from policer.cell import PATH_BITS, has_paths
 from policer.faults import Fault
 from policer.run_dialogue import RunDialogue
 from policer.text_lines import asks_nothing, words_of
@@ -45,11 +46,14 @@ def without_faults(lines):
 
 def usual_lines(random_):
     """Returns a script of a few connections, whose program returns the first octet of the payload, or 1."""
-    side, most = random_.choice([("uni", 255), ("nni", 4095)])
+    side = random_.choice(list(PATH_BITS))
+    most = (1 << PATH_BITS[side]) - 1
     lines = [f"card 2 5 1 {random_.choice([1, 2, 7, 1000])} {side}", "load 00300000000000040016000000000000", "load 0006000000000001"]
     for number in range(random_.randint(1, 5)):
         contracts = " ".join(contract_of(random_) for _ in range(random_.randint(1, 4)))
-        lines.append(f"setup {random_.choice([0, 1, most])} {random_.choice([number, 65535 - number])} p{random_.choice([1, 1, 2])} {contracts}")
+        path, channel = random_.choice([0, 1, most]), random_.choice([number, 65535 - number])
+        words = f"{random_.choice([number, most - number])} *" if has_paths(side) else f"{path} {channel}"
+        lines.append(f"setup {words} p{random_.choice([1, 1, 2])} {contracts}")
     return [line.encode() for line in lines]
 
 
@@ -90,7 +94,7 @@ class Traffic:
         """Returns a connection, mostly one that is set up."""
         if self.card.connections and self.random.random() < 0.95:
             return self.random.choice(sorted(self.card.connections))
-        return self.random.randrange(256), self.random.randrange(65536)
+        return self.random.randrange(256), 0 if has_paths(self.card.side) else self.random.randrange(65536)
 
     def go_on(self, vc):
         """Goes on to the next moment: soon, or when a bucket of the connection begins to conform."""
@@ -150,7 +154,7 @@ def case_of(seed, number):
     script, tick = script_of(random_), random_.choice(TICKS)
     count = random_.choice([0, 1, 10, 30, 60, 100, 200, 300])
     octets = capture_of(random_, script, tick, count)
-    script, asked = with_tick(random_, script, tick)
+    script, asked = with_tick(random_, with_times(random_, script, tick), tick)
     link, lines = link_for(random_, octets), random_.choice(LINES)
     return Case(script, octets, asked, link, lines, span_for(random_, tick))
 
@@ -159,6 +163,31 @@ def span_for(random_, tick):
     """Returns the nanoseconds of a span, or None."""
     ticks = random_.choice([None, None, 1, 2, 10, 100, 10**6])
     return ticks and max(1, near(random_, ticks * tick, 2**64 - 1) if random_.random() < 0.5 else ticks * tick)
+
+
+def with_times(random_, script, tick):
+    """Returns a script of which some of the last lines may be carried out while cells arrive, with more commands. Few have faults."""
+    lines = script.split(b"\n")
+    if random_.random() < 0.5 or len(lines) < 3:
+        return script
+    more = [
+        random_.choice([
+            b"reload %d %d p%d" % (random_.choice([0, 0, 1]), random_.choice([0, 1, 2, 65535]), random_.randint(1, 4)),
+            b"load 00%02x%012x" % (random_.choice([6, 6, 6, 7]), random_.randint(0, 5)), b"load 00300000000000040016000000000000", b"# a remark", b"",
+            b"setup %d 7 p1 cbr1:3/2" % random_.randint(0, 3), b"retire p%d" % random_.randint(1, 3), b"cut 0 0", b"release 0 0", b"cell 0 00000000", b"lod 1",
+        ])
+        for _ in range(random_.randint(0, 6))
+    ]
+    first = random_.randint(1, len(lines))
+    present, made = 0, lines[:first]
+    for line in lines[first:] + more:
+        present += random_.choice([0, 1, 5, 20, 200, 10**6]) * tick + random_.choice([0, 0, 1, tick // 2])
+        present -= random_.choice([0] * 60 + [1])
+        time = f"{max(0, present)}ns" if present % 1000 or random_.random() < 0.8 else f"{present // 1000}us"
+        time = random_.choice([time] * 60 + ["5", "1 us"])
+        before = random_.choice(["at {} "] * 8 + ["", " \tat\t {}  ", "at {}\t"]).format(time).encode()
+        made.append((before or b"at 0ns " * (len(made) == first)) + line)
+    return b"\n".join(made)
 
 
 def with_tick(random_, script, tick):
@@ -205,6 +234,9 @@ def edges():
     one = f"{opened}setup 1 100 p1 cbr1:10/5\n".encode()
     ones = cell_at(0) + cell_at(4) + cell_at(5)
     nodes = f"card 1 1 1 1 nni\n{PASS_ALL}setup 2049 100 p1 cbr1:10/5\n".encode()
+    path = f"card 1 2 1 1 uni paths\n{PASS_ALL}setup 1 * p1 cbr1:10/5\nsetup 2 * p1 cbr1:10/5\n".encode()
+    path_between = f"card 1 1 1 1 nni paths\n{PASS_ALL}setup 2049 * p1 cbr1:10/5\n".encode()
+    channels = cell_at(0, 0x00100640) + cell_at(4, 0x00100030) + cell_at(5, 0x001FFFF0) + cell_at(6, 0x00200040) + cell_at(7, 0x00300640)
     second = b"load 0006000000000002\nsetup 1 100 p2 cbr1:10/5 vbr3:10/5:20/0 vbr1:1/1:1/1\n"
     pcap = struct.pack("<IHHIIII", 0xA1B2C3D4, 2, 4, 0, 0, LONGEST, 1)
     given = [
@@ -228,6 +260,9 @@ def edges():
         (one + b"cell 0 00100640\nrelease 1 100\nsetup 1 101 p1 cbr1:1/1\nsetup 1 100 p1 cbr1:7/0\n", ones),
         # Paths of twelve bits, and flow control beside paths of eight.
         (nodes, cell_at(0, 0x80100640) + cell_at(1, 0x00100640)), (one, cell_at(0, 0x80100640) + cell_at(1, 0xF0100641) + cell_at(2, 0x01100640)),
+        # Virtual paths: cells of any channel, and of paths without a connection.
+        (path, channels), (path, channels * 2), (path_between, cell_at(0, 0x80100640) + cell_at(1, 0x80100040) + cell_at(2, 0x00100640)),
+        (path + b"setup 3 100 p1 cbr1:1/1\n", channels), (one + b"setup 1 * p1 cbr1:1/1\n", channels), (path + b"release 1 *\n", channels),
         # Two links, at once and later; and records of each reason, in the wrong order.
         (one, cell_at(0, flags=1) + cell_at(1)), (one, ones + cell_at(6, flags=3) + b"no record"), (one, cell_at(9, flags=0x10) + cell_at(8, kind=2) + ones),
     ]
@@ -244,6 +279,17 @@ def edges():
     cases += [Case(one, apart, 1000, None, lines, every) for lines in ("all", "none") for every in (1, 999, 1000, 4000, 5000, 5999, 20_000, 10**6, 2**64 - 1)]
     cases += [Case(one, both, 1000, link, "none", 1000) for link in (None, "0", "1")]
     cases += [Case(one, octets, 1000, None, "none", 1000) for octets in (b"", ones[:-1], ones + ones[:16])]
+    # Commands under traffic: at, before and after the moments of cells; lines without their own time; commands that aren't taken; times that fall.
+    timed = [
+        b"at 4us reload 1 100 p2\n", b"at 4001ns reload 1 100 p2\n", b"at 3999ns reload 1 100 p2\n", b"at 0s reload 1 100 p2\n", b"at 1s reload 1 100 p2\nat 2s retire p1",
+        b"at 4us\n# a remark\nreload 1 100 p2\n\n\tat 5us  reload 1 100 p1\r\n", b"at 4us load 0006000000000000\n load 0006000000000001\nreload 1 100 p3\n",
+        b"at 4us release 1 100\ncut 1 100\ncell 0 00100640\n", b"at 4us setup 2 2 p1 cbr1:1/1\nretire p2\n", b"at 5us reload 1 100 p2\nat 4us reload 1 100 p1\n",
+        b"at 5 reload 1 100 p2\n", b"at 5us\n", b"at 4us # a remark\n", b"at 4us at 5us reload 1 100 p2\n", b"at 18446744073709551615ns reload 1 100 p2\n", b"At 4us reload 1 100 p2\n",
+        b"at 4us reload 1 101 p2\n", b"at 4us tick 1us\n",
+    ]
+    two = one.replace(b"setup", b"load 0006000000000000\nsetup", 1)
+    cases += [Case(two + line, ones + cell_at(20), 1000, None, lines, every) for line in timed for lines, every in (("all", None), ("none", None), ("none", 4000))]
+    cases += [Case(b"at 0us " + one, ones, 1000, None, "all"), Case(b"tick 1us\nat 0us tick 1us\n" + one, ones, None, None, "all")]
     # Cells after a loss.
     cases += [Case(one, ones[:68] + lossy(cell_at(4)) + cell_at(5), 1000, None, lines) for lines in ("all", "none")]
     return cases + [Case(one, cell_at(0) + record(LAST_TIME, bytes.fromhex("00100641")), tick, None, "all") for tick in (1, 100, 10**9)]

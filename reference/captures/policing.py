@@ -2,16 +2,16 @@
 
     python3 -m captures.policing SETUP [--tick NANOSECONDS] [--link LINK] [--lines all|refused|none] [--every NANOSECONDS] < CAPTURE
 
-The first line of SETUP with words may be `tick TIME`.
+The first line of SETUP with words may be `tick TIME`. Lines `at TIME COMMAND` and those after them are carried out while cells arrive.
 """
 import argparse
 import sys
 
 from captures.counting import Capture
-from policer.cell import connection_of, priority_of
+from captures.timing import Commands, TimedScript, dialogue_of
+from policer.cell import channel_name, connection_of, priority_of
 from policer.faults import Fault
-from policer.run_dialogue import RunDialogue
-from policer.text_lines import asks_nothing, limited_lines, raw_lines, without_return, words_of
+from policer.text_lines import asks_nothing, raw_lines, without_return, words_of
 from sizes.contract import SizeFault, time
 
 HEADING = ("record", "moment", "vpi", "vci", "clp", "value", "verdict", "bucket", "excess")
@@ -45,15 +45,8 @@ def tick_of(script):
 
 def card_of(script):
     """Returns the card after a script, or None if a line of it has a fault."""
-    dialogue = RunDialogue()
-    try:
-        for line in limited_lines(script):
-            words = words_of(line)
-            if not asks_nothing(words):
-                dialogue.answer(words)
-    except Fault:
-        return None
-    return dialogue.card
+    dialogue = dialogue_of(script)
+    return dialogue and dialogue.card
 
 
 def arrived(card, vc, moment, cell):
@@ -93,20 +86,29 @@ def run_comments(tick, capture):
     return "".join([f"# a tick is {tick} ns\n", *losses])
 
 
-def spans_of(judged_cells, ticks):
+def columns_of(vc, side):
+    """Returns the columns of a connection."""
+    path, channel = vc
+    return path, channel_name(channel, side)
+
+
+def spans_of(judged_cells, ticks, side):
     """Returns for the beginning of each span with judged cells the lines of its connections."""
     verdicts = {}
     for vc, moment, verdict in judged_cells:
         verdicts.setdefault(moment // ticks * ticks, {}).setdefault(vc, []).append(verdict)
-    return {begin: [("span", begin, *vc, *(of.count(it) for it in VERDICTS)) for vc, of in sorted(its.items())] for begin, its in verdicts.items()}
+    return {begin: [("span", begin, *columns_of(vc, side), *(of.count(it) for it in VERDICTS)) for vc, of in sorted(its.items())] for begin, its in verdicts.items()}
 
 
 class Policed:
-    """The cells of a capture on a card: the lines of those that have one, and the records of those that aren't judged."""
+    """The cells of a capture on a card with commands: the lines of those that have one, and the records of those that aren't judged."""
 
-    def __init__(self, card, lines, ticks=None):
-        self.card = card
+    def __init__(self, commands, lines, ticks=None):
+        self.commands = commands
+        self.card = commands.card
         self.lines = lines
+        # The lines of commands, each with the moment of the cell before it.
+        self.of_commands = []
         # How many ticks a span has, or None.
         self.ticks = ticks
         # The lines of cells, each with its moment.
@@ -118,7 +120,9 @@ class Policed:
         self.unjudged = {reason: [] for reason in REASONS}
 
     def take(self, counted):
-        """Brings a cell to the card."""
+        """Brings a cell to the card, after the commands whose moment has come."""
+        before = -1 if self.latest is None else self.latest
+        self.of_commands += [(before, ("command", *it)) for it in self.commands.due(counted.moment)]
         self.latest = counted.moment
         vc = connection_of(counted.cell, self.card.side)
         value, verdict, bucket, excess = judged(self.card, vc, counted.moment, counted.cell)
@@ -127,19 +131,19 @@ class Policed:
         else:
             self.judged_cells.append((vc, counted.moment, verdict))
         if self.lines == "all" or self.lines == "refused" and verdict != "pass":
-            self.of_cells.append((counted.moment, (counted.number, counted.moment, *vc, priority_of(counted.cell), value, verdict, bucket, excess)))
+            self.of_cells.append((counted.moment, (counted.number, counted.moment, *columns_of(vc, self.card.side), priority_of(counted.cell), value, verdict, bucket, excess)))
 
     def rows(self, is_whole):
-        """Returns the lines of cells and of spans, each span after the cells before its end, and before the first of each kind its heading. If
-        the run was ended, the last span has none."""
-        lines = [(moment, 1, line) for moment, line in self.of_cells]
-        spans = spans_of(self.judged_cells, self.ticks) if self.ticks else {}
+        """Returns the lines of cells, of commands and of spans, each span after the cells before its end, and before the first cell and the first
+        span its heading. If the run was ended, the last span has none."""
+        lines = [(moment, 1, line) for moment, line in self.of_cells] + [(moment, 2, line) for moment, line in self.of_commands]
+        spans = spans_of(self.judged_cells, self.ticks, self.card.side) if self.ticks else {}
         latest = self.latest // self.ticks * self.ticks if self.ticks and self.latest is not None else 0
         lines += [(begin + self.ticks, 0, line) for begin, its in spans.items() for line in its if is_whole or begin < latest]
         # Sorting keeps the order of lines at one place.
         rows = [line for _, _, line in sorted(lines, key=lambda it: it[:2])]
         for heading, is_span in ((HEADING, False), (SPAN_HEADING, True)):
-            first = next((place for place, line in enumerate(rows) if (line[0] == "span") == is_span), None)
+            first = next((place for place, line in enumerate(rows) if line[0] != "command" and (line[0] == "span") == is_span), None)
             if first is not None:
                 rows.insert(first, heading)
         return rows
@@ -147,7 +151,7 @@ class Policed:
     def table(self):
         """Returns the counts of each connection, and the comments about cells that weren't judged."""
         connections = sorted(self.card.connections.items())
-        counts = [(*vc, *(self.card.judged[it.line][verdict] for verdict in VERDICTS)) for vc, it in connections]
+        counts = [(*columns_of(vc, self.card.side), *(self.card.judged[it.line][verdict] for verdict in VERDICTS)) for vc, it in connections]
         comments = [
             f"# {len(self.unjudged[reason])} not judged: {why}; first record {self.unjudged[reason][0]}\n"
             for reason, why in REASONS.items()
@@ -157,23 +161,25 @@ class Policed:
 
 
 def policed(script, octets, asked, link, lines, every=None):
-    """Returns the output and the exit status, or None if `upc-lab explain` has a fault line for the script without its tick. Neither a tick nor
-    spans need be asked for."""
+    """Returns the output and the exit status, or None if `upc-lab explain` has a fault line for the script without its tick and its times. Neither
+    a tick nor spans need be asked for."""
     named, script = tick_of(script)
     if None not in (named, asked) and named != asked:
         return f"fault tick 1 Differs {named} {asked}\n".encode(), 1
     tick = named or asked or 100
-    card = card_of(script)
-    if card is None:
+    timed = TimedScript(script)
+    if timed.falls:
+        return f"fault at 1 Falls {timed.falls}\n".encode(), 1
+    if timed.faulty() is not None:
         return None
     capture = Capture(octets, tick, link)
     if capture.refused:
         return capture.refused.encode(), 1
-    cells = Policed(card, lines, every and max(1, every // tick))
+    cells = Policed(Commands(timed, tick), lines, every and max(1, every // tick))
     for counted in capture.cells:
         cells.take(counted)
     # A cell of a second link ends the run at once.
-    ended = capture.several or cells.table() + run_comments(tick, capture) + capture.closing()
+    ended = capture.several or cells.table() + cells.commands.comment() + run_comments(tick, capture) + capture.closing()
     rows = "".join(row(it) for it in cells.rows(not capture.several))
     return (rows + ended).encode(), 1 if capture.several or capture.fault else 0
 

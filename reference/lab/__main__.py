@@ -5,13 +5,13 @@
 
 The steps of a trace are those of the reference's machine, and its other lines those of `upc eval`. A listing assembles to the
 program that is listed, and ends with the comment of its longest run. The line, the column and the path of an explanation
-are those of the reference, and so are the rules that have a hint. The last line is 'N passed, M failed'.
+are those of the reference, and so are the rules that have a hint; `upc-lab rules` has the same hints as comments. The last line is 'N passed, M failed'.
 """
 import re
 import sys
 
 from lab.explaining import wrong_explanation
-from lab.explaining_rules import rules_input, wrong_rules_explanation
+from lab.explaining_rules import rules_input, wrong_comments, wrong_rules_explanation
 from lab.explaining_scripts import wrong_script_explanation
 from lab.listing import longest_comment
 from lab.tracing import TraceDialogue
@@ -84,7 +84,8 @@ def rules_explanations(lab, count, seed):
     for number in range(count):
         text, is_all, source = rules_input(seed, number)
         ours = of_program(lab, "explain", RULES_LINES[number % len(RULES_LINES)] + text)
-        wrong = wrong_rules_explanation(text, is_all, ours, source)
+        compiled = of_program(lab, "rules", text)
+        wrong = wrong_rules_explanation(text, is_all, ours, source) or (ours[1] == compiled[1] == 0 and wrong_comments(ours[0], compiled[2]))
         if wrong:
             failed += 1
             print(f"explain, rules {number} of seed {seed}: {wrong}")

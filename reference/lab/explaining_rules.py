@@ -98,6 +98,13 @@ def wrong_rules_explanation(text, is_all, ours, source):
     return wrong_hints(reader, answer[len(begins):], cells, is_all)
 
 
+def wrong_comments(explained, messages):
+    """Returns what is wrong with what `rules` writes to standard error about a text without a fault that is explained so, or None: each
+    hint is a comment."""
+    wanted = b"".join(b"# " + hint for hint in explained.splitlines(keepends=True)[1:])
+    return None if messages == wanted else f"the comments {messages[:300]!r} and not {wanted[:300]!r}"
+
+
 def rules_input(seed, number):
     """Returns a text of rules, whether all of its cells that differ can be tried, and the source of random numbers after it."""
     source = random.Random(f"explain {seed} {number}")

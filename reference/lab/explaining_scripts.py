@@ -1,7 +1,7 @@
 """Where `upc-lab explain` finds the faults of a script: their lines and columns, but no sentences. And its hints, whole."""
 import re
 
-from policer.cell import PATH_BITS
+from policer.cell import has_paths
 from policer.faults import Fault
 from policer.run_dialogue import COMMANDS, RunDialogue, card_of
 from policer.script_words import connection_of, contract_of, contracts_of, number_of, program_of
@@ -20,6 +20,9 @@ GOOD = {
     b"release": [b"0", b"0"],
     b"cut": [b"0", b"0"],
 }
+
+# The place of the word for a channel in each command that has one.
+CHANNEL_PLACE = 2
 
 # The word, from 0, that a fault is about; -1 is the last one.
 BLAMED = {
@@ -71,11 +74,20 @@ def opens_card(words, _side):
     return True
 
 
+def good_words(command, side):
+    """Returns words that complete a command on a card of this side."""
+    words = list(GOOD.get(command, []))
+    if has_paths(side) and command in (b"setup", b"reload", b"release", b"cut"):
+        words[CHANNEL_PLACE - 1] = b"*"
+    return words
+
+
 def wrong_place(words, side, is_line):
     """Returns the first word that no further words make right, or None if the line ends too early."""
+    good = good_words(words[0], side)
     for place in range(len(words)):
         begun = words[: place + 1]
-        if not is_line(begun + GOOD.get(words[0], [])[place:], side):
+        if not is_line(begun + good[place:], side):
             return place
     return None
 
@@ -110,21 +122,26 @@ def hint_of(program, count):
     return "this program never returns %s, so each cell of the connection is refused" % numbers
 
 
+# How an explanation ends if the fault may come from an earlier line that was not carried out, and the faults that may.
+FOLLOWS = "; an earlier line with a fault may be the reason"
+MAY_FOLLOW = ("fault desk 1 ", "fault desk 2 ", "fault arrive 1 ")
+
+
 class Explained:
-    """The wanted lines, each with whether it is whole or only begins so."""
+    """The wanted lines: each is whole, or has a beginning and an end."""
 
     def __init__(self):
         self.lines, self.is_faulty = [], False
 
     def add_whole(self, line):
         """Adds a line."""
-        self.lines.append((line, True))
+        self.lines.append((line, None))
 
     def add_fault(self, fault, start):
-        """Adds a fault line, and how its explanation begins."""
-        self.is_faulty = True
+        """Adds a fault line, and how its explanation begins and ends."""
         self.add_whole(fault)
-        self.lines.append((start, False))
+        self.lines.append((start, FOLLOWS if self.is_faulty and fault.startswith(MAY_FOLLOW) else ""))
+        self.is_faulty = True
 
 
 def place_of(number, found, place):
@@ -169,9 +186,13 @@ def explained_script(text):
     return explained
 
 
-def is_wanted(line, want, is_whole):
-    """Returns whether a line is the wanted one, or begins so and goes on with a sentence."""
-    return line == want.encode() if is_whole else line.startswith(want.encode()) and len(line) > len(want) + 8
+def is_wanted(line, want, end):
+    """Returns whether a line is the wanted one, or begins so, goes on with a sentence and has this end."""
+    if end is None:
+        return line == want.encode()
+    if line.endswith(FOLLOWS.encode()) != bool(end):
+        return False
+    return line.startswith(want.encode()) and len(line) > len(want) + len(end) + 8
 
 
 def wrong_script_explanation(text, ours):
@@ -181,10 +202,10 @@ def wrong_script_explanation(text, ours):
     if ours[1:] != (status, b""):
         return f"status {ours[1:]} in place of {status}"
     lines = ours[0].split(b"\n")
-    wanted = explained.lines + [("", True)]
+    wanted = explained.lines + [("", None)]
     if len(lines) != len(wanted):
         return f"{len(lines)} lines in place of {len(wanted)}"
-    for line, (want, is_whole) in zip(lines, wanted):
-        if not is_wanted(line, want, is_whole):
+    for line, (want, end) in zip(lines, wanted):
+        if not is_wanted(line, want, end):
             return f"{line} in place of {want}"
     return None

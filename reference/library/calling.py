@@ -111,8 +111,11 @@ class Calls:
             known = list(self.model.connections) if self.model else []
             path, channel = self.rng.choice(known) if known and self.rng.random() < 0.9 else self.vc()
             side = 0 if self.model is None else self.model.shape[0]
+            if side > 1:
+                # The cells of a virtual path are of any channel.
+                channel = self.rng.choice((0, 3, 4, 100, 65535))
             head[:4] = (path << 20 | channel << 4 | self.rng.randrange(16)).to_bytes(5, "big")[-4:]
-            if side == 0:
+            if side % 2 == 0:
                 head[0] |= self.rng.randrange(16) << 4
         return bytes(head) if self.rng.random() < 0.97 else bytes(head) + bytes(self.rng.choice((1, 3)))
 
@@ -185,16 +188,16 @@ class Calls:
 
     def try_fields(self):
         """upc_cell_fields and upc_cell_tag."""
-        it, side, fields = self.cell(), self.rng.choice((0, 0, 1, 1, 2, 2**32 - 1)), Fields()
+        it, side, fields = self.cell(), self.rng.choice((0, 0, 1, 1, 2, 3, 4, 2**32 - 1)), Fields()
         shared = octets(it)
 
         def read():
             if len(it) != 52:
                 raise Refused("cell", 1, len(it))
-            if side > 1:
+            if side > 3:
                 raise refused_call("UnknownSide")
-            path, channel = cells.connection_of(it, ("uni", "nni")[side])
-            return path, channel, it[0] >> 4 if side == 0 else 0, it[3] >> 1 & 7, it[3] & 1
+            path, channel = cells.connection_of(it, ("uni", "nni")[side % 2])
+            return path, channel, it[0] >> 4 if side % 2 == 0 else 0, it[3] >> 1 & 7, it[3] & 1
 
         wanted = self.asked("upc_cell_fields", read, shared, ctypes.c_size_t(len(it)), side, ctypes.byref(fields))
         same("upc_cell_fields, the fields", values_of(fields), wanted or (0,) * 5)

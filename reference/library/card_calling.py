@@ -28,15 +28,15 @@ class CardCalls(Calls):
         if self.model is not None and self.rng.random() < 0.1:
             self.library.upc_card_free(ctypes.byref(self.card))
             self.model = None
-        shape = (self.rng.choice((0, 1)), self.rng.choice((1, 3)), self.rng.choice((1, 4)), self.rng.choice((1, 16)), self.rng.choice((2, 8)))
+        shape = (self.rng.choice((0, 1, 2, 3)), self.rng.choice((1, 3)), self.rng.choice((1, 4)), self.rng.choice((1, 16)), self.rng.choice((2, 8)))
         if self.rng.random() < 0.2:
-            most = (1, 1024, 4096, 16, 65536)
+            most = (3, 1024, 4096, 16, 65536)
             shape = tuple(self.rng.choice((number, number, 0, limit + 1)) for number, limit in zip(shape, most))
 
         def made():
             if self.model is not None:
                 raise refused_call("CardThere")
-            if shape[0] > 1:
+            if shape[0] > 3:
                 raise refused_call("UnknownSide")
             return CardModel(shape)
 

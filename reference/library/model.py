@@ -12,7 +12,7 @@ CALL = ("NoMemory", "NoRoom", "UnknownKind", "LateLevels", "UnknownSide", "Progr
 CALL += ("ManyContracts", "NullPointer")
 VERDICTS = ("pass", "tag", "discard", "refuse")
 CONTRACTS = ("cbr1", "vbr1", "vbr2", "vbr3")
-SIDES = ("uni", "nni")
+SIDES = ("uni", "nni", "uni paths", "nni paths")
 
 
 class Refused(Exception):
@@ -100,7 +100,7 @@ class CardModel(Card):
 
     def vc_of(self, path, channel):
         """Returns the connection of this path, or refuses it."""
-        if path > (255 if self.side == "uni" else 4095):
+        if path >= 1 << cells.PATH_BITS[self.side]:
             raise refused_call("LargePath")
         return path, channel
 

@@ -9,12 +9,13 @@ import argparse
 import sys
 
 from plots.chosen import NotDrawn, drawn
+from plots.verdicts import connection_in
 
 
 def connection(word):
-    """Returns the path and the channel that VPI/VCI names."""
+    """Returns the connection that VPI/VCI names, or VPI/* for a virtual path."""
     path, channel = word.split("/")
-    return int(path), int(channel)
+    return connection_in(path, channel)
 
 
 def options():

@@ -1,7 +1,8 @@
 """Which connections a picture shows, and in which time; and why there is no picture."""
 from captures.policing import card_of, tick_of
 from plots.levels import OtherSetup, Plan
-from plots.verdicts import OTHER, NoVerdicts, read_verdicts
+from plots.verdicts import OTHER, WHOLE_PATH, NoVerdicts, read_verdicts
+from policer.cell import has_paths
 from policer.text_lines import raw_lines, words_of
 
 MOST_CONNECTIONS = 4
@@ -33,14 +34,14 @@ def contracts_of(script):
     card = card_of(with_programs(tick_of(script)[1]))
     if card is None:
         raise OtherSetup("a line of the setup has a fault: upc-lab police says which")
-    return {vc: connection.contracts for vc, connection in card.connections.items()}
+    return {(path, WHOLE_PATH if has_paths(card.side) else channel): it.contracts for (path, channel), it in card.connections.items()}
 
 
 def connections(cells, named):
     """Returns the connections that are drawn: those that are named, or the first ones with judged cells."""
     for vc in named or []:
         if vc not in cells:
-            raise NoVerdicts("no line has a cell of %d/%d" % vc)
+            raise NoVerdicts("no line has a cell of %d/%s" % vc)
     judged = sorted(vc for vc, it in cells.items() if any(verdict != OTHER for verdict in it.verdicts))
     if not named and not judged:
         raise NoVerdicts("no line has a cell that was judged; --connection names one to draw")
@@ -53,7 +54,7 @@ def check_time(cells, begin, end):
     last = max(it.moments[-1] for it in cells.values())
     begin, end = first if begin is None else begin, last if end is None else end
     if not any(begin <= moment <= end for it in cells.values() for moment in it.moments):
-        names = ", ".join("%d/%d" % vc for vc in cells)
+        names = ", ".join("%d/%s" % vc for vc in cells)
         raise NoVerdicts(f"no cell of {names} is from {begin} to {end}: the first is at {first}, the last at {last}")
 
 
@@ -64,6 +65,6 @@ def drawn(lines, setup, named, begin, end):
     chosen = {vc: cells[vc] for vc in connections(cells, named)}
     for vc in chosen if contracts is not None else []:
         if vc not in contracts:
-            raise OtherSetup("the setup has no connection %d/%d" % vc)
+            raise OtherSetup("the setup has no connection %d/%s" % vc)
     check_time(chosen, begin, end)
     return Plan(chosen, contracts or {}, begin, end), ending

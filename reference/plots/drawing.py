@@ -80,7 +80,7 @@ def draw_cells(panel, plan, shown, remarks):
     """The cells of a connection: marks in a row for each verdict, or counts in spans."""
     margin = (plan.end - plan.begin) * 0.015
     panel.set_xlim(plan.begin - margin, plan.end + margin)
-    title = ": ".join(["VPI %d, VCI %d" % shown.vc, *contract_words(shown)])
+    title = ": ".join(["VPI %d, VCI %s" % shown.vc, *contract_words(shown)])
     # From below: the remarks, the legend, and the title, in the line of the legend if it is short.
     above = 14 if remarks else 2
     legend(panel, (draw_marks(panel, shown) if shown.is_few else draw_counts(panel, plan, shown)), above)

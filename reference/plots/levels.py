@@ -145,7 +145,7 @@ def fills(plan, vc, cells, contracts, is_few):
         given = contract.judge(moment, priority)
         if given != VERDICTS[verdict]:
             words = *vc, moment, given, VERDICTS[verdict]
-            raise OtherSetup("the cell of %d/%d at %d is to %s under the setup and not to %s: another one was policed" % words)
+            raise OtherSetup("the cell of %d/%s at %d is to %s under the setup and not to %s: another one was policed" % words)
         for course, bucket in zip(courses[value - 1], contract.buckets):
             course.fill(bucket, moment)
     made = []

@@ -79,6 +79,9 @@ def is_drawn_right(random_):
 LINES = [row(HEADING), row((1, 5, 1, 100, 0, 1, "pass", "-", "-")), row((2, 9, 1, 101, 0, "-", "NoConnection", "-", "-"))]
 COUNTS = ["\n", row(TABLE), row((1, 100, 1, 0, 0, 0)), "# 1 not judged: no connection; first record 2\n"]
 SETUP = b"card 1 1 1 1\nrules any.rules\nsetup 1 100 p1 cbr1:10/5\n"
+# The same of a virtual path.
+PATH_LINES = [row(HEADING), row((1, 5, 1, "*", 0, 1, "pass", "-", "-"))]
+PATH_SETUP = b"card 1 1 1 1 uni paths\nrules any.rules\nsetup 1 * p1 cbr1:10/5\n"
 
 # Verdicts, a setup, connections, a time, and what is said of them; nothing of the first one.
 SAID = [
@@ -92,6 +95,9 @@ SAID = [
     (LINES + COUNTS, SETUP.replace(b"100", b"99"), None, None, None, "the setup has no connection 1/100"),
     (LINES + COUNTS, SETUP + b"cell 0 00100640\n", None, None, None, "a setup with rules and cells of its own can't be drawn"),
     (LINES + COUNTS, SETUP + b"set\n", None, None, None, "a line of the setup has a fault: upc-lab police says which"),
+    (PATH_LINES + ["\n", row(TABLE), row((1, "*", 1, 0, 0, 0))], PATH_SETUP, [(1, "*")], None, None, None),
+    (PATH_LINES, PATH_SETUP.replace(b"1 *", b"2 *"), None, None, None, "the setup has no connection 1/*"),
+    (PATH_LINES, None, None, 9, None, "no cell of 1/* is from 9 to 5: the first is at 5, the last at 5"),
     ([row(HEADING), LINES[2]], None, None, None, None, "no line has a cell that was judged; --connection names one to draw"),
     (COUNTS[1:], None, None, None, None, "no cell has a line: police the capture with --lines all"),
     ([LINES[0], *COUNTS], None, [(1, 100)], None, None, "no line has a cell of 1/100"),

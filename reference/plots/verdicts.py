@@ -11,6 +11,10 @@ OTHER = VERDICTS.index("other")
 NUMBERS = {verdict: number for number, verdict in enumerate(VERDICTS)}
 
 
+# The channel of a virtual path, as tables have it.
+WHOLE_PATH = "*"
+
+
 class NoVerdicts(Exception):
     """The input isn't what police prints with a line for each cell."""
 
@@ -39,6 +43,11 @@ class Cells:
         return zip(self.moments, self.priorities, self.values, self.verdicts)
 
 
+def connection_in(path, channel):
+    """Returns the connection of two columns: a path and a channel, or `*` for a virtual path."""
+    return int(path), channel if channel == WHOLE_PATH else int(channel)
+
+
 def read_verdicts(lines, wanted):
     """Returns the cells of each connection that has some, or of those that are wanted, and the line at which policing ended, if it didn't
     end with the capture. Lines about spans are passed over."""
@@ -54,7 +63,7 @@ def read_verdicts(lines, wanted):
         fields = line.rstrip("\n").split("\t")
         if len(fields) != len(HEADING):
             break
-        vc = int(fields[2]), int(fields[3])
+        vc = connection_in(*fields[2:4])
         if not wanted or vc in wanted:
             if vc not in cells:
                 cells[vc] = Cells()
@@ -72,7 +81,7 @@ def ending(lines, cells):
         fields = line.split("\t")
         if line.strip() and not line.startswith("#") and len(fields) != len(TABLE):
             found = line.rstrip("\n")
-        vc = fields[0].isdigit() and len(fields) == len(TABLE) and (int(fields[0]), int(fields[1]))
+        vc = fields[0].isdigit() and len(fields) == len(TABLE) and connection_in(*fields[:2])
         if vc in cells and int(fields[2]) and PASS not in cells[vc].verdicts:
-            raise NoVerdicts("the cells of %d/%d that passed have no lines: police the capture with --lines all" % vc)
+            raise NoVerdicts("the cells of %d/%s that passed have no lines: police the capture with --lines all" % vc)
     return found

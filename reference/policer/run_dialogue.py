@@ -1,7 +1,7 @@
 """`upc run`: the first line with words opens a card, each later one is a command or a cell."""
 
 from .card import Card
-from .cell import HEADER_OCTETS, PATH_BITS
+from .cell import HEADER_OCTETS, PATH_BITS, channel_name
 from .eval_dialogue import program_of as program_in
 from .faults import Fault
 from .hexadecimal import cell_of
@@ -9,9 +9,9 @@ from .script_words import bad_line, connection_of, contracts_of, number_of, prog
 
 
 def card_of(words):
-    """`card PROGRAMS LINES PORTS JOURNAL`, and perhaps the side after it."""
-    side = words[5].decode("latin-1") if len(words) == 6 else "uni"
-    if words[0] != b"card" or len(words) not in (5, 6) or side not in PATH_BITS:
+    """`card PROGRAMS LINES PORTS JOURNAL`, perhaps the side after it, and then perhaps `paths`."""
+    side = b" ".join(words[5:]).decode("latin-1") or "uni"
+    if words[0] != b"card" or len(words) < 5 or side not in PATH_BITS:
         raise Fault("script", "NoCard")
     try:
         numbers = [number_of(word) for word in words[1:5]]
@@ -50,6 +50,11 @@ class RunDialogue:
         """The connection that two words name at the card's side."""
         return connection_of(path, channel, self.card.side)
 
+    def name(self, vc):
+        """The name of a connection."""
+        path, channel = vc
+        return "%d/%s" % (path, channel_name(channel, self.card.side))
+
     def load(self, word):
         """`load HEX`: its digits, its code and its check go before the card's room."""
         return "loaded p%d" % self.card.load(program_in(word))
@@ -66,30 +71,30 @@ class RunDialogue:
             raise bad_line()
         vc = self.vc(*words[:2])
         self.card.setup(vc, program_of(words[2]), contracts_of(words[3:]))
-        return "set %d/%d" % vc
+        return "set %s" % self.name(vc)
 
     def reload(self, path, channel, name):
         """`reload VPI VCI pN`, whose answer names the new program"""
         vc = self.vc(path, channel)
         number = program_of(name)
         self.card.reload(vc, number)
-        return "reloaded %d/%d p%d" % (*vc, number)
+        return "reloaded %s p%d" % (self.name(vc), number)
 
     def cut(self, path, channel):
         """`cut VPI VCI`"""
         vc = self.vc(path, channel)
-        return "cut %d/%d %d %d %d %d %d" % (*vc, *self.card.cut(vc))
+        return "cut %s %d %d %d %d %d" % (self.name(vc), *self.card.cut(vc))
 
     def release(self, path, channel):
         """`release VPI VCI`"""
         vc = self.vc(path, channel)
-        return "released %d/%d %d %d %d %d %d" % (*vc, *self.card.release(vc))
+        return "released %s %d %d %d %d %d" % (self.name(vc), *self.card.release(vc))
 
     def cell(self, moment, word):
         """`cell MOMENT HEX`: the answer has the header of a cell that leaves."""
         number = number_of(moment)
         vc, program, value, verdict, leaving = self.card.arrive(number, cell_of(word))
-        answer = "%s %d/%d p%d %d" % (verdict, *vc, program, value)
+        answer = "%s %s p%d %d" % (verdict, self.name(vc), program, value)
         if verdict in ("pass", "tag"):
             answer += " " + leaving[:HEADER_OCTETS].hex()
         return answer

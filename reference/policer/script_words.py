@@ -2,7 +2,7 @@
 
 import re
 
-from .cell import PATH_BITS
+from .cell import PATH_BITS, has_paths
 from .faults import Fault
 
 MOST_NUMBER = 2**64 - 1
@@ -37,8 +37,17 @@ def program_of(word):
 
 
 def connection_of(path, channel, side):
-    """The connection that two words name: a path that the side has, and a channel."""
-    return number_of(path, (1 << PATH_BITS[side]) - 1), number_of(channel, LAST_VCI)
+    """The connection that two words name: a path that the side has, and a channel, or `*` where connections are paths."""
+    return number_of(path, (1 << PATH_BITS[side]) - 1), channel_of(channel, side)
+
+
+def channel_of(word, side):
+    """The channel of a word."""
+    if not has_paths(side):
+        return number_of(word, LAST_VCI)
+    if word != b"*":
+        raise bad_line()
+    return 0
 
 
 def rate_of(word):

@@ -31,9 +31,11 @@ LONG_CODE = "fault rules 8 TooLong 0 0\n"
 
 
 def answered(program, text, *words):
-    """Returns what a subcommand of the program answers to a text, that of `rules` if no words say another, and its status. It prints no message."""
+    """Returns what a subcommand of the program answers to a text, that of `rules` if no words say another, and its status. It prints no message; of
+    `rules` the hints are left out, which `lab` compares."""
     run = subprocess.run([program, *(words or ["rules"])], input=text, stdout=subprocess.PIPE, stderr=subprocess.PIPE, check=False)
-    return run.stdout.decode() + run.stderr.decode(), run.returncode
+    messages = run.stderr.decode() if words else "".join(it for it in run.stderr.decode().splitlines(keepends=True) if not it.startswith("# hint"))
+    return run.stdout.decode() + messages, run.returncode
 
 
 def comparisons_in(test):

@@ -1,5 +1,7 @@
 """Cells as words of hexadecimal digits."""
 
+from policer.cell import has_paths
+
 
 def digits(rng, octets):
     """The octets in hexadecimal, of lower, upper or both cases."""
@@ -13,9 +15,11 @@ def digits(rng, octets):
 
 
 def header(rng, path, channel, priority, side):
-    """Four octets with this path, channel and priority, and anything in the other fields."""
+    """Four octets with this path, channel and priority, and anything in the other fields. Where connections are paths, any channel."""
+    if has_paths(side):
+        channel = rng.choice((0, 3, 4, 5, 100, 65535, rng.randrange(65536)))
     number = path << 20 | channel << 4 | rng.randrange(8) << 1 | priority
-    if side == "uni":
+    if side.startswith("uni"):
         number |= rng.choice((0, 0, rng.randrange(16))) << 28
     return number.to_bytes(4, "big")
 

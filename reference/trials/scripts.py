@@ -5,7 +5,7 @@ name what there is, or just what there isn't, and cells come just when a bucket 
 """
 
 from policer import run_dialogue
-from policer.cell import PATH_BITS
+from policer.cell import PATH_BITS, channel_name, has_paths
 from policer.decoding import encoded
 from policer.faults import Fault
 from policer.instructions import CODES, Instruction
@@ -37,7 +37,9 @@ ODD_LINES = [
     b"release 1", b"release 1 1 p1", b"release 4096 0", b"Release 1 1", b"cell", b"cell 1", b"cell 1 00000000 0",
     b"cell x 00000000", b"cell -1 00000000", b"cell 18446744073709551615 00000000",
     b"cell 18446744073709551616 00000000", b"cell 18446744073709551616 0", b"cell 1 0000000", b"cell 1 000000",
-    b"cell 1 0x000000", b"cell 01 00000000", b"card 1 1 1 1", b"cards", b"p1", b"\x80",
+    b"cell 1 0x000000", b"cell 01 00000000", b"card 1 1 1 1", b"cards", b"p1", b"\x80", b"setup 1 * p1 cbr1:1/1",
+    b"setup * 1 p1 cbr1:1/1", b"setup 1 ** p1 cbr1:1/1", b"setup 1 1* p1 cbr1:1/1", b"reload 1 * p1", b"reload 1 0 p1", b"cut 1 *", b"cut 1 0",
+    b"cut * *", b"cut 1 * *", b"release 1 *", b"release 1/*", b"release 256 *", b"release 1 0",
 ]
 
 
@@ -72,13 +74,13 @@ class Script:
             pass
 
     def open_card(self):
-        """A small card, or seldom the largest, of either side."""
+        """A small card, or seldom the largest, of any side."""
         rng = self.rng
         numbers = ((1, 2, 3, 4), (1, 2, 3, 5), (1, 2, 16), (1, 3, 9, 30, 100, 65536))
         sizes = tuple(rng.choice(some) for some in numbers)
         if rng.random() < 0.03:
             sizes = (1024, 4096, 16, 65536)
-        side = rng.choice(("", "", " uni", " nni"))
+        side = rng.choice(("", "", " uni", " nni", " uni paths", " nni paths"))
         self.add(("card %d %d %d %d" % sizes + side).encode())
 
     def next_line(self):
@@ -90,7 +92,7 @@ class Script:
             return self.cell(0.04)
         full = [vc for vc, connection in self.card.connections.items() if self.is_full(connection)]
         if full and rng.random() < 0.5:
-            return ("cut %d %d" % rng.choice(full)).encode()
+            return ("cut " + self.words_of(rng.choice(full))).encode()
         command = rng.choices(
             (self.load, self.retire, self.setup, self.reload, self.release, self.cut), (4, 4, 6, 5, 4, 7)
         )[0]
@@ -119,7 +121,12 @@ class Script:
         """A path and a channel of few, so that they meet; at the limits here and there."""
         most_path = (1 << PATH_BITS[self.card.side]) - 1
         path = self.rng.choice((0, 1, 1, 2, most_path, self.rng.choice((255, 256, 4095)) if most_path > 255 else 16))
-        return path, self.rng.choice((0, 5, 100, 100, 65535))
+        return path, 0 if has_paths(self.card.side) else self.rng.choice((0, 5, 100, 100, 65535))
+
+    def words_of(self, vc):
+        """The words that name a connection."""
+        path, channel = vc
+        return "%d %s" % (path, channel_name(channel, self.card.side))
 
     # Commands.
 
@@ -158,18 +165,18 @@ class Script:
         return ("retire " + self.program(odd)).encode()
 
     def reload(self, odd):
-        return ("reload %d %d " % self.vc(odd) + self.program(odd)).encode()
+        return ("reload " + self.words_of(self.vc(odd)) + " " + self.program(odd)).encode()
 
     def release(self, odd):
-        return ("release %d %d" % self.vc(odd)).encode()
+        return ("release " + self.words_of(self.vc(odd))).encode()
 
     def cut(self, odd):
-        return ("cut %d %d" % self.vc(odd)).encode()
+        return ("cut " + self.words_of(self.vc(odd))).encode()
 
     def setup(self, odd):
         vc = self.vc(0) if self.rng.random() < odd else self.any_vc()
         contracts = [self.contract(odd) for _ in range(self.rng.choice((1, 1, 2, 3, 4)))]
-        return ("setup %d %d " % vc + " ".join([self.program(odd)] + contracts)).encode()
+        return " ".join(["setup", self.words_of(vc), self.program(odd)] + contracts).encode()
 
     def contract(self, odd):
         kind = self.rng.choice(KINDS)

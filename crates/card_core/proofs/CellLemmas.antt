@@ -1,10 +1,10 @@
 -- Fields that tagging keeps, and the CLP of a cell on arrival from its verdict.
 use Rattle.std.proofs.Common.{◌≡◌, ℕ, ◌/◌, ◌%◌, ◌^◌, false, List, [], ◌∷◌, Option, Some, None, refl, sym, ap, arith}
 use Rattle.upc_cell.specs.declared.side.Side.{Side}
-use Rattle.upc_cell.specs.declared.side.Side.TheVariants.{Uni, Nni}
+use Rattle.upc_cell.specs.declared.side.Side.TheVariants.{Uni, Nni, UniPaths, NniPaths}
 use Rattle.upc_cell.specs.Connection.{vc_of}
 use Rattle.upc_cell.specs.Header.{header_number, has_low_priority}
-use Rattle.upc_cell.specs.Side.{vpi_at}
+use Rattle.upc_cell.specs.Side.{vci_at, vpi_at}
 use Rattle.upc_cell.specs.Tagged.{tagged_form}
 use Rattle.upc_cell.proofs.Public.{vc_is}
 use Rattle.leaky.specs.declared.contract.Contract.{Contract}
@@ -33,12 +33,23 @@ path-tagged Uni cell =
     ap (λ n. n % 2 ^ 8) (quotients (header_number (tagged_form cell)) (header_number cell) (header-tagged cell)).1
 path-tagged Nni cell =
     (quotients (header_number (tagged_form cell)) (header_number cell) (header-tagged cell)).1
+path-tagged UniPaths cell =
+    ap (λ n. n % 2 ^ 8) (quotients (header_number (tagged_form cell)) (header_number cell) (header-tagged cell)).1
+path-tagged NniPaths cell =
+    (quotients (header_number (tagged_form cell)) (header_number cell) (header-tagged cell)).1
+
+channel-tagged : (side : Side) (cell : List ℕ) → vci_at side (tagged_form cell) ≡ vci_at side cell
+channel-tagged Uni cell =
+    ap (λ n. n % 2 ^ 16) (quotients (header_number (tagged_form cell)) (header_number cell) (header-tagged cell)).0
+channel-tagged Nni cell =
+    ap (λ n. n % 2 ^ 16) (quotients (header_number (tagged_form cell)) (header_number cell) (header-tagged cell)).0
+channel-tagged UniPaths cell = refl
+channel-tagged NniPaths cell = refl
 
 vc-tagged : (side : Side) (cell : List ℕ) → vc_of side (tagged_form cell) ≡ vc_of side cell
 vc-tagged side cell =
     vc_is (vc_of side (tagged_form cell)) (vc_of side cell)
-    (ap (λ n. n % 4096) (path-tagged side cell))
-    (ap (λ n. n % 2 ^ 16) (quotients (header_number (tagged_form cell)) (header_number cell) (header-tagged cell)).0)
+    (ap (λ n. n % 4096) (path-tagged side cell)) (channel-tagged side cell)
 
 -- A cell leaves with the connection of its arrival.
 pub vc-after : (side : Side) (verdict : Verdict) (cell : List ℕ) → vc_of side (cell_after verdict cell) ≡ vc_of side cell

@@ -35,6 +35,6 @@ card_fault_for_c NoMemory = out_of_memory
 -- failed.
 abbrev pub IsNoCard : UpcShape → UpcFault → Type 0
 IsNoCard given fault =
-    ((1 < given.side) × (fault ≡ unknown_side))
+    ((3 < given.side) × (fault ≡ unknown_side))
     ⊎ ((shape : Shape) × IsShapeOf given shape × (found : CardFault) × (shape_fault shape ≡ Some found) × (fault ≡ card_fault_for_c found))
     ⊎ (fault ≡ out_of_memory)

@@ -7,7 +7,8 @@ ghost use Rattle.upc_c.specs.CellHeader.{IsCellFault, IsFieldsFault, fields_at, 
 ghost use Rattle.upc_c.specs.Faults.{AnswersCall};
 ghost use Rattle.upc_c.specs.inner.Numbered.{IsNumbered};
 
-use crate::fault::{OF_A_CELL, OF_THE_CALL, UpcFault, fault_at, report, report_success};
+use crate::fault::{OF_A_CELL, UpcFault, fault_at, report, report_success};
+use crate::shape::side_of;
 use upc_cell::{Cell, CellFault, Side};
 
 /// The fields of a cell's header (ITU-T I.361).
@@ -51,14 +52,16 @@ fn fields_of(cell: &Cell, side: Side) -> UpcFields
         gfc: match side {
             Side::Uni => cell.gfc(),
             Side::Nni => 0,
+            Side::UniPaths => cell.gfc(),
+            Side::NniPaths => 0,
         },
         pti: cell.pti(),
         clp: if cell.clp() { 1 } else { 0 },
     }
 }
 
-/// Reads the header of a cell of 52 octets, at the user network interface (`side` 0) or between nodes of the network
-/// (1). Returns the result of the error, or 0.
+/// Reads the header of a cell of 52 octets, at the user network interface (`side` 0 or 2) or between nodes of the network
+/// (1 or 3). Returns the result of the error, or 0.
 #[unsafe(no_mangle)]
 pub extern "C" fn upc_cell_fields(
     octets: &[u8],
@@ -72,16 +75,12 @@ pub extern "C" fn upc_cell_fields(
     ensures refused { result ≢ 0 → IsFieldsFault octets.now side fault.new }
     ensures left { result ≢ 0 → fields.new ≡ fields.old }
 {
-    match (cell_of(octets), side) {
-        (Ok(cell), 0) => {
-            *fields = fields_of(&cell, Side::Uni);
+    match (cell_of(octets), side_of(side)) {
+        (Ok(cell), Ok(side)) => {
+            *fields = fields_of(&cell, side);
             report_success(fault)
         }
-        (Ok(cell), 1) => {
-            *fields = fields_of(&cell, Side::Nni);
-            report_success(fault)
-        }
-        (Ok(_), _) => report(fault, fault_at(OF_THE_CALL, 5, 0)),
+        (Ok(_), Err(found)) => report(fault, found),
         (Err(found), _) => report(fault, found),
     }
 }

@@ -28,12 +28,14 @@ pub struct UpcShape {
 /// Returns the side of this number.
 pub(crate) fn side_of(number: u32) -> Result<Side, UpcFault>
     ensures side { IfOk result (λ side. number ≡ side_number side) }
-    ensures unknown { IfErr result (λ _. 1 < number) }
+    ensures unknown { IfErr result (λ _. 3 < number) }
     ensures fault { IfErr result (λ fault. fault ≡ unknown_side) }
 {
     match number {
         0 => Ok(Side::Uni),
         1 => Ok(Side::Nni),
+        2 => Ok(Side::UniPaths),
+        3 => Ok(Side::NniPaths),
         _ => Err(fault_at(OF_THE_CALL, 5, 0)),
     }
 }
@@ -46,6 +48,8 @@ pub(crate) fn shape_for_c(shape: Shape) -> UpcShape
         side: match shape.side {
             Side::Uni => 0,
             Side::Nni => 1,
+            Side::UniPaths => 2,
+            Side::NniPaths => 3,
         },
         programs: shape.programs,
         lines: shape.lines,
@@ -57,7 +61,7 @@ pub(crate) fn shape_for_c(shape: Shape) -> UpcShape
 /// Returns the shape with these numbers.
 pub(crate) fn shape_of(given: &UpcShape) -> Result<Shape, UpcFault>
     ensures shape { IfOk result (IsShapeOf given.now) }
-    ensures unknown { IfErr result (λ _. 1 < given.now.side) }
+    ensures unknown { IfErr result (λ _. 3 < given.now.side) }
     ensures fault { IfErr result (λ fault. fault ≡ unknown_side) }
 {
     let side = side_of(given.side)?;

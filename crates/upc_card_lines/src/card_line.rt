@@ -2,7 +2,7 @@
 
 ghost use Rattle.std.specs.Prelude.{◌≡◌};
 ghost use Rattle.text_io.specs.Words.{words_of};
-ghost use Rattle.upc_card_lines.specs.CardLine.{card_line_shape, shape_of, side_of, sized_shape};
+ghost use Rattle.upc_card_lines.specs.CardLine.{card_line_shape, shape_of, side_of, side_of_words, sized_shape, with_paths};
 
 use card_core::Shape;
 use text_io::first_word;
@@ -19,6 +19,37 @@ pub fn named_side(word: &[u8]) -> Option<Side>
         Some(Side::Nni)
     } else {
         None
+    }
+}
+
+/// Returns this side where connections are virtual paths.
+fn with_paths(side: Side) -> Side
+    ensures { result ≡ with_paths side }
+{
+    match side {
+        Side::Uni => Side::UniPaths,
+        Side::Nni => Side::NniPaths,
+        Side::UniPaths => Side::UniPaths,
+        Side::NniPaths => Side::NniPaths,
+    }
+}
+
+/// Returns the side of the words after the numbers of a card: none, an interface, or an interface and `paths`.
+fn side_of_words(line: &[u8]) -> Option<Side>
+    ensures { result ≡ side_of_words (words_of line.now) }
+{
+    let Some((word, rest)) = first_word(line) else {
+        return Some(Side::Uni);
+    };
+    let Some((paths, rest)) = first_word(rest) else {
+        return named_side(word);
+    };
+    if first_word(rest).is_some() || paths != b"paths".as_slice() {
+        return None;
+    }
+    match named_side(word) {
+        Some(side) => Some(with_paths(side)),
+        None => None,
     }
 }
 
@@ -63,13 +94,7 @@ fn shape_after(line: &[u8]) -> Option<Shape>
     let Some((journal, rest)) = first_word(rest) else {
         return None;
     };
-    let Some((word, rest)) = first_word(rest) else {
-        return sized(programs, lines, ports, journal, Side::Uni);
-    };
-    if first_word(rest).is_some() {
-        return None;
-    }
-    match named_side(word) {
+    match side_of_words(rest) {
         Some(side) => sized(programs, lines, ports, journal, side),
         None => None,
     }

@@ -11,7 +11,7 @@ ghost use Rattle.upc_card_lines.specs.AddsSome.{AddsSome};
 use card_core::{Answer, Judgement, Unjudged};
 use leaky::Verdict;
 use std::alloc::AllocError;
-use upc_cell::{Cell, Vc};
+use upc_cell::{Cell, Side, Vc};
 use upc_script::add_verdict;
 use upc_words::{TextFromEnd, add_text};
 
@@ -37,22 +37,23 @@ fn add_moment_back(answers: &mut Vec<u8>, last: u64) -> Result<(), AllocError>
 fn add_judged_line(
     answers: &mut Vec<u8>,
     verdict: Verdict,
+    side: Side,
     vc: Vc,
     number: u64,
     value: u32,
     cell: &Cell,
 ) -> Result<(), AllocError>
     ensures { OnOk result (answers.new.items ≡ answers.old.items
-        ++ verdict_text verdict (judging_text vc number value) (cell_after verdict cell.now)) }
+        ++ verdict_text verdict (judging_text side vc number value) (cell_after verdict cell.now)) }
 {
     match verdict {
         Verdict::Tag => {
             let tagged = cell.tagged();
-            add_verdict(answers, Verdict::Tag, vc, number, value, &tagged)
+            add_verdict(answers, Verdict::Tag, side, vc, number, value, &tagged)
         }
-        Verdict::Pass => add_verdict(answers, Verdict::Pass, vc, number, value, cell),
-        Verdict::Discard => add_verdict(answers, Verdict::Discard, vc, number, value, cell),
-        Verdict::Refuse => add_verdict(answers, Verdict::Refuse, vc, number, value, cell),
+        Verdict::Pass => add_verdict(answers, Verdict::Pass, side, vc, number, value, cell),
+        Verdict::Discard => add_verdict(answers, Verdict::Discard, side, vc, number, value, cell),
+        Verdict::Refuse => add_verdict(answers, Verdict::Refuse, side, vc, number, value, cell),
     }
 }
 
@@ -65,15 +66,24 @@ fn add_judged_line(
 #[inline(always)]
 pub fn add_judged(
     answers: &mut Vec<u8>,
+    side: Side,
     number: u64,
     vc: Vc,
     cell: &Cell,
     judged: &Judgement,
 ) -> Result<(), AllocError>
-    ensures { OnOk result (AddsSome (numbered_answer_text number vc (answer_to cell.now (Ok judged.now)))
+    ensures { OnOk result (AddsSome (numbered_answer_text side number vc (answer_to cell.now (Ok judged.now)))
         answers.old.items answers.new.items) }
 {
-    add_judged_line(answers, judged.verdict, vc, number, judged.value, cell)
+    add_judged_line(
+        answers,
+        judged.verdict,
+        side,
+        vc,
+        number,
+        judged.value,
+        cell,
+    )
 }
 
 /// Adds the answer to a cell that arrived on this connection and wasn't judged. It isn't inlined, so that its caller
@@ -83,11 +93,16 @@ pub fn add_judged(
 ///
 /// `AllocError` if an allocation failed, here or for the cell.
 #[inline(never)]
-pub fn add_unjudged(answers: &mut Vec<u8>, vc: Vc, reason: Unjudged) -> Result<(), AllocError>
+pub fn add_unjudged(
+    answers: &mut Vec<u8>,
+    side: Side,
+    vc: Vc,
+    reason: Unjudged,
+) -> Result<(), AllocError>
     ensures { OnOk result
-        (AddsSome (numbered_answer_text 0 vc (unjudged_answer reason)) answers.old.items answers.new.items) }
+        (AddsSome (numbered_answer_text side 0 vc (unjudged_answer reason)) answers.old.items answers.new.items) }
 {
-    add_answer(answers, 0, vc, &reason.answer())
+    add_answer(answers, side, 0, vc, &reason.answer())
 }
 
 /// Adds the answer to a cell that arrived on this connection. The program that named its contract has a name with this
@@ -99,12 +114,13 @@ pub fn add_unjudged(answers: &mut Vec<u8>, vc: Vc, reason: Unjudged) -> Result<(
 #[inline(never)]
 pub fn add_answer(
     answers: &mut Vec<u8>,
+    side: Side,
     number: u64,
     vc: Vc,
     answer: &Answer,
 ) -> Result<(), AllocError>
     ensures { OnOk result
-        (AddsSome (numbered_answer_text number vc answer.now) answers.old.items answers.new.items) }
+        (AddsSome (numbered_answer_text side number vc answer.now) answers.old.items answers.new.items) }
 {
     match answer {
         Answer::Judged {
@@ -112,7 +128,7 @@ pub fn add_answer(
             verdict,
             cell,
             ..
-        } => add_verdict(answers, *verdict, vc, number, *value, cell),
+        } => add_verdict(answers, *verdict, side, vc, number, *value, cell),
         Answer::NoConnection => add_text(answers, b"fault arrive 1 NoConnection\n"),
         Answer::Released => add_text(answers, b"fault arrive 2 Released\n"),
         Answer::Stale => add_text(answers, b"fault arrive 3 Stale\n"),

@@ -2,7 +2,7 @@
 
 ghost use Rattle.std.specs.Prelude.{◌≡◌, ◌≢◌, ◌≤◌, ◌/◌, ◌↔◌, ℕ, length, slice_index, IfOk, IfErr, IsOk, IsTrue};
 ghost use Rattle.upc_cell.specs.Header.{header_number, gfc_of, vpi_of, vci_of, pti_of, clp_of, has_low_priority};
-ghost use Rattle.upc_cell.specs.Side.{vpi_at, last_vpi};
+ghost use Rattle.upc_cell.specs.Side.{vci_at, vpi_at, last_vpi};
 ghost use Rattle.upc_cell.specs.Connection.{vc_of};
 ghost use Rattle.upc_cell.specs.Tagged.{tagged_form};
 
@@ -107,6 +107,21 @@ impl Cell {
         match side {
             Side::Uni => self.vpi(),
             Side::Nni => (self.header() >> 20) as u16,
+            Side::UniPaths => self.vpi(),
+            Side::NniPaths => (self.header() >> 20) as u16,
+        }
+    }
+
+    /// The channel of the cell's connection at this side: the virtual channel identifier, or 0 where connections are
+    /// virtual paths.
+    fn vci_at(&self, side: Side) -> u16
+        ensures { result ≡ vci_at side self.now }
+    {
+        match side {
+            Side::Uni => self.vci(),
+            Side::Nni => self.vci(),
+            Side::UniPaths => 0,
+            Side::NniPaths => 0,
         }
     }
 
@@ -141,15 +156,15 @@ impl Cell {
         self.vc_at(Side::Uni)
     }
 
-    /// The virtual connection in the header, read at this side.
+    /// The cell's virtual connection at this side. Where connections are virtual paths, its channel is 0.
     pub fn vc_at(&self, side: Side) -> Vc
         ensures connection { result ≡ vc_of side self.now }
         ensures vpi { result.vpi ≡ vpi_at side self.now }
-        ensures vci { result.vci ≡ vci_of self.now }
+        ensures vci { result.vci ≡ vci_at side self.now }
     {
         Vc {
             vpi: self.vpi_at(side),
-            vci: self.vci(),
+            vci: self.vci_at(side),
         }
     }
 

@@ -10,7 +10,7 @@ use Rattle.leaky.specs.declared.verdict.Verdict.{Verdict}
 use Rattle.leaky.specs.declared.verdict.Verdict.TheVariants.{Pass, Tag, Discard, Refuse}
 use Rattle.upc_cell.specs.Connection.{vc_of}
 use Rattle.upc_cell.specs.declared.side.Side.{Side}
-use Rattle.upc_cell.specs.declared.side.Side.TheVariants.{Uni, Nni}
+use Rattle.upc_cell.specs.declared.side.Side.TheVariants.{Uni, Nni, UniPaths, NniPaths}
 use Rattle.upc_cell.specs.declared.vc.Vc.{Vc}
 use Rattle.line_record.specs.Tally.{nothing}
 use Rattle.line_record.specs.declared.tally.Tally.{Tally}
@@ -43,6 +43,8 @@ use Rattle.upc_ports.proofs.DeskLemmas.{bad-cell}
 same-vc : (side : Side) (octets : List ℕ) → vc_of side (shown_cell (header_of octets)) ≡ vc_of side octets
 same-vc Uni octets = refl
 same-vc Nni octets = refl
+same-vc UniPaths octets = refl
+same-vc NniPaths octets = refl
 
 -- The line of a judged cell shows only its header.
 same-verdict : (verdict : Verdict) (judging : List ℕ) (a b c d : ℕ) (rest : List ℕ)
@@ -60,18 +62,18 @@ same-judged (a ∷ b ∷ []) whole verdict judging = absurd (omega (arith, whole
 same-judged (a ∷ b ∷ c ∷ []) whole verdict judging = absurd (omega (arith, whole))
 same-judged (a ∷ b ∷ c ∷ d ∷ rest) whole verdict judging = same-verdict verdict judging a b c d rest
 
-same-answer : (all : List Id) (vc : Vc) (octets : List ℕ) (moment : ℕ) → length octets ≡ 52 → (answer : Answer) → IfSome (judged_in_answer answer) (IsJudgedAnswer octets moment)
-    → answer_text all vc (answer_kept (shown_cell (header_of octets)) (ruled answer)) ≡ answer_text all vc answer
-same-answer all vc octets moment whole (Judged line number when value program verdict leaving) judged =
-    let judging = judging_text vc (number_of_program all program) value in
+same-answer : (side : Side) (all : List Id) (vc : Vc) (octets : List ℕ) (moment : ℕ) → length octets ≡ 52 → (answer : Answer) → IfSome (judged_in_answer answer) (IsJudgedAnswer octets moment)
+    → answer_text side all vc (answer_kept (shown_cell (header_of octets)) (ruled answer)) ≡ answer_text side all vc answer
+same-answer side all vc octets moment whole (Judged line number when value program verdict leaving) judged =
+    let judging = judging_text side vc (number_of_program all program) value in
     ap (λ (t : List ℕ). Some t) (same-judged octets whole verdict judging ∙ ap (λ (l : List ℕ). verdict_text verdict judging l) (sym judged.leaves))
-same-answer all vc octets moment whole NoConnection judged = refl
-same-answer all vc octets moment whole Released judged = refl
-same-answer all vc octets moment whole Stale judged = refl
-same-answer all vc octets moment whole MomentTooLate judged = refl
-same-answer all vc octets moment whole (MomentBack last) judged = refl
-same-answer all vc octets moment whole JournalFull judged = refl
-same-answer all vc octets moment whole NoMemory judged = refl
+same-answer side all vc octets moment whole NoConnection judged = refl
+same-answer side all vc octets moment whole Released judged = refl
+same-answer side all vc octets moment whole Stale judged = refl
+same-answer side all vc octets moment whole MomentTooLate judged = refl
+same-answer side all vc octets moment whole (MomentBack last) judged = refl
+same-answer side all vc octets moment whole JournalFull judged = refl
+same-answer side all vc octets moment whole NoMemory judged = refl
 
 -- The answer to a cell line without a cell.
 abbrev pub fault_text : CellLineFault → List ℕ
@@ -98,14 +100,14 @@ stored-answered side all names line one text is prints =
     let digits = is.brings.0 in
     let word = is.brings.2 in
     let shown = shown_cell (header_of is.cell) in
-    let prints' : answer_text all (vc_of side shown) (answer_kept shown (ruled is.answer)) ≡ Some text =
-    subst (λ (t : AnsweredCell). answer_text all (vc_of side (shown_cell t.header)) (answer_kept (shown_cell t.header) t.decision) ≡ Some text) is.kept prints in
+    let prints' : answer_text side all (vc_of side shown) (answer_kept shown (ruled is.answer)) ≡ Some text =
+    subst (λ (t : AnsweredCell). answer_text side all (vc_of side (shown_cell t.header)) (answer_kept (shown_cell t.header) t.decision) ≡ Some text) is.kept prints in
     polices-line side all names (words_of line) is.moment digits word.0 is.cell text (cell_counts one) is.brings.1 word.1 word.2 word.3
     (record {
       answer = is.answer;
       possible = is.possible;
-      printed = sym (same-answer all (vc_of side is.cell) is.cell is.moment word.3 is.answer is.possible.judged)
-          ∙ ap (λ (vc : Vc). answer_text all vc (answer_kept shown (ruled is.answer))) (sym (same-vc side is.cell)) ∙ prints';
+      printed = sym (same-answer side all (vc_of side is.cell) is.cell is.moment word.3 is.answer is.possible.judged)
+          ∙ ap (λ (vc : Vc). answer_text side all vc (answer_kept shown (ruled is.answer))) (sym (same-vc side is.cell)) ∙ prints';
       counted = ap cell_counts is.kept ∙ same-counts is.cell is.answer;
     })
 

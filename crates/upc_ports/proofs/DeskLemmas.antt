@@ -31,29 +31,29 @@ use Rattle.upc_script.specs.Dealing.{is_cell_line}
 use Rattle.upc_ports.specs.inner.DeskTexts.{AddsReply, MayObeyLine, ObeysEach}
 
 -- A reply that loads no program.
-pub replied : (command : Command) (reply : Reply) (names : List Id) (text old new : List ℕ) → MayReply command reply → loaded_id reply ≡ []
-    → reply_text command (length names) reply ≡ Some text → new ≡ old ++ text → AddsReply (Replies command) names names old new
-replied command reply names text old new possible none printed added = (
+pub replied : (side : Side) (command : Command) (reply : Reply) (names : List Id) (text old new : List ℕ) → MayReply command reply → loaded_id reply ≡ []
+    → reply_text side command (length names) reply ≡ Some text → new ≡ old ++ text → AddsReply (Replies side command) names names old new
+replied side command reply names text old new possible none printed added = (
   text,
   added,
   record { reply = reply; possible = possible; named = sym (append-nil names) ∙ ap (λ (ids : List Id). names ++ ids) (sym none); printed = printed },
 )
 
 -- A command that names a program which was loaded, and one that names none.
-pub named-reply : (command : Command) (number : ℕ) (id : Id) (names names' : List Id) (old new : List ℕ) → program_named names number ≡ Some id
-    → AddsReply (Replies command) names names' old new → AddsReply (RepliesToNamed command number) names names' old new
-named-reply command number id names names' old new is (text, added, replies) = (
+pub named-reply : (side : Side) (command : Command) (number : ℕ) (id : Id) (names names' : List Id) (old new : List ℕ) → program_named names number ≡ Some id
+    → AddsReply (Replies side command) names names' old new → AddsReply (RepliesToNamed side command number) names names' old new
+named-reply side command number id names names' old new is (text, added, replies) = (
   text,
   added,
-  subst (λ (found : Option Id). MatchOption found (Refuses no_such_program names text names') (λ id. Replies command names text names')) (sym is) replies,
+  subst (λ (found : Option Id). MatchOption found (Refuses no_such_program names text names') (λ id. Replies side command names text names')) (sym is) replies,
 )
 
-pub unnamed-reply : (command : Command) (number : ℕ) (names : List Id) (old new : List ℕ) → program_named names number ≡ None
-    → new ≡ old ++ no_such_program → AddsReply (RepliesToNamed command number) names names old new
-unnamed-reply command number names old new none added = (
+pub unnamed-reply : (side : Side) (command : Command) (number : ℕ) (names : List Id) (old new : List ℕ) → program_named names number ≡ None
+    → new ≡ old ++ no_such_program → AddsReply (RepliesToNamed side command number) names names old new
+unnamed-reply side command number names old new none added = (
   no_such_program,
   added,
-  subst (λ (found : Option Id). MatchOption found (Refuses no_such_program names no_such_program names) (λ id. Replies command names no_such_program names)) (sym none) (refl, refl),
+  subst (λ (found : Option Id). MatchOption found (Refuses no_such_program names no_such_program names) (λ id. Replies side command names no_such_program names)) (sym none) (refl, refl),
 )
 
 -- Octets that were appended are the text that exists.
@@ -62,29 +62,29 @@ adds-some None old new added = absurd added
 adds-some (Some text) old new added = (text, added, refl)
 
 -- A setup whose rates have no error.
-pub setup-reply : (vc : Vc) (number : ℕ) (wanted : List Wanted) (names names' : List Id) (old new : List ℕ) → first_wanted_fault wanted ≡ None
-    → AddsReply (RepliesToNamed (setup vc number wanted) number) names names' old new → AddsReply (MayObey (setup vc number wanted)) names names' old new
-setup-reply vc number wanted names names' old new sound (text, added, replies) = (
+pub setup-reply : (side : Side) (vc : Vc) (number : ℕ) (wanted : List Wanted) (names names' : List Id) (old new : List ℕ) → first_wanted_fault wanted ≡ None
+    → AddsReply (RepliesToNamed side (setup vc number wanted) number) names names' old new → AddsReply (MayObey side (setup vc number wanted)) names names' old new
+setup-reply side vc number wanted names names' old new sound (text, added, replies) = (
   text,
   added,
-  subst (λ (found : Option GcraFault). MatchOption found (RepliesToNamed (setup vc number wanted) number names text names') (λ fault. Refuses (gcra_fault fault) names text names'))
+  subst (λ (found : Option GcraFault). MatchOption found (RepliesToNamed side (setup vc number wanted) number names text names') (λ fault. Refuses (gcra_fault fault) names text names'))
       (sym sound) replies,
 )
 
 -- The octets of the digits are a program.
-pub load-reply : (digits octets : List ℕ) (code : List Instr) (names names' : List Id) (old new : List ℕ) → octets_of_digits digits ≡ Some octets
-    → ReadsAs octets (is_program code) → AddsReply (Replies (load digits)) names names' old new → AddsReply (MayObey (load digits)) names names' old new
-load-reply digits octets code names names' old new spelled reads (text, added, replies) = (
+pub load-reply : (side : Side) (digits octets : List ℕ) (code : List Instr) (names names' : List Id) (old new : List ℕ) → octets_of_digits digits ≡ Some octets
+    → ReadsAs octets (is_program code) → AddsReply (Replies side (load digits)) names names' old new → AddsReply (MayObey side (load digits)) names names' old new
+load-reply side digits octets code names names' old new spelled reads (text, added, replies) = (
   text,
   added,
-  subst (λ (found : Option (List ℕ)). MatchOption found (Refuses bad_hex names text names') (λ xs. RepliesToOctets digits xs names text names'))
+  subst (λ (found : Option (List ℕ)). MatchOption found (Refuses bad_hex names text names') (λ xs. RepliesToOctets side digits xs names text names'))
       (sym spelled) (is_program code, reads, replies),
 )
 
 -- A program that was loaded has the next name.
-pub loaded : (digits : List ℕ) (id : Id) (names names' : List Id) (count : ℕ) (old new : List ℕ) → names' ≡ names ++ id ∷ [] → count ≡ length names'
-    → new ≡ old ++ line (codes "loaded " ++ program_name count) → AddsReply (Replies (load digits)) names names' old new
-loaded digits id names names' count old new pushed counted added =
+pub loaded : (side : Side) (digits : List ℕ) (id : Id) (names names' : List Id) (count : ℕ) (old new : List ℕ) → names' ≡ names ++ id ∷ [] → count ≡ length names'
+    → new ≡ old ++ line (codes "loaded " ++ program_name count) → AddsReply (Replies side (load digits)) names names' old new
+loaded side digits id names names' count old new pushed counted added =
     let next : count ≡ suc (length names) =
     counted ∙ ap length pushed ∙ length-append names (id ∷ []) ∙ (let more : length names + 1 ≡ suc (length names) = omega arith in more) in (
       line (codes "loaded " ++ program_name count),
@@ -178,7 +178,7 @@ no-cell side (name ∷ words) is =
 
 -- The desk's answer to a line that isn't a cell line is one that the line may have. It counts no cell.
 no-cell-answered : (side : Side) (all : List Id) (found : Option Command) (names : List Id) (text : List ℕ) (names' : List Id) → is_cell found ≡ false
-    → MatchOption found (Refuses bad_line names text names') (λ command. MayObey command names text names')
+    → MatchOption found (Refuses bad_line names text names') (λ command. MayObey side command names text names')
     → MatchOption found (Refuses bad_line names text names' × (nothing ≡ nothing)) (λ command. MayAnswerCommand side all command names text names' nothing)
 no-cell-answered side all None names text names' apart printed = (printed, refl)
 no-cell-answered side all (Some (cell moment digits)) names text names' apart printed = let is : true ≡ false = apart in cc

@@ -31,9 +31,9 @@ use Rattle.upc_ports.specs.PortsText.{IsCardText}
 use Rattle.upc_ports.specs.ScriptAnswers.{AnswersEach}
 
 -- The desk may refuse a command with this fault.
-refuses : (command : Command) (names : List Id) (fault : DeskFault) (text : List ℕ) → MayReply command (reply.Refused fault)
-    → reply_text command (length names) (reply.Refused fault) ≡ Some text → (printed : List ℕ) × Replies command names printed names
-refuses command names fault text possible printed =
+refuses : (side : Side) (command : Command) (names : List Id) (fault : DeskFault) (text : List ℕ) → MayReply command (reply.Refused fault)
+    → reply_text side command (length names) (reply.Refused fault) ≡ Some text → (printed : List ℕ) × Replies side command names printed names
+refuses side command names fault text possible printed =
     (text, record { reply = reply.Refused fault; possible = possible; named = sym (append-nil names); printed = printed })
 
 -- The lines of two of its faults.
@@ -43,45 +43,45 @@ no_program = line (codes "fault desk " ++ codes "1 NoProgram")
 abbrev no_connection : List ℕ
 no_connection = line (codes "fault desk " ++ codes "2 NoConnection")
 
-named-some : (command : Command) (names : List Id) (found : Option Id) → ((text : List ℕ) × Replies command names text names)
-    → (text : List ℕ) × MatchOption found (Refuses no_such_program names text names) (λ id. Replies command names text names)
-named-some command names None some = (no_such_program, (refl, refl))
-named-some command names (Some id) some = some
+named-some : (side : Side) (command : Command) (names : List Id) (found : Option Id) → ((text : List ℕ) × Replies side command names text names)
+    → (text : List ℕ) × MatchOption found (Refuses no_such_program names text names) (λ id. Replies side command names text names)
+named-some side command names None some = (no_such_program, (refl, refl))
+named-some side command names (Some id) some = some
 
-reading-some : (digits : List ℕ) (names : List Id) (reading : ProgramReading) → (text : List ℕ) × RepliesToReading digits reading names text names
-reading-some digits names (is_program code) = (
+reading-some : (side : Side) (digits : List ℕ) (names : List Id) (reading : ProgramReading) → (text : List ℕ) × RepliesToReading side digits reading names text names
+reading-some side digits names (is_program code) = (
   line (codes "fault desk " ++ codes "6 ProgramsFull"),
   record { reply = reply.NotLoaded ProgramsFull code; possible = refl; named = sym (append-nil names); printed = refl },
 )
-reading-some digits names (is_refused fault) = (fault, (refl, refl))
+reading-some side digits names (is_refused fault) = (fault, (refl, refl))
 
-load-some : (digits : List ℕ) (names : List Id) (found : Option (List ℕ))
-    → (text : List ℕ) × MatchOption found (Refuses bad_hex names text names) (λ octets. RepliesToOctets digits octets names text names)
-load-some digits names None = (bad_hex, (refl, refl))
-load-some digits names (Some octets) =
+load-some : (side : Side) (digits : List ℕ) (names : List Id) (found : Option (List ℕ))
+    → (text : List ℕ) × MatchOption found (Refuses bad_hex names text names) (λ octets. RepliesToOctets side digits octets names text names)
+load-some side digits names None = (bad_hex, (refl, refl))
+load-some side digits names (Some octets) =
     let reading = reads-as octets in
-    let printed = reading-some digits names reading.0 in (printed.0, (reading.0, reading.1, printed.1))
+    let printed = reading-some side digits names reading.0 in (printed.0, (reading.0, reading.1, printed.1))
 
-setup-some : (vc : Vc) (number : ℕ) (wanted : List Wanted) (names : List Id) (fault : Option GcraFault)
-    → (text : List ℕ) × MatchOption fault (RepliesToNamed (setup vc number wanted) number names text names) (λ f. Refuses (gcra_fault f) names text names)
-setup-some vc number wanted names None =
-    named-some (setup vc number wanted) names (program_named names number) (
-      line (codes "set " ++ connection_name vc),
+setup-some : (side : Side) (vc : Vc) (number : ℕ) (wanted : List Wanted) (names : List Id) (fault : Option GcraFault)
+    → (text : List ℕ) × MatchOption fault (RepliesToNamed side (setup vc number wanted) number names text names) (λ f. Refuses (gcra_fault f) names text names)
+setup-some side vc number wanted names None =
+    named-some side (setup vc number wanted) names (program_named names number) (
+      line (codes "set " ++ connection_name side vc),
       record { reply = reply.SetUp (record { vc = vc; incarnation = 0 }); possible = refl; named = sym (append-nil names); printed = refl },
     )
-setup-some vc number wanted names (Some fault) = (gcra_fault fault, (refl, refl))
+setup-some side vc number wanted names (Some fault) = (gcra_fault fault, (refl, refl))
 
 -- A command of the desk.
-obey-some : (command : Command) (names : List Id) → (text : List ℕ) × MayObey command names text names
-obey-some (load digits) names = load-some digits names (octets_of_digits digits)
-obey-some (retire number) names =
-    named-some (retire number) names (program_named names number) (refuses (retire number) names NoProgram no_program tt refl)
-obey-some (setup vc number wanted) names = setup-some vc number wanted names (first_wanted_fault wanted)
-obey-some (reload vc number) names =
-    named-some (reload vc number) names (program_named names number) (refuses (reload vc number) names NoProgram no_program tt refl)
-obey-some (release vc) names = refuses (release vc) names NoConnection no_connection tt refl
-obey-some (cut vc) names = refuses (cut vc) names NoConnection no_connection tt refl
-obey-some (cell moment digits) names = (bad_line, (refl, refl))
+obey-some : (side : Side) (command : Command) (names : List Id) → (text : List ℕ) × MayObey side command names text names
+obey-some side (load digits) names = load-some side digits names (octets_of_digits digits)
+obey-some side (retire number) names =
+    named-some side (retire number) names (program_named names number) (refuses side (retire number) names NoProgram no_program tt refl)
+obey-some side (setup vc number wanted) names = setup-some side vc number wanted names (first_wanted_fault wanted)
+obey-some side (reload vc number) names =
+    named-some side (reload vc number) names (program_named names number) (refuses side (reload vc number) names NoProgram no_program tt refl)
+obey-some side (release vc) names = refuses side (release vc) names NoConnection no_connection tt refl
+obey-some side (cut vc) names = refuses side (cut vc) names NoConnection no_connection tt refl
+obey-some side (cell moment digits) names = (bad_line, (refl, refl))
 
 -- A cell line.
 cell-some : (side : Side) (all : List Id) (octets : List ℕ) (moment : ℕ) (is_cell : Bool)
@@ -97,18 +97,18 @@ digits-some : (side : Side) (all : List Id) (moment : ℕ) (found : Option (List
 digits-some side all moment None = (bad_hex, (refl, refl))
 digits-some side all moment (Some octets) = cell-some side all (cell_of_octets octets) moment (length (cell_of_octets octets) == 52)
 
-obeyed-some : (command : Command) (names : List Id) → (text : List ℕ) × (MayObey command names text names × (nothing ≡ nothing))
-obeyed-some command names = let printed = obey-some command names in (printed.0, (printed.1, refl))
+obeyed-some : (side : Side) (command : Command) (names : List Id) → (text : List ℕ) × (MayObey side command names text names × (nothing ≡ nothing))
+obeyed-some side command names = let printed = obey-some side command names in (printed.0, (printed.1, refl))
 
 command-some : (side : Side) (all : List Id) (names : List Id) (command : Command)
     → (text : List ℕ) × MayAnswerCommand side all command names text names nothing
 command-some side all names (cell moment digits) = let printed = digits-some side all moment (octets_of_digits digits) in (printed.0, (printed.1, refl))
-command-some side all names (load digits) = obeyed-some (load digits) names
-command-some side all names (retire number) = obeyed-some (retire number) names
-command-some side all names (setup vc number wanted) = obeyed-some (setup vc number wanted) names
-command-some side all names (reload vc number) = obeyed-some (reload vc number) names
-command-some side all names (release vc) = obeyed-some (release vc) names
-command-some side all names (cut vc) = obeyed-some (cut vc) names
+command-some side all names (load digits) = obeyed-some side (load digits) names
+command-some side all names (retire number) = obeyed-some side (retire number) names
+command-some side all names (setup vc number wanted) = obeyed-some side (setup vc number wanted) names
+command-some side all names (reload vc number) = obeyed-some side (reload vc number) names
+command-some side all names (release vc) = obeyed-some side (release vc) names
+command-some side all names (cut vc) = obeyed-some side (cut vc) names
 
 line-some : (side : Side) (all : List Id) (names : List Id) (found : Option Command)
     → (text : List ℕ) × MatchOption found (Refuses bad_line names text names × (nothing ≡ nothing)) (λ command. MayAnswerCommand side all command names text names nothing)

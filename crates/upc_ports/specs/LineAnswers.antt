@@ -49,40 +49,40 @@ loaded_id _ = []
 abbrev pub Refuses : List ℕ → List Id → List ℕ → List Id → Type 0
 Refuses fault names text names' = (text ≡ fault) × (names' ≡ names)
 
--- The text is the line of a reply that the desk may give to the command. A program that it loads gets the next name.
-pub record Replies (command : Command) (names : List Id) (text : List ℕ) (names' : List Id) : Type 0 where
+-- The text is the line of a reply that the desk of a card of this side may give to the command. A program that it loads gets the next name.
+pub record Replies (side : Side) (command : Command) (names : List Id) (text : List ℕ) (names' : List Id) : Type 0 where
   pub reply : Reply
   pub possible : MayReply command reply
   pub named : names' ≡ names ++ loaded_id reply
-  pub printed : reply_text command (length names) reply ≡ Some text
+  pub printed : reply_text side command (length names) reply ≡ Some text
 
 -- The program is loaded or refused by the desk, or the answer is the fault line of its octets.
-abbrev pub RepliesToReading : List ℕ → ProgramReading → List Id → List ℕ → List Id → Type 0
-RepliesToReading digits (is_program code) names text names' = Replies (load digits) names text names'
-RepliesToReading digits (is_refused fault) names text names' = Refuses fault names text names'
+abbrev pub RepliesToReading : Side → List ℕ → ProgramReading → List Id → List ℕ → List Id → Type 0
+RepliesToReading side digits (is_program code) names text names' = Replies side (load digits) names text names'
+RepliesToReading side digits (is_refused fault) names text names' = Refuses fault names text names'
 
 -- The octets are read as a program.
-abbrev pub RepliesToOctets : List ℕ → List ℕ → List Id → List ℕ → List Id → Type 0
-RepliesToOctets digits octets names text names' =
-    (reading : ProgramReading) × ReadsAs octets reading × RepliesToReading digits reading names text names'
+abbrev pub RepliesToOctets : Side → List ℕ → List ℕ → List Id → List ℕ → List Id → Type 0
+RepliesToOctets side digits octets names text names' =
+    (reading : ProgramReading) × ReadsAs octets reading × RepliesToReading side digits reading names text names'
 
 -- A command that names a program: if no program has this number yet, the answer is NoProgram.
-abbrev pub RepliesToNamed : Command → ℕ → List Id → List ℕ → List Id → Type 0
-RepliesToNamed command number names text names' =
-    MatchOption (program_named names number) (Refuses no_such_program names text names') (λ id. Replies command names text names')
+abbrev pub RepliesToNamed : Side → Command → ℕ → List Id → List ℕ → List Id → Type 0
+RepliesToNamed side command number names text names' =
+    MatchOption (program_named names number) (Refuses no_such_program names text names') (λ id. Replies side command names text names')
 
 -- The answers to a command of the desk. An arriving cell is no such command.
-abbrev pub MayObey : Command → List Id → List ℕ → List Id → Type 0
-MayObey (load digits) names text names' =
-    MatchOption (octets_of_digits digits) (Refuses bad_hex names text names') (λ octets. RepliesToOctets digits octets names text names')
-MayObey (retire number) names text names' = RepliesToNamed (retire number) number names text names'
-MayObey (setup vc number wanted) names text names' =
-    MatchOption (first_wanted_fault wanted) (RepliesToNamed (setup vc number wanted) number names text names')
+abbrev pub MayObey : Side → Command → List Id → List ℕ → List Id → Type 0
+MayObey side (load digits) names text names' =
+    MatchOption (octets_of_digits digits) (Refuses bad_hex names text names') (λ octets. RepliesToOctets side digits octets names text names')
+MayObey side (retire number) names text names' = RepliesToNamed side (retire number) number names text names'
+MayObey side (setup vc number wanted) names text names' =
+    MatchOption (first_wanted_fault wanted) (RepliesToNamed side (setup vc number wanted) number names text names')
     (λ fault. Refuses (gcra_fault fault) names text names')
-MayObey (reload vc number) names text names' = RepliesToNamed (reload vc number) number names text names'
-MayObey (release vc) names text names' = Replies (release vc) names text names'
-MayObey (cut vc) names text names' = Replies (cut vc) names text names'
-MayObey (cell moment digits) names text names' = Refuses bad_line names text names'
+MayObey side (reload vc number) names text names' = RepliesToNamed side (reload vc number) number names text names'
+MayObey side (release vc) names text names' = Replies side (release vc) names text names'
+MayObey side (cut vc) names text names' = Replies side (cut vc) names text names'
+MayObey side (cell moment digits) names text names' = Refuses bad_line names text names'
 
 -- A cell of these octets that arrived at this moment may have this answer: a judged cell leaves as its verdict requires,
 -- and the moment is the error only if it is too late or goes back.
@@ -100,7 +100,7 @@ counts_of answer = counts_after nothing (judged_in_answer answer)
 pub record MayAnswerCell (side : Side) (all : List Id) (octets : List ℕ) (moment : ℕ) (text : List ℕ) (counts : Tally) : Type 0 where
   pub answer : Answer
   pub possible : MayAnswer octets moment answer
-  pub printed : answer_text all (vc_of side octets) answer ≡ Some text
+  pub printed : answer_text side all (vc_of side octets) answer ≡ Some text
   pub counted : counts ≡ counts_of answer
 
 -- The answer is this fault, and no cell is counted.
@@ -120,7 +120,7 @@ MayAnswerDigits side all moment digits text counts =
 -- The answers to a command. A cell loads no program, and a command of the desk counts no cell.
 abbrev pub MayAnswerCommand : Side → List Id → Command → List Id → List ℕ → List Id → Tally → Type 0
 MayAnswerCommand side all (cell moment digits) names text names' counts = MayAnswerDigits side all moment digits text counts × (names' ≡ names)
-MayAnswerCommand side all command names text names' counts = MayObey command names text names' × (counts ≡ nothing)
+MayAnswerCommand side all command names text names' counts = MayObey side command names text names' × (counts ≡ nothing)
 
 -- The answers to a line with these words. If they are no command, the answer is BadLine.
 abbrev pub MayAnswerLine : Side → List Id → List (List ℕ) → List Id → List ℕ → List Id → Tally → Type 0

@@ -26,7 +26,7 @@ fn add_arrival(
     answers: &mut Vec<u8>,
 ) -> Result<(), AllocError>
     ensures { OnOk result (AddsSome
-        (answer_text names.now (vc_of side (shown_cell arrival.now.header)) (answer_kept (shown_cell arrival.now.header) arrival.now.decision))
+        (answer_text side names.now (vc_of side (shown_cell arrival.now.header)) (answer_kept (shown_cell arrival.now.header) arrival.now.decision))
         answers.old.items answers.new.items) }
 {
     let cell = shown_cell(&arrival.header);
@@ -34,9 +34,9 @@ fn add_arrival(
     match &arrival.decision {
         Ok(ruling) => {
             let number = names.number_of(ruling.program) as u64;
-            add_judged(answers, number, vc, &cell, &judgement_of(ruling))
+            add_judged(answers, side, number, vc, &cell, &judgement_of(ruling))
         }
-        Err(reason) => add_unjudged(answers, vc, *reason),
+        Err(reason) => add_unjudged(answers, side, vc, *reason),
     }
 }
 

@@ -42,7 +42,7 @@ impl<S: Ledgers> ScriptDesk<S> {
         digits: &[u8],
         answers: &mut Vec<u8>,
     ) -> Result<(), AllocError>
-        ensures { OnOk result (AddsReply (MayObey (load digits.now))
+        ensures { OnOk result (AddsReply (MayObey card.now.side (load digits.now))
             self.old.names self.new.names answers.old.items answers.new.items) }
     {
         let Some(octets) = octets_of_word(self.alloc, digits)? else {
@@ -67,7 +67,7 @@ impl<S: Ledgers> ScriptDesk<S> {
         number: u64,
         answers: &mut Vec<u8>,
     ) -> Result<(), AllocError>
-        ensures { OnOk result (AddsReply (MayObey (retire number))
+        ensures { OnOk result (AddsReply (MayObey card.now.side (retire number))
             self.old.names self.new.names answers.old.items answers.new.items) }
     {
         let Some(id) = self.names.named(number) else {
@@ -89,7 +89,7 @@ impl<S: Ledgers> ScriptDesk<S> {
         wanted: &ArrayVec<Wanted, 4>,
         answers: &mut Vec<u8>,
     ) -> Result<(), AllocError>
-        ensures { OnOk result (AddsReply (MayObey (setup vc number wanted.now.items))
+        ensures { OnOk result (AddsReply (MayObey card.now.side (setup vc number wanted.now.items))
             self.old.names self.new.names answers.old.items answers.new.items) }
     {
         let contracts = match contracts_of(wanted) {
@@ -107,7 +107,7 @@ impl<S: Ledgers> ScriptDesk<S> {
         if let Err((fault, _)) = self.desk.setup(rt, card, ask) {
             return add_desk_fault(answers, fault);
         }
-        add_set(answers, vc)
+        add_set(answers, card.side(), vc)
     }
 
     /// Sets up a connection with the contracts of these words, if they are one to four contracts.
@@ -120,7 +120,7 @@ impl<S: Ledgers> ScriptDesk<S> {
         words: &[u8],
         answers: &mut Vec<u8>,
     ) -> Result<(), AllocError>
-        ensures { OnOk result (AddsReply (MayObeySeen (setup_seen vc number words.now))
+        ensures { OnOk result (AddsReply (MayObeySeen card.now.side (setup_seen vc number words.now))
             self.old.names self.new.names answers.old.items answers.new.items) }
     {
         let Some(wanted) = contracts(words) else {
@@ -138,7 +138,7 @@ impl<S: Ledgers> ScriptDesk<S> {
         number: u64,
         answers: &mut Vec<u8>,
     ) -> Result<(), AllocError>
-        ensures { OnOk result (AddsReply (MayObey (reload vc number))
+        ensures { OnOk result (AddsReply (MayObey card.now.side (reload vc number))
             self.old.names self.new.names answers.old.items answers.new.items) }
     {
         let Some(program) = self.names.named(number) else {
@@ -147,7 +147,7 @@ impl<S: Ledgers> ScriptDesk<S> {
         if let Err(fault) = self.desk.reload(rt, card, vc, program) {
             return add_desk_fault(answers, fault);
         }
-        add_reloaded(answers, vc, number)
+        add_reloaded(answers, card.side(), vc, number)
     }
 
     /// Releases a connection.
@@ -158,14 +158,14 @@ impl<S: Ledgers> ScriptDesk<S> {
         vc: Vc,
         answers: &mut Vec<u8>,
     ) -> Result<(), AllocError>
-        ensures { OnOk result (AddsReply (MayObey (release vc))
+        ensures { OnOk result (AddsReply (MayObey card.now.side (release vc))
             self.old.names self.new.names answers.old.items answers.new.items) }
     {
         let piece = match self.desk.release(rt, card, vc) {
             Ok(piece) => piece,
             Err(fault) => return add_desk_fault(answers, fault),
         };
-        add_released(answers, vc, &piece)
+        add_released(answers, card.side(), vc, &piece)
     }
 
     /// Adds a connection's journal as the answer, and begins a new one.
@@ -176,14 +176,14 @@ impl<S: Ledgers> ScriptDesk<S> {
         vc: Vc,
         answers: &mut Vec<u8>,
     ) -> Result<(), AllocError>
-        ensures { OnOk result (AddsReply (MayObey (cut vc))
+        ensures { OnOk result (AddsReply (MayObey card.now.side (cut vc))
             self.old.names self.new.names answers.old.items answers.new.items) }
     {
         let piece = match self.desk.cut(rt, card, vc) {
             Ok(piece) => piece,
             Err(fault) => return add_desk_fault(answers, fault),
         };
-        add_cut(answers, vc, &piece)
+        add_cut(answers, card.side(), vc, &piece)
     }
 
     /// Carries out a command. A cell is no command of the desk.
@@ -194,7 +194,7 @@ impl<S: Ledgers> ScriptDesk<S> {
         command: &Command<'_>,
         answers: &mut Vec<u8>,
     ) -> Result<(), AllocError>
-        ensures { OnOk result (AddsReply (MayObeySeen (command_seen command.now))
+        ensures { OnOk result (AddsReply (MayObeySeen card.now.side (command_seen command.now))
             self.old.names self.new.names answers.old.items answers.new.items) }
     {
         match command {

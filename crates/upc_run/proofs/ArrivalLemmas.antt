@@ -26,8 +26,8 @@ use Rattle.upc_words.specs.Hexadecimal.{cell_of_octets, octets_of_digits}
 use Rattle.upc_run.specs.RunText.{Obeys, PolicesCell, PolicesOctets, RefusesLine}
 use Rattle.upc_script.specs.ScriptCommands.{cell}
 use Rattle.upc_run.proofs.MovesLemmas.{moves-map}
-use Rattle.upc_run.specs.ShownCard.{Held}
-use Rattle.upc_run.specs.inner.Policing.{AnswersCell, Moves}
+use Rattle.upc_run.specs.ShownCard.{Held, Moves}
+use Rattle.upc_run.specs.inner.Policing.{AnswersCell}
 use Rattle.upc_run.specs.inner.PortZero.{enter-goes}
 
 -- A cell that takes all its steps is answered by the pick or by the judgement.
@@ -79,7 +79,7 @@ arrives held held' octets moment None names goes not = arrives-not held held' oc
 
 -- A cell is policed if its answer is appended.
 pub polices-printed : (held held' : Held) (side : Side) (octets : List ℕ) (moment : ℕ) (given : Answer) (text old new : List ℕ) → held.core.shape.side ≡ side
-    → AnswersCell held octets moment (Some given) held' → numbered_answer_text (number_of_judging held.names given) (vc_of side octets) given ≡ Some text
+    → AnswersCell held octets moment (Some given) held' → numbered_answer_text side (number_of_judging held.names given) (vc_of side octets) given ≡ Some text
     → new ≡ old ++ text → Moves (λ before. PolicesCell before moment octets) held held' old new
 polices-printed held held' side octets moment given text old new is answers printed added = (
   text,
@@ -95,9 +95,9 @@ polices-printed held held' side octets moment given text old new is answers prin
           arrived = goes.3;
           same = refl;
           printed =
-              ap (λ answer. answer_text before.names (vc_of before.world.shape.side octets) answer) same
-              ∙ ap (λ s. answer_text before.names (vc_of s octets) given) (sym here)
-              ∙ ap (λ (names : List Id). answer_text names (vc_of side octets) given) (sym shows.names) ∙ printed;
+              ap (λ answer. answer_text before.world.shape.side before.names (vc_of before.world.shape.side octets) answer) same
+              ∙ ap (λ s. answer_text s before.names (vc_of s octets) given) (sym here)
+              ∙ ap (λ (names : List Id). answer_text side names (vc_of side octets) given) (sym shows.names) ∙ printed;
         },
       ),
 )

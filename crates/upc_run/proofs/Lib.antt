@@ -1,4 +1,5 @@
 pub mod ArrivalLemmas
+pub mod PathLemmas
 pub mod LineLemmas
 pub mod MovesLemmas
 pub mod PolicingLemmas

@@ -5,8 +5,7 @@ use Rattle.text_io.specs.Words.{is_silent, words_of}
 use Rattle.upc_run.specs.RunText.{Card, CommandLine, PolicesCell, OpensOrObeys}
 use Rattle.upc_script.specs.ScriptCommands.{cell, command_of}
 use Rattle.upc_script.specs.inner.SpelledCell.{SpellsCell}
-use Rattle.upc_run.specs.ShownCard.{Held}
-use Rattle.upc_run.specs.inner.Policing.{Moves, AnswersLine}
+use Rattle.upc_run.specs.ShownCard.{AnswersLine, Held, Moves}
 use Rattle.upc_run.proofs.ArrivalLemmas.{moves-cell}
 use Rattle.upc_run.proofs.MovesLemmas.{moves-line, moves-map}
 

@@ -25,8 +25,8 @@ use Rattle.upc_card_lines.specs.Replies.{reply_text}
 use Rattle.upc_run.specs.RunText.{AsksConnection, Card, CommandLine, LoadsOctets, Obeys, RefusesLine, TakesCommand, TakesNamed, id_loaded}
 use Rattle.upc_script.specs.ScriptCommands.{Command, command_of, load, setup}
 use Rattle.upc_script.specs.declared.script_words.Wanted.{Wanted}
-use Rattle.upc_run.specs.ShownCard.{Held, ShowsCard}
-use Rattle.upc_run.specs.inner.Policing.{Moves, MovesBy, ObeysSeen}
+use Rattle.upc_run.specs.ShownCard.{Held, Moves, MovesBy, ShowsCard}
+use Rattle.upc_run.specs.inner.Policing.{ObeysSeen}
 
 -- A command that is refused before a step is taken.
 pub moves-refused : (Goes : Card → List ℕ → Card → Type 0) (held : Held) (fault old new : List ℕ) → new ≡ old ++ fault
@@ -34,31 +34,34 @@ pub moves-refused : (Goes : Card → List ℕ → Card → Type 0) (held : Held)
 moves-refused Goes held fault old new added goes = (fault, added, λ before led shows. (before, shows, goes before shows))
 
 -- The represented card after a step.
-taken : (held held' : Held) (command : Command) (step : Step) (reply : Reply) (text : List ℕ) → Follows held.core step reply held'.core
-    → held'.names ≡ held.names ++ id_loaded reply
-    → ((before after : World) → WorldStep before step reply after → reply_text command (length held.names) reply ≡ Some text)
+taken : (held held' : Held) (side : Side) (command : Command) (step : Step) (reply : Reply) (text : List ℕ) → held.core.shape.side ≡ side
+    → Follows held.core step reply held'.core → held'.names ≡ held.names ++ id_loaded reply
+    → ((before after : World) → WorldStep before step reply after → reply_text side command (length held.names) reply ≡ Some text)
     → MovesBy (λ before. TakesCommand before command step) held text held'
-taken held held' command step reply text follows named printed before led shows =
+taken held held' side command step reply text is follows named printed before led shows =
     let on = follows led.shape led.log before.world led.leads shows.agrees in
     let names : held'.names ≡ before.names ++ id_loaded reply = named ∙ ap (λ (ids : List Id). ids ++ id_loaded reply) shows.names in
-    let count : length held.names ≡ length before.names = ap length shows.names in (
+    let count : length held.names ≡ length before.names = ap length shows.names in
+    let here : side ≡ before.world.shape.side = sym is ∙ ap (λ s. s.side) shows.agrees.shape in (
       record { world = on.after; names = before.names ++ id_loaded reply },
       record { agrees = on.agrees; names = names },
       record {
         reply = reply;
         stepped = on.stepped;
         named = refl;
-        printed = ap (λ n. reply_text command n reply) (sym count) ∙ printed before.world on.after on.stepped;
+        printed =
+            ap (λ s. reply_text s command (length before.names) reply) (sym here)
+            ∙ ap (λ n. reply_text side command n reply) (sym count) ∙ printed before.world on.after on.stepped;
       },
     )
 
 -- A step of the desk whose reply is appended.
-pub moves-taken : (held held' : Held) (command : Command) (step : Step) (reply : Reply) (text old new : List ℕ)
+pub moves-taken : (held held' : Held) (side : Side) (command : Command) (step : Step) (reply : Reply) (text old new : List ℕ) → held.core.shape.side ≡ side
     → Follows held.core step reply held'.core → held'.names ≡ held.names ++ id_loaded reply → new ≡ old ++ text
-    → ((before after : World) → WorldStep before step reply after → reply_text command (length held.names) reply ≡ Some text)
+    → ((before after : World) → WorldStep before step reply after → reply_text side command (length held.names) reply ≡ Some text)
     → Moves (λ before. TakesCommand before command step) held held' old new
-moves-taken held held' command step reply text old new follows named added printed =
-    (text, added, taken held held' command step reply text follows named printed)
+moves-taken held held' side command step reply text old new is follows named added printed =
+    (text, added, taken held held' side command step reply text is follows named printed)
 
 -- A program that has a name, and one that has none.
 pub moves-named : (TakesWith : Card → Id → List ℕ → Card → Type 0) (command : Command) (number : ℕ) (id : Id) (held held' : Held) (old new : List ℕ)

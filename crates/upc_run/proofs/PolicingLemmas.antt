@@ -8,8 +8,8 @@ use Rattle.text_io.specs.declared.machine.Turn.TheVariants.{GoesOn}
 use Rattle.text_io.specs.declared.words.LineWords.{LineWords}
 use Rattle.text_io.specs.declared.words.LineWords.TheVariants.{Silent, One, Several}
 use Rattle.upc_run.specs.RunText.{IsSoundRun, RunSteps, RunWorld, OpensOrObeys, run_rules}
-use Rattle.upc_run.specs.ShownCard.{Held, ShowsRun}
-use Rattle.upc_run.specs.inner.Policing.{Moves, OpensAs, AnswersLine}
+use Rattle.upc_run.specs.ShownCard.{AnswersLine, Held, Moves, ShowsRun}
+use Rattle.upc_run.specs.inner.Policing.{OpensAs}
 
 -- A line with one word or more isn't silent.
 pub line-asks : (words : List (List ℕ)) (found : LineWords) → IsLineWords words found

@@ -64,7 +64,7 @@ pub record TakesCommand (before : Card) (command : Command) (step : Step) (text 
   pub reply : Reply
   pub stepped : WorldStep before.world step reply after.world
   pub named : after.names ≡ before.names ++ id_loaded reply
-  pub printed : reply_text command (length before.names) reply ≡ Some text
+  pub printed : reply_text before.world.shape.side command (length before.names) reply ≡ Some text
 
 -- The program is loaded, or the answer is the fault line of its octets.
 abbrev pub TakesReading : Card → List ℕ → ProgramReading → List ℕ → Card → Type 0
@@ -112,7 +112,7 @@ pub record PolicesCell (before : Card) (moment : ℕ) (octets : List ℕ) (text 
   pub answer : Answer
   pub arrived : Arrives before.world octets moment answer after.world
   pub same : after.names ≡ before.names
-  pub printed : answer_text before.names (vc_of before.world.shape.side octets) answer ≡ Some text
+  pub printed : answer_text before.world.shape.side before.names (vc_of before.world.shape.side octets) answer ≡ Some text
 
 -- The cell of 52 octets arrives. Any other number of octets is an error and changes nothing.
 abbrev pub PolicesOctets : Card → ℕ → List ℕ → List ℕ → Card → Type 0

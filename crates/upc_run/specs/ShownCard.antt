@@ -1,8 +1,8 @@
 -- A card as the code stores it, and the cards that it represents.
-use Rattle.std.specs.Prelude.{◌≡◌, List, Option, Some, None}
+use Rattle.std.specs.Prelude.{◌≡◌, ℕ, List, ◌++◌, Option, Some, None}
 use Rattle.gen_arena.specs.declared.id.Id.{Id}
 use Rattle.card_core.specs.Agreement.{CoreAgrees, CoreView}
-use Rattle.upc_run.specs.RunText.{Card, RunWorld}
+use Rattle.upc_run.specs.RunText.{Card, IsLed, RunSteps, RunWorld}
 
 -- The core, and the ids of the programs in the order of their names.
 pub record Held : Type 0 where
@@ -20,8 +20,15 @@ ShowsRun None None = Unit {0}
 ShowsRun (Some held) (Some card) = ShowsCard held card
 ShowsRun _ _ = ⊥
 
--- A core agrees with the world of the card; without a core there is no card yet.
-abbrev pub ShowsCore : Option CoreView → RunWorld → Type 0
-ShowsCore None None = Unit {0}
-ShowsCore (Some core) (Some card) = CoreAgrees core card.world
-ShowsCore _ _ = ⊥
+-- For each card that was represented before, this text leads to a card that is represented afterwards.
+abbrev pub MovesBy : (Card → List ℕ → Card → Type 0) → Held → List ℕ → Held → Type 0
+MovesBy Goes held text held' = (before : Card) → IsLed before → ShowsCard held before
+    → (after : Card) × ShowsCard held' after × Goes before text after
+
+-- The answers grew by such a text.
+abbrev pub Moves : (Card → List ℕ → Card → Type 0) → Held → Held → List ℕ → List ℕ → Type 0
+Moves Goes held held' old new = (text : List ℕ) × (new ≡ old ++ text) × MovesBy Goes held text held'
+
+-- The line has this answer, and the run continues with the card after it.
+abbrev pub AnswersLine : List ℕ → Card → List ℕ → Card → Type 0
+AnswersLine line before text after = RunSteps (Some before) line text (Some (Some after))

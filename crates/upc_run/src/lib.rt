@@ -7,3 +7,4 @@ mod run;
 mod script_card;
 
 pub use run::{Policing, run_script};
+pub use script_card::ScriptCard;

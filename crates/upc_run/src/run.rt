@@ -7,7 +7,6 @@ ghost use Rattle.upc_run.specs.RunText.{IsRunText};
 ghost use Rattle.upc_run.specs.inner.Policing.{OpensAs};
 
 use crate::script_card::ScriptCard;
-use card_core::Core;
 use std::alloc::{AllocError, Global};
 use text_io::{Done, Input, LineWords, Machine, Output, RunFault, Turn, answer_lines, line_words};
 use upc_card_lines::{add_no_card, add_shape_fault, read_card};
@@ -48,7 +47,7 @@ impl Policing {
     ghost use Rattle.text_io.specs.Answering.{Answers};
     ghost use Rattle.upc_run.specs.RunSide.{run_side};
     ghost use Rattle.upc_run.specs.RunText.{RunWorld, run_rules};
-    ghost use Rattle.upc_run.specs.ShownCard.{ShowsCore, ShowsRun};
+    ghost use Rattle.upc_run.specs.ShownCard.{ShowsRun};
 
     /// Makes the machine of a run that has no card yet.
     // no edit: without a shape there is no card to put in
@@ -68,15 +67,12 @@ impl Policing {
         }
     }
 
-    /// Returns the core of the card, if there is a card.
-    pub fn into_core(self) -> Option<Core>
-        ensures { (world : RunWorld) → ⟦<Policing as Machine>⟧.shows self world → ShowsCore result world }
+    /// Returns the card, if there is one.
+    pub fn into_card(self) -> Option<ScriptCard>
+        ensures { (world : RunWorld) → ⟦<Policing as Machine>⟧.shows self world → ShowsRun result world }
     {
         let Policing { card, .. } = self;
-        match card {
-            Some(card) => Some(card.into_core()),
-            None => None,
-        }
+        card
     }
 
     /// Answers a line before there is a card. It is a function of its own, so that later lines don't need the stack

@@ -3,7 +3,7 @@
 use arrayvec::ArrayVec;
 use bpf_code::Instr;
 use bpf_verify::Program;
-use card_core::{Ask, CardFault, Core, Judgement, Shape, Unjudged};
+use card_core::{Answer, Ask, CardFault, Core, Judgement, Shape, Unjudged};
 use std::alloc::{AllocError, Global};
 use std::marker::Model;
 use upc_card_lines::{
@@ -39,17 +39,21 @@ impl Model for ScriptCard {
 
 // The functions of the desk are not inlined, so that the path of a cell doesn't need their stack space.
 impl ScriptCard {
-    ghost use Rattle.std.specs.Prelude.{◌≡◌, ◌⊎◌, ◌∷◌, [], IfOk, IfErr, OnOk, MatchResult, None, Some, option_map};
+    ghost use Rattle.std.specs.Prelude.{◌≡◌, ◌⊎◌, ◌∷◌, [], IfNone, IfOk, IfErr, IfSome, OnOk, MatchResult, None, Some, option_map};
     ghost use Rattle.bpf_verify.specs.Accepted.{IsAccepted};
+    ghost use Rattle.card_core.specs.Agreement.{Follows};
+    ghost use Rattle.card_core.specs.Arrival.{AnswersKeeping, IsWorn};
     ghost use Rattle.card_core.specs.Sections.{answer_to};
     ghost use Rattle.card_core.specs.Shapes.{shape_fault};
     ghost use Rattle.upc_card_lines.specs.CardLine.{card_line_shape};
     ghost use Rattle.upc_script.specs.ScriptCommands.{load, retire, setup, reload, release, cut, cell};
-    ghost use Rattle.card_core.specs.declared.step.Step.TheVariants.{Load};
+    ghost use Rattle.card_core.specs.declared.reply.Reply.TheVariants.{NotNow};
+    ghost use Rattle.card_core.specs.declared.step.Step.TheVariants.{Enter, Load};
+    ghost use Rattle.upc_cell.specs.Connection.{vc_of};
     ghost use Rattle.upc_run.specs.RunText.{AsksConnection, CommandLine, LoadsOctets, Obeys, PolicesCell, TakesCommand, TakesNamed, new_card};
     ghost use Rattle.upc_script.specs.CommandSeen.{command_seen, setup_seen};
-    ghost use Rattle.upc_run.specs.ShownCard.{ShowsCard};
-    ghost use Rattle.upc_run.specs.inner.Policing.{AnswersCell, Moves, ObeysSeen, AnswersLine};
+    ghost use Rattle.upc_run.specs.ShownCard.{AnswersLine, Moves, ShowsCard};
+    ghost use Rattle.upc_run.specs.inner.Policing.{AnswersCell, ObeysSeen};
     ghost use Rattle.text_io.specs.Words.{words_of};
 
     /// Makes a card of this shape.
@@ -74,16 +78,16 @@ impl ScriptCard {
         }
     }
 
+    // no edit: a card has one core
     /// Returns the core of the card, without the names of the programs.
-    pub fn into_core(self) -> Core
-        ensures { result ≡ self.core }
+    pub fn core(&self) -> &Core
+        ensures { result.now ≡ self.now.core }
     {
-        let ScriptCard { core, .. } = self;
-        core
+        &self.core
     }
 
     /// Returns the side of the card's cells.
-    pub fn side(&self) -> Side
+    pub(crate) fn side(&self) -> Side
         ensures { result ≡ self.now.core.shape.side }
     {
         self.core.shape().side
@@ -168,8 +172,9 @@ impl ScriptCard {
             program,
             contracts,
         };
+        let side = self.core.shape().side;
         match self.core.setup(ask) {
-            Ok(_) => add_set(answers, vc),
+            Ok(_) => add_set(answers, side, vc),
             Err((fault, _)) => add_desk_fault(answers, fault),
         }
     }
@@ -201,8 +206,9 @@ impl ScriptCard {
         let Some(program) = self.names.named(number) else {
             return add_no_such_program(answers);
         };
+        let side = self.core.shape().side;
         match self.core.reload(vc, program) {
-            Ok(_) => add_reloaded(answers, vc, number),
+            Ok(_) => add_reloaded(answers, side, vc, number),
             Err(fault) => add_desk_fault(answers, fault),
         }
     }
@@ -213,8 +219,9 @@ impl ScriptCard {
         ensures { OnOk result (Moves (λ before. Obeys before (release vc))
             self.old self.new answers.old.items answers.new.items) }
     {
+        let side = self.core.shape().side;
         match self.core.release(vc) {
-            Ok(piece) => add_released(answers, vc, &piece),
+            Ok(piece) => add_released(answers, side, vc, &piece),
             Err(fault) => add_desk_fault(answers, fault),
         }
     }
@@ -225,8 +232,9 @@ impl ScriptCard {
         ensures { OnOk result (Moves (λ before. Obeys before (cut vc))
             self.old self.new answers.old.items answers.new.items) }
     {
+        let side = self.core.shape().side;
         match self.core.cut(vc) {
-            Ok(piece) => add_cut(answers, vc, &piece),
+            Ok(piece) => add_cut(answers, side, vc, &piece),
             Err(fault) => add_desk_fault(answers, fault),
         }
     }
@@ -240,22 +248,41 @@ impl ScriptCard {
         self.core.arrive(PORT, cell, moment)
     }
 
+    /// Takes all steps of a cell at port 0 and returns its answer, as [`Core::arrive_keeping`] does: a journal that is full or has `most`
+    /// entries is dropped before them. None if the port has a cell; between commands it never has.
+    #[inline(always)]
+    pub fn arrive_keeping(
+        &mut self,
+        cell: &Cell,
+        moment: u64,
+        most: usize,
+    ) -> Option<Result<Judgement, Unjudged>>
+        ensures answered { IfSome result (λ decision. AnswersKeeping most self.old.core 0 cell.now moment (answer_to cell.now decision) self.new.core) }
+        ensures not_now { IfNone result (Follows self.old.core (Enter 0 cell.now moment) NotNow self.new.core) }
+        ensures full { IfSome result (λ decision. answer_to cell.now decision ≡ Answer.JournalFull
+            → IsWorn self.old.core (vc_of self.old.core.shape.side cell.now)) }
+        ensures names { self.new.names ≡ self.old.names }
+    {
+        self.core.arrive_keeping(PORT, cell, moment, most)
+    }
+
     /// Polices a cell.
     #[inline(always)]
     fn police(&mut self, moment: u64, cell: &Cell, answers: &mut Vec<u8>) -> Result<(), AllocError>
         ensures { OnOk result (Moves (λ before. PolicesCell before moment cell.now)
             self.old self.new answers.old.items answers.new.items) }
     {
-        let vc = cell.vc_at(self.core.shape().side);
+        let side = self.core.shape().side;
+        let vc = cell.vc_at(side);
         let Some(decision) = self.arrive(cell, moment) else {
             return Ok(());
         };
         let judged = match decision {
             Ok(judged) => judged,
-            Err(reason) => return add_unjudged(answers, vc, reason),
+            Err(reason) => return add_unjudged(answers, side, vc, reason),
         };
         let number = self.names.number_of(judged.program) as u64;
-        add_judged(answers, number, vc, cell, &judged)
+        add_judged(answers, side, number, vc, cell, &judged)
     }
 
     /// Polices the cell of a word, if the word spells one.

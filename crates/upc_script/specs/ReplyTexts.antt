@@ -1,6 +1,8 @@
 -- The texts of answers that need no card: names of programs and connections, counts, and the lines of judged cells.
-use Rattle.std.specs.Prelude.{ℕ, List, ◌++◌, length, map, take, codes, decimal}
+use Rattle.std.specs.Prelude.{ℕ, if◌then◌else◌, List, ◌++◌, length, map, take, codes, decimal}
 use Rattle.hex.specs.Hex.{encode_lower}
+use Rattle.upc_cell.specs.Side.{has_paths}
+use Rattle.upc_cell.specs.declared.side.Side.{Side}
 use Rattle.upc_cell.specs.declared.vc.Vc.{Vc}
 use Rattle.leaky.specs.declared.verdict.Verdict.{Verdict}
 use Rattle.leaky.specs.declared.verdict.Verdict.TheVariants.{Pass, Tag, Discard, Refuse}
@@ -13,9 +15,13 @@ use Rattle.upc_words.specs.FaultLines.{line}
 abbrev pub program_name : ℕ → List ℕ
 program_name number = codes "p" ++ decimal number
 
--- The name of a connection: its path and its channel.
-abbrev pub connection_name : Vc → List ℕ
-connection_name vc = decimal vc.vpi ++ codes "/" ++ decimal vc.vci
+-- The channel in a connection's name: its number, or `*` where connections are virtual paths.
+abbrev pub channel_name : Side → ℕ → List ℕ
+channel_name side vci = if has_paths side then codes "*" else decimal vci
+
+-- The name of a connection on a card of this side: its path and its channel.
+abbrev pub connection_name : Side → Vc → List ℕ
+connection_name side vc = decimal vc.vpi ++ codes "/" ++ channel_name side vc.vci
 
 -- The counts of each verdict, each after a space.
 abbrev pub tally_text : Tally → List ℕ
@@ -29,8 +35,8 @@ piece_text piece =
     codes " " ++ decimal (length piece.entries) ++ tally_text (tally_of (map (λ entry. entry.verdict) piece.entries))
 
 -- The connection of a judged cell, the program that named its contract, and the value that the program gave.
-abbrev pub judging_text : Vc → ℕ → ℕ → List ℕ
-judging_text vc number value = connection_name vc ++ codes " " ++ program_name number ++ codes " " ++ decimal value
+abbrev pub judging_text : Side → Vc → ℕ → ℕ → List ℕ
+judging_text side vc number value = connection_name side vc ++ codes " " ++ program_name number ++ codes " " ++ decimal value
 
 -- The header of a leaving cell, without its check octet, after a space.
 abbrev pub header_text : List ℕ → List ℕ

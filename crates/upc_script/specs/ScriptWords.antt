@@ -5,7 +5,7 @@ use Rattle.std.proofs.Math.Nat.{mod-lt, zero-lt-suc, le_of_suc-le-suc}
 use Rattle.std.specs.Option.{option_and_then}
 use Rattle.std.specs.Str.{bytes_eq}
 use Rattle.text_io.specs.Words.{is_digit}
-use Rattle.upc_cell.specs.Side.{last_vpi}
+use Rattle.upc_cell.specs.Side.{has_paths, last_vpi}
 use Rattle.upc_cell.specs.declared.side.Side.{Side}
 use Rattle.upc_cell.specs.declared.vc.Vc.{Vc}
 use Rattle.upc_script.specs.declared.script_words.Rate.{Rate}
@@ -53,9 +53,14 @@ connection_of path channel = record {
   of_an_interface = le_of_suc-le-suc (mod-lt path (zero-lt-suc 4095));
 }
 
--- The virtual connection of two words: a path of this side, and a channel.
+-- The channel of a word: a number. Where connections are virtual paths the word is exactly `*`, and the channel is 0.
+abbrev pub channel_named : Side → List ℕ → Option ℕ
+channel_named side word =
+    if has_paths side then (if bytes_eq word (codes "*") then Some 0 else None) else number_up_to 65535 word
+
+-- The virtual connection of two words: a path of this side, and its channel, or `*` for a whole path.
 abbrev pub vc_named : Side → List ℕ → List ℕ → Option Vc
-vc_named side path channel = with_both connection_of (number_up_to (last_vpi side) path) (number_up_to 65535 channel)
+vc_named side path channel = with_both connection_of (number_up_to (last_vpi side) path) (channel_named side channel)
 
 -- The octets before the first `mark` and those after it. None if there is no `mark`.
 unfoldable pub cut_at : ℕ → List ℕ → Option (List ℕ × List ℕ)

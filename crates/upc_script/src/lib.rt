@@ -23,4 +23,4 @@ pub use reply_texts::{
     add_verdict,
 };
 pub use script_lines::{first_line, is_cell_line};
-pub use script_words::{Rate, Wanted, contract, number, program};
+pub use script_words::{Rate, Wanted, channel_of, contract, number, program};

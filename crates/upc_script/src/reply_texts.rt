@@ -3,12 +3,12 @@
 ghost use Rattle.std.specs.Prelude.{◌≡◌, ◌+◌, ◌≤◌, ◌++◌, codes, decimal, length, map, OnOk};
 ghost use Rattle.line_record.specs.Tally.{tally_of};
 ghost use Rattle.upc_words.specs.FaultLines.{line};
-ghost use Rattle.upc_script.specs.ReplyTexts.{connection_name, header_text, judging_text, piece_text, program_name, tally_text, verdict_text};
+ghost use Rattle.upc_script.specs.ReplyTexts.{channel_name, connection_name, header_text, judging_text, piece_text, program_name, tally_text, verdict_text};
 
 use leaky::Verdict;
 use line_record::{Piece, Tally};
 use std::alloc::AllocError;
-use upc_cell::{Cell, Vc};
+use upc_cell::{Cell, Side, Vc};
 use upc_words::{TextFromEnd, add_number, add_text};
 
 /// Adds the name of the program of this number.
@@ -31,14 +31,28 @@ pub fn add_ready(answers: &mut Vec<u8>) -> Result<(), AllocError>
 /// five of at most twenty, and seven octets between them and at the end.
 const REPLY_ROOM: usize = 136;
 
+/// Puts a connection's channel, or `*` where connections are virtual paths.
+#[inline(always)]
+fn put_channel<const ROOM: usize>(text: &mut TextFromEnd<ROOM>, side: Side, vci: u16)
+    requires { 10 + length text.old ≤ ROOM }
+    ensures text { text.new ≡ channel_name side vci ++ text.old }
+    ensures length { length text.new ≤ 10 + length text.old }
+{
+    if side.has_paths() {
+        text.put(b"*");
+    } else {
+        text.put_short_number(u32::from(vci));
+    }
+}
+
 /// Puts a connection's path and channel.
 #[inline(always)]
-fn put_connection<const ROOM: usize>(text: &mut TextFromEnd<ROOM>, vc: Vc)
+fn put_connection<const ROOM: usize>(text: &mut TextFromEnd<ROOM>, side: Side, vc: Vc)
     requires { 21 + length text.old ≤ ROOM }
-    ensures text { text.new ≡ connection_name vc ++ text.old }
+    ensures text { text.new ≡ connection_name side vc ++ text.old }
     ensures length { length text.new ≤ 21 + length text.old }
 {
-    text.put_short_number(u32::from(vc.vci));
+    put_channel(text, side, vc.vci);
     text.put(b"/");
     text.put_short_number(u32::from(vc.vpi));
 }
@@ -91,28 +105,33 @@ pub fn add_retired(answers: &mut Vec<u8>, number: u64) -> Result<(), AllocError>
 
 /// Adds the answer to a connection that was set up.
 #[tactic(auto, using(std::proofs::lemmas::List::append_assoc))]
-pub fn add_set(answers: &mut Vec<u8>, vc: Vc) -> Result<(), AllocError>
+pub fn add_set(answers: &mut Vec<u8>, side: Side, vc: Vc) -> Result<(), AllocError>
     ensures { OnOk result
-        (answers.new.items ≡ answers.old.items ++ line (codes "set " ++ connection_name vc)) }
+        (answers.new.items ≡ answers.old.items ++ line (codes "set " ++ connection_name side vc)) }
 {
     let mut text = TextFromEnd::<REPLY_ROOM>::new();
     text.put(b"\n");
-    put_connection(&mut text, vc);
+    put_connection(&mut text, side, vc);
     text.put(b"set ");
     answers.extend_from_slice(text.as_slice())
 }
 
 /// Adds the answer to a connection that was given the program whose name has this number.
 #[tactic(auto, using(std::proofs::lemmas::List::append_assoc))]
-pub fn add_reloaded(answers: &mut Vec<u8>, vc: Vc, number: u64) -> Result<(), AllocError>
+pub fn add_reloaded(
+    answers: &mut Vec<u8>,
+    side: Side,
+    vc: Vc,
+    number: u64,
+) -> Result<(), AllocError>
     ensures { OnOk result (answers.new.items ≡ answers.old.items
-        ++ line (codes "reloaded " ++ connection_name vc ++ codes " " ++ program_name number)) }
+        ++ line (codes "reloaded " ++ connection_name side vc ++ codes " " ++ program_name number)) }
 {
     let mut text = TextFromEnd::<REPLY_ROOM>::new();
     text.put(b"\n");
     put_program(&mut text, number);
     text.put(b" ");
-    put_connection(&mut text, vc);
+    put_connection(&mut text, side, vc);
     text.put(b"reloaded ");
     answers.extend_from_slice(text.as_slice())
 }
@@ -170,28 +189,33 @@ fn put_piece(text: &mut TextFromEnd<REPLY_ROOM>, piece: &Piece)
 
 /// Adds the answer to a connection that was released, whose last journal is this piece.
 #[tactic(auto, using(std::proofs::lemmas::List::append_assoc))]
-pub fn add_released(answers: &mut Vec<u8>, vc: Vc, piece: &Piece) -> Result<(), AllocError>
+pub fn add_released(
+    answers: &mut Vec<u8>,
+    side: Side,
+    vc: Vc,
+    piece: &Piece,
+) -> Result<(), AllocError>
     ensures { OnOk result (answers.new.items ≡ answers.old.items
-        ++ line (codes "released " ++ connection_name vc ++ piece_text piece.now)) }
+        ++ line (codes "released " ++ connection_name side vc ++ piece_text piece.now)) }
 {
     let mut text = TextFromEnd::<REPLY_ROOM>::new();
     text.put(b"\n");
     put_piece(&mut text, piece);
-    put_connection(&mut text, vc);
+    put_connection(&mut text, side, vc);
     text.put(b"released ");
     answers.extend_from_slice(text.as_slice())
 }
 
 /// Adds the answer to a connection whose journal was returned as this piece.
 #[tactic(auto, using(std::proofs::lemmas::List::append_assoc))]
-pub fn add_cut(answers: &mut Vec<u8>, vc: Vc, piece: &Piece) -> Result<(), AllocError>
+pub fn add_cut(answers: &mut Vec<u8>, side: Side, vc: Vc, piece: &Piece) -> Result<(), AllocError>
     ensures { OnOk result (answers.new.items ≡ answers.old.items
-        ++ line (codes "cut " ++ connection_name vc ++ piece_text piece.now)) }
+        ++ line (codes "cut " ++ connection_name side vc ++ piece_text piece.now)) }
 {
     let mut text = TextFromEnd::<REPLY_ROOM>::new();
     text.put(b"\n");
     put_piece(&mut text, piece);
-    put_connection(&mut text, vc);
+    put_connection(&mut text, side, vc);
     text.put(b"cut ");
     answers.extend_from_slice(text.as_slice())
 }
@@ -203,16 +227,16 @@ const ANSWER_ROOM: usize = 72;
 /// Puts the connection of a cell, the program that named its contract, and the value that the program gave.
 #[inline(always)]
 #[tactic(auto, using(std::proofs::lemmas::List::append_assoc))]
-fn put_judging(text: &mut TextFromEnd<ANSWER_ROOM>, vc: Vc, number: u64, value: u32)
+fn put_judging(text: &mut TextFromEnd<ANSWER_ROOM>, side: Side, vc: Vc, number: u64, value: u32)
     requires { length text.old ≤ 10 }
-    ensures text { text.new ≡ judging_text vc number value ++ text.old }
+    ensures text { text.new ≡ judging_text side vc number value ++ text.old }
     ensures length { length text.new ≤ 54 + length text.old }
 {
     text.put_short_number(value);
     text.put(b" ");
     put_program(text, number);
     text.put(b" ");
-    put_connection(text, vc);
+    put_connection(text, side, vc);
 }
 
 /// Puts the header of a leaving cell.
@@ -236,6 +260,7 @@ fn put_header(text: &mut TextFromEnd<ANSWER_ROOM>, cell: &Cell)
 fn add_leaving(
     answers: &mut Vec<u8>,
     verdict: &[u8],
+    side: Side,
     vc: Vc,
     number: u64,
     value: u32,
@@ -243,12 +268,12 @@ fn add_leaving(
 ) -> Result<(), AllocError>
     requires { length verdict.now ≤ 8 }
     ensures { OnOk result (answers.new.items ≡ answers.old.items
-        ++ line (verdict.now ++ judging_text vc number value ++ header_text cell.now)) }
+        ++ line (verdict.now ++ judging_text side vc number value ++ header_text cell.now)) }
 {
     let mut text = TextFromEnd::new();
     text.put(b"\n");
     put_header(&mut text, cell);
-    put_judging(&mut text, vc, number, value);
+    put_judging(&mut text, side, vc, number, value);
     text.put(verdict);
     answers.extend_from_slice(text.as_slice())
 }
@@ -259,17 +284,18 @@ fn add_leaving(
 fn add_without_header(
     answers: &mut Vec<u8>,
     verdict: &[u8],
+    side: Side,
     vc: Vc,
     number: u64,
     value: u32,
 ) -> Result<(), AllocError>
     requires { length verdict.now ≤ 8 }
     ensures { OnOk result (answers.new.items ≡ answers.old.items
-        ++ line (verdict.now ++ judging_text vc number value)) }
+        ++ line (verdict.now ++ judging_text side vc number value)) }
 {
     let mut text = TextFromEnd::new();
     text.put(b"\n");
-    put_judging(&mut text, vc, number, value);
+    put_judging(&mut text, side, vc, number, value);
     text.put(verdict);
     answers.extend_from_slice(text.as_slice())
 }
@@ -279,18 +305,19 @@ fn add_without_header(
 pub fn add_verdict(
     answers: &mut Vec<u8>,
     verdict: Verdict,
+    side: Side,
     vc: Vc,
     number: u64,
     value: u32,
     leaving: &Cell,
 ) -> Result<(), AllocError>
     ensures { OnOk result (answers.new.items ≡ answers.old.items
-        ++ verdict_text verdict (judging_text vc number value) leaving.now) }
+        ++ verdict_text verdict (judging_text side vc number value) leaving.now) }
 {
     match verdict {
-        Verdict::Pass => add_leaving(answers, b"pass ", vc, number, value, leaving),
-        Verdict::Tag => add_leaving(answers, b"tag ", vc, number, value, leaving),
-        Verdict::Discard => add_without_header(answers, b"discard ", vc, number, value),
-        Verdict::Refuse => add_without_header(answers, b"refuse ", vc, number, value),
+        Verdict::Pass => add_leaving(answers, b"pass ", side, vc, number, value, leaving),
+        Verdict::Tag => add_leaving(answers, b"tag ", side, vc, number, value, leaving),
+        Verdict::Discard => add_without_header(answers, b"discard ", side, vc, number, value),
+        Verdict::Refuse => add_without_header(answers, b"refuse ", side, vc, number, value),
     }
 }

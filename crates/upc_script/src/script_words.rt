@@ -3,7 +3,7 @@
 ghost use Rattle.std.specs.Prelude.{◌≡◌, ◌<◌, ◌≤◌, length, option_map};
 ghost use Rattle.upc_script.specs.declared.script_words.Rate.{Rate as TheRate};
 ghost use Rattle.upc_script.specs.declared.script_words.Wanted.{Wanted as TheWanted};
-ghost use Rattle.upc_script.specs.ScriptWords.{cut_at, number_of_digits, number_up_to, program_of, rate_of, two_rates, vc_named, wanted_of};
+ghost use Rattle.upc_script.specs.ScriptWords.{channel_named, cut_at, number_of_digits, number_up_to, program_of, rate_of, two_rates, vc_named, wanted_of};
 ghost use Rattle.upc_script.specs.inner.Digits.{with_digit};
 
 use memchr::memchr;
@@ -150,6 +150,20 @@ pub fn program(word: &[u8]) -> Option<u64>
     }
 }
 
+/// Returns the channel of a word on a card of this side: a number, or 0 for `*` where connections are virtual paths.
+pub fn channel_of(side: Side, word: &[u8]) -> Option<u16>
+    ensures { result ≡ channel_named side word.now }
+{
+    if !side.has_paths() {
+        return number_at_most(u16::MAX, word);
+    }
+    if word == b"*".as_slice() {
+        Some(0)
+    } else {
+        None
+    }
+}
+
 /// Returns the virtual connection of two words on a card of this side.
 pub fn connection(side: Side, path: &[u8], channel: &[u8]) -> Option<Vc>
     ensures { result ≡ vc_named side path.now channel.now }
@@ -157,7 +171,7 @@ pub fn connection(side: Side, path: &[u8], channel: &[u8]) -> Option<Vc>
     let Some(vpi) = number_at_most(side.last_vpi(), path) else {
         return None;
     };
-    let Some(vci) = number_at_most(u16::MAX, channel) else {
+    let Some(vci) = channel_of(side, channel) else {
         return None;
     };
     match Vc::new_at(side, vpi, vci) {

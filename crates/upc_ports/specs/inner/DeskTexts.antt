@@ -12,12 +12,12 @@ abbrev pub AddsReply : (List Id → List ℕ → List Id → Type 0) → List Id
 AddsReply Goes names names' old new = (text : List ℕ) × (new ≡ old ++ text) × Goes names text names'
 
 -- The answer to a command, or BadLine if there is none.
-abbrev pub MayObeySeen : Option Command → List Id → List ℕ → List Id → Type 0
-MayObeySeen seen names text names' = MatchOption seen (Refuses bad_line names text names') (λ command. MayObey command names text names')
+abbrev pub MayObeySeen : Side → Option Command → List Id → List ℕ → List Id → Type 0
+MayObeySeen side seen names text names' = MatchOption seen (Refuses bad_line names text names') (λ command. MayObey side command names text names')
 
 -- The answer of the desk to a line with these words.
 abbrev pub MayObeyLine : Side → List (List ℕ) → List Id → List ℕ → List Id → Type 0
-MayObeyLine side words names text names' = MayObeySeen (command_of side words) names text names'
+MayObeyLine side words names text names' = MayObeySeen side (command_of side words) names text names'
 
 -- One text for each line of the desk, in order.
 abbrev pub ObeysEach : Side → List (List ℕ) → List Id → List (List ℕ) → List Id → Type 0

@@ -51,7 +51,7 @@ lengths_after (count ∷ lengths) = lengths
 abbrev pub PrintsCell : Side → List Id → Option AnsweredCell → List ℕ → Type 0
 PrintsCell side names None text = text ≡ []
 PrintsCell side names (Some arrival) text =
-    answer_text names (vc_of side (shown_cell arrival.header)) (answer_kept (shown_cell arrival.header) arrival.decision) ≡ Some text
+    answer_text side names (vc_of side (shown_cell arrival.header)) (answer_kept (shown_cell arrival.header) arrival.decision) ≡ Some text
 
 -- The text of one answerer, from what isn't printed yet.
 abbrev pub IsTextOfAnswerer : Side → List Id → Unprinted → Answerer → List ℕ → Type 0

@@ -4,6 +4,7 @@ use Rattle.std.specs.Option.{MatchOption}
 use Rattle.std.proofs.lemmas.Bool.{lt-leb}
 use Rattle.std.proofs.lemmas.Option.{same_Some}
 use Rattle.upc_cell.specs.Connection.{vc_of}
+use Rattle.upc_cell.specs.declared.side.Side.{Side}
 use Rattle.upc_cell.specs.declared.vc.Vc.{Vc}
 use Rattle.bpf_code.specs.declared.instr.Instr.{Instr}
 use Rattle.gen_arena.specs.declared.id.Id.{Id}
@@ -50,10 +51,10 @@ abbrev pub seen_verdict : SeenConnection → NamedCell → Verdict
 seen_verdict connection cell = verdict_after connection.contracts empty_buckets connection.history cell
 
 -- The text for a judged cell.
-abbrev pub judged_text : Vc → SeenConnection → List ℕ → ℕ → ℕ → List ℕ
-judged_text vc connection octets moment value =
+abbrev pub judged_text : Side → Vc → SeenConnection → List ℕ → ℕ → ℕ → List ℕ
+judged_text side vc connection octets moment value =
     let verdict = seen_verdict connection (seen_cell octets moment value) in
-    verdict_text verdict (judging_text vc connection.program value) (cell_after verdict octets)
+    verdict_text verdict (judging_text side vc connection.program value) (cell_after verdict octets)
 
 -- The view of the card after a judged cell.
 abbrev pub judged_seen : Seen → Vc → SeenConnection → NamedCell → Seen
@@ -63,8 +64,8 @@ judged_seen s vc connection cell = record s { connections = with_at s.connection
 abbrev pub JudgesSeen : Seen → Vc → SeenConnection → ℕ → List ℕ → ℕ → List ℕ → Seen → Type 0
 JudgesSeen s vc connection moment octets value text to =
     MatchOption (seen_refusal s connection moment)
-    ((text ≡ judged_text vc connection octets moment value) × (to ≡ judged_seen s vc connection (seen_cell octets moment value)))
-    (λ given. (answer_text [] vc given ≡ Some text) × (to ≡ s))
+    ((text ≡ judged_text s.shape.side vc connection octets moment value) × (to ≡ judged_seen s vc connection (seen_cell octets moment value)))
+    (λ given. (answer_text s.shape.side [] vc given ≡ Some text) × (to ≡ s))
 
 -- The answer to a cell whose connection is found.
 abbrev pub FoundSeen : Seen → Vc → SeenConnection → ℕ → List ℕ → List ℕ → Seen → Type 0
@@ -95,21 +96,21 @@ refusal-seen met world connection moment invariant few =
     else None
 
 -- The text for a refusal names no program.
-plain : (late back full : Bool) (last : ℕ) (given : Answer) (names : List Id) (vc : Vc)
+plain : (side : Side) (late back full : Bool) (last : ℕ) (given : Answer) (names : List Id) (vc : Vc)
     → (if late then Some answer.MomentTooLate else if back then Some (answer.MomentBack last) else if full then Some answer.JournalFull else None) ≡ Some given
-    → answer_text names vc given ≡ answer_text [] vc given
-plain true back full last given names vc e =
-    subst (λ (a : Answer). answer_text names vc a ≡ answer_text [] vc a) (same_Some answer.MomentTooLate given e) refl
-plain false true full last given names vc e =
-    subst (λ (a : Answer). answer_text names vc a ≡ answer_text [] vc a) (same_Some (answer.MomentBack last) given e) refl
-plain false false true last given names vc e =
-    subst (λ (a : Answer). answer_text names vc a ≡ answer_text [] vc a) (same_Some answer.JournalFull given e) refl
-plain false false false last given names vc e = absurd (cc)
+    → answer_text side names vc given ≡ answer_text side [] vc given
+plain side true back full last given names vc e =
+    subst (λ (a : Answer). answer_text side names vc a ≡ answer_text side [] vc a) (same_Some answer.MomentTooLate given e) refl
+plain side false true full last given names vc e =
+    subst (λ (a : Answer). answer_text side names vc a ≡ answer_text side [] vc a) (same_Some (answer.MomentBack last) given e) refl
+plain side false false true last given names vc e =
+    subst (λ (a : Answer). answer_text side names vc a ≡ answer_text side [] vc a) (same_Some answer.JournalFull given e) refl
+plain side false false false last given names vc e = absurd (cc)
 
-refusal-plain : (s : Seen) (connection : SeenConnection) (moment : ℕ) (given : Answer) (names : List Id) (vc : Vc)
-    → seen_refusal s connection moment ≡ Some given → answer_text names vc given ≡ answer_text [] vc given
-refusal-plain s connection moment given names vc e =
-    plain (nat_lt (2 ^ 62) moment) (nat_lt moment (last_moment 0 connection.history))
+refusal-plain : (side : Side) (s : Seen) (connection : SeenConnection) (moment : ℕ) (given : Answer) (names : List Id) (vc : Vc)
+    → seen_refusal s connection moment ≡ Some given → answer_text side names vc given ≡ answer_text side [] vc given
+refusal-plain side s connection moment given names vc e =
+    plain side (nat_lt (2 ^ 62) moment) (nat_lt moment (last_moment 0 connection.history))
     (nat_le s.shape.journal (length (drop connection.returned connection.history))) (last_moment 0 connection.history) given names vc e
 
 -- The result of a cell: its answer follows from the view, and the invariant of the world holds with the same programs.
@@ -157,14 +158,14 @@ picked_world before octets moment vc connection value =
 missed-comes : (met : ℕ) (before after : World) (names : List Id) (moment : ℕ) (octets : List ℕ) (given : Answer) (text : List ℕ)
     → HoldsAfter met before → PortIs before outside → connection_in before.connections (vc_of before.shape.side octets) ≡ None
     → given ≡ answer.NoConnection → after ≡ with_port (with_port before 0 (entered octets moment)) 0 outside
-    → answer_text names (vc_of before.shape.side octets) given ≡ Some text → CellComes met before after moment octets text
+    → answer_text before.shape.side names (vc_of before.shape.side octets) given ≡ Some text → CellComes met before after moment octets text
 missed-comes met before after names moment octets given text invariant free none is world printed =
     let vc = vc_of before.shape.side octets in
     let nothing : found_at (seen before).connections vc ≡ None =
     found-seen before.loaded before.connections vc ∙ ap (option_map (seen_connection before.loaded)) none in
     let back = put-back before.ports (entered octets moment) free in
     let text_is : text ≡ arrive_fault (codes "1 NoConnection") =
-    sym (same_Some _ text (ap (answer_text names vc) (sym is) ∙ printed)) in
+    sym (same_Some _ text (ap (answer_text before.shape.side names vc) (sym is) ∙ printed)) in
     let shown : seen after ≡ seen before = ap seen world ∙ (λ i. record (seen before) { ports = back i }) in
     let Answers : Option SeenConnection → Type 0 = λ o.
     MatchOption o ((text ≡ arrive_fault (codes "1 NoConnection")) × (seen after ≡ seen before))
@@ -178,14 +179,14 @@ missed-comes met before after names moment octets given text invariant free none
 -- The text for a judgement.
 judged-printed : (before : World) (names : List Id) (vc : Vc) (connection : Connection) (octets : List ℕ) (moment value : ℕ) (text : List ℕ)
     → names ≡ names_of before.loaded
-    → answer_text names vc (judged_answer (picked_world before octets moment vc connection value) (picking_of octets moment vc connection value) connection) ≡ Some text
-    → text ≡ judged_text vc (seen_connection before.loaded connection) octets moment value
+    → answer_text before.shape.side names vc (judged_answer (picked_world before octets moment vc connection value) (picking_of octets moment vc connection value) connection) ≡ Some text
+    → text ≡ judged_text before.shape.side vc (seen_connection before.loaded connection) octets moment value
 judged-printed before names vc connection octets moment value text known printed =
     let number : number_of_program names connection.program ≡ number_in before.loaded connection.program =
     ap (λ ids. number_of_program ids connection.program) known ∙ number-is before.loaded connection.program in
     let verdict = verdict-nameless connection.contracts empty_buckets connection.history (named_cell octets moment connection.program value) in
     sym (same_Some _ text printed)
-    ∙ (λ i. verdict_text (sym verdict i) (judging_text vc (number i) value) (cell_after (sym verdict i) octets))
+    ∙ (λ i. verdict_text (sym verdict i) (judging_text before.shape.side vc (number i) value) (cell_after (sym verdict i) octets))
 
 -- The view after a judgement.
 judged-shown : (before : World) (vc : Vc) (connection : Connection) (octets : List ℕ) (moment value : ℕ) → PortIs before outside
@@ -219,7 +220,7 @@ found-comes : (met : ℕ) (before after : World) (names : List Id) (moment : ℕ
     → (code : List Instr) → code_in before.loaded connection.program ≡ Some code → (value : ℕ) → Gives code octets value
     → JudgeCase (picked_world before octets moment (vc_of before.shape.side octets) connection value)
     (picking_of octets moment (vc_of before.shape.side octets) connection value) connection (Answered given) after
-    → answer_text names (vc_of before.shape.side octets) given ≡ Some text → CellComes met before after moment octets text
+    → answer_text before.shape.side names (vc_of before.shape.side octets) given ≡ Some text → CellComes met before after moment octets text
 found-comes met before after names moment octets given text invariant sound few known free connection found code named value gives judging printed =
     let vc = vc_of before.shape.side octets in
     let c = seen_connection before.loaded connection in
@@ -227,8 +228,8 @@ found-comes met before after names moment octets given text invariant sound few 
     let there = found-there before.loaded before.connections vc connection found in
     let code_there = code-there before sound met invariant vc connection found code named in
     let Judged : Option Answer → Type 0 = λ o.
-    MatchOption o ((text ≡ judged_text vc c octets moment value) × (seen after ≡ judged_seen (seen before) vc c (seen_cell octets moment value)))
-    (λ answer. (answer_text [] vc answer ≡ Some text) × (seen after ≡ seen before)) in
+    MatchOption o ((text ≡ judged_text before.shape.side vc c octets moment value) × (seen after ≡ judged_seen (seen before) vc c (seen_cell octets moment value)))
+    (λ answer. (answer_text before.shape.side [] vc answer ≡ Some text) × (seen after ≡ seen before)) in
     let Answers : Option SeenConnection → Type 0 = λ o.
     MatchOption o ((text ≡ arrive_fault (codes "1 NoConnection")) × (seen after ≡ seen before))
     (λ one. FoundSeen (seen before) vc one moment octets text (seen after)) in
@@ -237,7 +238,7 @@ found-comes met before after names moment octets given text invariant sound few 
     elim judging [
       | judged_so allowed answers world ↦
           let is : given ≡ judged_answer (picked_world before octets moment vc connection value) (picking_of octets moment vc connection value) connection = cc in
-          let printed_so = ap (answer_text names vc) (sym is) ∙ printed in
+          let printed_so = ap (answer_text before.shape.side names vc) (sym is) ∙ printed in
           record {
             shown = answered (subst Judged (sym allowed ∙ refusal) (
               judged-printed before names vc connection octets moment value text known printed_so,
@@ -248,11 +249,11 @@ found-comes met before after names moment octets given text invariant sound few 
           }
       | refused_so other refused answers world ↦
           let is : given ≡ other = cc in
-          let printed_so = ap (answer_text names vc) (sym is) ∙ printed in
+          let printed_so = ap (answer_text before.shape.side names vc) (sym is) ∙ printed in
           let back = put-back_twice before.ports (entered octets moment) (picked (picking_of octets moment vc connection value)) free in
           record {
             shown = answered (subst Judged (sym refused ∙ refusal) (
-              sym (refusal-plain (seen before) c moment other names vc (sym refusal ∙ refused)) ∙ printed_so,
+              sym (refusal-plain before.shape.side (seen before) c moment other names vc (sym refusal ∙ refused)) ∙ printed_so,
               ap seen world ∙ (λ i. record (seen before) { ports = back i }),
             ));
             holds = subst (λ (w : World). HoldsAfter (met + 1) w) (sym world) (with-ports met before _ invariant);
@@ -264,7 +265,7 @@ found-comes met before after names moment octets given text invariant sound few 
 answered-comes : (met : ℕ) (before after : World) (names : List Id) (moment : ℕ) (octets : List ℕ) (given : Answer) (text : List ℕ)
     → HoldsAfter met before → WorldInvariant before → met < most_input_lines → names ≡ names_of before.loaded → PortIs before outside
     → IsAnswered (with_port before 0 (entered octets moment)) given after
-    → answer_text names (vc_of before.shape.side octets) given ≡ Some text → CellComes met before after moment octets text
+    → answer_text before.shape.side names (vc_of before.shape.side octets) given ≡ Some text → CellComes met before after moment octets text
 answered-comes met before after names moment octets given text invariant sound few known free (inl picks) printed =
     let came = with_port before 0 (entered octets moment) in
     elim (pick-case came after octets moment (Answered given) (put-there before.ports outside (entered octets moment) free) picks) [
@@ -290,7 +291,7 @@ answered-comes met before after names moment octets given text invariant sound f
 pub cell-comes : (met : ℕ) (before after : World) (names : List Id) (moment : ℕ) (octets : List ℕ) (given : Answer) (text : List ℕ)
     → HoldsAfter met before → WorldInvariant before → met < most_input_lines → names ≡ names_of before.loaded → PortIs before outside
     → Arrives before octets moment given after
-    → answer_text names (vc_of before.shape.side octets) given ≡ Some text → CellComes met before after moment octets text
+    → answer_text before.shape.side names (vc_of before.shape.side octets) given ≡ Some text → CellComes met before after moment octets text
 cell-comes met before after names moment octets given text invariant sound few known free arrives printed =
     let is = entered-as before arrives.0 octets moment free arrives.1 in
     answered-comes met before after names moment octets given text invariant sound few known free

@@ -3,6 +3,7 @@ use Rattle.std.proofs.Common.{◌≡◌, ℕ, suc, ◌+◌, ◌^◌, ◌<◌, �
 use Rattle.std.specs.List.{filter}
 use Rattle.std.proofs.lemmas.Bool.{not-true}
 use Rattle.upc_cell.specs.Connection.{is_same_vc}
+use Rattle.upc_cell.specs.declared.side.Side.{Side}
 use Rattle.upc_cell.specs.declared.vc.Vc.{Vc}
 use Rattle.leaky.specs.declared.contract.Contract.{Contract}
 use Rattle.card_core.specs.Refusals.{setup_fault}
@@ -136,13 +137,13 @@ fresh number contracts = record { program = number; contracts = contracts; histo
 abbrev pub set_up : Seen → Vc → ℕ → List Contract → Seen
 set_up s vc number contracts = record s { connections = with_at s.connections vc (fresh number contracts); incarnations = s.incarnations + 1 }
 
-abbrev pub set_text : Vc → Option (List ℕ)
-set_text vc = Some (line (codes "set " ++ connection_name vc))
+abbrev pub set_text : Side → Vc → Option (List ℕ)
+set_text side vc = Some (line (codes "set " ++ connection_name side vc))
 
 sets_up-comes : (met : ℕ) (before after : World) (ask : Ask) (vc : Vc) (number : ℕ) (wanted : List Wanted) (reply : Reply) (text : List ℕ)
     → HoldsAfter met before → 0 < number_in before.loaded ask.program
-    → reply_text (setup vc number wanted) (length before.loaded) reply ≡ Some text → SetsUp before ask reply after
-    → Comes met before after reply (set_text vc) text (set_up (seen before) ask.vc (number_in before.loaded ask.program) ask.contracts.items)
+    → reply_text before.shape.side (setup vc number wanted) (length before.loaded) reply ≡ Some text → SetsUp before ask reply after
+    → Comes met before after reply (set_text before.shape.side vc) text (set_up (seen before) ask.vc (number_in before.loaded ask.program) ask.contracts.items)
 sets_up-comes met before after ask vc number wanted reply text invariant known printed goes =
     let new = new_connection ask goes.line (before.incarnations + 1) in
     let connections = with-seen before.loaded before.connections ask.vc new in
@@ -152,7 +153,7 @@ sets_up-comes met before after ask vc number wanted reply text invariant known p
     subst (λ others. is_taken line_of others goes.line ≡ false) (sym (gone-filter before.connections ask.vc))
     (taken-filter line_of (λ here. not (is_same_vc ask.vc here.0)) before.connections goes.line untaken) in
     record {
-      printed = reprinted (setup vc number wanted) (length before.loaded) reply _ text goes.answer printed;
+      printed = reprinted before.shape.side (setup vc number wanted) (length before.loaded) reply _ text goes.answer printed;
       shown = ap seen goes.world ∙ (λ i. record (seen before) { connections = connections i; incarnations = before.incarnations + 1 });
       holds = subst (λ (world : World). HoldsAfter (met + 1) world) (sym goes.world) (record {
         programs = later.programs;
@@ -165,20 +166,20 @@ sets_up-comes met before after ask vc number wanted reply text invariant known p
 -- A connection is set up.
 pub setup-comes : (met : ℕ) (before after : World) (ask : Ask) (vc : Vc) (number : ℕ) (wanted : List Wanted) (reply : Reply) (text : List ℕ)
     → HoldsAfter met before → 0 < number_in before.loaded ask.program
-    → reply_text (setup vc number wanted) (length before.loaded) reply ≡ Some text → WorldStep before (Setup ask) reply after
+    → reply_text before.shape.side (setup vc number wanted) (length before.loaded) reply ≡ Some text → WorldStep before (Setup ask) reply after
     → Comes met before after reply
-    (answered (seen_setup_fault (seen before) ask.vc (number_in before.loaded ask.program) ask.contracts.items) (set_text vc)) text
+    (answered (seen_setup_fault (seen before) ask.vc (number_in before.loaded ask.program) ask.contracts.items) (set_text before.shape.side vc)) text
     (left (seen_setup_fault (seen before) ask.vc (number_in before.loaded ask.program) ask.contracts.items) (seen before)
     (set_up (seen before) ask.vc (number_in before.loaded ask.program) ask.contracts.items))
 setup-comes met before after ask vc number wanted reply text invariant known printed step =
     let P : Option DeskFault → Type 0 = λ found.
-    Comes met before after reply (answered found (set_text vc)) text
+    Comes met before after reply (answered found (set_text before.shape.side vc)) text
     (left found (seen before) (set_up (seen before) ask.vc (number_in before.loaded ask.program) ask.contracts.items)) in
     subst P (setup_fault-seen met before ask invariant)
     (desk-split P (λ fault. NotSetUp fault ask) (setup_fault before ask) before after (Setup ask) reply
     (λ goes. sets_up-comes met before after ask vc number wanted reply text invariant known printed goes)
     (λ lacks.
     let same : NotSetUp NoMemory ask ≡ reply = let e = lacks.answer in cc in
-    let none = reprinted (setup vc number wanted) (length before.loaded) reply (NotSetUp NoMemory ask) text (sym same) printed in absurd (cc))
+    let none = reprinted before.shape.side (setup vc number wanted) (length before.loaded) reply (NotSetUp NoMemory ask) text (sym same) printed in absurd (cc))
     (λ fault is. refused-comes met before after reply fault text invariant is.world (ap id_loaded is.answer)
-    (reprinted (setup vc number wanted) (length before.loaded) reply (NotSetUp fault ask) text is.answer printed)) step)
+    (reprinted before.shape.side (setup vc number wanted) (length before.loaded) reply (NotSetUp fault ask) text is.answer printed)) step)

@@ -1,6 +1,7 @@
 -- The invariant of a card's world after this number of lines of a script.
 use Rattle.std.proofs.Common.{◌≡◌, ℕ, ◌+◌, ◌≤◌, ◌⊎◌, List, [], ◌++◌, length, Option, Some, None, option_map, sym, ap, ◌∙◌, subst, inl, inr, arith, append-nil}
 use Rattle.std.specs.Option.{MatchOption}
+use Rattle.upc_cell.specs.declared.side.Side.{Side}
 use Rattle.upc_cell.specs.declared.vc.Vc.{Vc}
 use Rattle.card_core.specs.Steps.{FindsNoMemory, IsRefused, Succeeds}
 use Rattle.card_core.specs.World.{Connection, Loading, World, opening_world, times_given}
@@ -86,9 +87,9 @@ left None before after = after
 left (Some fault) before after = before
 
 -- The text of a reply that is known.
-pub reprinted : (command : Command) (programs : ℕ) (reply known : Reply) (text : List ℕ) → reply ≡ known
-    → reply_text command programs reply ≡ Some text → reply_text command programs known ≡ Some text
-reprinted command programs reply known text same printed = ap (reply_text command programs) (sym same) ∙ printed
+pub reprinted : (side : Side) (command : Command) (programs : ℕ) (reply known : Reply) (text : List ℕ) → reply ≡ known
+    → reply_text side command programs reply ≡ Some text → reply_text side command programs known ≡ Some text
+reprinted side command programs reply known text same printed = ap (reply_text side command programs) (sym same) ∙ printed
 
 -- No name is given.
 pub unnamed : (before after : World) (reply : Reply) → after.loaded ≡ before.loaded → id_loaded reply ≡ []

@@ -118,10 +118,10 @@ setup-once s vc number asks None one other to to' p q =
 setup-once s vc number asks (Some fault) one other to to' p q = stays-once s (gcra_fault fault) one other to to' p q
 
 judges-once : (s : Seen) (vc : Vc) (connection : SeenConnection) (moment : ℕ) (octets : List ℕ) (value : ℕ) (found : Option Answer) (one other : List ℕ) (to to' : Seen)
-    → MatchOption found ((one ≡ judged_text vc connection octets moment value) × (to ≡ judged_seen s vc connection (seen_cell octets moment value)))
-    (λ given. (answer_text [] vc given ≡ Some one) × (to ≡ s))
-    → MatchOption found ((other ≡ judged_text vc connection octets moment value) × (to' ≡ judged_seen s vc connection (seen_cell octets moment value)))
-    (λ given. (answer_text [] vc given ≡ Some other) × (to' ≡ s))
+    → MatchOption found ((one ≡ judged_text s.shape.side vc connection octets moment value) × (to ≡ judged_seen s vc connection (seen_cell octets moment value)))
+    (λ given. (answer_text s.shape.side [] vc given ≡ Some one) × (to ≡ s))
+    → MatchOption found ((other ≡ judged_text s.shape.side vc connection octets moment value) × (to' ≡ judged_seen s vc connection (seen_cell octets moment value)))
+    (λ given. (answer_text s.shape.side [] vc given ≡ Some other) × (to' ≡ s))
     → Same one other to to'
 judges-once s vc connection moment octets value None one other to to' p q = (p.0 ∙ sym q.0, p.1 ∙ sym q.1)
 judges-once s vc connection moment octets value (Some given) one other to to' p q = (same_Some one other (sym p.0 ∙ q.0), p.1 ∙ sym q.1)

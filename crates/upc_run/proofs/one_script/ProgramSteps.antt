@@ -118,7 +118,7 @@ abbrev pub loaded_text : Seen → Option (List ℕ)
 loaded_text s = Some (line (codes "loaded " ++ program_name (suc s.programs)))
 
 loads-comes : (met : ℕ) (before after : World) (code : List Instr) (digits : List ℕ) (reply : Reply) (text : List ℕ) → HoldsAfter met before
-    → WorldInvariant before → reply_text (load digits) (length before.loaded) reply ≡ Some text → Loads before code reply after
+    → WorldInvariant before → reply_text before.shape.side (load digits) (length before.loaded) reply ≡ Some text → Loads before code reply after
     → Comes met before after reply (loaded_text (seen before)) text (with_program (seen before) code)
 loads-comes met before after code digits reply text invariant sound printed goes =
     let loading : Loading = record { id = goes.id; code = code } in
@@ -130,7 +130,7 @@ loads-comes met before after code digits reply text invariant sound printed goes
     subst (λ slot. is_taken slot_of before.live slot ≡ false) (sym goes.here) (not-true (is_taken slot_of before.live goes.slot) unused.0) in
     let within : goes.id.slot < before.shape.programs = subst (λ slot. slot < before.shape.programs) (sym goes.here) goes.within in
     record {
-      printed = reprinted (load digits) (length before.loaded) reply (Loaded goes.id) text goes.answer printed;
+      printed = reprinted before.shape.side (load digits) (length before.loaded) reply (Loaded goes.id) text goes.answer printed;
       shown = ap seen goes.world ∙ shown-loaded met before loading invariant new;
       holds = subst (λ (world : World). HoldsAfter (met + 1) world) (sym goes.world) (holds-loaded met before loading invariant new free within);
       named = ap (λ (world : World). names_of world.loaded) goes.world
@@ -139,7 +139,7 @@ loads-comes met before after code digits reply text invariant sound printed goes
 
 -- A program is loaded.
 pub load-comes : (met : ℕ) (before after : World) (code : List Instr) (digits : List ℕ) (reply : Reply) (text : List ℕ) → HoldsAfter met before
-    → WorldInvariant before → met < most_input_lines → reply_text (load digits) (length before.loaded) reply ≡ Some text
+    → WorldInvariant before → met < most_input_lines → reply_text before.shape.side (load digits) (length before.loaded) reply ≡ Some text
     → WorldStep before (Load code) reply after
     → Comes met before after reply (answered (seen_load_fault (seen before)) (loaded_text (seen before))) text
     (left (seen_load_fault (seen before)) (seen before) (with_program (seen before) code))
@@ -151,7 +151,7 @@ load-comes met before after code digits reply text invariant sound few printed s
     (λ goes. loads-comes met before after code digits reply text invariant sound printed goes)
     (λ lacks. let no = lacks.answer in absurd (cc))
     (λ fault is. refused-comes met before after reply fault text invariant is.world (ap id_loaded is.answer)
-    (reprinted (load digits) (length before.loaded) reply (NotLoaded fault code) text is.answer printed)) step)
+    (reprinted before.shape.side (load digits) (length before.loaded) reply (NotLoaded fault code) text is.answer printed)) step)
 
 -- The reason not to retire a program.
 abbrev pub seen_retire_fault : Seen → ℕ → Option DeskFault
@@ -191,13 +191,13 @@ programs-without met bound given live id invariant =
     subst (λ others. ProgramsHold met bound given others) (sym (without-filter live id)) less
 
 retires-comes : (met : ℕ) (before after : World) (id : Id) (number : ℕ) (reply : Reply) (text : List ℕ) → HoldsAfter met before
-    → reply_text (retire number) (length before.loaded) reply ≡ Some text → Retires before id reply after
+    → reply_text before.shape.side (retire number) (length before.loaded) reply ≡ Some text → Retires before id reply after
     → Comes met before after reply (retired_text number) text (retired (seen before) (number_in before.loaded id))
 retires-comes met before after id number reply text invariant printed goes =
     let live = without-seen before.loaded before.live invariant.programs.known id in
     let later = holds-later met before invariant in
     record {
-      printed = reprinted (retire number) (length before.loaded) reply (Retired goes.code) text goes.answer printed;
+      printed = reprinted before.shape.side (retire number) (length before.loaded) reply (Retired goes.code) text goes.answer printed;
       shown = ap seen goes.world ∙ (λ i. record (seen before) { live = live i });
       holds = subst (λ (world : World). HoldsAfter (met + 1) world) (sym goes.world) (record {
         programs = programs-without (met + 1) before.shape.programs before.loaded before.live id later.programs;
@@ -209,7 +209,7 @@ retires-comes met before after id number reply text invariant printed goes =
 
 -- A program is retired.
 pub retire-comes : (met : ℕ) (before after : World) (id : Id) (number : ℕ) (reply : Reply) (text : List ℕ) → HoldsAfter met before
-    → reply_text (retire number) (length before.loaded) reply ≡ Some text → WorldStep before (Retire id) reply after
+    → reply_text before.shape.side (retire number) (length before.loaded) reply ≡ Some text → WorldStep before (Retire id) reply after
     → Comes met before after reply (answered (seen_retire_fault (seen before) (number_in before.loaded id)) (retired_text number)) text
     (left (seen_retire_fault (seen before) (number_in before.loaded id)) (seen before) (retired (seen before) (number_in before.loaded id)))
 retire-comes met before after id number reply text invariant printed step =
@@ -220,4 +220,4 @@ retire-comes met before after id number reply text invariant printed step =
     (λ goes. retires-comes met before after id number reply text invariant printed goes)
     (λ lacks. let no = lacks.answer in absurd (cc))
     (λ fault is. refused-comes met before after reply fault text invariant is.world (ap id_loaded is.answer)
-    (reprinted (retire number) (length before.loaded) reply (Refused fault) text is.answer printed)) step)
+    (reprinted before.shape.side (retire number) (length before.loaded) reply (Refused fault) text is.answer printed)) step)

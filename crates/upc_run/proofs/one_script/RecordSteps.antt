@@ -1,6 +1,7 @@
 -- If the views of two cards are equal, connections are reloaded, released and cut with the same answers on both, on
 -- whatever lines.
 use Rattle.std.proofs.Common.{◌≡◌, ℕ, ◌+◌, ◌<◌, if◌then◌else◌, List, ◌++◌, length, map, Option, Some, None, is_none, option_map, codes, decimal, refl, sym, ap, ◌∙◌, subst}
+use Rattle.upc_cell.specs.declared.side.Side.{Side}
 use Rattle.upc_cell.specs.declared.vc.Vc.{Vc}
 use Rattle.gen_arena.specs.declared.id.Id.{Id}
 use Rattle.leaky.specs.declared.verdict.Verdict.{Verdict}
@@ -48,18 +49,18 @@ reload_fault-seen met world vc id invariant =
 abbrev pub reloaded : ℕ → SeenConnection → SeenConnection
 reloaded number connection = record connection { program = number }
 
-abbrev pub reloaded_text : Vc → ℕ → Option (List ℕ)
-reloaded_text vc number = Some (line (codes "reloaded " ++ connection_name vc ++ codes " " ++ program_name number))
+abbrev pub reloaded_text : Side → Vc → ℕ → Option (List ℕ)
+reloaded_text side vc number = Some (line (codes "reloaded " ++ connection_name side vc ++ codes " " ++ program_name number))
 
 reloads-comes : (met : ℕ) (before after : World) (vc : Vc) (id : Id) (number : ℕ) (reply : Reply) (text : List ℕ) → HoldsAfter met before
-    → 0 < number_in before.loaded id → reply_text (reload vc number) (length before.loaded) reply ≡ Some text → Reloads before vc id reply after
-    → Comes met before after reply (reloaded_text vc number) text (changed_at (seen before) vc (reloaded (number_in before.loaded id)))
+    → 0 < number_in before.loaded id → reply_text before.shape.side (reload vc number) (length before.loaded) reply ≡ Some text → Reloads before vc id reply after
+    → Comes met before after reply (reloaded_text before.shape.side vc number) text (changed_at (seen before) vc (reloaded (number_in before.loaded id)))
 reloads-comes met before after vc id number reply text invariant known printed goes =
     let new : Connection = record goes.connection { program = id } in
     let connections = changed-seen before.loaded before.connections vc goes.connection new (reloaded (number_in before.loaded id)) goes.found refl in
     let later = holds-later met before invariant in
     record {
-      printed = reprinted (reload vc number) (length before.loaded) reply (Reloaded goes.connection.program) text goes.answer printed;
+      printed = reprinted before.shape.side (reload vc number) (length before.loaded) reply (Reloaded goes.connection.program) text goes.answer printed;
       shown = ap seen goes.world ∙ (λ i. record (seen before) { connections = connections i });
       holds = subst (λ (world : World). HoldsAfter (met + 1) world) (sym goes.world) (record {
         programs = later.programs;
@@ -71,19 +72,19 @@ reloads-comes met before after vc id number reply text invariant known printed g
 
 -- A connection is given another program.
 pub reload-comes : (met : ℕ) (before after : World) (vc : Vc) (id : Id) (number : ℕ) (reply : Reply) (text : List ℕ) → HoldsAfter met before
-    → 0 < number_in before.loaded id → reply_text (reload vc number) (length before.loaded) reply ≡ Some text → WorldStep before (Reload vc id) reply after
-    → Comes met before after reply (answered (seen_reload_fault (seen before) vc (number_in before.loaded id)) (reloaded_text vc number)) text
+    → 0 < number_in before.loaded id → reply_text before.shape.side (reload vc number) (length before.loaded) reply ≡ Some text → WorldStep before (Reload vc id) reply after
+    → Comes met before after reply (answered (seen_reload_fault (seen before) vc (number_in before.loaded id)) (reloaded_text before.shape.side vc number)) text
     (left (seen_reload_fault (seen before) vc (number_in before.loaded id)) (seen before) (changed_at (seen before) vc (reloaded (number_in before.loaded id))))
 reload-comes met before after vc id number reply text invariant known printed step =
     let P : Option DeskFault → Type 0 = λ found.
-    Comes met before after reply (answered found (reloaded_text vc number)) text
+    Comes met before after reply (answered found (reloaded_text before.shape.side vc number)) text
     (left found (seen before) (changed_at (seen before) vc (reloaded (number_in before.loaded id)))) in
     subst P (reload_fault-seen met before vc id invariant)
     (desk-split P (λ fault. Refused fault) (reload_fault before vc id) before after (Reload vc id) reply
     (λ goes. reloads-comes met before after vc id number reply text invariant known printed goes)
     (λ lacks. let no = lacks.answer in absurd (cc))
     (λ fault is. refused-comes met before after reply fault text invariant is.world (ap id_loaded is.answer)
-    (reprinted (reload vc number) (length before.loaded) reply (Refused fault) text is.answer printed)) step)
+    (reprinted before.shape.side (reload vc number) (length before.loaded) reply (Refused fault) text is.answer printed)) step)
 
 -- Pieces.
 
@@ -120,16 +121,16 @@ missing_fault-seen : (world : World) (vc : Vc) → missing_fault world vc ≡ se
 missing_fault-seen world vc = ap (λ b. if b then Some NoConnection else None) (none-seen world.loaded world.connections vc)
 
 -- The line of a piece, which begins with this word.
-abbrev pub printed_piece : List ℕ → Vc → Option SeenConnection → Option (List ℕ)
-printed_piece word vc found = option_map (λ connection. line (word ++ connection_name vc ++ kept_text connection)) found
+abbrev pub printed_piece : Side → List ℕ → Vc → Option SeenConnection → Option (List ℕ)
+printed_piece side word vc found = option_map (λ connection. line (word ++ connection_name side vc ++ kept_text connection)) found
 
-printed-piece : (given : List Loading) (connections : List (Vc × Connection)) (vc : Vc) (connection : Connection) (piece : PieceView) (word : List ℕ)
+printed-piece : (side : Side) (given : List Loading) (connections : List (Vc × Connection)) (vc : Vc) (connection : Connection) (piece : PieceView) (word : List ℕ)
     → connection_in connections vc ≡ Some connection
     → piece.entries ≡ judged connection.contracts empty_buckets (returned_cells connection) (kept_cells connection)
-    → printed_piece word vc (found_at (seen_connections given connections) vc) ≡ Some (line (word ++ connection_name vc ++ piece_text piece))
-printed-piece given connections vc connection piece word found entries =
-    ap (printed_piece word vc) (found-there given connections vc connection found)
-    ∙ ap (λ printed. Some (line (word ++ connection_name vc ++ printed))) (sym (piece-seen given connection piece entries))
+    → printed_piece side word vc (found_at (seen_connections given connections) vc) ≡ Some (line (word ++ connection_name side vc ++ piece_text piece))
+printed-piece side given connections vc connection piece word found entries =
+    ap (printed_piece side word vc) (found-there given connections vc connection found)
+    ∙ ap (λ printed. Some (line (word ++ connection_name side vc ++ printed))) (sym (piece-seen given connection piece entries))
 
 -- Release.
 
@@ -137,17 +138,17 @@ abbrev pub released : Seen → Vc → Seen
 released s vc = record s { connections = without_at s.connections vc }
 
 abbrev pub released_text : Seen → Vc → Option (List ℕ)
-released_text s vc = printed_piece (codes "released ") vc (found_at s.connections vc)
+released_text s vc = printed_piece s.shape.side (codes "released ") vc (found_at s.connections vc)
 
 releases-comes : (met : ℕ) (before after : World) (vc : Vc) (reply : Reply) (text : List ℕ) → HoldsAfter met before
-    → reply_text (release vc) (length before.loaded) reply ≡ Some text → Releases before vc reply after
+    → reply_text before.shape.side (release vc) (length before.loaded) reply ≡ Some text → Releases before vc reply after
     → Comes met before after reply (released_text (seen before) vc) text (released (seen before) vc)
 releases-comes met before after vc reply text invariant printed goes =
     let connections = gone-seen before.loaded before.connections vc in
     let later = holds-later met before invariant in
     record {
-      printed = printed-piece before.loaded before.connections vc goes.connection goes.piece (codes "released ") goes.found goes.last.entries
-          ∙ reprinted (release vc) (length before.loaded) reply (Released goes.piece) text goes.answer printed;
+      printed = printed-piece before.shape.side before.loaded before.connections vc goes.connection goes.piece (codes "released ") goes.found goes.last.entries
+          ∙ reprinted before.shape.side (release vc) (length before.loaded) reply (Released goes.piece) text goes.answer printed;
       shown = ap seen goes.world ∙ (λ i. record (seen before) { connections = connections i });
       holds = subst (λ (world : World). HoldsAfter (met + 1) world) (sym goes.world) (record {
         programs = later.programs;
@@ -159,7 +160,7 @@ releases-comes met before after vc reply text invariant printed goes =
 
 -- A connection is released.
 pub release-comes : (met : ℕ) (before after : World) (vc : Vc) (reply : Reply) (text : List ℕ) → HoldsAfter met before
-    → reply_text (release vc) (length before.loaded) reply ≡ Some text → WorldStep before (Release vc) reply after
+    → reply_text before.shape.side (release vc) (length before.loaded) reply ≡ Some text → WorldStep before (Release vc) reply after
     → Comes met before after reply (answered (seen_missing_fault (seen before) vc) (released_text (seen before) vc)) text
     (left (seen_missing_fault (seen before) vc) (seen before) (released (seen before) vc))
 release-comes met before after vc reply text invariant printed step =
@@ -170,7 +171,7 @@ release-comes met before after vc reply text invariant printed step =
     (λ goes. releases-comes met before after vc reply text invariant printed goes)
     (λ lacks. let no = lacks.answer in absurd (cc))
     (λ fault is. refused-comes met before after reply fault text invariant is.world (ap id_loaded is.answer)
-    (reprinted (release vc) (length before.loaded) reply (Refused fault) text is.answer printed)) step)
+    (reprinted before.shape.side (release vc) (length before.loaded) reply (Refused fault) text is.answer printed)) step)
 
 -- Cut.
 
@@ -178,10 +179,10 @@ abbrev pub handed_out : SeenConnection → SeenConnection
 handed_out connection = record connection { returned = length connection.history }
 
 abbrev pub cut_text : Seen → Vc → Option (List ℕ)
-cut_text s vc = printed_piece (codes "cut ") vc (found_at s.connections vc)
+cut_text s vc = printed_piece s.shape.side (codes "cut ") vc (found_at s.connections vc)
 
 cuts-comes : (met : ℕ) (before after : World) (vc : Vc) (reply : Reply) (text : List ℕ) → HoldsAfter met before
-    → reply_text (cut vc) (length before.loaded) reply ≡ Some text → Cuts before vc reply after
+    → reply_text before.shape.side (cut vc) (length before.loaded) reply ≡ Some text → Cuts before vc reply after
     → Comes met before after reply (cut_text (seen before) vc) text (changed_at (seen before) vc handed_out)
 cuts-comes met before after vc reply text invariant printed goes =
     let new : Connection = record goes.connection { returned = length goes.connection.history } in
@@ -192,8 +193,8 @@ cuts-comes met before after vc reply text invariant printed goes =
     let known = all-found (λ connection. 0 < number_in before.loaded connection.program) before.connections vc goes.connection invariant.connections.known goes.found in
     let later = holds-later met before invariant in
     record {
-      printed = printed-piece before.loaded before.connections vc goes.connection goes.piece (codes "cut ") goes.found goes.next.entries
-          ∙ reprinted (cut vc) (length before.loaded) reply (CutOff goes.piece) text goes.answer printed;
+      printed = printed-piece before.shape.side before.loaded before.connections vc goes.connection goes.piece (codes "cut ") goes.found goes.next.entries
+          ∙ reprinted before.shape.side (cut vc) (length before.loaded) reply (CutOff goes.piece) text goes.answer printed;
       shown = ap seen goes.world ∙ (λ i. record (seen before) { connections = connections i });
       holds = subst (λ (world : World). HoldsAfter (met + 1) world) (sym goes.world) (record {
         programs = later.programs;
@@ -205,7 +206,7 @@ cuts-comes met before after vc reply text invariant printed goes =
 
 -- A connection's journal is cut.
 pub cut-comes : (met : ℕ) (before after : World) (vc : Vc) (reply : Reply) (text : List ℕ) → HoldsAfter met before
-    → reply_text (cut vc) (length before.loaded) reply ≡ Some text → WorldStep before (Cut vc) reply after
+    → reply_text before.shape.side (cut vc) (length before.loaded) reply ≡ Some text → WorldStep before (Cut vc) reply after
     → Comes met before after reply (answered (seen_missing_fault (seen before) vc) (cut_text (seen before) vc)) text
     (left (seen_missing_fault (seen before) vc) (seen before) (changed_at (seen before) vc handed_out))
 cut-comes met before after vc reply text invariant printed step =
@@ -216,6 +217,6 @@ cut-comes met before after vc reply text invariant printed step =
     (λ goes. cuts-comes met before after vc reply text invariant printed goes)
     (λ lacks.
     let same : Refused NoMemory ≡ reply = let e = lacks.answer in cc in
-    let none = reprinted (cut vc) (length before.loaded) reply (Refused NoMemory) text (sym same) printed in absurd (cc))
+    let none = reprinted before.shape.side (cut vc) (length before.loaded) reply (Refused NoMemory) text (sym same) printed in absurd (cc))
     (λ fault is. refused-comes met before after reply fault text invariant is.world (ap id_loaded is.answer)
-    (reprinted (cut vc) (length before.loaded) reply (Refused fault) text is.answer printed)) step)
+    (reprinted before.shape.side (cut vc) (length before.loaded) reply (Refused fault) text is.answer printed)) step)

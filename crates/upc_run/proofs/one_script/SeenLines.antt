@@ -57,7 +57,7 @@ RetiresSeen s number text to =
 
 abbrev pub SetsUpSeen : Seen → Vc → ℕ → List Contract → List ℕ → Seen → Type 0
 SetsUpSeen s vc number contracts text to =
-    TakesSeen (answered (seen_setup_fault s vc number contracts) (set_text vc))
+    TakesSeen (answered (seen_setup_fault s vc number contracts) (set_text s.shape.side vc))
     (left (seen_setup_fault s vc number contracts) s (set_up s vc number contracts)) text to
 
 abbrev pub AsksSeen : Seen → Vc → ℕ → List Wanted → List ℕ → Seen → Type 0
@@ -65,7 +65,7 @@ AsksSeen s vc number wanted text to = (contracts : List Contract) × AreContract
 
 abbrev pub ReloadsSeen : Seen → Vc → ℕ → List ℕ → Seen → Type 0
 ReloadsSeen s vc number text to =
-    TakesSeen (answered (seen_reload_fault s vc number) (reloaded_text vc number))
+    TakesSeen (answered (seen_reload_fault s vc number) (reloaded_text s.shape.side vc number))
     (left (seen_reload_fault s vc number) s (changed_at s vc (reloaded number))) text to
 
 abbrev pub SizedSeen : Seen → ℕ → List ℕ → List ℕ → Seen → Type 0
@@ -118,12 +118,12 @@ module _ (met : ℕ) (few : met < most_input_lines) (before : Card) (reached : I
 
   -- A step of the desk.
   takes-come : (command : Command) (step : Step) (found : Option (List ℕ)) (next : Seen)
-      → ((reply : Reply) → WorldStep before.world step reply after.world → reply_text command (length before.world.loaded) reply ≡ Some text
+      → ((reply : Reply) → WorldStep before.world step reply after.world → reply_text before.world.shape.side command (length before.world.loaded) reply ≡ Some text
       → Comes met before.world after.world reply found text next)
       → TakesCommand before command step text after → LineComes met after (TakesSeen found next text)
   takes-come command step found next comes takes =
       let many = ap length reached.names ∙ length-names before.world.loaded in
-      let printed = subst (λ n. reply_text command n takes.reply ≡ Some text) many takes.printed in
+      let printed = subst (λ n. reply_text before.world.shape.side command n takes.reply ≡ Some text) many takes.printed in
       let done = comes takes.reply takes.stepped printed in
       record {
         shown = (done.printed, done.shown);
@@ -200,10 +200,10 @@ module _ (met : ℕ) (few : met < most_input_lines) (before : Card) (reached : I
   reload-line vc number takes =
       named-comes (reload vc number) number (λ id. TakesCommand before (reload vc number) (Reload vc id)) (ReloadsSeen (seen before.world) vc number)
       (λ id is some taken.
-      takes-come (reload vc number) (Reload vc id) (answered (seen_reload_fault (seen before.world) vc number) (reloaded_text vc number))
+      takes-come (reload vc number) (Reload vc id) (answered (seen_reload_fault (seen before.world) vc number) (reloaded_text before.world.shape.side vc number))
       (left (seen_reload_fault (seen before.world) vc number) (seen before.world) (changed_at (seen before.world) vc (reloaded number)))
       (λ reply step printed.
-      subst (λ n. Comes met before.world after.world reply (answered (seen_reload_fault (seen before.world) vc n) (reloaded_text vc number)) text
+      subst (λ n. Comes met before.world after.world reply (answered (seen_reload_fault (seen before.world) vc n) (reloaded_text before.world.shape.side vc number)) text
       (left (seen_reload_fault (seen before.world) vc n) (seen before.world) (changed_at (seen before.world) vc (reloaded n))))
       is (reload-comes met before.world after.world vc id number reply text reached.holds (subst (λ n. 0 < n) (sym is) some) printed step)) taken) takes
 
@@ -214,13 +214,13 @@ module _ (met : ℕ) (few : met < most_input_lines) (before : Card) (reached : I
       let contracts = asks.ask.contracts.items in
       let own : number_in before.world.loaded asks.ask.program ≡ number = ap (number_in before.world.loaded) asks.program ∙ is in
       let done = takes-come (setup vc number wanted) (Setup asks.ask)
-      (answered (seen_setup_fault (seen before.world) vc number contracts) (set_text vc))
+      (answered (seen_setup_fault (seen before.world) vc number contracts) (set_text before.world.shape.side vc))
       (left (seen_setup_fault (seen before.world) vc number contracts) (seen before.world) (set_up (seen before.world) vc number contracts))
       (λ reply step printed.
-      subst (λ (at : Vc). Comes met before.world after.world reply (answered (seen_setup_fault (seen before.world) at number contracts) (set_text vc)) text
+      subst (λ (at : Vc). Comes met before.world after.world reply (answered (seen_setup_fault (seen before.world) at number contracts) (set_text before.world.shape.side vc)) text
       (left (seen_setup_fault (seen before.world) at number contracts) (seen before.world) (set_up (seen before.world) at number contracts)))
       asks.connection
-      (subst (λ n. Comes met before.world after.world reply (answered (seen_setup_fault (seen before.world) asks.ask.vc n contracts) (set_text vc)) text
+      (subst (λ n. Comes met before.world after.world reply (answered (seen_setup_fault (seen before.world) asks.ask.vc n contracts) (set_text before.world.shape.side vc)) text
       (left (seen_setup_fault (seen before.world) asks.ask.vc n contracts) (seen before.world) (set_up (seen before.world) asks.ask.vc n contracts)))
       own
       (setup-comes met before.world after.world asks.ask vc number wanted reply text reached.holds (subst (λ n. 0 < n) (sym own) some) printed step)))

@@ -3,6 +3,7 @@
 use Rattle.std.proofs.Common.{◌≡◌, ◌⊎◌, ℕ, inl, inr, true, false, List, ◌++◌, Option, Some, None, codes, decimal, option_map, refl, sym, ap, ◌∙◌, subst}
 use Rattle.std.specs.Option.{is_some}
 use Rattle.std.specs.Option.{MatchOption}
+use Rattle.upc_cell.specs.declared.side.Side.{Side}
 use Rattle.upc_cell.specs.declared.vc.Vc.{Vc}
 use Rattle.bpf_code.specs.declared.instr.Instr.{Instr}
 use Rattle.gen_arena.specs.declared.id.Id.{Id}
@@ -65,16 +66,16 @@ not_set_up _ ask = refl
 arrive-printed : (name : List ℕ) → IsPrinted (Some (arrive_fault name))
 arrive-printed name = (arrive_fault name, refl)
 
-pub answer-printed : (names : List Id) (vc : Vc) (given : Answer) → Spares (Answered given) → IsPrinted (answer_text names vc given)
-answer-printed names vc (answer.Judged line_number number moment value program verdict leaving) e =
-    text-there (answer_text names vc (answer.Judged line_number number moment value program verdict leaving)) refl
-answer-printed names vc answer.NoConnection e = arrive-printed (codes "1 NoConnection")
-answer-printed names vc answer.Released e = arrive-printed (codes "2 Released")
-answer-printed names vc answer.Stale e = arrive-printed (codes "3 Stale")
-answer-printed names vc (answer.MomentBack last) e = arrive-printed (codes "4 MomentBack " ++ decimal last)
-answer-printed names vc answer.MomentTooLate e = arrive-printed (codes "5 MomentTooLate")
-answer-printed names vc answer.JournalFull e = arrive-printed (codes "6 JournalFull")
-answer-printed names vc answer.NoMemory e = let no : true ≡ false = e in cc
+pub answer-printed : (side : Side) (names : List Id) (vc : Vc) (given : Answer) → Spares (Answered given) → IsPrinted (answer_text side names vc given)
+answer-printed side names vc (answer.Judged line_number number moment value program verdict leaving) e =
+    text-there (answer_text side names vc (answer.Judged line_number number moment value program verdict leaving)) refl
+answer-printed side names vc answer.NoConnection e = arrive-printed (codes "1 NoConnection")
+answer-printed side names vc answer.Released e = arrive-printed (codes "2 Released")
+answer-printed side names vc answer.Stale e = arrive-printed (codes "3 Stale")
+answer-printed side names vc (answer.MomentBack last) e = arrive-printed (codes "4 MomentBack " ++ decimal last)
+answer-printed side names vc answer.MomentTooLate e = arrive-printed (codes "5 MomentTooLate")
+answer-printed side names vc answer.JournalFull e = arrive-printed (codes "6 JournalFull")
+answer-printed side names vc answer.NoMemory e = let no : true ≡ false = e in cc
 
 -- A step of the desk succeeds, fails to allocate, or is refused with an error.
 pub desk-cases : (P : Type 0) (wrap : DeskFault → Reply) (found : Option DeskFault) (before after : World) (step : Step) (reply : Reply)
@@ -87,56 +88,56 @@ desk-cases P wrap None before after step reply succeeds lacks refused (inr none)
 desk-cases P wrap (Some fault) before after step reply succeeds lacks refused is = refused fault is
 
 -- If the reply to a command reports no allocation failure, it has a line.
-abbrev HasText : Command → ℕ → Reply → Type 0
-HasText command programs reply = Spares reply → IsPrinted (reply_text command programs reply)
+abbrev HasText : Side → Command → ℕ → Reply → Type 0
+HasText side command programs reply = Spares reply → IsPrinted (reply_text side command programs reply)
 
-prints : (command : Command) (programs : ℕ) (reply known : Reply) → reply ≡ known → HasText command programs known → HasText command programs reply
-prints command programs reply known same printed = subst (λ r. HasText command programs r) (sym same) printed
+prints : (side : Side) (command : Command) (programs : ℕ) (reply known : Reply) → reply ≡ known → HasText side command programs known → HasText side command programs reply
+prints side command programs reply known same printed = subst (λ r. HasText side command programs r) (sym same) printed
 
-pub load-printed : (before after : World) (code : List Instr) (digits : List ℕ) (programs : ℕ) (reply : Reply)
-    → WorldStep before (Load code) reply after → Spares reply → IsPrinted (reply_text (load digits) programs reply)
-load-printed before after code digits programs reply =
-    desk-cases (HasText (load digits) programs reply) (λ fault. NotLoaded fault code) (load_fault before) before after (Load code) reply
-    (λ s. prints (load digits) programs reply _ s.answer (λ e. text-there _ refl))
+pub load-printed : (side : Side) (before after : World) (code : List Instr) (digits : List ℕ) (programs : ℕ) (reply : Reply)
+    → WorldStep before (Load code) reply after → Spares reply → IsPrinted (reply_text side (load digits) programs reply)
+load-printed side before after code digits programs reply =
+    desk-cases (HasText side (load digits) programs reply) (λ fault. NotLoaded fault code) (load_fault before) before after (Load code) reply
+    (λ s. prints side (load digits) programs reply _ s.answer (λ e. text-there _ refl))
     (λ l. let no = l.answer in cc)
-    (λ fault r. prints (load digits) programs reply _ r.answer (λ e. desk-printed fault (sym (not_loaded fault code) ∙ e)))
+    (λ fault r. prints side (load digits) programs reply _ r.answer (λ e. desk-printed fault (sym (not_loaded fault code) ∙ e)))
 
-pub retire-printed : (before after : World) (id : Id) (number programs : ℕ) (reply : Reply)
-    → WorldStep before (Retire id) reply after → Spares reply → IsPrinted (reply_text (retire number) programs reply)
-retire-printed before after id number programs reply =
-    desk-cases (HasText (retire number) programs reply) (λ fault. Refused fault) (retire_fault before id) before after (Retire id) reply
-    (λ s. prints (retire number) programs reply _ s.answer (λ e. text-there _ refl))
+pub retire-printed : (side : Side) (before after : World) (id : Id) (number programs : ℕ) (reply : Reply)
+    → WorldStep before (Retire id) reply after → Spares reply → IsPrinted (reply_text side (retire number) programs reply)
+retire-printed side before after id number programs reply =
+    desk-cases (HasText side (retire number) programs reply) (λ fault. Refused fault) (retire_fault before id) before after (Retire id) reply
+    (λ s. prints side (retire number) programs reply _ s.answer (λ e. text-there _ refl))
     (λ l. let no = l.answer in cc)
-    (λ fault r. prints (retire number) programs reply _ r.answer (desk-printed fault))
+    (λ fault r. prints side (retire number) programs reply _ r.answer (desk-printed fault))
 
-pub setup-printed : (before after : World) (ask : Ask) (vc : Vc) (number : ℕ) (wanted : List Wanted) (programs : ℕ) (reply : Reply)
-    → WorldStep before (Setup ask) reply after → Spares reply → IsPrinted (reply_text (setup vc number wanted) programs reply)
-setup-printed before after ask vc number wanted programs reply =
-    desk-cases (HasText (setup vc number wanted) programs reply) (λ fault. NotSetUp fault ask) (setup_fault before ask) before after (Setup ask) reply
-    (λ s. prints (setup vc number wanted) programs reply _ s.answer (λ e. text-there _ refl))
+pub setup-printed : (side : Side) (before after : World) (ask : Ask) (vc : Vc) (number : ℕ) (wanted : List Wanted) (programs : ℕ) (reply : Reply)
+    → WorldStep before (Setup ask) reply after → Spares reply → IsPrinted (reply_text side (setup vc number wanted) programs reply)
+setup-printed side before after ask vc number wanted programs reply =
+    desk-cases (HasText side (setup vc number wanted) programs reply) (λ fault. NotSetUp fault ask) (setup_fault before ask) before after (Setup ask) reply
+    (λ s. prints side (setup vc number wanted) programs reply _ s.answer (λ e. text-there _ refl))
     (λ l e. let same : NotSetUp desk.NoMemory ask ≡ reply = cc in let no : true ≡ false = ap is_of_memory same ∙ e in cc)
-    (λ fault r. prints (setup vc number wanted) programs reply _ r.answer (λ e. desk-printed fault (sym (not_set_up fault ask) ∙ e)))
+    (λ fault r. prints side (setup vc number wanted) programs reply _ r.answer (λ e. desk-printed fault (sym (not_set_up fault ask) ∙ e)))
 
-pub reload-printed : (before after : World) (vc : Vc) (id : Id) (number programs : ℕ) (reply : Reply)
-    → WorldStep before (Reload vc id) reply after → Spares reply → IsPrinted (reply_text (reload vc number) programs reply)
-reload-printed before after vc id number programs reply =
-    desk-cases (HasText (reload vc number) programs reply) (λ fault. Refused fault) (reload_fault before vc id) before after (Reload vc id) reply
-    (λ s. prints (reload vc number) programs reply _ s.answer (λ e. text-there _ refl))
+pub reload-printed : (side : Side) (before after : World) (vc : Vc) (id : Id) (number programs : ℕ) (reply : Reply)
+    → WorldStep before (Reload vc id) reply after → Spares reply → IsPrinted (reply_text side (reload vc number) programs reply)
+reload-printed side before after vc id number programs reply =
+    desk-cases (HasText side (reload vc number) programs reply) (λ fault. Refused fault) (reload_fault before vc id) before after (Reload vc id) reply
+    (λ s. prints side (reload vc number) programs reply _ s.answer (λ e. text-there _ refl))
     (λ l. let no = l.answer in cc)
-    (λ fault r. prints (reload vc number) programs reply _ r.answer (desk-printed fault))
+    (λ fault r. prints side (reload vc number) programs reply _ r.answer (desk-printed fault))
 
-pub release-printed : (before after : World) (vc : Vc) (programs : ℕ) (reply : Reply)
-    → WorldStep before (Release vc) reply after → Spares reply → IsPrinted (reply_text (release vc) programs reply)
-release-printed before after vc programs reply =
-    desk-cases (HasText (release vc) programs reply) (λ fault. Refused fault) (missing_fault before vc) before after (Release vc) reply
-    (λ s. prints (release vc) programs reply _ s.answer (λ e. text-there _ refl))
+pub release-printed : (side : Side) (before after : World) (vc : Vc) (programs : ℕ) (reply : Reply)
+    → WorldStep before (Release vc) reply after → Spares reply → IsPrinted (reply_text side (release vc) programs reply)
+release-printed side before after vc programs reply =
+    desk-cases (HasText side (release vc) programs reply) (λ fault. Refused fault) (missing_fault before vc) before after (Release vc) reply
+    (λ s. prints side (release vc) programs reply _ s.answer (λ e. text-there _ refl))
     (λ l. let no = l.answer in cc)
-    (λ fault r. prints (release vc) programs reply _ r.answer (desk-printed fault))
+    (λ fault r. prints side (release vc) programs reply _ r.answer (desk-printed fault))
 
-pub cut-printed : (before after : World) (vc : Vc) (programs : ℕ) (reply : Reply)
-    → WorldStep before (Cut vc) reply after → Spares reply → IsPrinted (reply_text (cut vc) programs reply)
-cut-printed before after vc programs reply =
-    desk-cases (HasText (cut vc) programs reply) (λ fault. Refused fault) (missing_fault before vc) before after (Cut vc) reply
-    (λ s. prints (cut vc) programs reply _ s.answer (λ e. text-there _ refl))
+pub cut-printed : (side : Side) (before after : World) (vc : Vc) (programs : ℕ) (reply : Reply)
+    → WorldStep before (Cut vc) reply after → Spares reply → IsPrinted (reply_text side (cut vc) programs reply)
+cut-printed side before after vc programs reply =
+    desk-cases (HasText side (cut vc) programs reply) (λ fault. Refused fault) (missing_fault before vc) before after (Cut vc) reply
+    (λ s. prints side (cut vc) programs reply _ s.answer (λ e. text-there _ refl))
     (λ l e. let same : Refused desk.NoMemory ≡ reply = cc in let no : true ≡ false = ap is_of_memory same ∙ e in cc)
-    (λ fault r. prints (cut vc) programs reply _ r.answer (desk-printed fault))
+    (λ fault r. prints side (cut vc) programs reply _ r.answer (desk-printed fault))

@@ -5,21 +5,12 @@ use Rattle.card_core.specs.World.{World}
 use Rattle.card_core.specs.declared.answer.Answer.{Answer}
 use Rattle.upc_words.specs.FaultLines.{bad_line}
 use Rattle.upc_run.specs.ShownCard.{Held, ShowsCard}
-use Rattle.upc_run.specs.RunText.{Arrives, Card, IsLed, Obeys, OpeningLine, RefusesLine, RunSteps}
+use Rattle.upc_run.specs.RunText.{Arrives, Card, IsLed, Obeys, OpeningLine, RefusesLine}
 use Rattle.upc_script.specs.ScriptCommands.{Command}
-
--- For each card that was represented before, this text leads to a card that is represented afterwards.
-abbrev pub MovesBy : (Card → List ℕ → Card → Type 0) → Held → List ℕ → Held → Type 0
-MovesBy Goes held text held' = (before : Card) → IsLed before → ShowsCard held before
-    → (after : Card) × ShowsCard held' after × Goes before text after
 
 -- The answer to a command, or BadLine if there is none.
 abbrev pub ObeysSeen : Card → Option Command → List ℕ → Card → Type 0
 ObeysSeen before seen text after = MatchOption seen (RefusesLine bad_line before text after) (λ command. Obeys before command text after)
-
--- The answers grew by such a text.
-abbrev pub Moves : (Card → List ℕ → Card → Type 0) → Held → Held → List ℕ → List ℕ → Type 0
-Moves Goes held held' old new = (text : List ℕ) × (new ≡ old ++ text) × MovesBy Goes held text held'
 
 -- For each card that was represented before, the cell has this answer and leads to a world that the core agrees with
 -- afterwards. The names are unchanged. There is no answer only if no card is represented.
@@ -27,10 +18,6 @@ abbrev pub AnswersCell : Held → List ℕ → ℕ → Option Answer → Held �
 AnswersCell held octets moment given held' = (held'.names ≡ held.names) × ((before : Card) → IsLed before → ShowsCard held before
     → (answer : Answer) × (given ≡ Some answer) × (after : World)
     × Arrives before.world octets moment answer after × CoreAgrees held'.core after)
-
--- The line has this answer, and the run continues with the card after it.
-abbrev pub AnswersLine : List ℕ → Card → List ℕ → Card → Type 0
-AnswersLine line before text after = RunSteps (Some before) line text (Some (Some after))
 
 -- The result of the first line with words: a stored card that represents the new one, or the fault line.
 abbrev pub OpensAs : List (List ℕ) → Option Held → List ℕ → List ℕ → Type 0

@@ -102,7 +102,7 @@ led-refused before after fault text led refused = subst IsLed (sym refused.1) le
 
 -- A step of the desk is taken, and its reply has a line.
 takes : (before : Card) (command : Command) (step : Step) → IsLed before → LoadsAccepted step
-    → ((after : World) (reply : Reply) → WorldStep before.world step reply after → Spares reply → IsPrinted (reply_text command (length before.names) reply))
+    → ((after : World) (reply : Reply) → WorldStep before.world step reply after → Spares reply → IsPrinted (reply_text before.world.shape.side command (length before.names) reply))
     → (text : List ℕ) × (after : Card) × TakesCommand before command step text after
 takes before command step led accepted printed =
     let replied = step-replied led.shape led.log before.world led.leads step accepted in
@@ -177,7 +177,7 @@ reading-some : (before : Card) (digits octets : List ℕ) → IsLed before → (
     → (text : List ℕ) × (after : Card) × TakesReading before digits reading text after
 reading-some before digits octets led (is_program code) reads =
     takes before (load digits) (Load code) led (accepted-of octets code reads)
-    (λ after reply. load-printed before.world after code digits (length before.names) reply)
+    (λ after reply. load-printed before.world.shape.side before.world after code digits (length before.names) reply)
 reading-some before digits octets led (is_refused fault) reads = (fault, before, (refl, refl))
 
 octets-some : (before : Card) (digits octets : List ℕ) → IsLed before → (text : List ℕ) × (after : Card) × LoadsOctets before digits octets text after
@@ -212,7 +212,7 @@ cell-some before moment octets led =
     let two = step-replied led.shape _ one.1 came.leads (Pick 0) tt in
     elim (pick-goes one.1 two.1 octets moment two.0 entering.1 two.2) [
       | inl missed ↦
-          let printed = answer-printed before.names (vc_of before.world.shape.side octets) missed.0 (subst Spares missed.1 two.3) in
+          let printed = answer-printed before.world.shape.side before.names (vc_of before.world.shape.side octets) missed.0 (subst Spares missed.1 two.3) in
           let second = subst (λ (r : Reply). WorldStep one.1 (Pick 0) r two.1) missed.1 two.2 in (
             printed.0,
             record { world = two.1; names = before.names },
@@ -223,7 +223,7 @@ cell-some before moment octets led =
           let went = reached-quiet led.shape _ one.1 two.1 before.names (Pick 0) Picked came second refl in
           let three = step-replied led.shape _ two.1 went.leads (Judge 0) tt in
           let given = judge-goes two.1 three.1 found.0 three.0 found.2 three.2 in
-          let printed = answer-printed before.names (vc_of before.world.shape.side octets) given.0 (subst Spares given.1 three.3) in
+          let printed = answer-printed before.world.shape.side before.names (vc_of before.world.shape.side octets) given.0 (subst Spares given.1 three.3) in
           let third = subst (λ (r : Reply). WorldStep two.1 (Judge 0) r three.1) given.1 three.2 in (
             printed.0,
             record { world = three.1; names = before.names },
@@ -291,7 +291,7 @@ wanted-some before vc number wanted led None sound =
     let contracts = contracts-some wanted sound in
     let ask : Ask = record { vc = vc; program = id; contracts = record { items = contracts.0 } } in
     let done = takes before (setup vc number wanted) (Setup ask) led tt
-    (λ after reply. setup-printed before.world after ask vc number wanted (length before.names) reply) in
+    (λ after reply. setup-printed before.world.shape.side before.world after ask vc number wanted (length before.names) reply) in
     (done.0, done.1, record { ask = ask; connection = refl; program = refl; contracts = contracts.1; taken = done.2 }))
 wanted-some before vc number wanted led (Some fault) sound = (gcra_fault fault, before, (refl, refl))
 
@@ -305,7 +305,7 @@ wanted-led before after vc number wanted text led (Some fault) refused = led-ref
 
 -- A cut has an answer, and leads to a card that a log leads to.
 pub cut-some : (before : Card) (vc : Vc) → IsLed before → (text : List ℕ) × (after : Card) × TakesCommand before (cut vc) (Cut vc) text after
-cut-some before vc led = takes before (cut vc) (Cut vc) led tt (λ after reply. cut-printed before.world after vc (length before.names) reply)
+cut-some before vc led = takes before (cut vc) (Cut vc) led tt (λ after reply. cut-printed before.world.shape.side before.world after vc (length before.names) reply)
 
 pub cut-led : (before after : Card) (vc : Vc) (text : List ℕ) → IsLed before → TakesCommand before (cut vc) (Cut vc) text after → IsLed after
 cut-led before after vc text led = led-taken before after (cut vc) (Cut vc) text led (cut-ports before.world after.world vc)
@@ -315,13 +315,13 @@ command-some : (before : Card) → IsLed before → (command : Command) → (tex
 command-some before led (load digits) = load-some before digits led (octets_of_digits digits)
 command-some before led (retire number) =
     named-some (program_named before.names number) before (λ id. TakesCommand before (retire number) (Retire id))
-    (λ id. takes before (retire number) (Retire id) led tt (λ after reply. retire-printed before.world after id number (length before.names) reply))
+    (λ id. takes before (retire number) (Retire id) led tt (λ after reply. retire-printed before.world.shape.side before.world after id number (length before.names) reply))
 command-some before led (setup vc number wanted) = wanted-some before vc number wanted led (first_wanted_fault wanted) refl
 command-some before led (reload vc number) =
     named-some (program_named before.names number) before (λ id. TakesCommand before (reload vc number) (Reload vc id))
-    (λ id. takes before (reload vc number) (Reload vc id) led tt (λ after reply. reload-printed before.world after vc id number (length before.names) reply))
+    (λ id. takes before (reload vc number) (Reload vc id) led tt (λ after reply. reload-printed before.world.shape.side before.world after vc id number (length before.names) reply))
 command-some before led (release vc) =
-    takes before (release vc) (Release vc) led tt (λ after reply. release-printed before.world after vc (length before.names) reply)
+    takes before (release vc) (Release vc) led tt (λ after reply. release-printed before.world.shape.side before.world after vc (length before.names) reply)
 command-some before led (cut vc) = cut-some before vc led
 command-some before led (cell moment digits) = digits-some before moment led (octets_of_digits digits)
 

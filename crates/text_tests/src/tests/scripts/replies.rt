@@ -35,7 +35,7 @@ fn expect_line(
 ) -> Result<(), AllocError> {
     let mut wanted = Vec::from_slice(alloc, b"before\n")?;
     let mut answers = Vec::from_slice(alloc, b"before\n")?;
-    add_answer(&mut answers, number, vc, &answer)?;
+    add_answer(&mut answers, Side::Nni, number, vc, &answer)?;
     wanted.extend_from_slice(line)?;
     assert_eq!(rt; answers.as_slice(), wanted.as_slice());
     Ok(())
@@ -88,7 +88,13 @@ fn the_longest_answers_are_printed_whole(rt: HostRuntime) -> Result<(), Fail> {
 #[test]
 fn an_answer_that_lacks_memory_has_no_line(rt: HostRuntime) -> Result<(), Fail> {
     let mut answers = Vec::new(rt.alloc());
-    let found = add_answer(&mut answers, 0, Vc::new(1, 100)?, &Answer::NoMemory);
+    let found = add_answer(
+        &mut answers,
+        Side::Uni,
+        0,
+        Vc::new(1, 100)?,
+        &Answer::NoMemory,
+    );
     assert!(rt; found.is_err() && answers.is_empty());
     Ok(())
 }

@@ -20,8 +20,8 @@ returns-in-Err g c =
     let found = subst (λ code. Finds (ReadsAs c.deref.result.now) (option_map (λ code. code.items) code) c.args.answers.now.items c.read_code.new.answers.items) c.in-Some-2.is c.in_ok-code.ensures.found in
     on_ok_weaker c.add_desk_fault.result (λ added.
     let printed = adds-some _ _ _ added in
-    load-reply digits c.deref.result.now c.in-Some-2.code.items names names _ _ spelled found.0
-    (replied (load digits) (NotLoaded c.in-Err.fault c.in-Err.field-0-1) names printed.0 _ _ c.in-Err.ensures.refused refl printed.2
+    load-reply c.args.card.now.side digits c.deref.result.now c.in-Some-2.code.items names names _ _ spelled found.0
+    (replied c.args.card.now.side (load digits) (NotLoaded c.in-Err.fault c.in-Err.field-0-1) names printed.0 _ _ c.in-Err.ensures.refused refl printed.2
     (printed.1 ∙ ap (λ (t : List ℕ). t ++ printed.0) found.1))) c.add_desk_fault.ensures
 
 pub returns : goal.returns
@@ -32,6 +32,6 @@ returns g c =
     c.in_ok-octets.ensures ∙ ap (λ found. option_map (λ octets. octets.items) found) c.in-Some.is ∙ ap Some (sym c.deref.ensures.value) in
     let found = subst (λ code. Finds (ReadsAs c.deref.result.now) (option_map (λ code. code.items) code) c.args.answers.now.items c.read_code.new.answers.items) c.in-Some-2.is c.in_ok-code.ensures.found in
     on_ok_weaker c.add_loaded.result (λ added.
-    load-reply digits c.deref.result.now c.in-Some-2.code.items names c.push.new.self _ _ spelled found.0
-    (loaded digits c.in-Ok.id names c.push.new.self c.count.result _ _ c.in_ok-push.ensures c.count.ensures
+    load-reply c.args.card.now.side digits c.deref.result.now c.in-Some-2.code.items names c.push.new.self _ _ spelled found.0
+    (loaded c.args.card.now.side digits c.in-Ok.id names c.push.new.self c.count.result _ _ c.in_ok-push.ensures c.count.ensures
     (added ∙ ap (λ (t : List ℕ). t ++ line (codes "loaded " ++ program_name c.count.result)) found.1))) c.add_loaded.ensures

@@ -12,13 +12,13 @@ returns-in-Err g c =
     let names = c.args.self.now.names in
     on_ok_weaker c.add_desk_fault.result (λ added.
     let printed = adds-some _ _ _ added in
-    named-reply command c.args.number c.in-Some.id names names _ _ (sym c.named.ensures ∙ c.in-Some.is)
-    (replied command (Refused c.in-Err.fault) names printed.0 _ _ c.in-Err.ensures.refused refl printed.2 printed.1)) c.add_desk_fault.ensures
+    named-reply c.args.card.now.side command c.args.number c.in-Some.id names names _ _ (sym c.named.ensures ∙ c.in-Some.is)
+    (replied c.args.card.now.side command (Refused c.in-Err.fault) names printed.0 _ _ c.in-Err.ensures.refused refl printed.2 printed.1)) c.add_desk_fault.ensures
 
 pub returns : goal.returns
 returns g c =
     let command = retire c.args.number in
     let names = c.args.self.now.names in
     on_ok_weaker c.add_retired.result (λ added.
-    named-reply command c.args.number c.in-Some.id names names _ _ (sym c.named.ensures ∙ c.in-Some.is)
-    (replied command (Retired []) names _ _ _ tt refl refl added)) c.add_retired.ensures
+    named-reply c.args.card.now.side command c.args.number c.in-Some.id names names _ _ (sym c.named.ensures ∙ c.in-Some.is)
+    (replied c.args.card.now.side command (Retired []) names _ _ _ tt refl refl added)) c.add_retired.ensures

@@ -1,7 +1,7 @@
 -- A line with words is a command.
 use Rattle.std.proofs.Common.{subst, sym}
 use Rattle.upc_run.specs.RunText.{CommandLine}
-use Rattle.upc_run.specs.inner.Policing.{Moves}
+use Rattle.upc_run.specs.ShownCard.{Moves}
 use Rattle.upc_run.proofs.LineLemmas.{moves-asked, moves-silent}
 use Rattle.upc_run.proofs.MovesLemmas.{on-ok}
 use Rattle.upc_run.proofs.script_card.ScriptCard.answer_words.Goals as goal

@@ -6,7 +6,7 @@ use Rattle.upc_programs.specs.Program.{ReadsAs}
 use Rattle.upc_run.specs.RunText.{TakesCommand}
 use Rattle.upc_script.specs.ScriptCommands.{load}
 use Rattle.upc_programs.specs.Finding.{Finds}
-use Rattle.upc_run.specs.inner.Policing.{Moves}
+use Rattle.upc_run.specs.ShownCard.{Moves}
 use Rattle.upc_run.proofs.MovesLemmas.{moves-load, on-ok}
 use Rattle.upc_run.proofs.script_card.ScriptCard.load.Goals as goal
 

@@ -1,5 +1,5 @@
 -- The program is loaded under the next name, or the desk refuses.
-use Rattle.std.proofs.Common.{◌≡◌, ◌∙◌, ◌+◌, ◌++◌, ◌∷◌, [], Some, ap, codes, length, length-append, sym, arith}
+use Rattle.std.proofs.Common.{◌≡◌, ◌∙◌, ◌+◌, ◌++◌, ◌∷◌, [], Some, ap, codes, length, length-append, refl, sym, arith}
 use Rattle.std.specs.Prelude.{suc}
 use Rattle.card_core.specs.declared.reply.Reply.TheVariants.{Loaded, NotLoaded}
 use Rattle.card_core.specs.declared.step.Step.TheVariants.{Load}
@@ -23,7 +23,7 @@ returns c =
     let follows = rw c.of_accepted.ensures at c.in-Ok.ensures.follows in
     on-ok c.add_loaded.result c.add_loaded.ensures (λ added.
     moves-at (λ before. TakesCommand before command (Load c.args.code.items)) old _ new _ _ c.self.view_is
-    (moves-taken old new command (Load c.args.code.items) (Loaded c.in-Ok.id) _ _ _ follows pushed added
+    (moves-taken old new old.core.shape.side command (Load c.args.code.items) (Loaded c.in-Ok.id) _ _ _ refl follows pushed added
     (λ before after stepped. ap (λ n. Some (line (codes "loaded " ++ program_name n))) (sym count))))
 
 pub returns-in-Err : goal.returns-in-Err
@@ -35,5 +35,5 @@ returns-in-Err c =
     on-ok c.add_desk_fault.result c.add_desk_fault.ensures (λ added.
     let printed = adds-some _ _ _ added in
     moves-at (λ before. TakesCommand before command (Load c.args.code.items)) old _ new _ _ c.self.view_is
-    (moves-taken old new command (Load c.args.code.items) (NotLoaded c.in-Err.fault c.in-Err.field-0-1) printed.0 _ _ follows
+    (moves-taken old new old.core.shape.side command (Load c.args.code.items) (NotLoaded c.in-Err.fault c.in-Err.field-0-1) printed.0 _ _ refl follows
     (no-name old.names) printed.1 (λ before after stepped. printed.2)))

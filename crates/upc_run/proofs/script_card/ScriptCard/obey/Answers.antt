@@ -1,7 +1,8 @@
 -- A function carries out each command.
 use Rattle.std.proofs.Common.{OnOk, subst, sym}
 use Rattle.upc_script.specs.CommandSeen.{command_seen}
-use Rattle.upc_run.specs.inner.Policing.{Moves, ObeysSeen}
+use Rattle.upc_run.specs.ShownCard.{Moves}
+use Rattle.upc_run.specs.inner.Policing.{ObeysSeen}
 use Rattle.upc_run.proofs.script_card.ScriptCard.obey.Goals as goal
 
 pub returns-in-Cell : goal.returns-in-Cell

@@ -23,7 +23,7 @@ returns c =
           (on-ok w.add_retired.result w.add_retired.ensures (λ added.
           moves-at (λ before. Obeys before (retire number)) old _ new _ _ c.self.view_is
           (moves-named (λ before here. TakesCommand before (retire number) (Retire here)) (retire number) number id old new _ _ named
-          (moves-taken old new (retire number) (Retire id) (Retired w.in-Ok.field-0) _ _ _ w.in-Ok.ensures.follows (no-name old.names) added
+          (moves-taken old new old.core.shape.side (retire number) (Retire id) (Retired w.in-Ok.field-0) _ _ _ refl w.in-Ok.ensures.follows (no-name old.names) added
           (λ before after stepped. refl)))))
       | in-Err w ↦
           on-tie (λ before. Obeys before (retire number)) _ new _ _ _ _ _ w.result-is (ap (λ v. v.items) w.answers-is)
@@ -31,6 +31,6 @@ returns c =
           let printed = adds-some _ _ _ added in
           moves-at (λ before. Obeys before (retire number)) old _ new _ _ c.self.view_is
           (moves-named (λ before here. TakesCommand before (retire number) (Retire here)) (retire number) number id old new _ _ named
-          (moves-taken old new (retire number) (Retire id) (Refused w.in-Err.fault) printed.0 _ _ w.in-Err.ensures.follows (no-name old.names) printed.1
+          (moves-taken old new old.core.shape.side (retire number) (Retire id) (Refused w.in-Err.fault) printed.0 _ _ refl w.in-Err.ensures.follows (no-name old.names) printed.1
           (λ before after stepped. printed.2)))))
     ]

@@ -2,7 +2,8 @@
 use Rattle.std.proofs.Common.{List, Option, OnOk, option_map, subst}
 use Rattle.upc_script.specs.ScriptCommands.{setup}
 use Rattle.upc_script.specs.declared.script_words.Wanted.{Wanted}
-use Rattle.upc_run.specs.inner.Policing.{Moves, ObeysSeen}
+use Rattle.upc_run.specs.ShownCard.{Moves}
+use Rattle.upc_run.specs.inner.Policing.{ObeysSeen}
 use Rattle.upc_run.proofs.script_card.ScriptCard.setup_from_words.Goals as goal
 
 pub returns : goal.returns
