@@ -253,12 +253,23 @@ fn expect_one_incarnation(
 ) -> Result<(), Fail> {
     let first = incarnation_of(store, directory, line, ask(program)?);
     let second = incarnation_of(store, directory, line, ask(program)?);
+    assert!(rt; first == Ok(LAST) && second == Err(DeskFault::Taken));
+    expect_none_left(rt, store, directory, line, program)
+}
+
+/// Expects that 1/101 is not there, and that there is no incarnation of 1/100 after its release.
+fn expect_none_left(
+    rt: &impl Abort,
+    store: &Store,
+    directory: &mut Directory,
+    line: &mut Line,
+    program: Id,
+) -> Result<(), Fail> {
     let is_other_there = pick(directory, Vc::new(1, 101)?).is_some();
     let is_released = is_released(directory, line, Vc::new(1, 100)?);
     let third = incarnation_of(store, directory, line, ask(program)?);
     assert!(rt; !is_other_there && is_released);
-    assert!(rt; first == Ok(LAST));
-    assert!(rt; second == Err(DeskFault::Taken) && third == Err(DeskFault::Exhausted));
+    assert!(rt; third == Err(DeskFault::Exhausted));
     Ok(())
 }
 

@@ -34,9 +34,14 @@ fn shared_card(alloc: Global) -> Result<Core, Fail> {
     let mut shape = shape(2, 2, 16);
     shape.lines = 2;
     let mut core = Core::new(alloc, shape)?;
-    set_up(&mut core, alloc, 101, 2)?;
-    set_up(&mut core, alloc, 100, 1)?;
+    set_up_both(&mut core, alloc)?;
     Ok(core)
+}
+
+/// Sets up both connections, that of channel 101 first.
+fn set_up_both(core: &mut Core, alloc: Global) -> Result<(), Fail> {
+    set_up(core, alloc, 101, 2)?;
+    set_up(core, alloc, 100, 1)
 }
 
 /// A cell of path 1 and channel 101 arrives at port 1 and is looked up.
@@ -89,14 +94,18 @@ fn beside_another(core: &mut Core, moment: u64) -> Option<(u64, u32, Verdict)> {
     }
 }
 
+/// Expects that the connection of channel 100 is served on a shared card as on this card, which is its own.
+fn expect_as_alone(rt: &impl Abort, alloc: Global, own: &mut Core) -> Result<(), Fail> {
+    let mut shared = shared_card(alloc)?;
+    for moment in [0, 5, 10, 12, 20] {
+        let ours = beside_another(&mut shared, moment);
+        assert!(rt; ours.is_some() && ours == by_itself(own, moment));
+    }
+    Ok(())
+}
+
 #[test]
 fn a_connection_is_served_as_alone(rt: HostRuntime) -> Result<(), Fail> {
     let mut own = own_card(rt.alloc())?;
-    let mut shared = shared_card(rt.alloc())?;
-    for moment in [0, 5, 10, 12, 20] {
-        let ours = beside_another(&mut shared, moment);
-        assert!(rt; ours.is_some());
-        assert_eq!(rt; ours, by_itself(&mut own, moment));
-    }
-    Ok(())
+    expect_as_alone(&rt, rt.alloc(), &mut own)
 }

@@ -8,13 +8,19 @@ fn card_of_three(alloc: Global) -> Result<Core, Fail> {
     let mut shape = shape(1, 1, 16);
     shape.lines = 4;
     let mut core = Core::new(alloc, shape)?;
-    let program = load_in(&mut core, alloc, 1)?;
+    set_up_three(&mut core, alloc)?;
+    Ok(core)
+}
+
+/// Sets up these connections.
+fn set_up_three(core: &mut Core, alloc: Global) -> Result<(), Fail> {
+    let program = load_in(core, alloc, 1)?;
     for (vpi, vci) in [(1, 101), (1, 100), (0, 700)] {
         let mut wanted = ask(program)?;
         wanted.vc = Vc::new(vpi, vci)?;
-        take(&mut core, Step::Setup(wanted));
+        take(core, Step::Setup(wanted));
     }
-    Ok(core)
+    Ok(())
 }
 
 /// The path and the channel of the next connection, or 0/0.
@@ -28,7 +34,12 @@ fn next_of(core: &Core, after: Option<Vc>) -> (u16, u16) {
 #[test]
 fn connections_are_listed_by_path_and_channel(rt: HostRuntime) -> Result<(), Fail> {
     let core = card_of_three(rt.alloc())?;
-    assert!(rt; next_of(&core, None) == (0, 700));
+    expect_three(&rt, &core)
+}
+
+/// Expects that a card lists these connections in order.
+fn expect_three(rt: &impl Abort, core: &Core) -> Result<(), Fail> {
+    assert!(rt; next_of(core, None) == (0, 700));
     for (after, next) in [
         ((0, 0), (0, 700)),
         ((0, 700), (1, 100)),
@@ -36,7 +47,7 @@ fn connections_are_listed_by_path_and_channel(rt: HostRuntime) -> Result<(), Fai
         ((1, 101), (0, 0)),
     ] {
         let vc = Vc::new(after.0, after.1)?;
-        assert!(rt; next_of(&core, Some(vc)) == next);
+        assert!(rt; next_of(core, Some(vc)) == next);
     }
     Ok(())
 }
@@ -66,6 +77,11 @@ fn a_connection_has_a_state(rt: HostRuntime) -> Result<(), Fail> {
         pick_at(&mut core, 0, moment);
         judge_at_port(&mut core, 0);
     }
+    expect_state(&rt, &core)
+}
+
+/// Expects this state of 1/100, and none of a connection that is not there.
+fn expect_state(rt: &impl Abort, core: &Core) -> Result<(), Fail> {
     let state = core.line_state(Vc::new(1, 100)?);
     assert!(rt; numbers_of(state) == Some((2, 1, 1, 15, 5, 2, 3)));
     assert!(rt; core.line_state(Vc::new(1, 102)?).is_none());

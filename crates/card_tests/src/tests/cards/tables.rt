@@ -256,9 +256,19 @@ pub fn expect(
     rows: &[(Planned, Seen)],
 ) -> Result<(), Fail> {
     let mut core = Core::new(alloc, shape)?;
+    expect_rows(rt, alloc, &mut core, rows)
+}
+
+/// The same on this card. A function that owns a card and can end in several places costs the prover a minute and more.
+fn expect_rows(
+    rt: &impl Abort,
+    alloc: Global,
+    core: &mut Core,
+    rows: &[(Planned, Seen)],
+) -> Result<(), Fail> {
     let mut programs = Vec::new(alloc);
     for (row, (planned, wanted)) in rows.iter().enumerate() {
-        let seen = step_seen(alloc, &mut core, &mut programs, *planned)?;
+        let seen = step_seen(alloc, core, &mut programs, *planned)?;
         assert!(rt; seen == *wanted, "row {row}");
     }
     Ok(())
