@@ -5,7 +5,7 @@ use Rattle.std.proofs.lemmas.List.{length-take, length-drop}
 use Rattle.byteorder.specs.Endian.{big_from, big_number}
 use Rattle.upc_cell.specs.Header.{header_number}
 use Rattle.upc_cell.specs.declared.side.Side.{Side}
-use Rattle.upc_cell.specs.declared.side.Side.TheVariants.{Uni, Nni}
+use Rattle.upc_cell.specs.declared.side.Side.TheVariants.{Uni, Nni, UniPaths, NniPaths}
 use Rattle.cell_rules.specs.Fields.{IsCell}
 use Rattle.cell_rules.specs.declared.field.Field.{Field}
 use Rattle.cell_rules.specs.declared.field.Field.TheVariants.{Vpi}
@@ -159,6 +159,19 @@ path_uni = record { size = refl; at = refl; most = refl; unit = refl; fits = ome
 
 pub path_nni : IsInHeader Nni Vpi 20 12
 path_nni = record {
+  size = refl;
+  at = refl;
+  most = refl;
+  unit = refl;
+  fits = omega arith;
+  number = λ cell is. let h = header_below cell is in omega arith;
+}
+
+pub path_uni_paths : IsInHeader UniPaths Vpi 20 8
+path_uni_paths = record { size = refl; at = refl; most = refl; unit = refl; fits = omega arith; number = λ cell is. refl }
+
+pub path_nni_paths : IsInHeader NniPaths Vpi 20 12
+path_nni_paths = record {
   size = refl;
   at = refl;
   most = refl;

@@ -38,6 +38,8 @@ fn bits_of_path(side: Side) -> Bits
     match side {
         Side::Uni => Bits { bit: 4, width: 8 },
         Side::Nni => Bits { bit: 0, width: 12 },
+        Side::UniPaths => Bits { bit: 4, width: 8 },
+        Side::NniPaths => Bits { bit: 0, width: 12 },
     }
 }
 

@@ -10,7 +10,7 @@ use Rattle.bpf_code.specs.declared.instr.Size.{Size}
 use Rattle.bpf_code.specs.declared.instr.Size.TheVariants.{Word, Half, Octet}
 use Rattle.upc_cell.specs.Header.{header_number}
 use Rattle.upc_cell.specs.declared.side.Side.{Side}
-use Rattle.upc_cell.specs.declared.side.Side.TheVariants.{Uni, Nni}
+use Rattle.upc_cell.specs.declared.side.Side.TheVariants.{Uni, Nni, UniPaths, NniPaths}
 use Rattle.cell_rules.specs.Fields.{IsCell, number_in}
 use Rattle.cell_rules.specs.declared.field.Field.{Field}
 use Rattle.cell_rules.specs.declared.field.Field.TheVariants.{Gfc, Vpi, Vci, Pti, Clp}
@@ -98,6 +98,18 @@ gfc_in side = record {
 pub vpi_in : (side : Side) → (w : ℕ) × IsInHeader side Vpi 20 w
 vpi_in Uni = (8, record { size = refl; at = refl; most = refl; unit = refl; fits = omega arith; number = λ cell is. refl })
 vpi_in Nni = (
+  12,
+  record {
+    size = refl;
+    at = refl;
+    most = refl;
+    unit = refl;
+    fits = omega arith;
+    number = λ cell is. let h = header_fits cell is in omega arith;
+  },
+)
+vpi_in UniPaths = (8, record { size = refl; at = refl; most = refl; unit = refl; fits = omega arith; number = λ cell is. refl })
+vpi_in NniPaths = (
   12,
   record {
     size = refl;

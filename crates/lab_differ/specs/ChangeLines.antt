@@ -10,7 +10,7 @@ use Rattle.rules_text.specs.declared.place.RulePlace.{RulePlace}
 use Rattle.upc_cell.specs.Header.{gfc_of, vci_of, pti_of, clp_of}
 use Rattle.upc_cell.specs.Side.{vpi_at}
 use Rattle.upc_cell.specs.declared.side.Side.{Side}
-use Rattle.upc_cell.specs.declared.side.Side.TheVariants.{Uni, Nni}
+use Rattle.upc_cell.specs.declared.side.Side.TheVariants.{Uni, Nni, UniPaths, NniPaths}
 use Rattle.upc_words.specs.FaultLines.{line}
 use Rattle.lab_differ.specs.Sides.{SideRead, side_program, side_rules}
 
@@ -22,6 +22,8 @@ field_text name number = name ++ decimal number
 abbrev pub path_text : Side → List ℕ → List ℕ
 path_text Uni cell = field_text (codes "gfc ") (gfc_of cell) ++ field_text (codes " vpi ") (vpi_at Uni cell)
 path_text Nni cell = field_text (codes "vpi ") (vpi_at Nni cell)
+path_text UniPaths cell = field_text (codes "gfc ") (gfc_of cell) ++ field_text (codes " vpi ") (vpi_at UniPaths cell)
+path_text NniPaths cell = field_text (codes "vpi ") (vpi_at NniPaths cell)
 
 -- The fields of the header of a cell, as rules name them.
 abbrev pub fields_text : Side → List ℕ → List ℕ

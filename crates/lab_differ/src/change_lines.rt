@@ -74,6 +74,11 @@ fn add_path(answers: &mut Vec<u8>, side: Side, cell: &Cell) -> Result<(), AllocE
             add_field(answers, b" vpi ", u64::from(cell.vpi_at(Side::Uni)))
         }
         Side::Nni => add_field(answers, b"vpi ", u64::from(cell.vpi_at(Side::Nni))),
+        Side::UniPaths => {
+            add_field(answers, b"gfc ", u64::from(cell.gfc()))?;
+            add_field(answers, b" vpi ", u64::from(cell.vpi_at(Side::UniPaths)))
+        }
+        Side::NniPaths => add_field(answers, b"vpi ", u64::from(cell.vpi_at(Side::NniPaths))),
     }
 }
 

@@ -16,8 +16,8 @@ use Rattle.lab_faults.specs.Explained.{ExplainsCode, ExplainsSource, ExplainsWit
 use Rattle.lab_faults.specs.FaultSentences.{IsFaultsText, PrintsFaults, most_fault_octets}
 use Rattle.lab_faults.specs.InputKinds.{faults_after, rules_after, source_after}
 use Rattle.lab_faults.specs.inner.FaultsTotal.{faults-answered}
-use Rattle.lab_rule_faults.proofs.Public.{ended-rules_explained}
-use Rattle.lab_rule_faults.specs.RulesExplained.{MayBeRulesExplained}
+use Rattle.lab_faults.proofs.RulesAnswered.{ended-rules_explained}
+use Rattle.lab_faults.specs.RulesExplained.{MayBeRulesExplained}
 use Rattle.lab_faults.specs.Hints.{hints_of}
 use Rattle.lab_faults.specs.LinesFound.{instruction_lines}
 use Rattle.lab_faults.specs.SourceReasons.{source_explanation}
@@ -137,15 +137,15 @@ some-explain_text octets = some-input_answer octets (source_after octets)
 gathered-none : (octets : List ℕ) → length octets ≡ most_source_octets + 1 → gathered most_source_octets octets ≡ None
 gathered-none octets sized = ap (λ n. if nat_lt most_source_octets n then None else Some octets) sized
 
--- The octets read are enough for the answer.
-pub enough : (octets left : List ℕ) (found : Option (List ℕ)) (text : List ℕ) (done : Done) → found ≡ gathered most_source_octets octets
-    → LeavesAfter most_source_octets found octets left → ExplainsWithin found text done
-    → TakesEnough (λ needed. (answered : List ℕ) × IsSourceText needed answered done) most_ahead octets left
-enough octets left None text done is later prints =
-    let P : Option (List ℕ) → Type 0 = λ found. ExplainsWithin found text done in
+-- The octets read are enough for the answer, whatever is printed for an input within the limit.
+pub enough : (Prints : List ℕ → List ℕ → Done → Type 0) (octets left : List ℕ) (found : Option (List ℕ)) (text : List ℕ) (done : Done)
+    → found ≡ gathered most_source_octets octets → LeavesAfter most_source_octets found octets left → AnswersGathered too_long Prints found text done
+    → TakesEnough (λ needed. (answered : List ℕ) × AnswersGathered too_long Prints (gathered most_source_octets needed) answered done) most_ahead octets left
+enough Prints octets left None text done is later prints =
+    let P : Option (List ℕ) → Type 0 = λ found. AnswersGathered too_long Prints found text done in
     let none : length {A = ℕ} [] ≤ most_ahead = omega arith in
     (later.0, [], later.1, none, (text, subst P (sym (gathered-none later.0 later.2)) prints))
-enough octets left (Some source) text done is later prints =
-    let P : Option (List ℕ) → Type 0 = λ found. ExplainsWithin found text done in
+enough Prints octets left (Some source) text done is later prints =
+    let P : Option (List ℕ) → Type 0 = λ found. AnswersGathered too_long Prints found text done in
     let none : length {A = ℕ} [] ≤ most_ahead = omega arith in
     (octets, [], sym (append-nil octets) ∙ ap (λ xs. octets ++ xs) (sym later), none, (text, subst P is prints))

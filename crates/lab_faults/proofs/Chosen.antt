@@ -21,8 +21,8 @@ use Rattle.lab_faults.specs.Explained.{IsExplainText, IsExplainedBy, IsFaultsOrS
 use Rattle.lab_faults.specs.FaultSentences.{IsFaultsText}
 use Rattle.lab_faults.specs.InputKinds.{PassesFirst, after_first, after_word, is_alone, is_word_line, faults_after, rules_after, source_after}
 use Rattle.lab_faults.specs.declared.ahead.InputKind.TheVariants.{Script}
-use Rattle.lab_rule_faults.proofs.Public.{ended-rules_explained}
-use Rattle.lab_rule_faults.specs.RulesExplained.{MayBeRulesExplained}
+use Rattle.lab_faults.proofs.RulesAnswered.{ended-rules_explained}
+use Rattle.lab_faults.specs.RulesExplained.{MayBeRulesExplained}
 use Rattle.lab_faults.proofs.Answered.{empty-source_answer, no-faults_answer}
 use Rattle.lab_faults.proofs.WordFront.{WordFront, last_line, word_front}
 use Rattle.lab_scripts.specs.ScriptText.{ExplainsLine, IsScriptExplained, ScriptWorld, after_answer, before_script, script_rules}

@@ -14,7 +14,7 @@ use Rattle.lab_faults.specs.CodeReasons.{IsCodeExplanation}
 use Rattle.lab_faults.specs.Hints.{hints_of}
 use Rattle.lab_faults.specs.FaultSentences.{IsFaultsText}
 use Rattle.lab_faults.specs.InputKinds.{faults_after, rules_after, source_after}
-use Rattle.lab_rule_faults.specs.RulesExplained.{IsRulesExplained, MayBeRulesExplained}
+use Rattle.lab_faults.specs.RulesExplained.{IsRulesExplained, MayBeRulesExplained}
 use Rattle.lab_faults.specs.SourceReasons.{source_explanation}
 use Rattle.lab_scripts.specs.ScriptText.{IsScriptExplained}
 use Rattle.text_io.specs.Gathered.{gathered}

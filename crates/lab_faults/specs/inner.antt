@@ -2,3 +2,5 @@
 pub mod FaultsTotal
 pub mod FirstLines
 pub mod Leading
+pub mod CommentsFound
+pub mod SomeAnswer

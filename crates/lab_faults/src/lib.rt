@@ -8,16 +8,35 @@ mod code_faults;
 mod explaining;
 mod fault_sentences;
 mod forms;
+mod hint_comments;
+mod hinted_rules;
 mod hints;
 pub mod laws;
 mod lines_found;
+mod meant_words;
+mod near_names;
+mod parts;
 mod path;
+mod reasons;
+mod rule_faults;
+mod rule_hints;
+mod rule_lines;
+#[cfg(test)]
+mod rule_tests;
+mod rules_explained;
 mod source_faults;
+mod spots;
 #[cfg(test)]
 mod tests;
 mod tokens;
+mod words_found;
 
 pub use ahead::{Ahead, InputKind, LookedAt};
 pub use explaining::explain_faults;
 pub use forms::{Form, Shape, Slot};
+pub use hint_comments::{Comments, add_hints_about};
+pub use hinted_rules::compile_with_hints;
+pub use parts::{Part, Subject};
+pub use spots::{Place, Spot};
 pub use tokens::FoundToken;
+pub use words_found::RuleWord;

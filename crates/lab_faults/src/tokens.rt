@@ -18,11 +18,11 @@ pub struct FoundToken {
     pub size: usize,
 }
 
-/// Returns whether an octet belongs to words.
-fn word_octet(octet: u8) -> bool
+/// Returns whether an octet belongs to words: an ASCII letter, a digit or `_`.
+pub(crate) fn word_octet(octet: u8) -> bool
     ensures { result ≡ is_word octet }
 {
-    (b'0' <= octet && octet <= b'9')
+    digit(octet)
         || (b'A' <= octet && octet <= b'Z')
         || (b'a' <= octet && octet <= b'z')
         || octet == b'_'
@@ -134,7 +134,7 @@ pub(crate) fn tokens_of(alloc: Global, text: &[u8]) -> Result<Vec<FoundToken>, A
 }
 
 /// Returns the first octets of a text, at most this many.
-fn front(text: &[u8], size: usize) -> &[u8]
+pub(crate) fn front(text: &[u8], size: usize) -> &[u8]
     ensures { result.now ≡ take size text.now }
 {
     if size < text.len() {

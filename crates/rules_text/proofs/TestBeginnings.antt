@@ -3,7 +3,7 @@ use Rattle.std.proofs.Common.{◌≡◌, ◌+◌, nat_le, nat_lt, ℕ, zero, suc
 use Rattle.bpf_code.specs.declared.instr.Size.{Size}
 use Rattle.match_code.specs.declared.part.Span.{Span}
 use Rattle.upc_cell.specs.declared.side.Side.{Side}
-use Rattle.upc_cell.specs.declared.side.Side.TheVariants.{Uni, Nni}
+use Rattle.upc_cell.specs.declared.side.Side.TheVariants.{Uni, Nni, UniPaths, NniPaths}
 use Rattle.rules_text.specs.Laws.{IsHeadWritten, IsRuleWritten}
 use Rattle.rules_text.specs.LineGrammar.{Awaited, GroupRead, LineContext, LineStep, ListRead, Reading, StatementRead, awaits_start, awaits_unit, awaits_operator, awaits_offset, awaits_relation, awaits_mask, awaits_sign, awaits_constant, awaits_dots, awaits_high, awaits_comma, awaits_low, awaits_slash, awaits_channel, awaits_arrow, awaits_value, awaits_rest, awaits_side, awaits_end, both_of, found_then, group_after_not, group_with, line_statement, negated_if, no_group, nothing_read, read_unit, subject_of, with_open, with_unit}
 use Rattle.rules_text.specs.RuleGrammar.{HeadForm, OrderForm, PartForm, RangeForm, TestForm, UnitForm, word_unit, not_unit, one_unit, and_unit, one_part, or_part, field_tokens, head_tokens, high_tokens, list_of_head, order_sign, part_written, span_from, subject_tokens, test_tokens, test_written, unit_tokens, unit_written, units_tokens}
@@ -192,6 +192,18 @@ header_ok Nni clp_field field e = let is : clp_field ≡ field = cc in subst (λ
 header_ok Uni clp_field field e = let is : clp_field ≡ field = cc in subst (λ f. field_word clp_field ∷ [] ≡ field_tokens f) is refl
 header_ok Nni (octets_field size at) field e = absurd (cc)
 header_ok Uni (octets_field size at) field e = absurd (cc)
+header_ok NniPaths gfc_field field e = absurd (cc)
+header_ok UniPaths gfc_field field e = let is : gfc_field ≡ field = cc in subst (λ f. field_word gfc_field ∷ [] ≡ field_tokens f) is refl
+header_ok NniPaths vpi_field field e = let is : vpi_field ≡ field = cc in subst (λ f. field_word vpi_field ∷ [] ≡ field_tokens f) is refl
+header_ok UniPaths vpi_field field e = let is : vpi_field ≡ field = cc in subst (λ f. field_word vpi_field ∷ [] ≡ field_tokens f) is refl
+header_ok NniPaths vci_field field e = let is : vci_field ≡ field = cc in subst (λ f. field_word vci_field ∷ [] ≡ field_tokens f) is refl
+header_ok UniPaths vci_field field e = let is : vci_field ≡ field = cc in subst (λ f. field_word vci_field ∷ [] ≡ field_tokens f) is refl
+header_ok NniPaths pti_field field e = let is : pti_field ≡ field = cc in subst (λ f. field_word pti_field ∷ [] ≡ field_tokens f) is refl
+header_ok UniPaths pti_field field e = let is : pti_field ≡ field = cc in subst (λ f. field_word pti_field ∷ [] ≡ field_tokens f) is refl
+header_ok NniPaths clp_field field e = let is : clp_field ≡ field = cc in subst (λ f. field_word clp_field ∷ [] ≡ field_tokens f) is refl
+header_ok UniPaths clp_field field e = let is : clp_field ≡ field = cc in subst (λ f. field_word clp_field ∷ [] ≡ field_tokens f) is refl
+header_ok NniPaths (octets_field size at) field e = absurd (cc)
+header_ok UniPaths (octets_field size at) field e = absurd (cc)
 
 pub octets_ok : (size : Size) (token : RuleToken) (field : FieldRead) → octets_at_token size token ≡ Ok field → (at : ℕ) × (token ≡ number_word at) × (octets_field size at ≡ field)
 octets_ok size (number_word at) field e =

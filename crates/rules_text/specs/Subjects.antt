@@ -4,7 +4,7 @@ use Rattle.bpf_code.specs.declared.instr.Size.{Size}
 use Rattle.bpf_code.specs.declared.instr.Size.TheVariants.{Octet, Half, Word}
 use Rattle.upc_cell.specs.Side.{last_vpi}
 use Rattle.upc_cell.specs.declared.side.Side.{Side}
-use Rattle.upc_cell.specs.declared.side.Side.TheVariants.{Nni}
+use Rattle.upc_cell.specs.declared.side.Side.TheVariants.{Nni, NniPaths}
 use Rattle.rules_text.specs.RulesRead.{FieldRead, gfc_field, vpi_field, vci_field, pti_field, clp_field, octets_field}
 use Rattle.rules_text.specs.RuleTokens.{RuleToken, number_word, bad_number, refuse_word, contract_value}
 use Rattle.rules_text.specs.declared.fault.RuleKind.{RuleKind}
@@ -13,6 +13,7 @@ use Rattle.rules_text.specs.declared.fault.RuleKind.TheVariants.{BadLine, BadNum
 -- The header field of a name. Between nodes of the network there is no GFC, and octets are no field of the header.
 abbrev pub header_read : Side → FieldRead → Result FieldRead RuleKind
 header_read Nni gfc_field = Err BadLine
+header_read NniPaths gfc_field = Err BadLine
 header_read side (octets_field size at) = Err BadLine
 header_read side field = Ok field
 

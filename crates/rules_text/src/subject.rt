@@ -26,7 +26,9 @@ pub(crate) fn header_field(side: Side, name: Field) -> Result<Field, RuleKind>
     ensures { field_found result ≡ header_read side (field_read name) }
 {
     match (side, name) {
-        (Side::Nni, Field::Gfc) | (_, Field::Octets(_)) => Err(RuleKind::BadLine),
+        (Side::Nni, Field::Gfc) | (Side::NniPaths, Field::Gfc) | (_, Field::Octets(_)) => Err(
+            RuleKind::BadLine,
+        ),
         _ => Ok(name),
     }
 }

@@ -5,7 +5,7 @@ use Rattle.lab_faults.specs.Explained.{IsExplainText, IsSourceText, IsWholeExpla
 use Rattle.lab_faults.specs.FaultSentences.{IsFaultsText}
 use Rattle.lab_faults.specs.InputKinds.{PassesFirst}
 use Rattle.lab_faults.specs.declared.ahead.InputKind.{InputKind}
-use Rattle.lab_rule_faults.specs.RulesExplained.{IsRulesExplained, MayBeRulesExplained}
+use Rattle.lab_faults.specs.RulesExplained.{IsRulesExplained, MayBeRulesExplained}
 use Rattle.lab_faults.proofs.Answered.{some-explain_text}
 use Rattle.lab_faults.proofs.Chosen.{adds_after, faults_follow, rules_follow, script_printed, served_after, served_script, source_follows}
 use Rattle.lab_faults.proofs.explaining.explain_faults.Goals as goal

@@ -5,7 +5,7 @@ use Rattle.text_io.specs.Devices.{TakesEnough}
 use Rattle.text_io.specs.Limits.{most_ahead}
 use Rattle.text_io.specs.declared.ending.Done.{Done}
 use Rattle.text_io.proofs.Public.{nothing-begins}
-use Rattle.lab_faults.specs.Explained.{IsSourceText}
+use Rattle.lab_faults.specs.Explained.{ExplainsSource, IsSourceText}
 use Rattle.lab_faults.proofs.Answered.{enough, some-source_text}
 use Rattle.lab_faults.proofs.explaining.explain_gathered.Goals as goal
 
@@ -43,7 +43,7 @@ returns g c =
       front = search rules;
       left = λ known.
           let taken : TakesEnough (λ needed. (text : List ℕ) × IsSourceText needed text c.in-Ok-answer_gathered.done) most_ahead octets left =
-          enough octets left (option_map (λ octets. octets.items) c.in-Ok.found) answered.0 c.in-Ok-answer_gathered.done
+          enough ExplainsSource octets left (option_map (λ octets. octets.items) c.in-Ok.found) answered.0 c.in-Ok-answer_gathered.done
           (c.in-Ok.ensures.whole known) (c.in-Ok.ensures.left known) answered.2 in
           let P : Done → Type 0 = λ done. TakesEnough (λ needed. (text : List ℕ) × IsSourceText needed text done) most_ahead octets left in
           IfOk-weaker c.give_last.result _ _ (λ done same. subst P (sym same) taken) c.give_last.ensures.done;
