@@ -1,113 +1,113 @@
--- The state of a connection among others, before and after a change.
+-- The state of a flow among others, before and after a change.
 use Rattle.std.proofs.Common.{◌≡◌, ◌≢◌, ℕ, zero, suc, ◌^◌, ◌<◌, ◌≤◌, nat_lt, Bool, true, false, cond, List, [], ◌∷◌, ◌++◌, set, Option, Some, None, refl, sym, ap, ◌∙◌, subst, arith}
 use Rattle.std.specs.Prelude.{slice_get}
 use Rattle.std.proofs.lemmas.Bool.{and_from, and_left, and_right, le-ltb, lt-ltb}
 use Rattle.std.proofs.lemmas.Option.{same_Some}
-use Rattle.upc_cell.specs.Connection.{is_same_vc}
-use Rattle.upc_cell.specs.declared.vc.Vc.{Vc}
-use Rattle.upc_cell.proofs.Public.{vc_same, vc_itself, vc_differs}
 use Rattle.lab_fit.specs.Fits.{fit_in, is_in_64_bits, with_fit}
+use Rattle.lab_fit.specs.Flows.{is_same_flow}
 use Rattle.lab_fit.specs.declared.connection_fit.ConnectionFit.{ConnectionFit}
+use Rattle.lab_fit.specs.declared.flow.Flow.{Flow}
+use Rattle.lab_fit.proofs.FlowLemmas.{flow_differs, flow_itself, flow_same}
 
--- A connection without a state at any place has none.
-pub fit-none : (fits : List ConnectionFit) (vc : Vc)
-    → ((place : ℕ) (fit : ConnectionFit) → slice_get fits place ≡ Some fit → fit.vc ≢ vc)
-    → fit_in vc fits ≡ None
-fit-none [] vc none = refl
-fit-none (first ∷ fits) vc none =
-    let away : vc ≢ first.vc = λ e. none 0 first refl (sym e) in
-    ap (λ b. cond b (Some first) (fit_in vc fits)) (vc_differs vc first.vc away)
-    ∙ fit-none fits vc (λ place fit at. none (suc place) fit at)
+-- A flow without a state at any place has none.
+pub fit-none : (fits : List ConnectionFit) (flow : Flow)
+    → ((place : ℕ) (fit : ConnectionFit) → slice_get fits place ≡ Some fit → fit.flow ≢ flow)
+    → fit_in flow fits ≡ None
+fit-none [] flow none = refl
+fit-none (first ∷ fits) flow none =
+    let away : flow ≢ first.flow = λ e. none 0 first refl (sym e) in
+    ap (λ b. cond b (Some first) (fit_in flow fits)) (flow_differs flow first.flow away)
+    ∙ fit-none fits flow (λ place fit at. none (suc place) fit at)
 
--- A connection with one state has the one there.
-pub fit-some : (fits : List ConnectionFit) (vc : Vc) (place : ℕ) (fit : ConnectionFit)
-    → slice_get fits place ≡ Some fit → fit.vc ≡ vc
-    → ((other : ℕ) (another : ConnectionFit) → slice_get fits other ≡ Some another → another.vc ≡ vc → other ≡ place)
-    → fit_in vc fits ≡ Some fit
-fit-some [] vc place fit at own once = cc
-fit-some (first ∷ fits) vc zero fit at own once =
+-- A flow with one state has the one there.
+pub fit-some : (fits : List ConnectionFit) (flow : Flow) (place : ℕ) (fit : ConnectionFit)
+    → slice_get fits place ≡ Some fit → fit.flow ≡ flow
+    → ((other : ℕ) (another : ConnectionFit) → slice_get fits other ≡ Some another → another.flow ≡ flow → other ≡ place)
+    → fit_in flow fits ≡ Some fit
+fit-some [] flow place fit at own once = cc
+fit-some (first ∷ fits) flow zero fit at own once =
     let same : first ≡ fit = same_Some first fit at in
-    let named : first.vc ≡ vc = ap (λ (f : ConnectionFit). f.vc) same ∙ own in
-    let test : is_same_vc vc first.vc ≡ true = subst (λ v. is_same_vc vc v ≡ true) (sym named) (vc_itself vc) in
-    ap (λ b. cond b (Some first) (fit_in vc fits)) test ∙ at
-fit-some (first ∷ fits) vc (suc place) fit at own once =
-    let away : vc ≢ first.vc = λ e. let early : 0 ≡ suc place = once 0 first refl (sym e) in omega (arith, early) in
-    ap (λ b. cond b (Some first) (fit_in vc fits)) (vc_differs vc first.vc away)
-    ∙ fit-some fits vc place fit at own (λ other another there mine. omega (arith, once (suc other) another there mine))
+    let named : first.flow ≡ flow = ap (λ (f : ConnectionFit). f.flow) same ∙ own in
+    let test : is_same_flow flow first.flow ≡ true = subst (λ v. is_same_flow flow v ≡ true) (sym named) (flow_itself flow) in
+    ap (λ b. cond b (Some first) (fit_in flow fits)) test ∙ at
+fit-some (first ∷ fits) flow (suc place) fit at own once =
+    let away : flow ≢ first.flow = λ e. let early : 0 ≡ suc place = once 0 first refl (sym e) in omega (arith, early) in
+    ap (λ b. cond b (Some first) (fit_in flow fits)) (flow_differs flow first.flow away)
+    ∙ fit-some fits flow place fit at own (λ other another there mine. omega (arith, once (suc other) another there mine))
 
--- A new state for a connection that has one state is written there.
+-- A new state for a flow that has one state is written there.
 pub with_fit-at : (fits : List ConnectionFit) (fit : ConnectionFit) (place : ℕ) (old : ConnectionFit)
-    → slice_get fits place ≡ Some old → old.vc ≡ fit.vc
-    → ((other : ℕ) (another : ConnectionFit) → slice_get fits other ≡ Some another → another.vc ≡ fit.vc → other ≡ place)
+    → slice_get fits place ≡ Some old → old.flow ≡ fit.flow
+    → ((other : ℕ) (another : ConnectionFit) → slice_get fits other ≡ Some another → another.flow ≡ fit.flow → other ≡ place)
     → with_fit fit fits ≡ set fits place fit
 with_fit-at [] fit place old at own once = cc
 with_fit-at (first ∷ fits) fit zero old at own once =
     let same : first ≡ old = same_Some first old at in
-    let named : first.vc ≡ fit.vc = ap (λ (f : ConnectionFit). f.vc) same ∙ own in
-    let test : is_same_vc fit.vc first.vc ≡ true = subst (λ v. is_same_vc fit.vc v ≡ true) (sym named) (vc_itself fit.vc) in
+    let named : first.flow ≡ fit.flow = ap (λ (f : ConnectionFit). f.flow) same ∙ own in
+    let test : is_same_flow fit.flow first.flow ≡ true = subst (λ v. is_same_flow fit.flow v ≡ true) (sym named) (flow_itself fit.flow) in
     ap (λ b. cond b (fit ∷ fits) (first ∷ with_fit fit fits)) test
 with_fit-at (first ∷ fits) fit (suc place) old at own once =
-    let away : fit.vc ≢ first.vc = λ e. let early : 0 ≡ suc place = once 0 first refl (sym e) in omega (arith, early) in
-    ap (λ b. cond b (fit ∷ fits) (first ∷ with_fit fit fits)) (vc_differs fit.vc first.vc away)
+    let away : fit.flow ≢ first.flow = λ e. let early : 0 ≡ suc place = once 0 first refl (sym e) in omega (arith, early) in
+    ap (λ b. cond b (fit ∷ fits) (first ∷ with_fit fit fits)) (flow_differs fit.flow first.flow away)
     ∙ ap (λ (fs : List ConnectionFit). first ∷ fs)
     (with_fit-at fits fit place old at own (λ other another there mine. omega (arith, once (suc other) another there mine)))
 
--- That of a connection without one goes to the end.
-pub with_fit-new : (fits : List ConnectionFit) (fit : ConnectionFit) → fit_in fit.vc fits ≡ None → with_fit fit fits ≡ fits ++ fit ∷ []
+-- That of a flow without one goes to the end.
+pub with_fit-new : (fits : List ConnectionFit) (fit : ConnectionFit) → fit_in fit.flow fits ≡ None → with_fit fit fits ≡ fits ++ fit ∷ []
 with_fit-new [] fit none = refl
 with_fit-new (first ∷ fits) fit none =
-    let choice : (b : Bool) → is_same_vc fit.vc first.vc ≡ b → with_fit fit (first ∷ fits) ≡ (first ∷ fits) ++ fit ∷ [] = elim [
+    let choice : (b : Bool) → is_same_flow fit.flow first.flow ≡ b → with_fit fit (first ∷ fits) ≡ (first ∷ fits) ++ fit ∷ [] = elim [
       | true ↦ λ e. absurd (
-          let no : Some first ≡ None = ap (λ b. cond b (Some first) (fit_in fit.vc fits)) (sym e) ∙ none in cc)
+          let no : Some first ≡ None = ap (λ b. cond b (Some first) (fit_in fit.flow fits)) (sym e) ∙ none in cc)
       | false ↦ λ e.
           ap (λ b. cond b (fit ∷ fits) (first ∷ with_fit fit fits)) e
           ∙ ap (λ (fs : List ConnectionFit). first ∷ fs)
-          (with_fit-new fits fit (ap (λ b. cond b (Some first) (fit_in fit.vc fits)) (sym e) ∙ none))
+          (with_fit-new fits fit (ap (λ b. cond b (Some first) (fit_in fit.flow fits)) (sym e) ∙ none))
     ] in
-    choice (is_same_vc fit.vc first.vc) refl
+    choice (is_same_flow fit.flow first.flow) refl
 
--- Afterwards the connection has its new state.
-pub fit_in-with : (fits : List ConnectionFit) (fit : ConnectionFit) → fit_in fit.vc (with_fit fit fits) ≡ Some fit
-fit_in-with [] fit = ap (λ b. cond b (Some fit) None) (vc_itself fit.vc)
+-- Afterwards the flow has its new state.
+pub fit_in-with : (fits : List ConnectionFit) (fit : ConnectionFit) → fit_in fit.flow (with_fit fit fits) ≡ Some fit
+fit_in-with [] fit = ap (λ b. cond b (Some fit) None) (flow_itself fit.flow)
 fit_in-with (first ∷ fits) fit =
-    let choice : (b : Bool) → is_same_vc fit.vc first.vc ≡ b → fit_in fit.vc (with_fit fit (first ∷ fits)) ≡ Some fit = elim [
+    let choice : (b : Bool) → is_same_flow fit.flow first.flow ≡ b → fit_in fit.flow (with_fit fit (first ∷ fits)) ≡ Some fit = elim [
       | true ↦ λ e.
-          ap (λ b. fit_in fit.vc (cond b (fit ∷ fits) (first ∷ with_fit fit fits))) e
-          ∙ ap (λ b. cond b (Some fit) (fit_in fit.vc fits)) (vc_itself fit.vc)
+          ap (λ b. fit_in fit.flow (cond b (fit ∷ fits) (first ∷ with_fit fit fits))) e
+          ∙ ap (λ b. cond b (Some fit) (fit_in fit.flow fits)) (flow_itself fit.flow)
       | false ↦ λ e.
-          ap (λ b. fit_in fit.vc (cond b (fit ∷ fits) (first ∷ with_fit fit fits))) e
-          ∙ ap (λ b. cond b (Some first) (fit_in fit.vc (with_fit fit fits))) e
+          ap (λ b. fit_in fit.flow (cond b (fit ∷ fits) (first ∷ with_fit fit fits))) e
+          ∙ ap (λ b. cond b (Some first) (fit_in fit.flow (with_fit fit fits))) e
           ∙ fit_in-with fits fit
     ] in
-    choice (is_same_vc fit.vc first.vc) refl
+    choice (is_same_flow fit.flow first.flow) refl
 
 -- The others have theirs.
-pub fit_in-others : (fits : List ConnectionFit) (fit : ConnectionFit) (vc : Vc) → vc ≢ fit.vc → fit_in vc (with_fit fit fits) ≡ fit_in vc fits
-fit_in-others [] fit vc away = ap (λ b. cond b (Some fit) None) (vc_differs vc fit.vc away)
-fit_in-others (first ∷ fits) fit vc away =
-    let choice : (b : Bool) → is_same_vc fit.vc first.vc ≡ b → fit_in vc (with_fit fit (first ∷ fits)) ≡ fit_in vc (first ∷ fits) = elim [
+pub fit_in-others : (fits : List ConnectionFit) (fit : ConnectionFit) (flow : Flow) → flow ≢ fit.flow → fit_in flow (with_fit fit fits) ≡ fit_in flow fits
+fit_in-others [] fit flow away = ap (λ b. cond b (Some fit) None) (flow_differs flow fit.flow away)
+fit_in-others (first ∷ fits) fit flow away =
+    let choice : (b : Bool) → is_same_flow fit.flow first.flow ≡ b → fit_in flow (with_fit fit (first ∷ fits)) ≡ fit_in flow (first ∷ fits) = elim [
       | true ↦ λ e.
-          let same : fit.vc ≡ first.vc = vc_same fit.vc first.vc e in
-          ap (λ b. fit_in vc (cond b (fit ∷ fits) (first ∷ with_fit fit fits))) e
-          ∙ ap (λ b. cond b (Some fit) (fit_in vc fits)) (vc_differs vc fit.vc away)
-          ∙ sym (ap (λ b. cond b (Some first) (fit_in vc fits)) (vc_differs vc first.vc (λ own. away (own ∙ sym same))))
+          let same : fit.flow ≡ first.flow = flow_same fit.flow first.flow e in
+          ap (λ b. fit_in flow (cond b (fit ∷ fits) (first ∷ with_fit fit fits))) e
+          ∙ ap (λ b. cond b (Some fit) (fit_in flow fits)) (flow_differs flow fit.flow away)
+          ∙ sym (ap (λ b. cond b (Some first) (fit_in flow fits)) (flow_differs flow first.flow (λ own. away (own ∙ sym same))))
       | false ↦ λ e.
-          ap (λ b. fit_in vc (cond b (fit ∷ fits) (first ∷ with_fit fit fits))) e
-          ∙ ap (λ (found : Option ConnectionFit). cond (is_same_vc vc first.vc) (Some first) found) (fit_in-others fits fit vc away)
+          ap (λ b. fit_in flow (cond b (fit ∷ fits) (first ∷ with_fit fit fits))) e
+          ∙ ap (λ (found : Option ConnectionFit). cond (is_same_flow flow first.flow) (Some first) found) (fit_in-others fits fit flow away)
     ] in
-    choice (is_same_vc fit.vc first.vc) refl
+    choice (is_same_flow fit.flow first.flow) refl
 
--- The state of a connection is its own.
-pub fit_in-own : (fits : List ConnectionFit) (vc : Vc) (fit : ConnectionFit) → fit_in vc fits ≡ Some fit → fit.vc ≡ vc
-fit_in-own [] vc fit at = cc
-fit_in-own (first ∷ fits) vc fit at =
-    let choice : (b : Bool) → is_same_vc vc first.vc ≡ b → fit.vc ≡ vc = elim [
+-- The state of a flow is its own.
+pub fit_in-own : (fits : List ConnectionFit) (flow : Flow) (fit : ConnectionFit) → fit_in flow fits ≡ Some fit → fit.flow ≡ flow
+fit_in-own [] flow fit at = cc
+fit_in-own (first ∷ fits) flow fit at =
+    let choice : (b : Bool) → is_same_flow flow first.flow ≡ b → fit.flow ≡ flow = elim [
       | true ↦ λ e.
-          let there : Some first ≡ Some fit = ap (λ b. cond b (Some first) (fit_in vc fits)) (sym e) ∙ at in
-          ap (λ (f : ConnectionFit). f.vc) (sym (same_Some first fit there)) ∙ sym (vc_same vc first.vc e)
-      | false ↦ λ e. fit_in-own fits vc fit (ap (λ b. cond b (Some first) (fit_in vc fits)) (sym e) ∙ at)
+          let there : Some first ≡ Some fit = ap (λ b. cond b (Some first) (fit_in flow fits)) (sym e) ∙ at in
+          ap (λ (f : ConnectionFit). f.flow) (sym (same_Some first fit there)) ∙ sym (flow_same flow first.flow e)
+      | false ↦ λ e. fit_in-own fits flow fit (ap (λ b. cond b (Some first) (fit_in flow fits)) (sym e) ∙ at)
     ] in
-    choice (is_same_vc vc first.vc) refl
+    choice (is_same_flow flow first.flow) refl
 
 -- Whether 64 bits hold the numbers of a state.
 

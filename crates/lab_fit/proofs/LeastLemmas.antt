@@ -5,10 +5,10 @@ use Rattle.lab_captures.specs.declared.counted.CountedCell.{CountedCell}
 use Rattle.leaky.specs.Bucket.{level_at, opening}
 use Rattle.leaky.specs.Bursts.{AllFill}
 use Rattle.leaky.specs.declared.gcra.Gcra.{Gcra}
-use Rattle.upc_cell.specs.declared.vc.Vc.{Vc}
 use Rattle.lab_fit.specs.Fits.{bucket_of, fit_after, no_cells}
 use Rattle.lab_fit.specs.FitLaws.{IsFitOf, moments_counted}
 use Rattle.lab_fit.specs.declared.connection_fit.ConnectionFit.{ConnectionFit}
+use Rattle.lab_fit.specs.declared.flow.Flow.{Flow}
 
 -- The state after these cells, from this one on.
 abbrev pub through : ℕ → ConnectionFit → List CountedCell → ConnectionFit
@@ -101,11 +101,11 @@ through-named increment fit (cell ∷ cells) =
       })
     ]
 
--- The state after all cells of a connection is right for them.
-pub through-is : (increment : ℕ) (vc : Vc) (cell : CountedCell) (cells : List CountedCell)
-    → IsFitOf increment (cell ∷ cells) (through increment (no_cells vc cell.number) (cell ∷ cells))
-through-is increment vc cell cells =
-    let start = no_cells vc cell.number in
+-- The state after all cells of a flow is right for them.
+pub through-is : (increment : ℕ) (flow : Flow) (cell : CountedCell) (cells : List CountedCell)
+    → IsFitOf increment (cell ∷ cells) (through increment (no_cells flow cell.number) (cell ∷ cells))
+through-is increment flow cell cells =
+    let start = no_cells flow cell.number in
     let all = cell ∷ cells in
     let last = through increment start all in
     let more : last.cells ≡ start.cells + length all = through-cells increment start all in

@@ -1,11 +1,14 @@
 pub mod Places
+pub mod FlowLemmas
 pub mod FitLemmas
-pub mod TableLemmas
+pub mod PlaceLemmas
+pub mod ValueLemmas
 pub mod LeastLemmas
 pub mod LineLemmas
 pub mod MomentLemmas
 pub mod RunLemmas
 pub mod OrderLemmas
+pub mod AskedTexts
 pub mod LinkLineLemmas
 pub mod LinksOfOctets
 pub mod LinksProgress

@@ -16,9 +16,9 @@ use Rattle.lab_captures.specs.declared.counted.CountedCell.{CountedCell}
 use Rattle.lab_captures.specs.declared.filter.Filtered.{Filtered}
 use Rattle.lab_captures.specs.declared.filter.Filtered.TheVariants.{Counts, Passed, Several}
 use Rattle.leaky.specs.Moments.{GoesOn}
-use Rattle.upc_cell.specs.Connection.{is_same_vc, vc_of}
 use Rattle.lab_fit.specs.Fits.{is_of_class}
 use Rattle.lab_fit.specs.FitLaws.{MomentsGoOn, cells_of_class, moments_counted}
+use Rattle.lab_fit.specs.Flows.{flow_of, is_same_flow}
 
 div-grows : (a b d : ℕ) → 0 < d → a ≤ b → a / d ≤ b / d
 div-grows a b d some less =
@@ -134,7 +134,7 @@ GoesOn-filter test earliest (cell ∷ cells) goes =
     choice (test cell)
 
 pub moments-go-on : MomentsGoOn
-moments-go-on tick link side clp frames vc some =
+moments-go-on tick link scope frames flow some =
     let cells = counted_cells (filter_start tick link) frames in
-    GoesOn-filter (λ counted. is_same_vc vc (vc_of side counted.cell)) 0 (cells_of_class clp cells)
-    (GoesOn-filter (λ counted. is_of_class clp counted.cell) 0 cells (cells-go-on (filter_start tick link) frames 0 some refl))
+    GoesOn-filter (λ counted. is_same_flow flow (flow_of scope.side scope.rules counted.cell)) 0 (cells_of_class scope.clp cells)
+    (GoesOn-filter (λ counted. is_of_class scope.clp counted.cell) 0 cells (cells-go-on (filter_start tick link) frames 0 some refl))

@@ -8,29 +8,28 @@ use Rattle.lab_captures.specs.inner.FixedRules.{fixed_text, text_then}
 use Rattle.lab_captures.proofs.Public.{fixed_only}
 use Rattle.lab_captures.specs.declared.counted.CountedCell.{CountedCell}
 use Rattle.text_io.specs.declared.ending.Done.{Done}
-use Rattle.upc_cell.specs.Connection.{is_same_vc, vc_of}
-use Rattle.upc_cell.specs.declared.side.Side.{Side}
-use Rattle.upc_cell.specs.declared.vc.Vc.{Vc}
-use Rattle.upc_cell.proofs.Public.{vc_same, vc_itself}
 use Rattle.lab_fit.specs.Fits.{fit_after, fit_in, fits_after, fits_from, is_in_64_bits, is_of_class, most_connections, no_cells, with_fit, with_checked_fit}
-use Rattle.lab_fit.specs.FitText.{FitWorld, fit_answer, fit_closes, fit_rules, fit_start, fit_steps}
-use Rattle.lab_fit.specs.FitLaws.{ClassesAreAlone, FitsAreLeast, FitsAreWritten, IsFitOf, cells_of_class, cells_of_vc}
+use Rattle.lab_fit.specs.Flows.{flow_of, is_same_flow}
+use Rattle.lab_fit.specs.FitText.{FitScope, FitWorld, fit_answer, fit_closes, fit_rules, fit_start, fit_steps, fits_with_cell}
+use Rattle.lab_fit.specs.FitLaws.{ClassesAreAlone, FitsAreLeast, FitsAreWritten, IsFitOf, cells_fitted, cells_of_class, cells_of_flow, of_each_class}
 use Rattle.lab_fit.specs.declared.connection_fit.ConnectionFit.{ConnectionFit}
 use Rattle.lab_fit.specs.declared.fault.FitFault.{FitFault}
 use Rattle.lab_fit.specs.declared.fault.FitFault.TheVariants.{TooManyConnections, TooLarge}
+use Rattle.lab_fit.specs.declared.flow.Flow.{Flow}
 use Rattle.lab_fit.proofs.FitLemmas.{fit_in-others, fit_in-own, fit_in-with}
+use Rattle.lab_fit.proofs.FlowLemmas.{flow_itself, flow_same}
 use Rattle.lab_fit.proofs.LeastLemmas.{through, through-is}
 
--- The state of a connection after these cells of it, if it has one then.
-abbrev over : ℕ → Vc → Option ConnectionFit → List CountedCell → Option ConnectionFit
-over increment vc found [] = found
-over increment vc found (cell ∷ cells) =
-    over increment vc (Some (fit_after increment (unwrap_or found (no_cells vc cell.number)) cell.moment cell.number)) cells
+-- The state of a flow after these cells of it, if it has one then.
+abbrev over : ℕ → Flow → Option ConnectionFit → List CountedCell → Option ConnectionFit
+over increment flow found [] = found
+over increment flow found (cell ∷ cells) =
+    over increment flow (Some (fit_after increment (unwrap_or found (no_cells flow cell.number)) cell.moment cell.number)) cells
 
-over-through : (increment : ℕ) (vc : Vc) (fit : ConnectionFit) (cells : List CountedCell)
-    → over increment vc (Some fit) cells ≡ Some (through increment fit cells)
-over-through increment vc fit [] = refl
-over-through increment vc fit (cell ∷ cells) = over-through increment vc (fit_after increment fit cell.moment cell.number) cells
+over-through : (increment : ℕ) (flow : Flow) (fit : ConnectionFit) (cells : List CountedCell)
+    → over increment flow (Some fit) cells ≡ Some (through increment fit cells)
+over-through increment flow fit [] = refl
+over-through increment flow fit (cell ∷ cells) = over-through increment flow (fit_after increment fit cell.moment cell.number) cells
 
 -- The new states are those with one more.
 held-with : (fit : ConnectionFit) (fits new : List ConnectionFit) → with_checked_fit fit fits ≡ Ok new → with_fit fit fits ≡ new
@@ -48,29 +47,29 @@ held-with fit fits new is =
     choice (is_in_64_bits fit) refl
 
 -- The states grew by one, which is the one after a cell.
-pub record GrewBy (increment : ℕ) (fits : List ConnectionFit) (vc : Vc) (moment number : ℕ) (new : List ConnectionFit) : Type 0 where
+pub record GrewBy (increment : ℕ) (fits : List ConnectionFit) (flow : Flow) (moment number : ℕ) (new : List ConnectionFit) : Type 0 where
   pub fit : ConnectionFit
-  pub own : fit.vc ≡ vc
+  pub own : fit.flow ≡ flow
   pub is : with_fit fit fits ≡ new
-  pub after : fit ≡ fit_after increment (unwrap_or (fit_in vc fits) (no_cells vc number)) moment number
+  pub after : fit ≡ fit_after increment (unwrap_or (fit_in flow fits) (no_cells flow number)) moment number
 
-pub grew-by : (increment : ℕ) (fits : List ConnectionFit) (vc : Vc) (moment number : ℕ) (new : List ConnectionFit)
-    → fits_after increment fits vc moment number ≡ Ok new → GrewBy increment fits vc moment number new
-grew-by increment fits vc moment number new is =
-    let choice : (found : Option ConnectionFit) → fit_in vc fits ≡ found → GrewBy increment fits vc moment number new = elim [
+pub grew-by : (increment : ℕ) (fits : List ConnectionFit) (flow : Flow) (moment number : ℕ) (new : List ConnectionFit)
+    → fits_after increment fits flow moment number ≡ Ok new → GrewBy increment fits flow moment number new
+grew-by increment fits flow moment number new is =
+    let choice : (found : Option ConnectionFit) → fit_in flow fits ≡ found → GrewBy increment fits flow moment number new = elim [
       | Some fit ↦ λ e.
           let after = fit_after increment fit moment number in
           record {
             fit = after;
-            own = fit_in-own fits vc fit e;
+            own = fit_in-own fits flow fit e;
             is = held-with after fits new
-                (ap (λ (found : Option ConnectionFit). fits_from increment fits found vc moment number) (sym e) ∙ is);
-            after = ap (λ (found : Option ConnectionFit). fit_after increment (unwrap_or found (no_cells vc number)) moment number) (sym e);
+                (ap (λ (found : Option ConnectionFit). fits_from increment fits found flow moment number) (sym e) ∙ is);
+            after = ap (λ (found : Option ConnectionFit). fit_after increment (unwrap_or found (no_cells flow number)) moment number) (sym e);
           }
       | None ↦ λ e.
-          let after = fit_after increment (no_cells vc number) moment number in
+          let after = fit_after increment (no_cells flow number) moment number in
           let held : cond (nat_le most_connections (length fits)) (Err TooManyConnections) (Ok (with_fit after fits)) ≡ Ok new =
-          ap (λ (found : Option ConnectionFit). fits_from increment fits found vc moment number) (sym e) ∙ is in
+          ap (λ (found : Option ConnectionFit). fits_from increment fits found flow moment number) (sym e) ∙ is in
           let few : (b : Bool) → nat_le most_connections (length fits) ≡ b → with_fit after fits ≡ new = elim [
             | true ↦ λ full. absurd (
                 let no : ◌≡◌ {A = Result (List ConnectionFit) FitFault} (Err TooManyConnections) (Ok new) =
@@ -85,22 +84,22 @@ grew-by increment fits vc moment number new is =
             fit = after;
             own = refl;
             is = few (nat_le most_connections (length fits)) refl;
-            after = ap (λ (found : Option ConnectionFit). fit_after increment (unwrap_or found (no_cells vc number)) moment number) (sym e);
+            after = ap (λ (found : Option ConnectionFit). fit_after increment (unwrap_or found (no_cells flow number)) moment number) (sym e);
           }
     ] in
-    choice (fit_in vc fits) refl
+    choice (fit_in flow fits) refl
 
 -- What a cell does to the states.
-record TakesCell (increment : ℕ) (fits : List ConnectionFit) (vc : Vc) (moment number : ℕ) (new : List ConnectionFit) : Type 0 where
-  here : fit_in vc new ≡ Some (fit_after increment (unwrap_or (fit_in vc fits) (no_cells vc number)) moment number)
-  others : (other : Vc) → other ≢ vc → fit_in other new ≡ fit_in other fits
+record TakesCell (increment : ℕ) (fits : List ConnectionFit) (flow : Flow) (moment number : ℕ) (new : List ConnectionFit) : Type 0 where
+  here : fit_in flow new ≡ Some (fit_after increment (unwrap_or (fit_in flow fits) (no_cells flow number)) moment number)
+  others : (other : Flow) → other ≢ flow → fit_in other new ≡ fit_in other fits
 
-takes-cell : (increment : ℕ) (fits : List ConnectionFit) (vc : Vc) (moment number : ℕ) (new : List ConnectionFit)
-    → fits_after increment fits vc moment number ≡ Ok new → TakesCell increment fits vc moment number new
-takes-cell increment fits vc moment number new is =
-    let grew = grew-by increment fits vc moment number new is in
+takes-cell : (increment : ℕ) (fits : List ConnectionFit) (flow : Flow) (moment number : ℕ) (new : List ConnectionFit)
+    → fits_after increment fits flow moment number ≡ Ok new → TakesCell increment fits flow moment number new
+takes-cell increment fits flow moment number new is =
+    let grew = grew-by increment fits flow moment number new is in
     record {
-      here = ap (λ (v : Vc). fit_in v new) (sym grew.own) ∙ ap (fit_in grew.fit.vc) (sym grew.is) ∙ fit_in-with fits grew.fit
+      here = ap (λ (v : Flow). fit_in v new) (sym grew.own) ∙ ap (fit_in grew.fit.flow) (sym grew.is) ∙ fit_in-with fits grew.fit
           ∙ ap (λ (f : ConnectionFit). Some f) grew.after;
       others = λ other away.
           ap (fit_in other) (sym grew.is) ∙ fit_in-others fits grew.fit other (λ e. away (e ∙ grew.own));
@@ -108,108 +107,99 @@ takes-cell increment fits vc moment number new is =
 
 -- A cell after which the run goes on.
 record GoesOn (world : FitWorld) (counted : CountedCell) (next : FitWorld) : Type 0 where
-  increment : next.increment ≡ world.increment
-  side : next.side ≡ world.side
-  clp : next.clp ≡ world.clp
+  scope : next.scope ≡ world.scope
   silent : (fit_steps world counted).0 ≡ []
-  fits : (vc : Vc) (later : List CountedCell) → over world.increment vc (fit_in vc next.fits) (cells_of_vc world.side vc (cells_of_class world.clp later))
-      ≡ over world.increment vc (fit_in vc world.fits) (cells_of_vc world.side vc (cells_of_class world.clp (counted ∷ later)))
+  fits : (flow : Flow) (later : List CountedCell) → over world.scope.increment flow (fit_in flow next.fits) (cells_fitted world.scope flow later)
+      ≡ over world.scope.increment flow (fit_in flow world.fits) (cells_fitted world.scope flow (counted ∷ later))
 
 goes-by : (world : FitWorld) (counted : CountedCell) (next : FitWorld) (answer : Result (List ConnectionFit) FitFault)
-    → fits_after world.increment world.fits (vc_of world.side counted.cell) counted.moment counted.number ≡ answer
-    → is_of_class world.clp counted.cell ≡ true → (fit_answer world counted.number answer).1 ≡ Some next → GoesOn world counted next
+    → fits_with_cell world counted ≡ answer
+    → is_of_class world.scope.clp counted.cell ≡ true → (fit_answer world counted.number answer).1 ≡ Some next → GoesOn world counted next
 goes-by world counted next (Err fault) is of goes = absurd (let no : None ≡ Some next = goes in cc)
 goes-by world counted next (Ok new) is of goes =
     let to : FitWorld = record world { fits = new } in
     let same : to ≡ next = same_Some to next goes in
-    let named = vc_of world.side counted.cell in
-    let takes = takes-cell world.increment world.fits named counted.moment counted.number new is in
+    let named = flow_of world.scope.side world.scope.rules counted.cell in
+    let takes = takes-cell world.scope.increment world.fits named counted.moment counted.number new is in
     let fits : new ≡ next.fits = ap (λ (w : FitWorld). w.fits) same in
     record {
-      increment = ap (λ (w : FitWorld). w.increment) (sym same);
-      side = ap (λ (w : FitWorld). w.side) (sym same);
-      clp = ap (λ (w : FitWorld). w.clp) (sym same);
-      silent = ap (λ b. (cond b (fit_answer world counted.number (fits_after world.increment world.fits named counted.moment counted.number)) ([], Some world)).0) of
+      scope = ap (λ (w : FitWorld). w.scope) (sym same);
+      silent = ap (λ b. (cond b (fit_answer world counted.number (fits_with_cell world counted)) ([], Some world)).0) of
           ∙ ap (λ (r : Result (List ConnectionFit) FitFault). (fit_answer world counted.number r).0) is;
-      fits = λ vc later.
-          let few = cells_of_class world.clp later in
-          let rest = cells_of_vc world.side vc few in
-          let with_it : cells_of_class world.clp (counted ∷ later) ≡ counted ∷ few = ap (λ b. cond b (counted ∷ few) few) of in
-          let choice : (b : Bool) → is_same_vc vc named ≡ b
-          → over world.increment vc (fit_in vc new) rest
-          ≡ over world.increment vc (fit_in vc world.fits) (cond b (counted ∷ rest) rest) = elim [
+      fits = λ flow later.
+          let few = cells_of_class world.scope.clp later in
+          let rest = cells_of_flow world.scope flow few in
+          let with_it : cells_of_class world.scope.clp (counted ∷ later) ≡ counted ∷ few = ap (λ b. cond b (counted ∷ few) few) of in
+          let choice : (b : Bool) → is_same_flow flow named ≡ b
+          → over world.scope.increment flow (fit_in flow new) rest
+          ≡ over world.scope.increment flow (fit_in flow world.fits) (cond b (counted ∷ rest) rest) = elim [
             | true ↦ λ e.
-                let own : vc ≡ named = vc_same vc named e in
-                let here : fit_in vc new ≡ Some (fit_after world.increment (unwrap_or (fit_in vc world.fits) (no_cells vc counted.number)) counted.moment counted.number) =
-                subst (λ (v : Vc). fit_in v new ≡ Some (fit_after world.increment (unwrap_or (fit_in v world.fits) (no_cells v counted.number)) counted.moment counted.number))
+                let own : flow ≡ named = flow_same flow named e in
+                let here : fit_in flow new ≡ Some (fit_after world.scope.increment (unwrap_or (fit_in flow world.fits) (no_cells flow counted.number)) counted.moment counted.number) =
+                subst (λ (v : Flow). fit_in v new ≡ Some (fit_after world.scope.increment (unwrap_or (fit_in v world.fits) (no_cells v counted.number)) counted.moment counted.number))
                 (sym own) takes.here in
-                ap (λ (found : Option ConnectionFit). over world.increment vc found rest) here
+                ap (λ (found : Option ConnectionFit). over world.scope.increment flow found rest) here
             | false ↦ λ e.
-                let away : vc ≢ named = λ own.
-                let itself : is_same_vc vc vc ≡ true = vc_itself vc in
-                let other : is_same_vc vc vc ≡ false = subst (λ (v : Vc). is_same_vc vc v ≡ false) (sym own) e in
+                let away : flow ≢ named = λ own.
+                let itself : is_same_flow flow flow ≡ true = flow_itself flow in
+                let other : is_same_flow flow flow ≡ false = subst (λ (v : Flow). is_same_flow flow v ≡ false) (sym own) e in
                 let no : true ≡ false = sym itself ∙ other in
                 cc in
-                ap (λ (found : Option ConnectionFit). over world.increment vc found rest) (takes.others vc away)
+                ap (λ (found : Option ConnectionFit). over world.scope.increment flow found rest) (takes.others flow away)
           ] in
-          ap (λ (fs : List ConnectionFit). over world.increment vc (fit_in vc fs) rest) (sym fits)
-          ∙ choice (is_same_vc vc named) refl
-          ∙ ap (λ (its : List CountedCell). over world.increment vc (fit_in vc world.fits) (cells_of_vc world.side vc its)) (sym with_it);
+          ap (λ (fs : List ConnectionFit). over world.scope.increment flow (fit_in flow fs) rest) (sym fits)
+          ∙ choice (is_same_flow flow named) refl
+          ∙ ap (λ (its : List CountedCell). over world.scope.increment flow (fit_in flow world.fits) (cells_of_flow world.scope flow its)) (sym with_it);
     }
 
 goes-on : (world : FitWorld) (counted : CountedCell) (next : FitWorld) → (fit_steps world counted).1 ≡ Some next → GoesOn world counted next
 goes-on world counted next goes =
-    let answer = fits_after world.increment world.fits (vc_of world.side counted.cell) counted.moment counted.number in
-    let choice : (b : Bool) → is_of_class world.clp counted.cell ≡ b
+    let answer = fits_with_cell world counted in
+    let choice : (b : Bool) → is_of_class world.scope.clp counted.cell ≡ b
     → (cond b (fit_answer world counted.number answer) ([], Some world)).1 ≡ Some next → GoesOn world counted next = elim [
       | true ↦ λ of here. goes-by world counted next answer refl of here
       | false ↦ λ of here.
           let same : world ≡ next = same_Some world next here in
           record {
-            increment = ap (λ (w : FitWorld). w.increment) (sym same);
-            side = ap (λ (w : FitWorld). w.side) (sym same);
-            clp = ap (λ (w : FitWorld). w.clp) (sym same);
+            scope = ap (λ (w : FitWorld). w.scope) (sym same);
             silent = ap (λ b. (cond b (fit_answer world counted.number answer) ([], Some world)).0) of;
-            fits = λ vc later.
-                let few = cells_of_class world.clp later in
-                let without : cells_of_class world.clp (counted ∷ later) ≡ few = ap (λ b. cond b (counted ∷ few) few) of in
-                ap (λ (w : FitWorld). over world.increment vc (fit_in vc w.fits) (cells_of_vc world.side vc few)) (sym same)
-                ∙ ap (λ (its : List CountedCell). over world.increment vc (fit_in vc world.fits) (cells_of_vc world.side vc its)) (sym without);
+            fits = λ flow later.
+                let few = cells_of_class world.scope.clp later in
+                let without : cells_of_class world.scope.clp (counted ∷ later) ≡ few = ap (λ b. cond b (counted ∷ few) few) of in
+                ap (λ (w : FitWorld). over world.scope.increment flow (fit_in flow w.fits) (cells_of_flow world.scope flow few)) (sym same)
+                ∙ ap (λ (its : List CountedCell). over world.scope.increment flow (fit_in flow world.fits) (cells_of_flow world.scope flow its)) (sym without);
           }
     ] in
-    choice (is_of_class world.clp counted.cell) refl goes
+    choice (is_of_class world.scope.clp counted.cell) refl goes
 
 -- The states of a run.
-run-fits : (world last : FitWorld) (cells : List CountedCell) → RunsThrough fit_rules world cells last → (vc : Vc)
-    → fit_in vc last.fits ≡ over world.increment vc (fit_in vc world.fits) (cells_of_vc world.side vc (cells_of_class world.clp cells))
-run-fits world last [] leads vc = ap (λ (w : FitWorld). fit_in vc w.fits) leads
-run-fits world last (counted ∷ cells) (here, next, step, leads) vc =
+run-fits : (world last : FitWorld) (cells : List CountedCell) → RunsThrough fit_rules world cells last → (flow : Flow)
+    → fit_in flow last.fits ≡ over world.scope.increment flow (fit_in flow world.fits) (cells_fitted world.scope flow cells)
+run-fits world last [] leads flow = ap (λ (w : FitWorld). fit_in flow w.fits) leads
+run-fits world last (counted ∷ cells) (here, next, step, leads) flow =
     let goes = goes-on world counted next (ap (λ (s : List ℕ × Option FitWorld). s.1) step) in
-    let Rest : ℕ → Side → Option ℕ → Type 0 = λ increment side clp.
-    fit_in vc last.fits ≡ over increment vc (fit_in vc next.fits) (cells_of_vc side vc (cells_of_class clp cells)) in
-    let rest : Rest next.increment next.side next.clp = run-fits next last cells leads vc in
-    let same : Rest world.increment world.side world.clp =
-    subst (λ (p : Option ℕ). Rest world.increment world.side p) goes.clp
-    (subst (λ (s : Side). Rest world.increment s next.clp) goes.side (subst (λ (n : ℕ). Rest n next.side next.clp) goes.increment rest)) in
-    same ∙ goes.fits vc cells
+    let Rest : FitScope → Type 0 = λ scope.
+    fit_in flow last.fits ≡ over scope.increment flow (fit_in flow next.fits) (cells_fitted scope flow cells) in
+    let same : Rest world.scope = subst Rest goes.scope (run-fits next last cells leads flow) in
+    same ∙ goes.fits flow cells
 
--- What the state is that a connection has after all its cells.
-all-cells : (increment : ℕ) (vc : Vc) (cells : List CountedCell) (found : Option ConnectionFit) → found ≡ over increment vc None cells
+-- What the state is that a flow has after all its cells.
+all-cells : (increment : ℕ) (flow : Flow) (cells : List CountedCell) (found : Option ConnectionFit) → found ≡ over increment flow None cells
     → MatchOption found (cells ≡ []) (IsFitOf increment cells)
-all-cells increment vc [] found is = subst (λ (f : Option ConnectionFit). MatchOption f (◌≡◌ {A = List CountedCell} [] []) (IsFitOf increment [])) (sym is) refl
-all-cells increment vc (cell ∷ cells) found is =
+all-cells increment flow [] found is = subst (λ (f : Option ConnectionFit). MatchOption f (◌≡◌ {A = List CountedCell} [] []) (IsFitOf increment [])) (sym is) refl
+all-cells increment flow (cell ∷ cells) found is =
     let all = cell ∷ cells in
-    let state = through increment (no_cells vc cell.number) all in
-    let there : Some state ≡ found = sym (is ∙ over-through increment vc (fit_after increment (no_cells vc cell.number) cell.moment cell.number) cells) in
-    subst (λ (f : Option ConnectionFit). MatchOption f (all ≡ []) (IsFitOf increment all)) there (through-is increment vc cell cells)
+    let state = through increment (no_cells flow cell.number) all in
+    let there : Some state ≡ found = sym (is ∙ over-through increment flow (fit_after increment (no_cells flow cell.number) cell.moment cell.number) cells) in
+    subst (λ (f : Option ConnectionFit). MatchOption f (all ≡ []) (IsFitOf increment all)) there (through-is increment flow cell cells)
 
 pub fits-are-least : FitsAreLeast
-fits-are-least increment side clp cells last leads vc =
-    all-cells increment vc (cells_of_vc side vc (cells_of_class clp cells)) (fit_in vc last.fits) (run-fits (fit_start increment side clp) last cells leads vc)
+fits-are-least scope cells last leads flow =
+    all-cells scope.increment flow (cells_fitted scope flow cells) (fit_in flow last.fits) (run-fits (fit_start scope) last cells leads flow)
 
 -- The state of a run without a class.
 abbrev of_all : FitWorld → FitWorld
-of_all world = record world { clp = None }
+of_all world = record world { scope = of_each_class world.scope }
 
 -- Its answer to a cell is the same.
 same-answer : (world : FitWorld) (number : ℕ) (answer : Result (List ConnectionFit) FitFault)
@@ -218,14 +208,14 @@ same-answer world number (Ok fits) = refl
 same-answer world number (Err fault) = refl
 
 run-alone : (world last : FitWorld) (cells : List CountedCell) → RunsThrough fit_rules world cells last
-    → RunsThrough fit_rules (of_all world) (cells_of_class world.clp cells) (of_all last)
+    → RunsThrough fit_rules (of_all world) (cells_of_class world.scope.clp cells) (of_all last)
 run-alone world last [] leads = ap of_all leads
 run-alone world last (counted ∷ cells) (here, next, step, leads) =
-    let answer = fits_after world.increment world.fits (vc_of world.side counted.cell) counted.moment counted.number in
+    let answer = fits_with_cell world counted in
     let goes = goes-on world counted next (ap (λ (s : List ℕ × Option FitWorld). s.1) step) in
-    let few = cells_of_class world.clp cells in
+    let few = cells_of_class world.scope.clp cells in
     let rest : RunsThrough fit_rules (of_all next) few (of_all last) =
-    subst (λ (p : Option ℕ). RunsThrough fit_rules (of_all next) (cells_of_class p cells) (of_all last)) goes.clp (run-alone next last cells leads) in
+    subst (λ (s : FitScope). RunsThrough fit_rules (of_all next) (cells_of_class s.clp cells) (of_all last)) goes.scope (run-alone next last cells leads) in
     let choice : (b : Bool) → cond b (fit_answer world counted.number answer) ([], Some world) ≡ (here, Some next)
     → RunsThrough fit_rules (of_all world) (cond b (counted ∷ few) few) (of_all last) = elim [
       | true ↦ λ is.
@@ -236,10 +226,10 @@ run-alone world last (counted ∷ cells) (here, next, step, leads) =
           subst (λ (w : FitWorld). RunsThrough fit_rules (of_all w) few (of_all last))
           (sym (same_Some world next (ap (λ (s : List ℕ × Option FitWorld). s.1) is))) rest
     ] in
-    choice (is_of_class world.clp counted.cell) step
+    choice (is_of_class world.scope.clp counted.cell) step
 
 pub classes-are-alone : ClassesAreAlone
-classes-are-alone increment side clp cells last leads = run-alone (fit_start increment side clp) last cells leads
+classes-are-alone scope cells last leads = run-alone (fit_start scope) last cells leads
 
 -- The text of a run.
 run-text : (world last : FitWorld) (cells : List CountedCell) → RunsThrough fit_rules world cells last → (end : CellsEnd)
@@ -254,6 +244,6 @@ run-text world last (counted ∷ cells) (here, next, step, leads) end =
     ∙ run-text next last cells leads end
 
 pub fits-are-written : FitsAreWritten
-fits-are-written increment side clp cells last leads end text done =
-    fixed_only fit_steps fit_closes cells end (fit_start increment side clp) (text_at_end fit_rules last end) text (end_done end) done
-    (run-text (fit_start increment side clp) last cells leads end)
+fits-are-written scope cells last leads end text done =
+    fixed_only fit_steps fit_closes cells end (fit_start scope) (text_at_end fit_rules last end) text (end_done end) done
+    (run-text (fit_start scope) last cells leads end)

@@ -1,15 +1,15 @@
-//! The least limit of one connection.
+//! The least limit of the cells that have one line.
 
 ghost use Rattle.std.specs.Prelude.{◌≡◌, Some, None, if◌then◌else◌};
 ghost use Rattle.lab_fit.specs.Fits.{fit_after, is_in_64_bits, no_cells};
 
-use upc_cell::Vc;
+use crate::flow::Flow;
 
-/// A connection after some of its cells.
+/// A flow after some of its cells.
 #[derive(Clone, Copy, Debug)]
 pub struct ConnectionFit {
-    /// The connection.
-    pub vc: Vc,
+    /// The flow.
+    pub flow: Flow,
     /// The number of its cells.
     pub cells: u64,
     /// The level of its bucket after the last cell, in ticks, if every cell conforms.
@@ -23,12 +23,12 @@ pub struct ConnectionFit {
 }
 
 impl ConnectionFit {
-    /// Returns the state after the first cell of this connection.
-    pub(crate) fn first(vc: Vc, increment: u64, moment: u64, number: u64) -> ConnectionFit
-        ensures { result ≡ fit_after increment (no_cells vc number) moment number }
+    /// Returns the state after the first cell of this flow.
+    pub(crate) fn first(flow: Flow, increment: u64, moment: u64, number: u64) -> ConnectionFit
+        ensures { result ≡ fit_after increment (no_cells flow number) moment number }
     {
         ConnectionFit {
-            vc,
+            flow,
             cells: 1,
             level: increment,
             charged: moment,
@@ -47,7 +47,7 @@ impl ConnectionFit {
         let cells = self.cells.checked_add(1)?;
         let level = needed.checked_add(increment)?;
         Some(ConnectionFit {
-            vc: self.vc,
+            flow: self.flow,
             cells,
             level,
             charged: moment,

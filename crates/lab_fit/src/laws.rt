@@ -1,11 +1,11 @@
 //! Laws of the definitions that this crate's contracts cite. Each function does nothing; its contract is the law.
 
-ghost use Rattle.lab_fit.specs.FitLaws.{CapturesHaveOneFitText, ClassesAreAlone, FitsAreLeast, FitsAreWritten, LinesAreOfConnections, MomentsGoOn};
+ghost use Rattle.lab_fit.specs.FitLaws.{CapturesHaveOneFitText, ClassesAreAlone, FitsAreLeast, FitsAreWritten, LinesAreOfFlows, MomentsGoOn};
 ghost use Rattle.lab_fit.specs.LinkLaws.{LinksAreCounted, RowsAreFew};
 ghost use Rattle.lab_fit.specs.LinksText.{CapturesHaveOneLinksText};
 
 /// The limit of each connection is the least one under which all its cells conform, and the named record is the first whose cell doesn't conform
-/// under one less.
+/// under one less. With rules this is so of the cells of each connection and value.
 pub fn fits_are_least()
     ensures { FitsAreLeast }
 {}
@@ -15,7 +15,7 @@ pub fn classes_are_alone()
     ensures { ClassesAreAlone }
 {}
 
-/// The moments of a connection's cells of a class never go back.
+/// The moments of a connection's cells of a class, or with rules of those of one value, never go back.
 pub fn moments_go_on()
     ensures { MomentsGoOn }
 {}
@@ -25,12 +25,12 @@ pub fn fits_are_written()
     ensures { FitsAreWritten }
 {}
 
-/// The table has one line for each connection with cells, and none for another.
-pub fn lines_are_of_connections()
-    ensures { LinesAreOfConnections }
+/// The table has one line for each connection with cells, or with rules for each connection and value, and none for another.
+pub fn lines_are_of_flows()
+    ensures { LinesAreOfFlows }
 {}
 
-/// A file has one text of `fit`, for each increment, tick, link, side and class.
+/// A file has one text of `fit`, for each increment, tick, link, side and class, with or without a text of rules.
 pub fn captures_have_one_text()
     ensures { CapturesHaveOneFitText }
 {}

@@ -2,11 +2,15 @@
 //! each connection under which all its cells conform, which is the observed cell delay variation (`upc-lab fit`).
 #![tactic(auto)]
 
+mod cell_values;
 mod connection_fit;
-mod connections;
 mod fault;
 mod fit;
+mod fit_choice;
 mod fit_lines;
+mod flow;
+mod flows;
+mod given_rules;
 pub mod laws;
 mod link_lines;
 mod link_table;
@@ -18,5 +22,7 @@ mod links_reading;
 pub use connection_fit::ConnectionFit;
 pub use fault::FitFault;
 pub use fit::fit_capture;
+pub use fit_choice::FitChoice;
+pub use flow::Flow;
 pub use link_tally::LinkTally;
 pub use links::links_of_capture;

@@ -61,8 +61,8 @@ abbrev pub rates_text : Sizes → List ℕ
 rates_text sizes = codes " pcr " ++ rate_text sizes.peak ++ second_rate_text sizes.sustained
 
 -- A tick, in the greatest unit of which it has one or more.
-abbrev pub tick_text : ℕ → List ℕ
-tick_text tick =
+abbrev pub tick_in_units : ℕ → List ℕ
+tick_in_units tick =
     if nat_le 1000000000 tick then decimal (tick / 1000000000) ++ codes "s"
     else if nat_le 1000000 tick then decimal (tick / 1000000) ++ codes "ms"
     else if nat_le 1000 tick then decimal (tick / 1000) ++ codes "us"
@@ -71,7 +71,7 @@ tick_text tick =
 -- The tick that is advised.
 abbrev pub advised_text : Option ℕ → List ℕ
 advised_text None = codes "none"
-advised_text (Some tick) = tick_text tick
+advised_text (Some tick) = tick_in_units tick
 
 -- A tick is advised if a rate is coarse.
 abbrev pub advice_text : Figures → Sizes → List ℕ

@@ -2,7 +2,7 @@
 
 ghost use Rattle.std.specs.Prelude.{◌≡◌, ◌++◌, codes, decimal, Ok, OnOk};
 ghost use Rattle.lab_sizes.specs.SizeFaults.{size_fault};
-ghost use Rattle.lab_sizes.specs.SizeText.{advice_text, advised_text, bucket_text, contract_text, kind_name, percent_text, rate_text, rates_text, second_bucket_text, second_rate_text, sizes_text, tick_text};
+ghost use Rattle.lab_sizes.specs.SizeText.{advice_text, advised_text, bucket_text, contract_text, kind_name, percent_text, rate_text, rates_text, second_bucket_text, second_rate_text, sizes_text, tick_in_units};
 
 use crate::advice::{better_tick, is_above};
 use crate::fault::{SizeFault, name_of};
@@ -122,7 +122,7 @@ fn add_units(answers: &mut Vec<u8>, count: u64, unit: &[u8]) -> Result<(), Alloc
 
 /// Appends a tick.
 fn add_tick(answers: &mut Vec<u8>, tick: u64) -> Result<(), AllocError>
-    ensures { OnOk result (answers.new.items ≡ answers.old.items ++ tick_text tick) }
+    ensures { OnOk result (answers.new.items ≡ answers.old.items ++ tick_in_units tick) }
 {
     if tick >= 1000000000 {
         return add_units(answers, tick / 1000000000, b"s");

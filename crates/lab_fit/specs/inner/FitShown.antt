@@ -4,14 +4,13 @@ use Rattle.lab_captures.specs.inner.FixedRules.{world_after}
 use Rattle.text_io.specs.declared.machine.Turn.{Turn}
 use Rattle.lab_fit.specs.FitText.{FitWorld}
 use Rattle.lab_fit.specs.declared.fit.FitRun.{FitRun}
+use Rattle.lab_fit.specs.inner.RulesHeld.{rules_held}
 
 -- The state that a run has.
 abbrev pub fit_world : FitRun → FitWorld
 fit_world run = record {
-  increment = run.increment;
-  side = run.side;
-  clp = run.clp;
-  fits = run.connections;
+  scope = record { increment = run.increment; side = run.side; rules = rules_held run.values; clp = run.clp };
+  fits = run.flows;
 }
 
 -- The answers grew by this text, and the run is then in this state, or ends.

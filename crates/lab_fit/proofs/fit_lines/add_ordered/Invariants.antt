@@ -6,4 +6,6 @@ use Rattle.lab_fit.specs.FitText.{fit_line}
 use Rattle.lab_fit.proofs.fit_lines.add_ordered.Given as goal
 
 abbrev pub invariant-loop-fit : goal.invariant-loop-fit
-invariant-loop-fit l = l.answers.items ++ flat_map fit_line l.fit-iterator ≡ l.fn.answers.items ++ flat_map fit_line (values_of l.ordered.entries)
+invariant-loop-fit l =
+    l.answers.items ++ flat_map (fit_line l.side l.valued) l.fit-iterator
+    ≡ l.fn.answers.items ++ flat_map (fit_line l.side l.valued) (values_of l.ordered.entries)

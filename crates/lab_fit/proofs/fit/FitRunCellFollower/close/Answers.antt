@@ -1,7 +1,9 @@
-use Rattle.std.proofs.Common.{◌++◌, ap, sym, ◌∙◌}
+use Rattle.std.proofs.Common.{◌++◌, Bool, ap, sym, ◌∙◌}
+use Rattle.std.specs.Prelude.{is_some}
 use Rattle.lab_captures.specs.RunLines.{closing_lines}
 use Rattle.lab_captures.proofs.Public.{on_done}
 use Rattle.lab_fit.specs.FitText.{FitWorld, fit_closes, fit_lines, heading}
+use Rattle.lab_fit.specs.inner.RulesHeld.{rules_held}
 use Rattle.lab_fit.proofs.LineLemmas.{closing-grows}
 use Rattle.lab_fit.proofs.fit.FitRunCellFollower.close.Goals as goal
 
@@ -10,11 +12,13 @@ returns c =
     let run = c.args.self.now in
     let old = c.args.answers.now.items in
     let passed = c.args.passed.now in
+    let valued = is_some (rules_held run.values) in
     let one = c.add_heading.new.answers.items in
-    let two = c.add_fit_lines.new.answers.items in
+    let two = c.add_lines.new.answers.items in
     on_done c.add_closing.result _ _ c.add_closing.ensures
     (λ grew world sound is.
-    closing-grows old heading (fit_lines run.connections) (closing_lines passed c.args.ending)
-    one two c.add_closing.new.answers.items c.in_ok-add_heading.ensures
-    (c.in_ok-add_fit_lines.ensures ∙ ap (λ fits. one ++ fit_lines fits) c.fits.ensures) grew
+    closing-grows old (heading valued) (fit_lines run.side valued run.flows) (closing_lines passed c.args.ending)
+    one two c.add_closing.new.answers.items
+    (c.in_ok-add_heading.ensures ∙ ap (λ (v : Bool). old ++ heading v) c.is_valued-valued.ensures)
+    (c.in_ok-add_lines.ensures ∙ ap (λ (v : Bool). one ++ fit_lines run.side v run.flows) c.is_valued-valued.ensures) grew
     ∙ ap (λ (w : FitWorld). old ++ fit_closes w passed c.args.ending) (sym is))

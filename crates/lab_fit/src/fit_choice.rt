@@ -1,0 +1,19 @@
+//! What a run of `fit` is asked for.
+
+use captures::{Link, Tick};
+use upc_cell::Side;
+
+/// What a run of `fit` is asked for, beside rules.
+#[derive(Clone, Copy, Debug)]
+pub struct FitChoice {
+    /// The increment of the bucket, in ticks.
+    pub increment: u64,
+    /// How long a tick is.
+    pub tick: Tick,
+    /// The link whose cells are read. Without one the cells of a capture may be of one link only.
+    pub link: Option<Link>,
+    /// The side at which headers are read, and what a connection is there.
+    pub side: Side,
+    /// The cell loss priority of the cells that are read, if not all are.
+    pub clp: Option<u8>,
+}
