@@ -34,7 +34,8 @@ impl CellJudge for PolicedCard {
     ghost rules = { forward_rules };
 
     fn judge_cell(&mut self, counted: &CountedCell) -> Result<Onward, AllocError> {
-        Ok(onward_by(self.judge(counted)))
+        let verdict = self.judge(counted)?;
+        Ok(onward_by(verdict))
     }
 
     fn close(

@@ -25,10 +25,11 @@ fn report_faults(report: &mut Vec<u8>, text: &[u8]) -> Result<Done, RunFault>
     }
 }
 
-/// Forwards the cells of a capture by a card that a setup script opens: it writes the records whose cells pass or are tagged, as records of an
+/// Forwards the cells of a capture by a card that a setup script opens, whose lines have these times, one for each: it writes the records whose cells pass or are tagged, as records of an
 /// ERF file, each as the capture has it, but with cell loss priority 1 if its cell is tagged. Cells count, and have their moments, as in
 /// `upc-lab cells`. Records without a cell that counts go on as `others` says. What is said at the end is appended to the report: what
-/// `police` prints after its lines about cells. A script with a fault is explained in the report, and nothing is written. docs/LAB.md has the format.
+/// `police` prints after its lines about cells, and before it the lines of commands. A script with a fault is explained in the report, and
+/// nothing is written. docs/LAB.md has the format.
 ///
 /// Memory is bounded: that of the card, and that of [`forward_cells`].
 ///
@@ -39,6 +40,7 @@ fn report_faults(report: &mut Vec<u8>, text: &[u8]) -> Result<Done, RunFault>
 pub fn forward_capture<I: Input, O: Output>(
     alloc: Global,
     script: &[u8],
+    times: &[Option<u64>],
     others: Others,
     tick: Tick,
     link: Option<Link>,
@@ -46,10 +48,10 @@ pub fn forward_capture<I: Input, O: Output>(
     output: &mut O,
     report: &mut Vec<u8>,
 ) -> Result<Done, RunFault>
-    ensures { IsServedWithReport (IsForwarded others tick.nanoseconds link script.now)
+    ensures { IsServedWithReport (IsForwarded others tick.nanoseconds link script.now times.now)
         I.Input input.old input.new O.Output output.old output.new report.old.items report.new.items result }
 {
-    match open_card(alloc, script, tick) {
+    match open_card(alloc, script, times, tick) {
         Err(_) => Err(RunFault::NoMemory),
         Ok(OpenedCard::Faulty(text)) => report_faults(report, &text),
         Ok(OpenedCard::Ready(mut policed)) => forward_cells(

@@ -6,7 +6,7 @@ use Rattle.lab_captures.specs.declared.cell_lines.CellLines.{CellLines}
 use Rattle.lab_captures.specs.declared.cell_lines.CellLines.TheVariants as lines
 use Rattle.lab_sizes.specs.SizeWords.{duration_of}
 use Rattle.upc_cell.specs.declared.side.Side.{Side}
-use Rattle.upc_cell.specs.declared.side.Side.TheVariants.{Uni, Nni}
+use Rattle.upc_cell.specs.declared.side.Side.TheVariants.{Uni, Nni, UniPaths, NniPaths}
 use Rattle.upc_script.specs.ScriptWords.{number_up_to}
 
 -- A number above 0.
@@ -31,16 +31,21 @@ every_of (Some word) = option_map Some (option_and_then positive (duration_of wo
 abbrev pub fit_increment_of : Option Text → Option ℕ
 fit_increment_of text = option_and_then (λ word. option_and_then positive (number_up_to (2 ^ 48) word)) text
 
--- The side that a word names.
-abbrev pub side_named : Text → Option Side
-side_named word =
-    if bytes_eq word (codes "uni") then Some Uni
-    else if bytes_eq word (codes "nni") then Some Nni
+-- The side that a word names. `paths` says whether connections are virtual paths.
+abbrev pub side_named : Bool → Text → Option Side
+side_named paths word =
+    if bytes_eq word (codes "uni") then Some (if paths then UniPaths else Uni)
+    else if bytes_eq word (codes "nni") then Some (if paths then NniPaths else Nni)
     else None
 
--- The side at which headers are read.
-abbrev pub fit_side_of : Option Text → Option Side
-fit_side_of text = option_and_then side_named text
+-- Whether an option without a value is given. clap's text of it is `true` then.
+abbrev pub is_given : Option Text → Bool
+is_given None = false
+is_given (Some text) = bytes_eq text (codes "true")
+
+-- The side at which headers are read, and whether connections are virtual paths there.
+abbrev pub fit_side_of : Option Text → Option Text → Option Side
+fit_side_of text paths = option_and_then (side_named (is_given paths)) text
 
 -- The cell loss priority (CLP) that a word names.
 abbrev pub clp_named : Text → Option ℕ
@@ -61,6 +66,11 @@ file_named word = if length word == 0 then None else Some word
 -- The name of a file.
 abbrev pub file_name_of : Option Text → Option Text
 file_name_of text = option_and_then file_named text
+
+-- The name of a file that is asked for, if one is.
+abbrev pub asked_file_of : Option Text → Option (Option Text)
+asked_file_of None = Some None
+asked_file_of (Some word) = option_map Some (file_named word)
 
 -- Which cells a word gives lines.
 abbrev pub cell_lines_named : Text → Option CellLines
@@ -99,8 +109,3 @@ others_named word =
 -- The same of the option.
 abbrev pub others_of : Option Text → Option Bool
 others_of text = option_and_then others_named text
-
--- Whether an option without a value is given. clap's text of it is `true` then.
-abbrev pub is_given : Option Text → Bool
-is_given None = false
-is_given (Some text) = bytes_eq text (codes "true")

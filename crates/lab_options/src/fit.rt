@@ -1,6 +1,6 @@
 //! The options of `upc-lab fit`.
 
-ghost use Rattle.std.specs.Prelude.{◌≡◌, Err, IfErr, IfOk, map};
+ghost use Rattle.std.specs.Prelude.{◌≡◌, Err, IfErr, IfOk, map, option_map};
 ghost use Rattle.std.specs.String.{string_bytes};
 ghost use Rattle.command_line.specs.Arguments.{texts_of};
 ghost use Rattle.lab_options.specs.FitOptions.{AsksFit, FitAsked, IsFitStop, asked_by};
@@ -8,16 +8,16 @@ ghost use Rattle.lab_options.specs.inner.Answered.{AnswersValues, fit_spelled};
 
 use crate::link::link_of;
 use crate::values::{
-    LINK, TICK, WRONG_LINK, WRONG_TICK, asked_clp_of, fit_increment_of, fit_side_of, tick_of,
-    wrong_value,
+    LINK, TICK, WRONG_LINK, WRONG_TICK, asked_clp_of, fit_increment_of, fit_side_of, rules_name_of,
+    tick_of, wrong_value,
 };
 use captures::{Link, Tick};
 use command_line::{Argument, Form, Options, Stop, Value, values_of_words};
-use std::alloc::Global;
+use std::alloc::{AllocError, Global};
 use upc_cell::Side;
 
 /// What `upc-lab fit` should do.
-#[derive(Clone, Copy, Debug, PartialEq, Eq)]
+#[derive(Debug, PartialEq, Eq, Drop)]
 pub struct FitOptions {
     /// The increment of the bucket, in ticks: 1 to 2^48.
     pub increment: u64,
@@ -25,10 +25,12 @@ pub struct FitOptions {
     pub tick: Tick,
     /// The link whose cells are read. Without one the cells of a capture may be of one link only.
     pub link: Option<Link>,
-    /// The side at which headers are read.
+    /// The side at which headers are read, and whether connections are virtual paths.
     pub side: Side,
     /// The cell loss priority (CLP) of the cells that are read, 0 or 1. Without one all cells are read.
     pub clp: Option<u8>,
+    /// The name of the file with the rules by whose values lines are told apart, if one is given.
+    pub rules: Option<String>,
 }
 
 const INCREMENT: Argument = Argument {
@@ -55,16 +57,32 @@ const CLP: Argument = Argument {
     help: "Only the cells of this cell loss priority, 0 or 1",
 };
 
+const PATHS: Argument = Argument {
+    name: "paths",
+    form: Form::Flag,
+    default: None,
+    required: false,
+    help: "Connections are virtual paths: all cells of a path have one line",
+};
+
+const RULES: Argument = Argument {
+    name: "rules",
+    form: Form::Valued("FILE"),
+    default: None,
+    required: false,
+    help: "A file with rules: the cells of a connection have a line for each value that the rules give them",
+};
+
 const FIT: Options = Options {
     name: "upc-lab fit",
     about: "Print the least limit under which all cells of each connection of a capture conform",
     after_help: "Standard input is an ERF file, or pcap or pcapng with ERF records.\nExample: examples/make-capture | upc-lab fit --increment 10 --tick 1us",
-    arguments: &[INCREMENT, TICK, LINK, SIDE, CLP],
+    arguments: &[INCREMENT, TICK, LINK, SIDE, PATHS, CLP, RULES],
 };
 
 /// Reads the words after `upc-lab fit`: `--increment T`, `--tick TIME`, which is 100ns if it isn't given, `--link LINK`, and
-/// `--side SIDE`, which is uni if it isn't given, and `--clp CLP`. The forms of help that `clap` has request help. Any other word is an error,
-/// and so are a wrong value and words without an increment.
+/// `--side SIDE`, which is uni if it isn't given, `--paths`, `--clp CLP`, and `--rules FILE`. The forms of help that `clap` has request help. Any other
+/// word is an error, and so are a wrong value, an empty name and words without an increment.
 pub fn fit_options(alloc: Global, words: Vec<String>) -> Result<FitOptions, Stop>
     ensures asked { IfOk result (λ options. AsksFit (map string_bytes words.items) (asked_by options)) }
     ensures stopped { IfErr result (IsFitStop (map string_bytes words.items)) }
@@ -73,6 +91,19 @@ pub fn fit_options(alloc: Global, words: Vec<String>) -> Result<FitOptions, Stop
 {
     let found = values_of_words(alloc, &FIT, words);
     answer_to(alloc, found)
+}
+
+/// Returns a text of its own, if there is one.
+fn owned(alloc: Global, text: Option<&str>) -> Result<Option<String>, AllocError>
+    ensures { IfOk result (λ owned. option_map (λ it. string_bytes it) owned ≡ option_map (λ it. it.now) text.entry) }
+{
+    match text {
+        None => Ok(None),
+        Some(text) => match String::from_str(alloc, text) {
+            Ok(text) => Ok(Some(text)),
+            Err(_) => Err(AllocError),
+        },
+    }
 }
 
 /// Returns the options that these values spell.
@@ -97,12 +128,22 @@ fn read(alloc: Global, values: &[Value]) -> Result<FitOptions, Stop>
     let Some(clp) = asked_clp_of(values) else {
         return Err(wrong_value(alloc, "error: the value of '--clp' is 0 or 1\n"));
     };
+    let Some(rules) = rules_name_of(values) else {
+        return Err(wrong_value(
+            alloc,
+            "error: the value of '--rules' is the name of a file\n",
+        ));
+    };
+    let Ok(rules) = owned(alloc, rules) else {
+        return Err(Stop::NoMemory);
+    };
     Ok(FitOptions {
         increment,
         tick,
         link,
         side,
         clp,
+        rules,
     })
 }
 

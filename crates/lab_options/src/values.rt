@@ -2,7 +2,7 @@
 
 ghost use Rattle.std.specs.Prelude.{◌≡◌, codes, option_map};
 ghost use Rattle.command_line.specs.Arguments.{text_named, texts_of};
-ghost use Rattle.lab_options.specs.OptionValues.{asked_clp_of, asked_tick_of, cell_lines_of, clp_named, every_of, fit_increment_of, fit_side_of, file_name_of, file_named, is_given, others_of, pairs_of, threads_of, tick_of};
+ghost use Rattle.lab_options.specs.OptionValues.{asked_clp_of, asked_file_of, asked_tick_of, cell_lines_of, clp_named, every_of, fit_increment_of, fit_side_of, file_name_of, file_named, is_given, others_of, pairs_of, side_named, threads_of, tick_of};
 ghost use Rattle.lab_options.specs.inner.Answered.{IsWrongValue};
 
 use captures::Tick;
@@ -98,15 +98,32 @@ pub(crate) fn fit_increment_of(values: &[Value]) -> Option<u64>
     }
 }
 
-/// Returns the side that the value of `--side` names.
-pub(crate) fn fit_side_of(values: &[Value]) -> Option<Side>
-    ensures { result ≡ fit_side_of (text_named (texts_of values.now) (codes "side")) }
+/// Returns the side that a word names.
+fn side_named(word: &str, paths: bool) -> Option<Side>
+    ensures { result ≡ side_named paths word.now }
 {
-    match text_of(values, "side")? {
-        "uni" => Some(Side::Uni),
-        "nni" => Some(Side::Nni),
+    match word {
+        "uni" => Some(if paths { Side::UniPaths } else { Side::Uni }),
+        "nni" => Some(if paths { Side::NniPaths } else { Side::Nni }),
         _ => None,
     }
+}
+
+/// Returns whether this flag is given.
+fn is_given(values: &[Value], name: &str) -> bool
+    ensures { result ≡ is_given (text_named (texts_of values.now) name.now) }
+{
+    match text_of(values, name) {
+        Some(text) => text == "true",
+        None => false,
+    }
+}
+
+/// Returns the side that the value of `--side` names, where connections are virtual paths if `--paths` is given.
+pub(crate) fn fit_side_of(values: &[Value]) -> Option<Side>
+    ensures { result ≡ fit_side_of (text_named (texts_of values.now) (codes "side")) (text_named (texts_of values.now) (codes "paths")) }
+{
+    side_named(text_of(values, "side")?, is_given(values, "paths"))
 }
 
 /// Returns the cell loss priority that a word names.
@@ -149,6 +166,16 @@ pub(crate) fn old_name_of(values: &[Value]) -> Option<&str>
     ensures { option_map (λ name. name.now) result ≡ file_name_of (text_named (texts_of values.now) (codes "OLD")) }
 {
     file_named(text_of(values, "OLD")?)
+}
+
+/// Returns the name of the file with rules, if one is given. None if it is empty.
+pub(crate) fn rules_name_of(values: &[Value]) -> Option<Option<&str>>
+    ensures { option_map (λ name. option_map (λ it. it.now) name) result ≡ asked_file_of (text_named (texts_of values.now) (codes "rules")) }
+{
+    let Some(word) = text_of(values, "rules") else {
+        return Some(None);
+    };
+    Some(Some(file_named(word)?))
 }
 
 /// Returns whether the value of `--lines` asks for all pairs of lines.
@@ -199,10 +226,7 @@ pub(crate) fn others_of(values: &[Value]) -> Option<bool>
 pub(crate) fn is_count_given(values: &[Value]) -> bool
     ensures { result ≡ is_given (text_named (texts_of values.now) (codes "count")) }
 {
-    match text_of(values, "count") {
-        Some(text) => text == "true",
-        None => false,
-    }
+    is_given(values, "count")
 }
 
 /// Returns why the words give no options: a value is wrong, and this message says which and what is right.

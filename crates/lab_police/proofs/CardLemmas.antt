@@ -56,7 +56,7 @@ pub cuts_off : (old new : CoreView) (vc : Vc) (reply : Reply) → Follows old (C
     → CutsOff old vc new
 cuts_off old new vc reply follows spares none before led agrees =
     let on = follows led.shape led.log before.world led.leads agrees in
-    let printed = cut-printed before.world on.after vc (length before.names) reply on.stepped spares in (
+    let printed = cut-printed before.world.shape.side before.world on.after vc (length before.names) reply on.stepped spares in (
       printed.0,
       record { world = on.after; names = before.names },
       record {

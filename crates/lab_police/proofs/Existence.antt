@@ -20,7 +20,9 @@ use Rattle.lab_police.specs.RulesFiles.{IsFaultOfRules, MayBeFaultOfRules, later
 use Rattle.lab_police.specs.RulesLines.{named_rules}
 use Rattle.lab_police.specs.SetupLaws.{PolicesEachSetup}
 use Rattle.lab_police.specs.SetupPrograms.{HasProgramsIn}
-use Rattle.lab_police.specs.SetupText.{AsAgreed, IsSetupPoliced, MayBePolicedAsAgreed, MayBeSetupPoliced}
+use Rattle.lab_police.specs.SetupText.{AsAgreed, IsSetupPoliced, IsTimedPolicedBy, MayBePolicedAsAgreed, MayBeSetupPoliced}
+use Rattle.lab_police.specs.TimedLines.{falling_line, falling_text, line_times, without_times}
+use Rattle.std.specs.Option.{MatchOption}
 use Rattle.lab_police.specs.SetupTick.{agreed_tick, ticks_differ}
 use Rattle.lab_police.proofs.Completing.{FailsAt, ReplacesAt}
 
@@ -66,15 +68,27 @@ leads_on : (lines : List Line) (met : ℕ) (texts : List (List ℕ)) → LeadsOn
 leads_on [] met texts = inr ([], refl)
 leads_on (line ∷ lines) met texts = line_leads (named_rules line) met line lines texts refl (leads_on lines (met + 1) texts)
 
-polices : (scope : PoliceScope) (tick : ℕ) (setup : List ℕ) (texts : List (List ℕ)) (octets : List ℕ) → LeadsOn 0 (lines_of setup) texts
-    → (text : List ℕ) × (done : Done) × MayBeSetupPoliced scope tick setup texts octets text done
-polices scope tick setup texts octets (inl faulty) = (faulty.0, Ended, inl (faulty.1, refl))
-polices scope tick setup texts octets (inr made) =
-    let printed = some_police_text scope tick made.0 octets in
+polices : (scope : PoliceScope) (tick : ℕ) (setup : List ℕ) (times : List (Option ℕ)) (texts : List (List ℕ)) (octets : List ℕ)
+    → LeadsOn 0 (lines_of setup) texts
+    → (text : List ℕ) × (done : Done) × IsTimedPolicedBy MayBeFaultOfRules scope tick setup times texts octets text done
+polices scope tick setup times texts octets (inl faulty) = (faulty.0, Ended, inl (faulty.1, refl))
+polices scope tick setup times texts octets (inr made) =
+    let printed = some_police_text scope tick made.0 times octets in
     (printed.0, printed.1, inr (made.0, made.1, printed.2))
 
+pub polices_timed : (scope : PoliceScope) (tick : ℕ) (setup : List ℕ) (times : List (Option ℕ)) (texts : List (List ℕ)) (octets : List ℕ)
+    → (text : List ℕ) × (done : Done) × IsTimedPolicedBy MayBeFaultOfRules scope tick setup times texts octets text done
+polices_timed scope tick setup times texts octets = polices scope tick setup times texts octets (leads_on (lines_of setup) 0 texts)
+
+polices_unless : (falls : Option ℕ) (scope : PoliceScope) (tick : ℕ) (setup : List ℕ) (texts : List (List ℕ)) (octets : List ℕ)
+    → (text : List ℕ) × (done : Done) × MatchOption falls
+    (IsTimedPolicedBy MayBeFaultOfRules scope tick (without_times setup) (line_times setup) texts octets text done)
+    (λ number. (text ≡ falling_text number) × (done ≡ Ended))
+polices_unless None scope tick setup texts octets = polices_timed scope tick (without_times setup) (line_times setup) texts octets
+polices_unless (Some number) scope tick setup texts octets = (falling_text number, Ended, (refl, refl))
+
 pub polices_each : PolicesEachSetup
-polices_each scope tick setup texts octets = polices scope tick setup texts octets (leads_on (lines_of setup) 0 texts)
+polices_each scope tick setup texts octets = polices_unless (falling_line setup) scope tick setup texts octets
 
 -- ---- a fault of rules that is reported is one that may be reported
 
@@ -93,10 +107,23 @@ fault_may [] met texts text is = is
 fault_may (line ∷ lines) met texts text is =
     fault_at_may (named_rules line) met lines texts text (λ texts is. fault_may lines (met + 1) texts text is) is
 
+pub may_be_timed : (scope : PoliceScope) (tick : ℕ) (setup : List ℕ) (times : List (Option ℕ)) (texts : List (List ℕ)) (octets text : List ℕ) (done : Done)
+    → IsTimedPolicedBy IsFaultOfRules scope tick setup times texts octets text done
+    → IsTimedPolicedBy MayBeFaultOfRules scope tick setup times texts octets text done
+may_be_timed scope tick setup times texts octets text done (inl (faulty, ends)) = inl (fault_may (lines_of setup) 0 texts text faulty, ends)
+may_be_timed scope tick setup times texts octets text done (inr made) = inr made
+
+may_be_unless : (falls : Option ℕ) (scope : PoliceScope) (tick : ℕ) (setup : List ℕ) (texts : List (List ℕ)) (octets text : List ℕ) (done : Done)
+    → MatchOption falls (IsTimedPolicedBy IsFaultOfRules scope tick (without_times setup) (line_times setup) texts octets text done)
+    (λ number. (text ≡ falling_text number) × (done ≡ Ended))
+    → MatchOption falls (IsTimedPolicedBy MayBeFaultOfRules scope tick (without_times setup) (line_times setup) texts octets text done)
+    (λ number. (text ≡ falling_text number) × (done ≡ Ended))
+may_be_unless None scope tick setup texts octets text done is = may_be_timed scope tick (without_times setup) (line_times setup) texts octets text done is
+may_be_unless (Some number) scope tick setup texts octets text done is = is
+
 pub may_be_policed : (scope : PoliceScope) (tick : ℕ) (setup : List ℕ) (texts : List (List ℕ)) (octets text : List ℕ) (done : Done)
     → IsSetupPoliced scope tick setup texts octets text done → MayBeSetupPoliced scope tick setup texts octets text done
-may_be_policed scope tick setup texts octets text done (inl (faulty, ends)) = inl (fault_may (lines_of setup) 0 texts text faulty, ends)
-may_be_policed scope tick setup texts octets text done (inr made) = inr made
+may_be_policed scope tick setup texts octets text done is = may_be_unless (falling_line setup) scope tick setup texts octets text done is
 
 -- ---- at the tick that is agreed
 

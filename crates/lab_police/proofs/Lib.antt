@@ -19,3 +19,5 @@ pub mod LinesKept
 pub mod EachCapture
 pub mod PolicedLemmas
 pub mod Public
+pub mod CommandLemmas
+pub mod TimedLemmas

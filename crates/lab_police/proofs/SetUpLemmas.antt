@@ -1,16 +1,19 @@
 -- A script whose explanation names no fault leads to a card.
-use Rattle.std.proofs.Common.{◌≡◌, ℕ, ◌+◌, Bool, true, false, List, [], ◌∷◌, ◌++◌, Option, Some, None, option_map, refl, sym, subst}
+use Rattle.std.proofs.Common.{◌≡◌, ◌⊎◌, inl, inr, ℕ, ◌+◌, Bool, true, false, List, [], ◌∷◌, ◌++◌, Option, Some, None, option_map, refl, sym, subst}
 use Rattle.std.specs.Bool.{MatchBool}
 use Rattle.std.specs.Option.{MatchOption}
-use Rattle.lab_scripts.specs.ScriptText.{ClosesScript, ExplainsLine, ScriptWorld, after_answer, before_script, script_rules}
+use Rattle.lab_scripts.proofs.Public.{some-script_text}
+use Rattle.lab_scripts.specs.ScriptText.{ClosesScript, ExplainsLine, IsScriptExplained, ScriptWorld, after_answer, before_script, script_rules}
 use Rattle.text_io.proofs.Public.{prints-end}
 use Rattle.text_io.specs.Limits.{is_over}
 use Rattle.text_io.specs.Lines.{Line, lines_of, line_content}
 use Rattle.text_io.specs.Printing.{EndsAt, Prints}
+use Rattle.text_io.specs.declared.ending.Done.{Done}
 use Rattle.text_io.specs.declared.ending.Done.TheVariants.{Whole, Ended}
 use Rattle.upc_run.proofs.Public.{one-run_text, run-total}
 use Rattle.upc_run.specs.RunText.{Card, IsLed, IsRunText, IsSoundRun, RunCloses, RunSteps, RunWorld, run_rules}
-use Rattle.lab_police.specs.PoliceText.{IsSetUpBy}
+use Rattle.lab_police.specs.PoliceText.{IsFaultAtTimes, IsSetUpAtTimes, IsSetUpBy}
+use Rattle.lab_police.specs.TimedLines.{octets_before_times}
 use Rattle.lab_police.specs.inner.SetUpCard.{RunsWhole}
 
 -- The text of `run` for a script from this world, which isn't ended early.
@@ -76,6 +79,10 @@ ends_card script text None ends =
     let no = (ends_sound (lines_of script) 0 None None text tt ends).1.1.1 in cc
 ends_card script text (Some card) ends = (card, refl, (ends_sound (lines_of script) 0 None (Some card) text tt ends).0)
 
+-- A script whose lines have these times has a fault, or leads to a card.
+abbrev pub FaultOrCard : List ℕ → List (Option ℕ) → Type 0
+FaultOrCard script times = ((text : List ℕ) × IsFaultAtTimes script times text) ⊎ ((card : Card) × IsSetUpAtTimes script times card × IsLed card)
+
 -- A script without a fault leads to a card.
 pub set_up_some : (script : List ℕ) → RunsWhole script → (card : Card) × IsSetUpBy script card × IsLed card
 set_up_some script whole =
@@ -91,3 +98,22 @@ set_up_some script whole =
       },
       card.2,
     )
+
+timed_by : (script : List ℕ) (times : List (Option ℕ)) (explanation text : List ℕ) (done : Done) → IsScriptExplained script explanation Whole
+    → IsScriptExplained (octets_before_times times (lines_of script)) text done → FaultOrCard script times
+timed_by script times explanation text Ended faultless explained = inl (text, inr explained)
+timed_by script times explanation text Whole faultless explained =
+    let set = set_up_some (octets_before_times times (lines_of script)) (text, explained) in
+    inr (set.0, record { explanation = explanation; faultless = faultless; before = set.1 }, set.2)
+
+timed_at : (script : List ℕ) (times : List (Option ℕ)) (explanation : List ℕ) (done : Done) → IsScriptExplained script explanation done → FaultOrCard script times
+timed_at script times explanation Ended explained = inl (explanation, inl explained)
+timed_at script times explanation Whole explained =
+    let before = some-script_text (octets_before_times times (lines_of script)) in
+    timed_by script times explanation before.0 before.1 explained before.2
+
+-- A script whose lines have these times has a fault, or leads to a card.
+pub fault_or_card : (script : List ℕ) (times : List (Option ℕ)) → FaultOrCard script times
+fault_or_card script times =
+    let explained = some-script_text script in
+    timed_at script times explained.0 explained.1 explained.2

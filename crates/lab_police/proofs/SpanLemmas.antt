@@ -11,8 +11,9 @@ use Rattle.lab_police.specs.inner.SpansShown.{ShowsSpans, length_ticks, own_begu
 -- The text about the present span is that of its rows.
 pub text_same : (spans : Spans) (world : SpansWorld) → ShowsSpans spans world → own_text spans ≡ present_text world
 text_same spans world shown =
-    ap (λ b. rows_text b spans.begin spans.rows.entries) shown.begun ∙ ap (λ n. rows_text world.begun n spans.rows.entries) shown.begin
-    ∙ ap (λ rows. rows_text world.begun world.present.begin rows) shown.rows
+    ap (λ side. rows_text side spans.begun spans.begin spans.rows.entries) shown.side
+    ∙ ap (λ b. rows_text world.side b spans.begin spans.rows.entries) shown.begun ∙ ap (λ n. rows_text world.side world.begun n spans.rows.entries) shown.begin
+    ∙ ap (λ rows. rows_text world.side world.begun world.present.begin rows) shown.rows
 
 pub begun_same : (spans : Spans) (world : SpansWorld) → ShowsSpans spans world → own_begun_after spans ≡ is_begun_after world
 begun_same spans world shown = ap (λ b. b || has_rows spans.rows.entries) shown.begun ∙ ap (λ rows. world.begun || has_rows rows) shown.rows

@@ -1,5 +1,5 @@
 -- The counts of spans add up to those of the lines.
-use Rattle.std.proofs.Common.{◌≡◌, ◌≢◌, ◌⊎◌, inl, inr, ℕ, ◌+◌, ◌==◌, Bool, true, false, if◌then◌else◌, is_some, List, [], ◌∷◌, ◌++◌, Option, Some, None, option_map, refl, sym, ap, ◌∙◌, subst, arith}
+use Rattle.std.proofs.Common.{◌≡◌, ◌≢◌, ◌⊎◌, inl, inr, ℕ, ◌+◌, ◌==◌, ◌||◌, Bool, true, false, if◌then◌else◌, is_some, List, [], ◌∷◌, ◌++◌, Option, Some, None, option_map, refl, sym, ap, ◌∙◌, subst, arith}
 use Rattle.std.proofs.lemmas.Bool.Decides.{nat_tests}
 use Rattle.std.proofs.lemmas.Option.{same_Some}
 use Rattle.std.specs.Option.{MatchOption}
@@ -28,7 +28,10 @@ use Rattle.upc_run.specs.inner.CardSteps.{desk-cases}
 use Rattle.upc_run.specs.inner.PortZero.{PortIs}
 use Rattle.upc_run.specs.inner.RunLaws.{cut-led}
 use Rattle.lab_police.specs.PoliceLines.{verdict_given}
-use Rattle.lab_police.specs.PoliceText.{MayBeCut, PoliceWorld, TakesCell, TakesCellWithRoom, after_cell, connection_of_cell, police_rules, police_start}
+use Rattle.lab_police.specs.CommandsUnderTraffic.{CarriesOutWaiting}
+use Rattle.lab_police.specs.PoliceText.{CarriesOutDue, MayBeCut, PoliceWorld, PolicesArrived, TakesCell, TakesCellWithRoom, after_cell, connection_of_cell, police_rules, police_start}
+use Rattle.lab_police.specs.TimedLines.{WaitingCommand}
+use Rattle.text_io.specs.Words.{is_filled}
 use Rattle.lab_police.specs.SpanCounts.{JudgedCell, SpansWorld, span_begin, ends_span, judged_after, next_span, spans_after, spans_at, ticks_of_span}
 use Rattle.lab_police.specs.SpanLaws.{SpansAddUp, all_spans, count_in_spans, verdicts_of}
 use Rattle.lab_police.specs.inner.PoliceTotal.{room_led}
@@ -445,24 +448,42 @@ pub record Adds (first last : PoliceWorld) (vc : Vc) (next : Connection) : Type 
   pub counts : (verdict : Verdict) → count_on last.card.world next verdict + count_in_spans vc verdict (all_spans first.spans)
       ≡ count_on first.card.world connection verdict + count_in_spans vc verdict (all_spans last.spans)
 
+or_false : (b : Bool) → (b || false) ≡ b
+or_false true = refl
+or_false false = refl
+
+-- Without commands that wait, a state stays as it is.
+same_state : (before ready : PoliceWorld) (moment : ℕ) (text : List ℕ) → before.waiting ≡ [] → CarriesOutDue before moment text ready → ready ≡ before
+same_state before ready moment text none due =
+    let carried : CarriesOutWaiting [] moment before.card text due.card due.left =
+    subst (λ (waiting : List WaitingCommand). CarriesOutWaiting waiting moment before.card text due.card due.left) none due.carried in
+    let left : due.left ≡ before.waiting = carried.all ∙ sym none in
+    let Made : Card → List WaitingCommand → Bool → PoliceWorld = λ card waiting commanded.
+    record before { card = card; waiting = waiting; commanded = before.commanded || commanded } in
+    due.is ∙ ap (λ (card : Card). Made card due.left (is_filled text)) carried.same ∙ ap (λ (waiting : List WaitingCommand). Made before.card waiting (is_filled text)) left
+    ∙ ap (λ xs. Made before.card before.waiting (is_filled xs)) carried.none ∙ ap (λ (b : Bool). record before { commanded = b }) (or_false before.commanded)
+
 run_adds : (first last : PoliceWorld) (cells : List CountedCell) (ticks : ℕ) → RunsThrough police_rules first cells last → first.spans.ticks ≡ Some ticks
-    → IsLed first.card → (vc : Vc) (next : Connection) → connection_in last.card.world.connections vc ≡ Some next → Adds first last vc next
-run_adds first last [] ticks leads wanted led vc next found =
+    → first.waiting ≡ [] → IsLed first.card → (vc : Vc) (next : Connection) → connection_in last.card.world.connections vc ≡ Some next → Adds first last vc next
+run_adds first last [] ticks leads wanted none led vc next found =
     subst (λ (w : PoliceWorld). Adds first w vc next) (sym leads) (record {
       connection = next;
       found = subst (λ (w : PoliceWorld). connection_in w.card.world.connections vc ≡ Some next) leads found;
       line = refl;
       counts = λ verdict. refl;
     })
-run_adds first last (counted ∷ cells) ticks (here, after, step, leads) wanted led vc next found =
+run_adds first last (counted ∷ cells) ticks (here, after, polices, leads) wanted none led vc next found =
     let moment = counted.moment in
+    let is_ready = same_state first polices.ready moment polices.first none polices.commands in
+    let step : PolicesArrived first counted polices.rest (Some after) =
+    subst (λ (ready : PoliceWorld). PolicesArrived ready counted polices.rest (Some after)) is_ready polices.policed in
     let own = connection_of_cell first.card counted.cell in
     let middle = after_cell first counted step.given step.card in
     let is : after ≡ middle = same_Some after middle step.after in
     let leads' : RunsThrough police_rules middle cells last = subst (λ (w : PoliceWorld). RunsThrough police_rules w cells last) is leads in
     let led' = room_led first.card step.card counted.cell moment step.given led step.taken in
     let there = ticks_at first.spans moment ∙ wanted in
-    let later = run_adds middle last cells ticks leads' there led' vc next found in
+    let later = run_adds middle last cells ticks leads' there none led' vc next found in
     let gain = room_gains first.card step.card counted.cell moment step.given led step.taken vc later.connection later.found in
     record {
       connection = gain.connection;
@@ -478,9 +499,9 @@ run_adds first last (counted ∷ cells) ticks (here, after, step, leads) wanted 
 
 pub spans_add_up : SpansAddUp
 spans_add_up scope nanoseconds tick card cells last every led runs vc connection found verdict =
-    let first = police_start scope tick card in
+    let first = police_start scope tick card [] in
     let wanted : first.spans.ticks ≡ Some (ticks_of_span nanoseconds tick) = ap (option_map (λ asked. ticks_of_span asked tick)) every in
-    let adds = run_adds first last cells (ticks_of_span nanoseconds tick) runs wanted led vc connection found in
+    let adds = run_adds first last cells (ticks_of_span nanoseconds tick) runs wanted refl led vc connection found in
     let counts = adds.counts verdict in
     let none = no_cells vc verdict in
     let line = ap (λ n. count_of (tally_of (card.world.verdicts n)) verdict) adds.line in

@@ -1,6 +1,7 @@
 -- Which files of rules are read. A line `rules NAME` that can't load a program any more is answered without its file: then the text of this
 -- line is empty. The card has room for fewer programs after each line `rules NAME`, and for one more after each line `retire`.
 use Rattle.std.specs.Prelude.{◌≡◌, ℕ, ◌+◌, ◌-◌, nat_lt, ⊤, Bool, false, if◌then◌else◌, List, [], ◌∷◌, codes, map, Option, Some, None}
+use Rattle.lab_police.specs.TimedLines.{falling_line, without_times}
 use Rattle.std.specs.Global.{Vec}
 use Rattle.std.specs.Option.{is_some}
 use Rattle.std.specs.Str.{bytes_eq}
@@ -59,9 +60,18 @@ files_in met room (line ∷ lines) =
     with_file (has_room_left (room_at met room line)) (named_rules line)
     (files_in (met + 1) (room_after (room_at met room line) (line_content line)) lines)
 
--- The same for the lines of a script.
+-- The same for the lines of a script without its times.
+abbrev pub files_read_plain : List ℕ → List (Option (List ℕ))
+files_read_plain script = files_in 0 Unopened (lines_of script)
+
+-- The same, unless the time of the line of this number falls: then no file is read.
+abbrev pub files_unless : Option ℕ → List ℕ → List (Option (List ℕ))
+files_unless None script = files_read_plain script
+files_unless (Some number) script = []
+
+-- The same for a script.
 abbrev pub files_read : List ℕ → List (Option (List ℕ))
-files_read script = files_in 0 Unopened (lines_of script)
+files_read script = files_unless (falling_line script) (without_times script)
 
 -- The octets of the name of a file, if it is read.
 abbrev pub octets_of_name : Option (Vec ℕ) → Option (List ℕ)

@@ -5,6 +5,9 @@ pub mod ConnectionCounts
 pub mod OrderNumber
 pub mod SpanCounts
 pub mod RunComments
+pub mod TimedLines
+pub mod CommandsUnderTraffic
+pub mod StoredCommands
 pub mod PoliceText
 pub mod PoliceLaws
 pub mod SpanLaws

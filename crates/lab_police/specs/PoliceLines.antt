@@ -11,7 +11,9 @@ use Rattle.leaky.specs.declared.excess.Excess.{Excess}
 use Rattle.leaky.specs.declared.verdict.Verdict.{Verdict}
 use Rattle.leaky.specs.declared.verdict.Verdict.TheVariants as verdict
 use Rattle.line_record.specs.History.{buckets_after_cells, empty_buckets, last_moment, numbered}
+use Rattle.upc_cell.specs.declared.side.Side.{Side}
 use Rattle.upc_cell.specs.declared.vc.Vc.{Vc}
+use Rattle.upc_script.specs.ReplyTexts.{channel_name}
 
 -- A column, with the tab after it.
 abbrev pub in_column : List ℕ → List ℕ
@@ -64,10 +66,11 @@ answer_columns answer.NoMemory excess = codes "-\tNoMemory\t-\t-\n"
 abbrev pub priority_digit : Bool → ℕ
 priority_digit clp = if clp then 1 else 0
 
--- The line of a cell whose record has this number, which arrived at this moment on this connection with this cell loss priority.
-abbrev pub police_line : ℕ → ℕ → Vc → Bool → Answer → Option Excess → List ℕ
-police_line number moment vc clp given excess =
-    in_column (decimal number) ++ (in_column (decimal moment) ++ (in_column (decimal vc.vpi) ++ (in_column (decimal vc.vci)
+-- The line of a cell whose record has this number, which arrived at this moment on this connection of a card of this side with this cell loss
+-- priority.
+abbrev pub police_line : Side → ℕ → ℕ → Vc → Bool → Answer → Option Excess → List ℕ
+police_line side number moment vc clp given excess =
+    in_column (decimal number) ++ (in_column (decimal moment) ++ (in_column (decimal vc.vpi) ++ (in_column (channel_name side vc.vci)
     ++ (in_column (decimal (priority_digit clp)) ++ answer_columns given excess))))
 
 -- The verdict in an answer. A cell that isn't judged has none.

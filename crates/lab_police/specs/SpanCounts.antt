@@ -8,6 +8,7 @@ use Rattle.leaky.specs.declared.verdict.Verdict.{Verdict}
 use Rattle.leaky.specs.declared.verdict.Verdict.TheVariants.{Pass, Tag, Discard, Refuse}
 use Rattle.line_record.specs.Tally.{nothing}
 use Rattle.line_record.specs.declared.tally.Tally.{Tally}
+use Rattle.upc_cell.specs.declared.side.Side.{Side}
 use Rattle.upc_cell.specs.declared.vc.Vc.{Vc}
 use Rattle.lab_police.specs.ConnectionCounts.{counts_line}
 use Rattle.lab_police.specs.OrderNumber.{order_number}
@@ -62,9 +63,9 @@ span_rows (cell ∷ earlier) = with_judged_row (span_rows earlier) cell
 abbrev pub span_heading : List ℕ
 span_heading = codes "span\tmoment\tvpi\tvci\tpassed\ttagged\tdiscarded\trefused\n"
 
--- The line of a connection in a span that begins at this moment.
-abbrev pub span_line : ℕ → Vc × Tally → List ℕ
-span_line begin row = codes "span\t" ++ (in_column (decimal begin) ++ counts_line row.0 row.1)
+-- The line of a connection of a card of this side, in a span that begins at this moment.
+abbrev pub span_line : Side → ℕ → Vc × Tally → List ℕ
+span_line side begin row = codes "span\t" ++ (in_column (decimal begin) ++ counts_line side row.0 row.1)
 
 -- Whether a span with these rows has lines.
 abbrev pub has_rows : List (ℕ × (Vc × Tally)) → Bool
@@ -72,25 +73,26 @@ has_rows [] = false
 has_rows (row ∷ rows) = true
 
 -- The text about a span that begins at this moment and has these rows: a line for each, and before the first line of all the heading.
-abbrev pub rows_text : Bool → ℕ → List (ℕ × (Vc × Tally)) → List ℕ
-rows_text begun begin rows =
-    if has_rows rows then (if begun then [] else span_heading) ++ flat_map (span_line begin) (values_of rows) else []
+abbrev pub rows_text : Side → Bool → ℕ → List (ℕ × (Vc × Tally)) → List ℕ
+rows_text side begun begin rows =
+    if has_rows rows then (if begun then [] else span_heading) ++ flat_map (span_line side begin) (values_of rows) else []
 
--- The spans of a run: how many ticks each has, if they are written, the present one, those before, the latest first, and whether the heading
+-- The spans of a run: the side of its card, how many ticks each has, if they are written, the present one, those before, the latest first, and whether the heading
 -- was written.
 pub record SpansWorld : Type 0 where
+  pub side : Side
   pub ticks : Option ℕ
   pub present : TimeSpan
   pub ended : List TimeSpan
   pub begun : Bool
 
 -- The spans at first.
-abbrev pub spans_start : Option ℕ → SpansWorld
-spans_start ticks = record { ticks = ticks; present = record { begin = 0; cells = [] }; ended = []; begun = false }
+abbrev pub spans_start : Side → Option ℕ → SpansWorld
+spans_start side ticks = record { side = side; ticks = ticks; present = record { begin = 0; cells = [] }; ended = []; begun = false }
 
 -- The text about the present span.
 abbrev pub present_text : SpansWorld → List ℕ
-present_text spans = rows_text spans.begun spans.present.begin (span_rows spans.present.cells)
+present_text spans = rows_text spans.side spans.begun spans.present.begin (span_rows spans.present.cells)
 
 -- Whether the heading is written after the present span.
 abbrev pub is_begun_after : SpansWorld → Bool
@@ -99,6 +101,7 @@ is_begun_after spans = spans.begun || has_rows (span_rows spans.present.cells)
 -- The spans after the end of the present one. The next one begins at this moment.
 abbrev pub next_span : SpansWorld → ℕ → SpansWorld
 next_span spans begin = record {
+  side = spans.side;
   ticks = spans.ticks;
   present = record { begin = begin; cells = [] };
   ended = spans.present ∷ spans.ended;

@@ -31,11 +31,11 @@ count_in_spans vc verdict (span ∷ spans) = count_of (tally_of (verdicts_of vc 
 abbrev pub all_spans : SpansWorld → List TimeSpan
 all_spans spans = spans.present ∷ spans.ended
 
--- The spans of a run add up: what the line of a connection counts after the run is what it counted before, and the counts of the connection
--- in all spans.
+-- The spans of a run without commands add up: what the line of a connection counts after the run is what it counted before, and the counts of
+-- the connection in all spans.
 abbrev pub SpansAddUp : Type 0
 SpansAddUp = (scope : PoliceScope) (nanoseconds tick : ℕ) (card : Card) (cells : List CountedCell) (last : PoliceWorld) → scope.every ≡ Some nanoseconds
-    → IsLed card → RunsThrough police_rules (police_start scope tick card) cells last
+    → IsLed card → RunsThrough police_rules (police_start scope tick card []) cells last
     → (vc : Vc) (connection : Connection) → connection_in last.card.world.connections vc ≡ Some connection
     → (verdict : Verdict) → count_of (tally_of (last.card.world.verdicts connection.line)) verdict
     ≡ count_of (tally_of (card.world.verdicts connection.line)) verdict + count_in_spans vc verdict (all_spans last.spans)

@@ -1,6 +1,9 @@
 -- Definitions that only private functions and proofs use.
 pub mod SetUpCard
 pub mod CardArrival
+pub mod TimedScripts
+pub mod CommandsShown
+pub mod CommandLaws
 pub mod ExcessLeft
 pub mod SpansShown
 pub mod PoliceShown

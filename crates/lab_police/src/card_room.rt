@@ -3,10 +3,11 @@
 ghost use Rattle.std.specs.Prelude.{◌≡◌, ◌++◌, ◌||◌, [], nat_le, nat_lt, option_map, IfOk, OnOk};
 ghost use Rattle.text_io.specs.Limits.{most_input_lines, most_line_octets};
 ghost use Rattle.text_io.specs.Words.{words_of};
-ghost use Rattle.lab_police.specs.FilesRead.{files_read, has_room_left, is_retiring, octets_of_names, room_after, room_after_command, room_of_shape, with_file};
+ghost use Rattle.lab_police.specs.FilesRead.{files_read, files_read_plain, has_room_left, is_retiring, octets_of_names, room_after, room_after_command, room_of_shape, with_file};
 
 use crate::rules_lines::{name_within, rules_name};
 use crate::script_lines::next_line;
+use crate::timed_lines::{TimedScript, take_times};
 use card_core::Shape;
 use std::alloc::{AllocError, Global};
 use text_io::{LineWords, first_word, line_words};
@@ -135,14 +136,9 @@ fn add_file(
     Ok(())
 }
 
-/// Returns for each line `rules NAME` of a setup script, in order, the name of the file, or none if that file need not be read: the card
-/// can't have room for its program then, or the run ended before. docs/LAB.md has the format.
-///
-/// # Errors
-///
-/// `AllocError` if an allocation failed.
-pub fn files_read(alloc: Global, script: &[u8]) -> Result<Vec<Option<Vec<u8>>>, AllocError>
-    ensures { IfOk result (λ files. octets_of_names files.items ≡ files_read script.now) }
+/// Returns the names of the files of a script without its times.
+fn files_of_lines(alloc: Global, script: &[u8]) -> Result<Vec<Option<Vec<u8>>>, AllocError>
+    ensures { IfOk result (λ files. octets_of_names files.items ≡ files_read_plain script.now) }
 {
     let mut files = Vec::new(alloc);
     let mut room = CardRoom::Unopened;
@@ -158,4 +154,19 @@ pub fn files_read(alloc: Global, script: &[u8]) -> Result<Vec<Option<Vec<u8>>>, 
         left = rest;
     }
     Ok(files)
+}
+
+/// Returns for each line `rules NAME` of a setup script, in order, the name of the file, or none if that file need not be read: the card
+/// can't have room for its program then, or the run ended before. No file is read for a script whose times fall. docs/LAB.md has the format.
+///
+/// # Errors
+///
+/// `AllocError` if an allocation failed.
+pub fn files_read(alloc: Global, script: &[u8]) -> Result<Vec<Option<Vec<u8>>>, AllocError>
+    ensures { IfOk result (λ files. octets_of_names files.items ≡ files_read script.now) }
+{
+    match take_times(alloc, script)? {
+        TimedScript::Ready(script, _) => files_of_lines(alloc, &script),
+        TimedScript::Falls(_) => Ok(Vec::new(alloc)),
+    }
 }

@@ -2,6 +2,7 @@
 
 ghost use Rattle.std.specs.Prelude.{◌≡◌, ◌++◌, ℕ, List, [], None, OnOk, decimal, if◌then◌else◌};
 ghost use Rattle.card_core.specs.Sections.{answer_to, unjudged_answer};
+ghost use Rattle.upc_script.specs.ReplyTexts.{channel_name};
 ghost use Rattle.lab_police.specs.PoliceLines.{answer_columns, excess_columns, has_line, in_column, is_pass_answer, police_line, priority_digit, verdict_given, verdict_heading, verdict_word};
 
 use card_core::{Judgement, Unjudged};
@@ -9,7 +10,7 @@ use lab_captures::CellLines;
 use leaky::{Excess, Verdict};
 use line_record::LineFault;
 use std::alloc::AllocError;
-use upc_cell::{Cell, Vc};
+use upc_cell::{Cell, Side, Vc};
 use upc_words::{add_number, add_text};
 
 /// Appends the heading.
@@ -40,6 +41,21 @@ fn add_word_column(answers: &mut Vec<u8>, word: &[u8]) -> Result<(), AllocError>
     add_text(answers, word)?;
     answers.push(b'\t')?;
     Ok(())
+}
+
+/// Appends the channel of a connection, or `*` where connections are virtual paths, and a tab.
+pub(crate) fn add_channel_column(
+    answers: &mut Vec<u8>,
+    side: Side,
+    vci: u16,
+) -> Result<(), AllocError>
+    ensures { OnOk result (answers.new.items ≡ answers.old.items ++ in_column (channel_name side vci)) }
+{
+    if side.has_paths() {
+        add_word_column(answers, b"*")
+    } else {
+        add_number_column(answers, u64::from(vci))
+    }
 }
 
 /// Returns the word for a verdict.
@@ -112,25 +128,27 @@ fn digit_of(clp: bool) -> u64
 #[tactic(auto, using(std::proofs::lemmas::List::append_assoc))]
 fn add_arrival(
     answers: &mut Vec<u8>,
+    side: Side,
     number: u64,
     moment: u64,
     vc: Vc,
     clp: bool,
 ) -> Result<(), AllocError>
     ensures { (rest : List ℕ) → OnOk result (answers.new.items ++ rest ≡ answers.old.items ++ (in_column (decimal number)
-        ++ (in_column (decimal moment) ++ (in_column (decimal vc.vpi) ++ (in_column (decimal vc.vci)
+        ++ (in_column (decimal moment) ++ (in_column (decimal vc.vpi) ++ (in_column (channel_name side vc.vci)
         ++ (in_column (decimal (priority_digit clp)) ++ rest)))))) }
 {
     add_number_column(answers, number)?;
     add_number_column(answers, moment)?;
     add_number_column(answers, u64::from(vc.vpi))?;
-    add_number_column(answers, u64::from(vc.vci))?;
+    add_channel_column(answers, side, vc.vci)?;
     add_number_column(answers, digit_of(clp))
 }
 
 /// Appends the line of a cell.
 fn add_police_line(
     answers: &mut Vec<u8>,
+    side: Side,
     number: u64,
     moment: u64,
     vc: Vc,
@@ -139,9 +157,9 @@ fn add_police_line(
     excess: Option<Excess>,
 ) -> Result<(), AllocError>
     ensures { (cell : List ℕ) → OnOk result (answers.new.items ≡ answers.old.items
-        ++ police_line number moment vc clp (answer_to cell decision.now) excess) }
+        ++ police_line side number moment vc clp (answer_to cell decision.now) excess) }
 {
-    add_arrival(answers, number, moment, vc, clp)?;
+    add_arrival(answers, side, number, moment, vc, clp)?;
     add_answer(answers, decision, excess)
 }
 
@@ -149,6 +167,7 @@ fn add_police_line(
 #[tactic(auto, using(std::proofs::lemmas::List::append_assoc))]
 pub(crate) fn add_line(
     answers: &mut Vec<u8>,
+    side: Side,
     begun: bool,
     number: u64,
     moment: u64,
@@ -158,13 +177,13 @@ pub(crate) fn add_line(
     excess: Option<Excess>,
 ) -> Result<(), AllocError>
     ensures { (cell : List ℕ) → OnOk result (answers.new.items ≡ answers.old.items
-        ++ ((if begun then [] else verdict_heading) ++ police_line number moment vc clp (answer_to cell decision.now) excess)) }
+        ++ ((if begun then [] else verdict_heading) ++ police_line side number moment vc clp (answer_to cell decision.now) excess)) }
 {
     if begun {
-        return add_police_line(answers, number, moment, vc, clp, decision, excess);
+        return add_police_line(answers, side, number, moment, vc, clp, decision, excess);
     }
     add_verdict_heading(answers)?;
-    add_police_line(answers, number, moment, vc, clp, decision, excess)
+    add_police_line(answers, side, number, moment, vc, clp, decision, excess)
 }
 
 /// Returns whether a cell with this result has a line.

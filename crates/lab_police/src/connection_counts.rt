@@ -3,15 +3,16 @@
 ghost use Rattle.std.specs.Prelude.{◌≡◌, ◌<◌, ◌^◌, ◌++◌, List, ℕ, OnOk, codes, decimal};
 ghost use Rattle.card_core.specs.Agreement.{CoreAgrees};
 ghost use Rattle.card_core.specs.World.{World};
+ghost use Rattle.upc_script.specs.ReplyTexts.{channel_name};
 ghost use Rattle.lab_police.specs.PoliceLines.{in_column};
 ghost use Rattle.lab_police.specs.ConnectionCounts.{connection_counts, counts_heading, counts_line, counts_lines};
 ghost use Rattle.lab_police.specs.OrderNumber.{order_number};
 
-use crate::cell_lines::add_number_column;
+use crate::cell_lines::{add_channel_column, add_number_column};
 use card_core::Core;
 use line_record::Tally;
 use std::alloc::AllocError;
-use upc_cell::Vc;
+use upc_cell::{Side, Vc};
 use upc_words::{add_number, add_text};
 
 /// Appends the heading of the table.
@@ -23,13 +24,18 @@ fn add_counts_heading(answers: &mut Vec<u8>) -> Result<(), AllocError>
 
 /// Appends the columns of a connection before the last one.
 #[tactic(auto, using(std::proofs::lemmas::List::append_assoc))]
-fn add_first_counts(answers: &mut Vec<u8>, vc: Vc, counts: Tally) -> Result<(), AllocError>
+fn add_first_counts(
+    answers: &mut Vec<u8>,
+    side: Side,
+    vc: Vc,
+    counts: Tally,
+) -> Result<(), AllocError>
     ensures { (rest : List ℕ) → OnOk result (answers.new.items ++ rest ≡ answers.old.items ++ (in_column (decimal vc.vpi)
-        ++ (in_column (decimal vc.vci) ++ (in_column (decimal counts.passed) ++ (in_column (decimal counts.tagged)
+        ++ (in_column (channel_name side vc.vci) ++ (in_column (decimal counts.passed) ++ (in_column (decimal counts.tagged)
         ++ (in_column (decimal counts.discarded) ++ rest)))))) }
 {
     add_number_column(answers, u64::from(vc.vpi))?;
-    add_number_column(answers, u64::from(vc.vci))?;
+    add_channel_column(answers, side, vc.vci)?;
     add_number_column(answers, counts.passed)?;
     add_number_column(answers, counts.tagged)?;
     add_number_column(answers, counts.discarded)
@@ -47,12 +53,13 @@ fn add_last_count(answers: &mut Vec<u8>, count: u64) -> Result<(), AllocError>
 /// Appends the line of a connection.
 pub(crate) fn add_counts_line(
     answers: &mut Vec<u8>,
+    side: Side,
     vc: Vc,
     counts: Tally,
 ) -> Result<(), AllocError>
-    ensures { OnOk result (answers.new.items ≡ answers.old.items ++ counts_line vc counts) }
+    ensures { OnOk result (answers.new.items ≡ answers.old.items ++ counts_line side vc counts) }
 {
-    add_first_counts(answers, vc, counts)?;
+    add_first_counts(answers, side, vc, counts)?;
     add_last_count(answers, counts.refused)
 }
 
@@ -63,7 +70,7 @@ fn add_counts_of(answers: &mut Vec<u8>, core: &Core, vc: Vc) -> Result<(), Alloc
     let Some(state) = core.line_state(vc) else {
         return Ok(());
     };
-    add_counts_line(answers, vc, state.state.counts)
+    add_counts_line(answers, core.shape().side, vc, state.state.counts)
 }
 
 /// Returns the number of a connection in the order of path and channel.

@@ -22,6 +22,9 @@ mod shared_text;
 mod span_length;
 mod span_rows;
 mod spans;
+mod stored_commands;
+mod timed_card;
+mod timed_lines;
 
 pub use card_room::{CardRoom, files_read};
 pub use file_names::add_escaped_name;
@@ -32,3 +35,5 @@ pub use policing::{police_as_agreed, police_setup};
 pub use scope::PoliceScope;
 pub use setup_tick::{TicksDiffer, add_ticks_differ, agreed_tick, take_tick};
 pub use shared_text::SharedText;
+pub use stored_commands::{StoredCommand, StoredCommands};
+pub use timed_card::TimedCard;

@@ -2,6 +2,7 @@
 
 ghost use Rattle.std.specs.Prelude.{◌≡◌, ◌≢◌, ◌≤◌, ◌++◌, ◌||◌, List, ℕ, Err, IfOk, OnErr, OnOk, option_map};
 ghost use Rattle.card_core.specs.Sections.{answer_to};
+ghost use Rattle.text_io.specs.Lines.{lines_of};
 ghost use Rattle.card_core.specs.Agreement.{CoreAgrees};
 ghost use Rattle.card_core.specs.World.{Connection, World};
 ghost use Rattle.line_record.specs.History.{numbered};
@@ -10,7 +11,6 @@ ghost use Rattle.text_io.specs.Failures.{write_failures};
 ghost use Rattle.text_io.specs.Serving.{IsServed};
 ghost use Rattle.lab_police.specs.PoliceLines.{excess_of_answer};
 ghost use Rattle.lab_police.specs.PoliceText.{IsPoliceText, police_gap};
-ghost use Rattle.lab_police.specs.inner.CardArrival.{ArrivesWithRoom};
 ghost use Rattle.lab_police.specs.inner.ExcessLeft.{IsKeptOnLine, LeavesConnection, excess_left, first_met};
 ghost use Rattle.lab_police.specs.SpanCounts.{spans_start, ticks_of_span};
 ghost use Rattle.lab_police.specs.inner.PoliceShown.{AddsCell};
@@ -24,6 +24,8 @@ use crate::scope::PoliceScope;
 use crate::setting_up::{SetUp, set_up};
 use crate::span_length::SpanLength;
 use crate::spans::Spans;
+use crate::stored_commands::add_waiting;
+use crate::timed_card::TimedCard;
 use captures::{Fault, Tick};
 use card_core::{Core, Judgement, Unjudged};
 use lab_captures::{CellFollower, CellLines, CountedCell, PassedOver, add_closing, follow_cells};
@@ -32,27 +34,7 @@ use line_record::Line;
 use std::alloc::{AllocError, Global};
 use std::thread::Threads;
 use text_io::{Done, Input, Output, RunFault, Turn, give_last};
-use upc_cell::{Cell, Vc};
-
-/// The port that every cell of a capture enters.
-const PORT: u8 = 0;
-
-/// How many entries a journal has at most when a cell arrives. Nothing printed depends on it: so many entries of each connection stay in the
-/// processor's cache.
-const MOST_ENTRIES: usize = 64;
-
-/// Takes all steps of a cell at the port and returns its answer. A long journal of its connection is dropped first, so that it is never full.
-/// Returns None if the port has a cell; between cells it never has.
-#[inline(always)]
-pub(crate) fn arrive_with_room(
-    core: &mut Core,
-    cell: &Cell,
-    moment: u64,
-) -> Option<Result<Judgement, Unjudged>>
-    ensures { ArrivesWithRoom core.old cell.now moment (option_map (λ decision. answer_to cell.now decision) result) core.new }
-{
-    core.arrive_keeping(PORT, cell, moment, MOST_ENTRIES)
-}
+use upc_cell::{Cell, Side, Vc};
 
 /// Returns the item with this number, counted from 1, if there is one.
 fn numbered<T: Copy>(items: &[T], number: u32) -> Option<T>
@@ -116,6 +98,7 @@ fn excess_of(
 #[inline(always)]
 fn add_cell(
     answers: &mut Vec<u8>,
+    side: Side,
     lines: CellLines,
     begun: bool,
     number: u64,
@@ -125,19 +108,21 @@ fn add_cell(
     decision: &Result<Judgement, Unjudged>,
     core: &Core,
 ) -> Result<bool, AllocError>
-    ensures { (cell : List ℕ) → IfOk result (AddsCell lines begun number moment vc clp (answer_to cell decision.now) core.now
+    ensures { (cell : List ℕ) → IfOk result (AddsCell side lines begun number moment vc clp (answer_to cell decision.now) core.now
         answers.old.items answers.new.items) }
 {
     if !has_line(lines, decision) {
         return Ok(begun);
     }
     let excess = excess_of(core, vc, clp, decision);
-    add_line(answers, begun, number, moment, vc, clp, decision, excess)?;
+    add_line(
+        answers, side, begun, number, moment, vc, clp, decision, excess,
+    )?;
     Ok(true)
 }
 
 /// Appends an empty line if there are lines before it.
-fn add_gap(answers: &mut Vec<u8>, begun: bool) -> Result<(), AllocError>
+pub(crate) fn add_gap(answers: &mut Vec<u8>, begun: bool) -> Result<(), AllocError>
     ensures { OnOk result (answers.new.items ≡ answers.old.items ++ police_gap begun) }
 {
     if !begun {
@@ -147,11 +132,18 @@ fn add_gap(answers: &mut Vec<u8>, begun: bool) -> Result<(), AllocError>
     Ok(())
 }
 
-/// Returns whether lines are written before the table.
-fn has_lines_before(begun: bool, spans: &Spans) -> bool
-    ensures { result ≡ (begun || own_begun_after spans.now) }
+/// Returns whether one of both is true.
+fn either(one: bool, other: bool) -> bool
+    ensures { result ≡ (one || other) }
 {
-    begun || spans.is_begun_after()
+    one || other
+}
+
+/// Returns whether lines are written before the table.
+fn has_lines_before(begun: bool, spans: &Spans, commanded: bool) -> bool
+    ensures { result ≡ ((begun || own_begun_after spans.now) || commanded) }
+{
+    begun || spans.is_begun_after() || commanded
 }
 
 /// What is chosen for a run of `police`.
@@ -170,7 +162,9 @@ pub(crate) struct PoliceRun {
     lines: CellLines,
     /// How long a tick is.
     tick: Tick,
-    core: Core,
+    timed: TimedCard,
+    /// Whether commands were carried out.
+    commanded: bool,
     /// Whether the heading was written.
     begun: bool,
     spans: Spans,
@@ -196,13 +190,17 @@ impl CellFollower for PoliceRun {
     ) -> Result<Turn, AllocError> {
         let cell = &counted.cell;
         let moment = counted.moment;
-        let vc = cell.vc_at(self.core.shape().side);
+        let carried = self.timed.carry_out(moment, answers)?;
+        self.commanded = either(self.commanded, carried);
+        let side = self.timed.core().shape().side;
+        let vc = cell.vc_at(side);
         self.spans.go_on(moment, answers)?;
-        let Some(decision) = arrive_with_room(&mut self.core, cell, moment) else {
+        let Some(decision) = self.timed.arrive(cell, moment) else {
             return Ok(Turn::GoesOn);
         };
         self.begun = add_cell(
             answers,
+            side,
             self.lines,
             self.begun,
             counted.number,
@@ -210,7 +208,7 @@ impl CellFollower for PoliceRun {
             vc,
             cell.clp(),
             &decision,
-            &self.core,
+            self.timed.core(),
         )?;
         self.spans.count(vc, &decision)?;
         self.not_judged.count(counted.number, &decision);
@@ -224,9 +222,13 @@ impl CellFollower for PoliceRun {
         answers: &mut Vec<u8>,
     ) -> Result<(), AllocError> {
         self.spans.add_present(answers)?;
-        add_gap(answers, has_lines_before(self.begun, &self.spans))?;
-        add_counts(answers, &self.core)?;
+        add_gap(
+            answers,
+            has_lines_before(self.begun, &self.spans, self.commanded),
+        )?;
+        add_counts(answers, self.timed.core())?;
         add_not_judged(answers, &self.not_judged)?;
+        add_waiting(answers, &self.timed.commands)?;
         add_run_comments(answers, self.tick, passed)?;
         add_closing(answers, passed, ending)
     }
@@ -235,14 +237,14 @@ impl CellFollower for PoliceRun {
 }
 
 /// Returns the spans of a run at first.
-fn spans_of(alloc: Global, scope: PoliceScope, tick: Tick) -> Spans
-    ensures { ShowsSpans result (spans_start (option_map (λ nanoseconds. ticks_of_span nanoseconds tick.nanoseconds) scope.every)) }
+fn spans_of(alloc: Global, side: Side, scope: PoliceScope, tick: Tick) -> Spans
+    ensures { ShowsSpans result (spans_start side (option_map (λ nanoseconds. ticks_of_span nanoseconds tick.nanoseconds) scope.every)) }
 {
     let length = match scope.every {
         Some(nanoseconds) => Some(SpanLength::new(nanoseconds, tick)),
         None => None,
     };
-    Spans::new(alloc, length)
+    Spans::new(alloc, side, length)
 }
 
 /// Writes a text about faults in place of a policed capture.
@@ -260,7 +262,8 @@ pub fn write_faults<O: Output>(output: &mut O, mut text: Vec<u8>) -> Result<Done
     give_last(output, &mut text, Done::Ended)
 }
 
-/// Polices the cells of a capture by a card that a setup script opens. A script with a fault is explained, and nothing is policed. Cells
+/// Polices the cells of a capture by a card that a setup script opens, whose lines have these times, one for each. Lines with a time are
+/// carried out before the first cell at or after it. A script with a fault is explained, and nothing is policed. Cells
 /// count, and have their moments, as in `upc-lab cells`. Long journals are dropped, so that any number of cells is judged.
 /// A table has the counts of each connection. If spans are asked for, so have lines for each span of time, after the last of its cells.
 /// docs/LAB.md has the format.
@@ -278,23 +281,26 @@ pub fn police_capture<R: Threads, I: Input + Send, O: Output>(
     rt: &R,
     alloc: Global,
     setup: &[u8],
+    times: &[Option<u64>],
     choice: PoliceChoice,
     tick: Tick,
     input: &mut I,
     output: &mut O,
 ) -> Result<Done, RunFault>
-    ensures { IsServed (IsPoliceText choice.scope tick.nanoseconds setup.now) I.Input input.old input.new O.Output output.old output.new result }
+    ensures { IsServed (IsPoliceText choice.scope tick.nanoseconds setup.now times.now) I.Input input.old input.new O.Output output.old output.new result }
 {
-    match set_up(alloc, setup) {
+    match set_up(alloc, setup, times, tick) {
         Err(_) => Err(RunFault::NoMemory),
         Ok(SetUp::Faulty(text)) => write_faults(output, text),
-        Ok(SetUp::Ready(core)) => {
+        Ok(SetUp::Ready(timed)) => {
+            let spans = spans_of(alloc, timed.core().shape().side, choice.scope, tick);
             let mut run = PoliceRun {
                 lines: choice.scope.lines,
                 tick,
-                core,
+                timed,
+                commanded: false,
                 begun: false,
-                spans: spans_of(alloc, choice.scope, tick),
+                spans,
                 not_judged: NotJudged::none(),
             };
             follow_cells(

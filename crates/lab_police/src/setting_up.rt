@@ -2,21 +2,24 @@
 
 ghost use Rattle.std.specs.Prelude.{IfOk, IfSome, IfNone};
 ghost use Rattle.lab_scripts.specs.ScriptText.{IsScriptExplained};
-ghost use Rattle.lab_police.specs.inner.SetUpCard.{LeadsScriptTo, IsSetUpAs, RunsWhole};
+ghost use Rattle.lab_police.specs.PoliceText.{IsFaultOfEither};
+ghost use Rattle.lab_police.specs.inner.SetUpCard.{IsSetUpAs, LeadsScriptTo, RunsWhole};
 
-use card_core::Core;
+use crate::stored_commands::{before_times, commands_at};
+use crate::timed_card::TimedCard;
+use captures::Tick;
 use lab_scripts::explain_script;
 use std::alloc::{AllocError, Global};
 use text_io::{Done, ReaderInput, WriterOutput, answer_lines};
-use upc_run::Policing;
+use upc_run::{Policing, ScriptCard};
 
 /// What a setup script leads to.
 #[derive(Drop)]
 pub(crate) enum SetUp {
     /// It has faults, which this text explains.
     Faulty(Vec<u8>),
-    /// A card.
-    Ready(Core),
+    /// A card, and the commands that wait.
+    Ready(TimedCard),
 }
 
 /// Returns the explanation of the faults of a script, if it has any.
@@ -33,17 +36,33 @@ fn faults_of(alloc: Global, script: &[u8]) -> Result<Option<Vec<u8>>, AllocError
     }
 }
 
+/// Returns the explanation of the faults of a script whose lines have these times, of which `before` are those before the first time.
+fn faults_at_times(
+    alloc: Global,
+    script: &[u8],
+    before: &[u8],
+) -> Result<Option<Vec<u8>>, AllocError>
+    ensures faulty { IfOk result (λ found. IfSome found (λ text. IsFaultOfEither script.now before.now text.items)) }
+    ensures faultless { IfOk result (λ found. IfNone found (RunsWhole script.now)) }
+    ensures faultless_before { IfOk result (λ found. IfNone found (RunsWhole before.now)) }
+{
+    if let Some(text) = faults_of(alloc, script)? {
+        return Ok(Some(text));
+    }
+    faults_of(alloc, before)
+}
+
 /// Returns the card that a script without a fault leads to.
-fn card_of(alloc: Global, script: &[u8]) -> Result<Core, AllocError>
+fn card_of(alloc: Global, script: &[u8]) -> Result<ScriptCard, AllocError>
     requires { RunsWhole script.now }
-    ensures { IfOk result (λ core. IsSetUpAs script.now core) }
+    ensures { IfOk result (λ card. IsSetUpAs script.now card) }
 {
     let mut input = ReaderInput::new(script);
     let mut output = WriterOutput::new(Vec::new(alloc));
     let mut policing = Policing::new(alloc);
     match answer_lines(alloc, &mut input, &mut output, &mut policing) {
-        Ok(Done::Whole) => match policing.into_core() {
-            Some(core) => Ok(core),
+        Ok(Done::Whole) => match policing.into_card() {
+            Some(card) => Ok(card),
             None => unreachable!(),
         },
         Ok(Done::Ended) => unreachable!(),
@@ -51,13 +70,24 @@ fn card_of(alloc: Global, script: &[u8]) -> Result<Core, AllocError>
     }
 }
 
-/// Carries out a setup script.
-pub(crate) fn set_up(alloc: Global, script: &[u8]) -> Result<SetUp, AllocError>
-    ensures { IfOk result (LeadsScriptTo script.now) }
+/// Carries out a setup script up to its first time. The commands after it wait.
+pub(crate) fn set_up(
+    alloc: Global,
+    script: &[u8],
+    times: &[Option<u64>],
+    tick: Tick,
+) -> Result<SetUp, AllocError>
+    ensures { IfOk result (LeadsScriptTo tick.nanoseconds script.now times.now) }
 {
-    if let Some(text) = faults_of(alloc, script)? {
+    let before = before_times(script, times);
+    if let Some(text) = faults_at_times(alloc, script, before)? {
         return Ok(SetUp::Faulty(text));
     }
-    let core = card_of(alloc, script)?;
-    Ok(SetUp::Ready(core))
+    let card = card_of(alloc, before)?;
+    let commands = commands_at(alloc, tick, times, script)?;
+    Ok(SetUp::Ready(TimedCard {
+        alloc,
+        card,
+        commands,
+    }))
 }

@@ -11,7 +11,7 @@ use leaky::Verdict;
 use line_record::Tally;
 use std::alloc::AllocError;
 use std::collections::BTreeMap;
-use upc_cell::Vc;
+use upc_cell::{Side, Vc};
 use upc_words::add_text;
 
 /// The connections that have cells in a span, by their numbers in the order of path and channel, each with its counts.
@@ -66,20 +66,30 @@ fn add_span_heading(answers: &mut Vec<u8>) -> Result<(), AllocError>
 
 /// Appends the line of a connection in a span that begins at this moment.
 #[tactic(auto, using(std::proofs::lemmas::List::append_assoc))]
-fn add_span_line(answers: &mut Vec<u8>, begin: u64, row: &(Vc, Tally)) -> Result<(), AllocError>
-    ensures { OnOk result (answers.new.items ≡ answers.old.items ++ span_line begin row.now) }
+fn add_span_line(
+    answers: &mut Vec<u8>,
+    side: Side,
+    begin: u64,
+    row: &(Vc, Tally),
+) -> Result<(), AllocError>
+    ensures { OnOk result (answers.new.items ≡ answers.old.items ++ span_line side begin row.now) }
 {
     add_text(answers, b"span\t")?;
     add_number_column(answers, begin)?;
-    add_counts_line(answers, row.0, row.1)
+    add_counts_line(answers, side, row.0, row.1)
 }
 
 /// Appends the lines of all these connections.
-fn add_lines(answers: &mut Vec<u8>, begin: u64, rows: &SpanRows) -> Result<(), AllocError>
-    ensures { OnOk result (answers.new.items ≡ answers.old.items ++ flat_map (span_line begin) (values_of rows.now.entries)) }
+fn add_lines(
+    answers: &mut Vec<u8>,
+    side: Side,
+    begin: u64,
+    rows: &SpanRows,
+) -> Result<(), AllocError>
+    ensures { OnOk result (answers.new.items ≡ answers.old.items ++ flat_map (span_line side begin) (values_of rows.now.entries)) }
 {
     for row in rows.values() {
-        add_span_line(answers, begin, row)?;
+        add_span_line(answers, side, begin, row)?;
     }
     Ok(())
 }
@@ -88,11 +98,12 @@ fn add_lines(answers: &mut Vec<u8>, begin: u64, rows: &SpanRows) -> Result<(), A
 #[tactic(auto, using(std::proofs::lemmas::List::append_assoc))]
 pub(crate) fn add_rows(
     answers: &mut Vec<u8>,
+    side: Side,
     begun: bool,
     begin: u64,
     rows: &SpanRows,
 ) -> Result<(), AllocError>
-    ensures { OnOk result (answers.new.items ≡ answers.old.items ++ rows_text begun begin rows.now.entries) }
+    ensures { OnOk result (answers.new.items ≡ answers.old.items ++ rows_text side begun begin rows.now.entries) }
 {
     if rows.is_empty() {
         return Ok(());
@@ -100,5 +111,5 @@ pub(crate) fn add_rows(
     if !begun {
         add_span_heading(answers)?;
     }
-    add_lines(answers, begin, rows)
+    add_lines(answers, side, begin, rows)
 }

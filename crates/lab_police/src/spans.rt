@@ -11,11 +11,13 @@ use crate::span_rows::{SpanRows, add_rows, count_row};
 use card_core::{Judgement, Unjudged};
 use std::alloc::{AllocError, Global};
 use std::collections::BTreeMap;
-use upc_cell::Vc;
+use upc_cell::{Side, Vc};
 
 /// The spans of time of a run. Memory is that of the rows of one span, of which a connection has one.
 #[derive(Drop)]
 pub(crate) struct Spans {
+    /// The side of the card.
+    side: Side,
     /// How long a span is, if spans are written.
     length: Option<SpanLength>,
     /// The moment at which the present span begins.
@@ -28,10 +30,11 @@ pub(crate) struct Spans {
 
 impl Spans {
     /// Begins the first span.
-    pub(crate) fn new(alloc: Global, length: Option<SpanLength>) -> Spans
-        ensures { ShowsSpans result (spans_start (length_ticks length)) }
+    pub(crate) fn new(alloc: Global, side: Side, length: Option<SpanLength>) -> Spans
+        ensures { ShowsSpans result (spans_start side (length_ticks length)) }
     {
         Spans {
+            side,
             length,
             begin: 0,
             rows: BTreeMap::new(alloc),
@@ -54,7 +57,7 @@ impl Spans {
     pub(crate) fn add_present(&self, answers: &mut Vec<u8>) -> Result<(), AllocError>
         ensures { OnOk result (answers.new.items ≡ answers.old.items ++ own_text self.now) }
     {
-        add_rows(answers, self.begun, self.begin, &self.rows)
+        add_rows(answers, self.side, self.begun, self.begin, &self.rows)
     }
 
     /// Returns whether the heading is written after the present span.

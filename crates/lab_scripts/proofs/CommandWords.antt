@@ -8,7 +8,7 @@ use Rattle.upc_cell.specs.Side.{last_vpi}
 use Rattle.upc_cell.specs.declared.side.Side.{Side}
 use Rattle.upc_cell.specs.declared.vc.Vc.{Vc}
 use Rattle.upc_script.specs.ScriptCommands.{Command, cell, cell_of_words, command_of, contracts_of, cut, cut_of, load_of, only_vc, release, release_of, reload_of, reload_with, retire, retire_of, connection_and_program, setup_of, setup_with}
-use Rattle.upc_script.specs.ScriptWords.{connection_of, number_of_digits, number_up_to, program_of, vc_named, wanted_of, wanted_of_each, with_both}
+use Rattle.upc_script.specs.ScriptWords.{channel_named, connection_of, number_of_digits, number_up_to, program_of, vc_named, wanted_of, wanted_of_each, with_both}
 use Rattle.upc_script.specs.declared.script_words.Wanted.{Wanted}
 use Rattle.lab_scripts.proofs.WordsFound.{finds_words}
 use Rattle.lab_scripts.specs.CommandFits.{CommandsFit, fits_command, fits_form, least_words}
@@ -97,7 +97,7 @@ and_apart false b c = refl
 
 module _ (side : Side) where
   some_vc : (path channel : List ℕ) → is_some (vc_named side path channel) ≡ (fits_script_slot side slot.Path path && fits_script_slot side slot.Channel channel)
-  some_vc path channel = some_both connection_of (number_up_to (last_vpi side) path) (number_up_to 65535 channel)
+  some_vc path channel = some_both connection_of (number_up_to (last_vpi side) path) (channel_named side channel)
 
   some_seat : (path channel name : List ℕ)
       → is_some (connection_and_program side path channel name) ≡ (fits_script_slot side slot.Path path && (fits_script_slot side slot.Channel channel && fits_script_slot side slot.Program name))

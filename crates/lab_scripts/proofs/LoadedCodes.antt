@@ -222,16 +222,16 @@ module _ (before after : Card) (text digits : List ℕ) where
     load_replied : (found : Option DeskFault) (reply : Reply)
         → MatchOption (option_map (λ fault. NotLoaded fault code) found) (Succeeds before.world (Load code) reply after.world ⊎ FindsNoMemory before.world (Load code) reply after.world)
         (λ refused. IsRefused before.world (Load code) refused reply after.world)
-        → reply_text (load digits) (length before.names) reply ≡ Some text → Follows
+        → reply_text before.world.shape.side (load digits) (length before.names) reply ≡ Some text → Follows
     load_replied None reply (inl done) says =
         let e : Some (line (codes "loaded " ++ program_name (suc (length before.names)))) ≡ Some text =
-        ap (reply_text (load digits) (length before.names)) (sym done.answer) ∙ says in
+        ap (reply_text before.world.shape.side (load digits) (length before.names)) (sym done.answer) ∙ says in
         let is : line (codes "loaded " ++ program_name (suc (length before.names))) ≡ text = cc in
         loaded (is_loaded_answer text) digits octets code (card_codes before) (card_codes after) (subst (λ (xs : List ℕ). is_loaded_answer xs ≡ true) is refl) read spells
         (ap (λ (world : World). codes_in_order world.loaded) done.world)
     load_replied None reply (inr none) says = let no : None ≡ Some reply = none.answer in absurd cc
     load_replied (Some fault) reply refused says =
-        let e : desk_fault fault ≡ Some text = ap (reply_text (load digits) (length before.names)) (sym refused.answer) ∙ says in
+        let e : desk_fault fault ≡ Some text = ap (reply_text before.world.shape.side (load digits) (length before.names)) (sym refused.answer) ∙ says in
         unloaded (is_loaded_answer text) (Some digits) (card_codes before) (card_codes after) (named_other (desk_name fault) text e)
         (ap (λ (world : World). codes_in_order world.loaded) refused.world)
 

@@ -50,18 +50,18 @@ runs-over : (met : ℕ) (run : RunWorld) (line : Line) (lines : List Line) → i
 runs-over met run line lines over = rw over (refl, refl)
 
 abbrev answered_line : ScriptWorld → Line → List ℕ → AnsweredLine
-answered_line world line answer = record { programs = loaded_programs world.run; side = run_side world.run; number = one_line_more world.met; content = line_content line; answer = answer }
+answered_line world line answer = record { programs = loaded_programs world.run; faulty = world.faulty; side = run_side world.run; number = one_line_more world.met; content = line_content line; answer = answer }
 
 -- One line more.
 names-more : (one : AnsweredLine) (answers text : List ℕ) → NamesFaultsAt answers text
-    → NamesFaultsAt (one.answer ++ answers) (explained one.programs one.side one.number one.content one.answer ++ text)
+    → NamesFaultsAt (one.answer ++ answers) (explained one.programs one.faulty one.side one.number one.content one.answer ++ text)
 names-more one answers text names = record {
   lines = one ∷ names.lines;
   last = names.last;
   more = names.more;
   answered = ap (λ (xs : List ℕ). one.answer ++ xs) names.answered ∙ sym (append_assoc one.answer (answers_of names.lines) names.last);
-  explains = ap (λ (xs : List ℕ). explained one.programs one.side one.number one.content one.answer ++ xs) names.explains
-      ∙ sym (append_assoc (explained one.programs one.side one.number one.content one.answer) (explained_of names.lines) (names.last ++ names.more));
+  explains = ap (λ (xs : List ℕ). explained one.programs one.faulty one.side one.number one.content one.answer ++ xs) names.explains
+      ∙ sym (append_assoc (explained one.programs one.faulty one.side one.number one.content one.answer) (explained_of names.lines) (names.last ++ names.more));
 }
 
 nothing-more : NamesFaultsAt [] []
@@ -71,14 +71,14 @@ module _ (met : ℕ) (world : ScriptWorld) (line : Line) (lines : List Line) (te
     (within : is_over met line ≡ false)
     (later : (next : ScriptWorld) → Prints script_rules (met + 1) next lines more done → NamesRun (met + 1) next.run lines more) where
   line-names : (answer : List ℕ) (after : Option RunWorld) (next : Option ScriptWorld) → RunSteps world.run (line_content line) answer after
-      → here ≡ explained (loaded_programs world.run) (run_side world.run) (one_line_more world.met) (line_content line) answer → next ≡ option_map (after_answer world answer) after
+      → here ≡ explained (loaded_programs world.run) world.faulty (run_side world.run) (one_line_more world.met) (line_content line) answer → next ≡ option_map (after_answer world answer) after
       → MatchOption next ((more ≡ []) × (done ≡ Ended)) (λ world'. Prints script_rules (met + 1) world' lines more done)
       → NamesRun met world.run (line ∷ lines) text
   line-names answer None next steps e to rest =
       let End : Option ScriptWorld → Type 0 = λ next. MatchOption next ((more ≡ []) × (done ≡ Ended)) (λ world'. Prints script_rules (met + 1) world' lines more done) in
       let ends = subst End to rest in
       let one = answered_line world line answer in
-      let same : here ++ more ≡ explained one.programs one.side one.number one.content answer ++ [] = ap (λ (xs : List ℕ). xs ++ more) e ∙ ap (λ (xs : List ℕ). explained one.programs one.side one.number one.content answer ++ xs) ends.0 in
+      let same : here ++ more ≡ explained one.programs one.faulty one.side one.number one.content answer ++ [] = ap (λ (xs : List ℕ). xs ++ more) e ∙ ap (λ (xs : List ℕ). explained one.programs one.faulty one.side one.number one.content answer ++ xs) ends.0 in
       record {
         answers = answer ++ [];
         ended = Ended;
@@ -89,7 +89,7 @@ module _ (met : ℕ) (world : ScriptWorld) (line : Line) (lines : List Line) (te
       let End : Option ScriptWorld → Type 0 = λ next. MatchOption next ((more ≡ []) × (done ≡ Ended)) (λ world'. Prints script_rules (met + 1) world' lines more done) in
       let next_names = later (after_answer world answer run) (subst End to rest) in
       let one = answered_line world line answer in
-      let same : here ++ more ≡ explained one.programs one.side one.number one.content answer ++ more = ap (λ (xs : List ℕ). xs ++ more) e in
+      let same : here ++ more ≡ explained one.programs one.faulty one.side one.number one.content answer ++ more = ap (λ (xs : List ℕ). xs ++ more) e in
       record {
         answers = answer ++ next_names.answers;
         ended = next_names.ended;

@@ -18,14 +18,15 @@ use Rattle.lab_scripts.specs.inner.ScriptLaws.{ShowsScript}
 module _ (Shows Shows' : RunWorld → Type 0) (met : ℕ) (faulty : Bool) (programs programs' : List NamesNone) (line answer old new : List ℕ) (side : Option Side)
     (is_side : (world : RunWorld) → Shows world → side ≡ run_side world) (kept : ProgramsAfter (loaded_digits side line answer) programs programs') where
   abbrev text : List ℕ
-  text = explained programs side (one_line_more met) line answer
+  text = explained programs faulty side (one_line_more met) line answer
 
   same_text : (world : ScriptWorld) → ShowsScript Shows met faulty programs world
-      → text ≡ explained (loaded_programs world.run) (run_side world.run) (one_line_more world.met) line answer
+      → text ≡ explained (loaded_programs world.run) world.faulty (run_side world.run) (one_line_more world.met) line answer
   same_text world shown =
-      ap (λ (ps : List NamesNone). explained ps side (one_line_more met) line answer) shown.keeps
-      ∙ ap (λ (s : Option Side). explained (loaded_programs world.run) s (one_line_more met) line answer) (is_side world.run shown.runs)
-      ∙ ap (λ (n : ℕ). explained (loaded_programs world.run) (run_side world.run) (one_line_more n) line answer) (sym shown.counts)
+      ap (λ (ps : List NamesNone). explained ps faulty side (one_line_more met) line answer) shown.keeps
+      ∙ ap (λ (s : Option Side). explained (loaded_programs world.run) faulty s (one_line_more met) line answer) (is_side world.run shown.runs)
+      ∙ ap (λ (n : ℕ). explained (loaded_programs world.run) faulty (run_side world.run) (one_line_more n) line answer) (sym shown.counts)
+      ∙ ap (λ (b : Bool). explained (loaded_programs world.run) b (run_side world.run) (one_line_more world.met) line answer) (sym shown.blames)
 
   kept_on : (world : ScriptWorld) → ShowsScript Shows met faulty programs world → ProgramsAfter (loaded_digits (run_side world.run) line answer) programs programs'
   kept_on world shown = subst (λ (s : Option Side). ProgramsAfter (loaded_digits s line answer) programs programs') (is_side world.run shown.runs) kept
@@ -56,7 +57,7 @@ pub turn-explained : (Shows Shows' : RunWorld → Type 0) (met : ℕ) (faulty : 
     (turn : Turn) (start looked read loading : List ℕ) (number : ℕ) (faulty' : Bool)
     → ((world : RunWorld) → Shows world → side ≡ run_side world) → start ≡ [] → looked ≡ answer → read ≡ answer → loading ≡ answer → listed ≡ programs
     → number ≡ one_line_more met → faulty' ≡ (faulty || is_fault_line looked) → Answers run_rules Shows line turn Shows' start answer
-    → new ≡ old ++ explained listed side number line read → ProgramsAfter (loaded_digits side line loading) programs programs'
+    → new ≡ old ++ explained listed faulty side number line read → ProgramsAfter (loaded_digits side line loading) programs programs'
     → Answers script_rules (ShowsScript Shows met faulty programs) line turn (ShowsScript Shows' number faulty' programs') old new
 turn-explained Shows Shows' met faulty programs programs' listed line answer old new side turn start looked read loading number faulty' is_side empty same same' same'' list counted blamed answers added
     keeps =
@@ -64,8 +65,8 @@ turn-explained Shows Shows' met faulty programs programs' listed line answer old
     let Counted : ℕ → Type 0 = λ n. Answers script_rules (ShowsScript Shows met faulty programs) line turn (ShowsScript Shows' n (faulty || is_fault_line answer) programs') old new in
     let first = subst (λ (xs : List ℕ). Answers run_rules Shows line turn Shows' xs answer) empty answers in
     let kept = subst (λ (xs : List ℕ). ProgramsAfter (loaded_digits side line xs) programs programs') same'' keeps in
-    let now : new ≡ old ++ explained programs side (one_line_more met) line answer =
-    added ∙ ap (λ (ps : List NamesNone). old ++ explained ps side number line read) list ∙ ap (λ (n : ℕ). old ++ explained programs side n line read) counted
-    ∙ ap (λ (xs : List ℕ). old ++ explained programs side (one_line_more met) line xs) same' in
+    let now : new ≡ old ++ explained programs faulty side (one_line_more met) line answer =
+    added ∙ ap (λ (ps : List NamesNone). old ++ explained ps faulty side number line read) list ∙ ap (λ (n : ℕ). old ++ explained programs faulty side n line read) counted
+    ∙ ap (λ (xs : List ℕ). old ++ explained programs faulty side (one_line_more met) line xs) same' in
     subst Blamed (sym (blamed ∙ ap (λ (xs : List ℕ). faulty || is_fault_line xs) same))
     (subst Counted (sym counted) (explained-here Shows Shows' met faulty programs programs' line answer old new side is_side kept turn first now))

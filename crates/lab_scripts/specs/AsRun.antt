@@ -1,14 +1,15 @@
 -- What is proved of the faults that `upc-lab explain` names in a script.
-use Rattle.std.specs.Prelude.{◌≡◌, ℕ, List, ◌++◌, flat_map, Option}
+use Rattle.std.specs.Prelude.{◌≡◌, ℕ, Bool, List, ◌++◌, flat_map, Option}
 use Rattle.text_io.specs.declared.ending.Done.{Done}
 use Rattle.upc_cell.specs.declared.side.Side.{Side}
 use Rattle.upc_run.specs.RunText.{IsRunText}
 use Rattle.lab_scripts.specs.ScriptText.{IsScriptExplained, explained}
 use Rattle.lab_scripts.specs.declared.contract_numbers.NamesNone.{NamesNone}
 
--- A line of a script, the programs loaded and the side of the card before it, and the answer of `run` to it.
+-- A line of a script, the programs loaded, whether a line had a fault, and the side of the card before it, and the answer of `run` to it.
 pub record AnsweredLine : Type 0 where
   pub programs : List NamesNone
+  pub faulty : Bool
   pub side : Option Side
   pub number : ℕ
   pub content : List ℕ
@@ -20,7 +21,7 @@ answers_of lines = flat_map (λ line. line.answer) lines
 
 -- What `explain` prints for these lines: for each fault line that line and its explanation, and for any other a hint or nothing.
 abbrev pub explained_of : List AnsweredLine → List ℕ
-explained_of lines = flat_map (λ line. explained line.programs line.side line.number line.content line.answer) lines
+explained_of lines = flat_map (λ line. explained line.programs line.faulty line.side line.number line.content line.answer) lines
 
 -- Both texts come from the same answers of `run` to the same lines. After them `run` answers the end of the script, or a line over the
 -- limits, and `explain` prints the same and then perhaps a sentence.

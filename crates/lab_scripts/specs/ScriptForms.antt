@@ -5,7 +5,7 @@ use Rattle.std.specs.Str.{bytes_eq}
 use Rattle.upc_card_lines.specs.CardLine.{side_of}
 use Rattle.upc_cell.specs.Side.{last_vpi}
 use Rattle.upc_cell.specs.declared.side.Side.{Side}
-use Rattle.upc_script.specs.ScriptWords.{number_of_digits, number_up_to, program_of, wanted_of}
+use Rattle.upc_script.specs.ScriptWords.{channel_named, number_of_digits, number_up_to, program_of, wanted_of}
 use Rattle.lab_scripts.specs.FoundWords.{word_octets}
 use Rattle.lab_scripts.specs.declared.forms.ScriptForm.{ScriptForm}
 use Rattle.lab_scripts.specs.declared.forms.ScriptForm.TheVariants as form
@@ -33,9 +33,9 @@ abbrev pub command_form : List ℕ → List (List ℕ × ScriptForm) → Option 
 command_form word [] = None
 command_form word (row ∷ rows) = if bytes_eq word row.0 then Some row.1 else command_form word rows
 
--- The words that may follow, in order. Of the contracts one is enough, and the side may be left out.
+-- The words that may follow, in order. Of the contracts one is enough. The side may be left out, and so may `paths` after it.
 abbrev pub slots_after : ScriptForm → List ScriptSlot
-slots_after form.Opening = slot.Size ∷ slot.Size ∷ slot.Size ∷ slot.Size ∷ slot.Side ∷ []
+slots_after form.Opening = slot.Size ∷ slot.Size ∷ slot.Size ∷ slot.Size ∷ slot.Side ∷ slot.Paths ∷ []
 slots_after form.Loading = slot.Digits ∷ []
 slots_after form.Retiring = slot.Program ∷ []
 slots_after form.Setting =
@@ -53,8 +53,9 @@ side_or_user (Some side) = side
 abbrev pub fits_script_slot : Side → ScriptSlot → List ℕ → Bool
 fits_script_slot side slot.Size word = is_some (number_of_digits word)
 fits_script_slot side slot.Side word = is_some (side_of word)
+fits_script_slot side slot.Paths word = bytes_eq word (codes "paths")
 fits_script_slot side slot.Path word = is_some (number_up_to (last_vpi side) word)
-fits_script_slot side slot.Channel word = is_some (number_up_to 65535 word)
+fits_script_slot side slot.Channel word = is_some (channel_named side word)
 fits_script_slot side slot.Program word = is_some (program_of word)
 fits_script_slot side slot.Contract word = is_some (wanted_of word)
 fits_script_slot side slot.Moment word = is_some (number_of_digits word)

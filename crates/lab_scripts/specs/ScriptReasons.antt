@@ -1,5 +1,5 @@
 -- The explanation of a fault line: where the fault is, and what is wrong there.
-use Rattle.std.specs.Prelude.{ℕ, ◌+◌, ◌-◌, Bool, true, false, if◌then◌else◌, List, [], ◌∷◌, ◌++◌, codes, drop, length, slice_get, Option, Some, None}
+use Rattle.std.specs.Prelude.{ℕ, ◌+◌, ◌-◌, Bool, true, false, ◌&&◌, if◌then◌else◌, List, [], ◌∷◌, ◌++◌, codes, drop, length, slice_get, Option, Some, None}
 use Rattle.std.specs.Option.{is_some}
 use Rattle.std.specs.Str.{bytes_eq}
 use Rattle.upc_cell.specs.declared.side.Side.{Side}
@@ -172,11 +172,26 @@ abbrev pub fault_sentence : Option Side → List ℕ → List FoundWord → Opti
 fault_sentence side content words None = []
 fault_sentence side content words (Some fault) = if is_no_command fault then wrong_sentence side content words else own_sentence fault content words
 
--- The explanation of a fault: the number of its line, the column of the word that is wrong, and a sentence.
-abbrev pub fault_explanation : Option Side → ℕ → List ℕ → List FoundWord → Option ScriptFault → List ℕ
-fault_explanation side number content words found =
-    place_words number (word_column (blamed_word side content words found)) ++ line (fault_sentence side content words found)
+-- Whether a fault may come from an earlier line that was not carried out: its program wasn't loaded, or its connection wasn't set up.
+abbrev pub may_follow : ScriptFault → Bool
+may_follow fault.NoProgram = true
+may_follow fault.NoConnection = true
+may_follow fault.CellUnknown = true
+may_follow _ = false
 
--- The explanation of a fault line, on a card of this side or before there is one.
-abbrev pub script_explanation : Option Side → ℕ → List ℕ → List ℕ → List ℕ
-script_explanation side number content answer = fault_explanation side number content (found_words content) (explained_fault answer)
+-- What follows the sentence about such a fault, if an earlier line has a fault.
+abbrev pub follows_text : Bool → Option ScriptFault → List ℕ
+follows_text faulty None = []
+follows_text faulty (Some fault) = if faulty && may_follow fault then codes "; an earlier line with a fault may be the reason" else []
+
+-- The explanation of a fault: the number of its line, the column of the word that is wrong, and a sentence. `faulty` says whether an earlier
+-- line has a fault.
+abbrev pub fault_explanation : Bool → Option Side → ℕ → List ℕ → List FoundWord → Option ScriptFault → List ℕ
+fault_explanation faulty side number content words found =
+    place_words number (word_column (blamed_word side content words found))
+    ++ line (fault_sentence side content words found ++ follows_text faulty found)
+
+-- The explanation of a fault line, on a card of this side or before there is one, after a line with a fault or without.
+abbrev pub script_explanation : Bool → Option Side → ℕ → List ℕ → List ℕ → List ℕ
+script_explanation faulty side number content answer =
+    fault_explanation faulty side number content (found_words content) (explained_fault answer)

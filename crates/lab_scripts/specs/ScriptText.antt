@@ -27,10 +27,10 @@ abbrev pub one_line_more : ℕ → ℕ
 one_line_more met = min (met + 1) 18446744073709551615
 
 -- The text for a line of this number with this answer of `run`, on a card of this side or before there is one, after these programs
--- were loaded: the fault line and its explanation, or for an answer without a fault perhaps a hint.
-abbrev pub explained : List NamesNone → Option Side → ℕ → List ℕ → List ℕ → List ℕ
-explained programs side number content answer =
-    if is_fault_line answer then answer ++ script_explanation side number content answer else setup_hint programs number content
+-- were loaded and a line had a fault or none had: the fault line and its explanation, or for an answer without a fault perhaps a hint.
+abbrev pub explained : List NamesNone → Bool → Option Side → ℕ → List ℕ → List ℕ → List ℕ
+explained programs faulty side number content answer =
+    if is_fault_line answer then answer ++ script_explanation faulty side number content answer else setup_hint programs number content
 
 -- The world after a line with this answer, if `run` goes on.
 abbrev pub after_answer : ScriptWorld → List ℕ → RunWorld → ScriptWorld
@@ -44,7 +44,7 @@ after_answer world answer next = record {
 abbrev pub ExplainsLine : ScriptWorld → List ℕ → List ℕ → Option ScriptWorld → Type 0
 ExplainsLine world content text next =
     (answer : List ℕ) × (after : Option RunWorld) × RunSteps world.run content answer after
-    × (text ≡ explained (loaded_programs world.run) (run_side world.run) (one_line_more world.met) content answer) × (next ≡ option_map (after_answer world answer) after)
+    × (text ≡ explained (loaded_programs world.run) world.faulty (run_side world.run) (one_line_more world.met) content answer) × (next ≡ option_map (after_answer world answer) after)
 
 -- A number of lines, in words.
 abbrev pub lines_text : ℕ → List ℕ

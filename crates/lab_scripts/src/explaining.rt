@@ -45,31 +45,33 @@ fn add_no_fault(answers: &mut Vec<u8>, met: usize) -> Result<(), AllocError>
 fn add_fault(
     alloc: Global,
     answers: &mut Vec<u8>,
+    faulty: bool,
     side: Option<Side>,
     number: usize,
     line: &[u8],
     answer: &[u8],
 ) -> Result<(), AllocError>
-    ensures { OnOk result (answers.new.items ≡ answers.old.items ++ (answer.now ++ script_explanation side number line.now answer.now)) }
+    ensures { OnOk result (answers.new.items ≡ answers.old.items ++ (answer.now ++ script_explanation faulty side number line.now answer.now)) }
 {
     add_text(answers, answer)?;
-    add_script_explanation(alloc, answers, side, number, line, answer)
+    add_script_explanation(alloc, answers, faulty, side, number, line, answer)
 }
 
-/// Appends the text for a line of this number with this answer, after these programs were loaded.
+/// Appends the text for a line of this number with this answer, after these programs were loaded and a line had a fault or none had.
 fn add_explained(
     alloc: Global,
     answers: &mut Vec<u8>,
     programs: &[NamesNone],
+    faulty: bool,
     side: Option<Side>,
     number: usize,
     line: &[u8],
     answer: &[u8],
 ) -> Result<(), AllocError>
-    ensures { OnOk result (answers.new.items ≡ answers.old.items ++ explained programs.now side number line.now answer.now) }
+    ensures { OnOk result (answers.new.items ≡ answers.old.items ++ explained programs.now faulty side number line.now answer.now) }
 {
     if is_fault_line(answer) {
-        add_fault(alloc, answers, side, number, line, answer)
+        add_fault(alloc, answers, faulty, side, number, line, answer)
     } else {
         add_setup_hint(alloc, answers, programs, number, line)
     }
@@ -114,6 +116,7 @@ impl Machine for Explaining {
 
     fn answer(&mut self, line: &[u8], answers: &mut Vec<u8>) -> Result<Turn, AllocError> {
         let side = self.run.side();
+        let faulty_before = self.faulty;
         let mut answer = Vec::new(self.alloc);
         let turn = self.run.answer(line, &mut answer)?;
         self.met = one_line_more(self.met);
@@ -122,6 +125,7 @@ impl Machine for Explaining {
             self.alloc,
             answers,
             &self.programs,
+            faulty_before,
             side,
             self.met,
             line,

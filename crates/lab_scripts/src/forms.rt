@@ -8,12 +8,12 @@ ghost use Rattle.lab_scripts.specs.ScriptForms.{command_form, commands_at, fits_
 use crate::found_words::{FoundWord, word_octets};
 use upc_card_lines::named_side;
 use upc_cell::Side;
-use upc_script::{contract, number, program};
+use upc_script::{channel_of, contract, number, program};
 
 /// What a command takes.
 #[derive(Clone, Copy)]
 pub enum ScriptForm {
-    /// The size of a card, and perhaps a side.
+    /// The size of a card, perhaps a side, and then perhaps `paths`.
     Opening,
     /// The octets of a program.
     Loading,
@@ -36,9 +36,11 @@ pub enum ScriptSlot {
     Size,
     /// The side of a card.
     Side,
+    /// The word for a card of virtual paths.
+    Paths,
     /// A virtual path.
     Path,
-    /// A virtual channel.
+    /// A virtual channel, or `*` on a card of virtual paths.
     Channel,
     /// The name of a program.
     Program,
@@ -99,6 +101,7 @@ pub(crate) fn slots_after(form: ScriptForm) -> &'static [ScriptSlot]
             ScriptSlot::Size,
             ScriptSlot::Size,
             ScriptSlot::Side,
+            ScriptSlot::Paths,
         ],
         ScriptForm::Loading => &[ScriptSlot::Digits],
         ScriptForm::Retiring => &[ScriptSlot::Program],
@@ -144,8 +147,9 @@ fn fits(side: Side, slot: ScriptSlot, word: &[u8]) -> bool
     match slot {
         ScriptSlot::Size => number(word).is_some(),
         ScriptSlot::Side => named_side(word).is_some(),
+        ScriptSlot::Paths => word == b"paths".as_slice(),
         ScriptSlot::Path => is_at_most(side.last_vpi(), word),
-        ScriptSlot::Channel => is_at_most(65535, word),
+        ScriptSlot::Channel => channel_of(side, word).is_some(),
         ScriptSlot::Program => program(word).is_some(),
         ScriptSlot::Contract => contract(word).is_some(),
         ScriptSlot::Moment => number(word).is_some(),

@@ -4,6 +4,7 @@ ghost use Rattle.std.specs.Prelude.{◌≡◌, ℕ, List, Some, IfOk, OnOk, opti
 ghost use Rattle.bpf_code.specs.OctetSpelling.{SpellsCode};
 ghost use Rattle.bpf_code.specs.declared.instr.Instr.{Instr as TheInstr};
 ghost use Rattle.text_io.specs.Words.{words_of};
+ghost use Rattle.upc_script.specs.CommandSeen.{command_seen};
 ghost use Rattle.upc_script.specs.ScriptCommands.{command_of};
 ghost use Rattle.upc_words.specs.Hexadecimal.{octets_of_digits};
 ghost use Rattle.lab_scripts.specs.ContractNumbers.{names_none};
@@ -24,13 +25,28 @@ fn is_loaded_answer(answer: &[u8]) -> bool
     front(answer, 7) == b"loaded ".as_slice()
 }
 
+/// Returns the digits of a command `load HEX`.
+fn digits_of(command: Command<'_>) -> Option<&[u8]>
+    ensures { option_map (λ digits. digits.now) result ≡ load_digits (command_seen command.entry) }
+{
+    match command {
+        Command::Load(digits) => Some(digits),
+        Command::Setup(_, _, _) => None,
+        Command::Retire(_) => None,
+        Command::Reload(_, _) => None,
+        Command::Release(_) => None,
+        Command::Cut(_) => None,
+        Command::Cell(_, _) => None,
+    }
+}
+
 /// Returns the digits of a line `load HEX`.
 fn load_digits(side: Side, line: &[u8]) -> Option<&[u8]>
     ensures { option_map (λ digits. digits.now) result ≡ load_digits (command_of side (words_of line.now)) }
 {
     match read_command(side, line) {
-        Some(Command::Load(digits)) => Some(digits),
-        _ => None,
+        Some(command) => digits_of(command),
+        None => None,
     }
 }
 

@@ -5,7 +5,7 @@ ghost use Rattle.std.specs.Option.{is_some};
 ghost use Rattle.upc_script.specs.Rates.{rate_fault};
 ghost use Rattle.upc_script.specs.ScriptWords.{wanted_of};
 ghost use Rattle.lab_scripts.specs.FoundWords.{found_words};
-ghost use Rattle.lab_scripts.specs.ScriptReasons.{bad_contract, bad_of_two, bucket_name, contract_at, is_of_bucket, own_sentence, blamed_word, cell_fault_text, code_fault_text, desk_fault_text, fault_explanation, blamed_place, fault_sentence, script_fault_text, has_bad_bucket, is_no_command, program_place, script_explanation, word_column, word_fault_text};
+ghost use Rattle.lab_scripts.specs.ScriptReasons.{bad_contract, bad_of_two, bucket_name, contract_at, is_of_bucket, own_sentence, blamed_word, cell_fault_text, code_fault_text, desk_fault_text, fault_explanation, blamed_place, fault_sentence, script_fault_text, follows_text, has_bad_bucket, is_no_command, may_follow, program_place, script_explanation, word_column, word_fault_text};
 
 use crate::found_words::{FoundWord, word_octets, words_of};
 use crate::places::add_place;
@@ -352,17 +352,45 @@ fn add_sentence(
     }
 }
 
-/// Appends the explanation of a fault: the number of its line, the column of the word that is wrong, and a sentence.
+/// Returns whether a fault may come from an earlier line that was not carried out.
+fn may_follow(fault: ScriptFault) -> bool
+    ensures { result ≡ may_follow fault }
+{
+    matches!(
+        fault,
+        ScriptFault::NoProgram | ScriptFault::NoConnection | ScriptFault::CellUnknown
+    )
+}
+
+/// Returns what follows the sentence about such a fault, if an earlier line has a fault.
+fn follows_text(faulty: bool, found: Option<ScriptFault>) -> &'static [u8]
+    ensures { result.now ≡ follows_text faulty found }
+{
+    match found {
+        None => &[],
+        Some(fault) => {
+            if faulty && may_follow(fault) {
+                b"; an earlier line with a fault may be the reason"
+            } else {
+                &[]
+            }
+        }
+    }
+}
+
+/// Appends the explanation of a fault: the number of its line, the column of the word that is wrong, and a sentence. `faulty` says whether an
+/// earlier line has a fault.
 #[tactic(auto, using(std::proofs::lemmas::List::append_assoc))]
 fn add_fault_explanation(
     answers: &mut Vec<u8>,
+    faulty: bool,
     side: Option<Side>,
     number: usize,
     line: &[u8],
     words: &[FoundWord],
     found: Option<ScriptFault>,
 ) -> Result<(), AllocError>
-    ensures { OnOk result (answers.new.items ≡ answers.old.items ++ fault_explanation side number line.now words.now found) }
+    ensures { OnOk result (answers.new.items ≡ answers.old.items ++ fault_explanation faulty side number line.now words.now found) }
 {
     add_place(
         answers,
@@ -370,21 +398,24 @@ fn add_fault_explanation(
         word_column(blamed_word(side, line, words, found)),
     )?;
     add_sentence(answers, side, line, words, found)?;
+    add_text(answers, follows_text(faulty, found))?;
     answers.push(b'\n')?;
     Ok(())
 }
 
-/// Appends the explanation of a fault line, on a card of this side or before there is one.
+/// Appends the explanation of a fault line, on a card of this side or before there is one, after a line with a fault or without.
 pub(crate) fn add_script_explanation(
     alloc: Global,
     answers: &mut Vec<u8>,
+    faulty: bool,
     side: Option<Side>,
     number: usize,
     line: &[u8],
     answer: &[u8],
 ) -> Result<(), AllocError>
-    ensures { OnOk result (answers.new.items ≡ answers.old.items ++ script_explanation side number line.now answer.now) }
+    ensures { OnOk result (answers.new.items ≡ answers.old.items ++ script_explanation faulty side number line.now answer.now) }
 {
     let words = words_of(alloc, line)?;
-    add_fault_explanation(answers, side, number, line, &words, explained_fault(answer))
+    let fault = explained_fault(answer);
+    add_fault_explanation(answers, faulty, side, number, line, &words, fault)
 }

@@ -104,11 +104,13 @@ fn each_form_and_each_slot_has_a_sentence(rt: HostRuntime) -> Result<(), Fail> {
         ScriptForm::Named,
         ScriptForm::Arrival,
     ] {
-        assert!(rt; !takes_text(form).is_empty());
+        assert!(rt; !takes_text(form, false).is_empty());
+        assert!(rt; !takes_text(form, true).is_empty());
     }
     for slot in [
         ScriptSlot::Size,
         ScriptSlot::Side,
+        ScriptSlot::Paths,
         ScriptSlot::Path,
         ScriptSlot::Channel,
         ScriptSlot::Program,
@@ -116,7 +118,7 @@ fn each_form_and_each_slot_has_a_sentence(rt: HostRuntime) -> Result<(), Fail> {
         ScriptSlot::Moment,
         ScriptSlot::Digits,
     ] {
-        for side in [Side::Uni, Side::Nni] {
+        for side in [Side::Uni, Side::Nni, Side::UniPaths, Side::NniPaths] {
             let mut text = Vec::new(rt.alloc());
             add_slot_text(&mut text, side, slot, b"x")?;
             assert!(rt; text.starts_with(b" is no ") || text.starts_with(b" names no "));

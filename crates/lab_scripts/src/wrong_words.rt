@@ -3,7 +3,7 @@
 ghost use Rattle.std.specs.Prelude.{◌≡◌, ◌++◌, OnOk, Some, map, option_map, slice_get};
 ghost use Rattle.lab_scripts.specs.FoundWords.{word_octets};
 ghost use Rattle.lab_scripts.specs.ScriptForms.{card_commands, opening_commands, slots_after};
-ghost use Rattle.lab_scripts.specs.WrongWords.{begins_remark, command_sentence, no_contract_text, is_vbr, meant_command, meant_opening, meant_or, near_command, operand_sentence, no_program_text, slot_sentence, slot_text, takes_sentence, takes_text, uncommanded_sentence, unknown_sentence, unopened_sentence, wrong_after, wrong_sentence, wrong_word};
+ghost use Rattle.lab_scripts.specs.WrongWords.{begins_remark, command_sentence, no_channel_text, no_contract_text, no_path_text, is_vbr, meant_command, meant_opening, meant_or, near_command, operand_sentence, no_program_text, setup_word_text, slot_sentence, slot_text, takes_sentence, takes_text, tick_text, uncommanded_sentence, uncommanded_text, unknown_sentence, unopened_sentence, unopened_text, wrong_after, wrong_sentence, wrong_word};
 
 use crate::forms::{
     COMMANDS, OPENING, ScriptForm, ScriptSlot, form_at, side_or_user, slots_after, words_fitting,
@@ -61,6 +61,32 @@ fn no_contract_text(word: &[u8]) -> &'static [u8]
     }
 }
 
+/// Returns what is wrong with a word that is no path.
+fn no_path_text(side: Side) -> &'static [u8]
+    ensures { result.now ≡ no_path_text side }
+{
+    match side {
+        Side::Uni | Side::UniPaths => {
+            b" is no VPI; at the user side a VPI is at most 255, and between nodes (`nni` in the line of the card) at most 4095"
+        }
+        Side::Nni | Side::NniPaths => b" is no VPI; between nodes a VPI is at most 4095",
+    }
+}
+
+/// Returns what is wrong with a word that is no channel.
+fn no_channel_text(side: Side, word: &[u8]) -> &'static [u8]
+    ensures { result.now ≡ no_channel_text side word.now }
+{
+    if side.has_paths() {
+        return b" is no channel; the channel on a card of paths is `*`";
+    }
+    if word == b"*".as_slice() {
+        b" is no VCI; `*` is the channel only on a card of paths"
+    } else {
+        b" is no VCI; a VCI is at most 65535"
+    }
+}
+
 /// Appends what is wrong with a word that names no program.
 #[tactic(auto, using(std::proofs::lemmas::List::append_assoc))]
 fn add_program(answers: &mut Vec<u8>, word: &[u8]) -> Result<(), AllocError>
@@ -90,14 +116,12 @@ pub(crate) fn add_slot_text(
     match slot {
         ScriptSlot::Size => add_text(answers, b" is no number; the sizes of a card are decimal"),
         ScriptSlot::Side => add_text(answers, b" is no side; the sides are `uni` and `nni`"),
-        ScriptSlot::Path => match side {
-            Side::Uni => add_text(
-                answers,
-                b" is no VPI; at the user side a VPI is at most 255, and between nodes (`nni` in the line of the card) at most 4095",
-            ),
-            Side::Nni => add_text(answers, b" is no VPI; between nodes a VPI is at most 4095"),
-        },
-        ScriptSlot::Channel => add_text(answers, b" is no VCI; a VCI is at most 65535"),
+        ScriptSlot::Paths => add_text(
+            answers,
+            b" is no word of this line; after the side comes `paths` or nothing",
+        ),
+        ScriptSlot::Path => add_text(answers, no_path_text(side)),
+        ScriptSlot::Channel => add_text(answers, no_channel_text(side, word)),
         ScriptSlot::Program => add_program(answers, word),
         ScriptSlot::Contract => add_text(answers, no_contract_text(word)),
         ScriptSlot::Moment => add_text(
@@ -108,31 +132,43 @@ pub(crate) fn add_slot_text(
     }
 }
 
-/// Returns what a command takes, in words.
-pub(crate) fn takes_text(form: ScriptForm) -> &'static [u8]
-    ensures { result.now ≡ takes_text form }
+/// Returns what a command takes, in words, on a card of paths or of channels.
+pub(crate) fn takes_text(form: ScriptForm, paths: bool) -> &'static [u8]
+    ensures { result.now ≡ takes_text form paths }
 {
-    match form {
-        ScriptForm::Opening => {
-            b"the numbers of programs, lines and ports, the cells of a journal, and perhaps `uni` or `nni`"
+    match (form, paths) {
+        (ScriptForm::Opening, _) => {
+            b"the numbers of programs, lines and ports, the cells of a journal, perhaps `uni` or `nni`, and then perhaps `paths`"
         }
-        ScriptForm::Loading => b"one word, the octets of a program",
-        ScriptForm::Retiring => b"the name of a program, as `p1`",
-        ScriptForm::Setting => b"a VPI, a VCI, the name of a program, and one to four contracts",
-        ScriptForm::Reloading => b"a VPI, a VCI and the name of a program",
-        ScriptForm::Named => b"a VPI and a VCI",
-        ScriptForm::Arrival => b"a moment, and one word with the octets of a cell",
+        (ScriptForm::Loading, _) => b"one word, the octets of a program",
+        (ScriptForm::Retiring, _) => b"the name of a program, as `p1`",
+        (ScriptForm::Setting, false) => {
+            b"a VPI, a VCI, the name of a program, and one to four contracts"
+        }
+        (ScriptForm::Setting, true) => {
+            b"a VPI, `*`, the name of a program, and one to four contracts"
+        }
+        (ScriptForm::Reloading, false) => b"a VPI, a VCI and the name of a program",
+        (ScriptForm::Reloading, true) => b"a VPI, `*` and the name of a program",
+        (ScriptForm::Named, false) => b"a VPI and a VCI",
+        (ScriptForm::Named, true) => b"a VPI and `*`",
+        (ScriptForm::Arrival, _) => b"a moment, and one word with the octets of a cell",
     }
 }
 
 /// Appends the sentence about the words that a command takes.
 #[tactic(auto, using(std::proofs::lemmas::List::append_assoc))]
-fn add_takes(answers: &mut Vec<u8>, name: &[u8], form: ScriptForm) -> Result<(), AllocError>
-    ensures { OnOk result (answers.new.items ≡ answers.old.items ++ takes_sentence name.now form) }
+fn add_takes(
+    answers: &mut Vec<u8>,
+    side: Side,
+    name: &[u8],
+    form: ScriptForm,
+) -> Result<(), AllocError>
+    ensures { OnOk result (answers.new.items ≡ answers.old.items ++ takes_sentence side name.now form) }
 {
     add_quoted(answers, name)?;
     add_text(answers, b" takes ")?;
-    add_text(answers, takes_text(form))
+    add_text(answers, takes_text(form, side.has_paths()))
 }
 
 /// Returns whether a word would begin a remark as the first of a line.
@@ -158,7 +194,7 @@ fn add_slot(
     ensures { OnOk result (answers.new.items ≡ answers.old.items ++ slot_sentence side name.now form slot word.now) }
 {
     match slot {
-        None => add_takes(answers, name, form),
+        None => add_takes(answers, side, name, form),
         Some(slot) => {
             add_quoted(answers, word)?;
             add_slot_text(answers, side, slot, word)
@@ -179,7 +215,7 @@ fn add_operand(
         ++ operand_sentence side name.now form slot (option_map (λ word. word.now) word.entry)) }
 {
     match word {
-        None => add_takes(answers, name, form),
+        None => add_takes(answers, side, name, form),
         Some(word) => {
             if begins_remark(word) {
                 add_text(
@@ -253,13 +289,63 @@ fn add_meant_command(answers: &mut Vec<u8>, word: &[u8]) -> Result<(), AllocErro
     )
 }
 
+/// Returns what follows the word that begins the line of a setup with its tick, if this is that word.
+fn tick_text(word: &[u8]) -> Option<&'static [u8]>
+    ensures { option_map (λ text. text.now) result ≡ tick_text word.now }
+{
+    if word == b"tick".as_slice() {
+        Some(b"; a setup of `upc-lab police` may begin with one line `tick TIME`, as `tick 1us`")
+    } else {
+        None
+    }
+}
+
+/// Returns what follows a word that begins lines of a setup and no command of `upc run`, if this is one.
+fn setup_word_text(word: &[u8]) -> Option<&'static [u8]>
+    ensures { option_map (λ text. text.now) result ≡ setup_word_text word.now }
+{
+    if word == b"rules".as_slice() {
+        return Some(
+            b"; a setup of `upc-lab police` has lines `rules NAME`, with nothing after the name",
+        );
+    }
+    if word == b"at".as_slice() {
+        return Some(
+            b"; a setup of `upc-lab police` has lines `at TIME COMMAND`, as `at 5ms retire p1`",
+        );
+    }
+    tick_text(word)
+}
+
+/// Appends the line of a setup that a word begins, or what was perhaps meant by a word that opens no card.
+#[tactic(auto, unfolding(crate::specs::WrongWords::unopened_text))]
+fn add_unopened_text(answers: &mut Vec<u8>, word: &[u8]) -> Result<(), AllocError>
+    ensures { OnOk result (answers.new.items ≡ answers.old.items ++ unopened_text word.now) }
+{
+    match tick_text(word) {
+        Some(text) => add_text(answers, text),
+        None => add_meant_opening(answers, word),
+    }
+}
+
+/// Appends the line of a setup that a word begins, or what was perhaps meant by a word that is no command.
+#[tactic(auto, unfolding(crate::specs::WrongWords::uncommanded_text))]
+fn add_uncommanded_text(answers: &mut Vec<u8>, word: &[u8]) -> Result<(), AllocError>
+    ensures { OnOk result (answers.new.items ≡ answers.old.items ++ uncommanded_text word.now) }
+{
+    match setup_word_text(word) {
+        Some(text) => add_text(answers, text),
+        None => add_meant_command(answers, word),
+    }
+}
+
 /// Appends the sentence about the first word of a script, which opens no card.
 fn add_unopened(answers: &mut Vec<u8>, word: &[u8]) -> Result<(), AllocError>
     ensures { OnOk result (answers.new.items ≡ answers.old.items ++ unopened_sentence word.now) }
 {
     add_quoted(answers, word)?;
     add_text(answers, b" opens no card")?;
-    add_meant_opening(answers, word)
+    add_unopened_text(answers, word)
 }
 
 /// Appends the sentence about a word that is no command of an open card.
@@ -268,7 +354,7 @@ fn add_uncommanded(answers: &mut Vec<u8>, word: &[u8]) -> Result<(), AllocError>
 {
     add_quoted(answers, word)?;
     add_text(answers, b" is no command")?;
-    add_meant_command(answers, word)
+    add_uncommanded_text(answers, word)
 }
 
 /// Appends the sentence about a word that names no command.

@@ -30,7 +30,7 @@ cells_spelled texts = cells_values (text_named texts (codes "tick")) (text_named
 -- What named values of `fit` spell.
 abbrev pub fit_spelled : List (Text × Option Text) → Option FitAsked
 fit_spelled texts = fit_values (text_named texts (codes "increment")) (text_named texts (codes "tick")) (text_named texts (codes "link"))
-    (text_named texts (codes "side")) (text_named texts (codes "clp"))
+    (text_named texts (codes "side")) (text_named texts (codes "paths")) (text_named texts (codes "clp")) (text_named texts (codes "rules"))
 
 -- What named values of `police` spell.
 abbrev pub police_spelled : List (Text × Option Text) → Option PoliceAsked

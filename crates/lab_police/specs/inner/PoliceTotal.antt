@@ -7,6 +7,7 @@ use Rattle.upc_run.specs.RunText.{Card, IsLed}
 use Rattle.upc_run.specs.inner.RunLaws.{arrived-led, cell-some, cut-led, cut-some}
 use Rattle.upc_cell.specs.declared.vc.Vc.{Vc}
 use Rattle.lab_police.specs.SpanCounts.{ended_text}
+use Rattle.lab_police.specs.inner.CommandLaws.{due_state_led, due_state_some}
 use Rattle.lab_police.specs.PoliceText.{MayBeCut, PoliceWorld, TakesCell, TakesCellWithRoom, after_cell, policed_text, connection_of_cell, police_rules}
 
 -- A cell that arrives leads to a card that a log leads to.
@@ -43,12 +44,24 @@ room_some before cell moment led =
 pub police-total : AnswersEachCell police_rules
 police-total = record {
   keeps = λ before counted text after led polices.
-      subst (λ (world : PoliceWorld). IsLed world.card) (sym (same_Some after (after_cell before counted polices.given polices.card) polices.after))
-      (room_led before.card polices.card counted.cell counted.moment polices.given led polices.taken);
+      let arrived = polices.policed in
+      let ready_led = due_state_led before polices.ready counted.moment polices.first led polices.commands in
+      subst (λ (world : PoliceWorld). IsLed world.card) (sym (same_Some after (after_cell polices.ready counted arrived.given arrived.card) arrived.after))
+      (room_led polices.ready.card arrived.card counted.cell counted.moment arrived.given ready_led arrived.taken);
   step = λ before counted led.
-      let room = room_some before.card counted.cell counted.moment led in (
-        ended_text before.spans counted.moment ++ policed_text before counted room.0,
-        Some (after_cell before counted room.0 room.1),
-        record { given = room.0; card = room.1; taken = room.2; written = refl; after = refl },
+      let due = due_state_some before counted.moment led in
+      let ready = due.1 in
+      let room = room_some ready.card counted.cell counted.moment (due_state_led before ready counted.moment due.0 led due.2) in
+      let rest = ended_text ready.spans counted.moment ++ policed_text ready counted room.0 in (
+        due.0 ++ rest,
+        Some (after_cell ready counted room.0 room.1),
+        record {
+          first = due.0;
+          ready = ready;
+          commands = due.2;
+          rest = rest;
+          policed = record { given = room.0; card = room.1; taken = room.2; written = refl; after = refl };
+          whole = refl;
+        },
       );
 }

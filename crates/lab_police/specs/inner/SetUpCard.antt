@@ -1,25 +1,36 @@
 -- A card that a setup script leads to, as the code stores it.
-use Rattle.std.specs.Prelude.{List, ℕ}
-use Rattle.card_core.specs.Agreement.{CoreAgrees, CoreView}
+use Rattle.std.specs.Prelude.{List, ℕ, Option}
 use Rattle.lab_scripts.specs.ScriptText.{IsScriptExplained}
+use Rattle.text_io.specs.Lines.{lines_of}
 use Rattle.text_io.specs.declared.ending.Done.TheVariants.{Whole, Ended}
 use Rattle.upc_run.specs.RunText.{Card, IsLed}
-use Rattle.lab_police.specs.PoliceText.{IsSetUpBy}
+use Rattle.upc_run.specs.ShownCard.{Held, ShowsCard}
+use Rattle.lab_police.specs.PoliceText.{IsFaultAtTimes, IsSetUpAtTimes, IsSetUpBy}
+use Rattle.lab_police.specs.TimedLines.{waiting_at}
 use Rattle.lab_police.specs.declared.setting_up.SetUp.{SetUp}
 use Rattle.lab_police.specs.declared.setting_up.SetUp.TheVariants.{Faulty, Ready}
+use Rattle.lab_police.specs.declared.timed_card.TimedCard.{TimedCard}
+use Rattle.lab_police.specs.StoredCommands.{ShowsTimed}
 
 -- The script has no fault.
 abbrev pub RunsWhole : List ℕ → Type 0
 RunsWhole script = (explanation : List ℕ) × IsScriptExplained script explanation Whole
 
--- The core agrees with a card that the script leads to, and that a log leads to.
-pub record IsSetUpAs (script : List ℕ) (core : CoreView) : Type 0 where
+-- The stored card shows a card that the script leads to, and that a log leads to.
+pub record IsSetUpAs (script : List ℕ) (held : Held) : Type 0 where
   pub card : Card
   pub reached : IsSetUpBy script card
   pub led : IsLed card
-  pub agrees : CoreAgrees core card.world
+  pub shown : ShowsCard held card
+
+-- The same of a script whose lines have these times, with the commands that wait.
+pub record IsTimedAs (tick : ℕ) (script : List ℕ) (times : List (Option ℕ)) (timed : TimedCard) : Type 0 where
+  pub card : Card
+  pub reached : IsSetUpAtTimes script times card
+  pub led : IsLed card
+  pub shown : ShowsTimed timed card (waiting_at tick times (lines_of script))
 
 -- What a setup script leads to.
-abbrev pub LeadsScriptTo : List ℕ → SetUp → Type 0
-LeadsScriptTo script (Faulty text) = IsScriptExplained script text.items Ended
-LeadsScriptTo script (Ready core) = IsSetUpAs script core
+abbrev pub LeadsScriptTo : ℕ → List ℕ → List (Option ℕ) → SetUp → Type 0
+LeadsScriptTo tick script times (Faulty text) = IsFaultAtTimes script times text.items
+LeadsScriptTo tick script times (Ready timed) = IsTimedAs tick script times timed

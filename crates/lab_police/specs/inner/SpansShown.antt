@@ -16,6 +16,7 @@ length_ticks length = option_map (λ it. it.ticks) length
 
 -- The spans have what the state has.
 pub record ShowsSpans (spans : Spans) (world : SpansWorld) : Type 0 where
+  pub side : spans.side ≡ world.side
   pub length : length_ticks spans.length ≡ world.ticks
   pub begin : spans.begin ≡ world.present.begin
   pub rows : spans.rows.entries ≡ span_rows world.present.cells
@@ -23,7 +24,7 @@ pub record ShowsSpans (spans : Spans) (world : SpansWorld) : Type 0 where
 
 -- The text about the present span, as it is stored.
 abbrev pub own_text : Spans → List ℕ
-own_text spans = rows_text spans.begun spans.begin spans.rows.entries
+own_text spans = rows_text spans.side spans.begun spans.begin spans.rows.entries
 
 -- The same if a cell at this moment ends the span.
 abbrev pub own_ended_text : Spans → ℕ → List ℕ

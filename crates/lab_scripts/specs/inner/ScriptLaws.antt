@@ -42,7 +42,7 @@ script-total = record {
   keeps = λ before content text after sound steps. sound_after before after content steps.0 steps.1 sound steps.2 steps.4;
   step = λ world content sound.
       let run = run-total.step world.run content sound in (
-        explained (loaded_programs world.run) (run_side world.run) (one_line_more world.met) content run.0,
+        explained (loaded_programs world.run) world.faulty (run_side world.run) (one_line_more world.met) content run.0,
         option_map (after_answer world run.0) run.1,
         (run.0, run.1, run.2, refl, refl),
       );

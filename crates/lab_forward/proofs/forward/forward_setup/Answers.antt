@@ -1,14 +1,16 @@
 -- The same with files of rules.
 use Rattle.std.proofs.Common.{List, ℕ, [], inr, refl, subst, sym}
 use Rattle.lab_police.specs.PolicedCards.{OpensSetup, policed_start}
-use Rattle.lab_police.specs.RulesFiles.{octets_of_texts}
+use Rattle.lab_police.specs.RulesFiles.{IsFaultOfRules, MayBeFaultOfRules, octets_of_texts}
+use Rattle.lab_police.specs.TimedLines.{line_times, waiting_at, without_times}
+use Rattle.text_io.specs.Lines.{lines_of}
 use Rattle.lab_police.specs.declared.policed_card.OpenedCard.{OpenedCard}
 use Rattle.lab_police.specs.declared.policed_card.OpenedCard.TheVariants.{Faulty, Ready}
 use Rattle.text_io.specs.declared.ending.Done.TheVariants.{Ended}
 use Rattle.text_io.specs.declared.ending.RunFault.TheVariants.{NoMemory}
 use Rattle.lab_forward.specs.ForwardText.{IsSetupForwarded, MayBeSetupForwarded, forward_rules}
 use Rattle.lab_forward.specs.Forwarding.{ForwardsCapture, forward_start}
-use Rattle.lab_forward.proofs.ForwardTexts.{faults_reported, faults_served, faulty_setup, may_be_forwarded, served_wider, some_setup_forwarded}
+use Rattle.lab_forward.proofs.ForwardTexts.{faults_reported, faults_served, faulty_setup, may_be_forwarded, opened_setup, served_wider, some_setup_forwarded}
 use Rattle.lab_forward.proofs.WholeForwarding.{served_nothing}
 use Rattle.lab_forward.proofs.forward.forward_setup.Goals as goal
 
@@ -55,12 +57,14 @@ returns-in-Ok-Ready-clause-served g c =
     let texts = octets_of_texts c.args.texts.now in
     let tick = c.args.tick.nanoseconds in
     let opens : OpensSetup tick setup texts (Ready c.in-Ok-Ready.policed) = subst (λ (o : OpenedCard). OpensSetup tick setup texts o) c.in-Ok-Ready.field-0-is c.in-Ok-Ready.ensures in
-    let opened = opens.2 in
-    let first = policed_start tick opened.card in
+    let times = line_times setup in
+    let opened = opens.1.2 in
+    let first = policed_start tick opened.card (waiting_at tick times (lines_of opens.1.0)) in
     (served_wider g.I.Input g.O.Output c.args.input.now c.forward_cells.new.input c.args.output.now c.forward_cells.new.output c.args.report.now.items
     c.forward_cells.new.report.items c.forward_cells.result
     (ForwardsCapture forward_rules c.args.others (forward_start tick c.args.link first)) (MayBeSetupForwarded c.args.others tick c.args.link setup texts)
-    (λ octets text report done forwards. inr (opens.0, opens.1, inr (opened.card, opened.reached, forwards))) (c.forward_cells.ensures first opened.led opened.shown)).served
+    (λ octets text report done forwards. opened_setup MayBeFaultOfRules c.args.others tick c.args.link setup texts octets text report done opens.0
+    (inr (opens.1.0, opens.1.1, inr (opened.card, opened.reached, forwards)))) (c.forward_cells.ensures first opened.led opened.shown)).served
 
 pub returns-in-Ok-Ready-clause-reported : goal.returns-in-Ok-Ready-clause-reported
 returns-in-Ok-Ready-clause-reported g c =
@@ -68,9 +72,11 @@ returns-in-Ok-Ready-clause-reported g c =
     let texts = octets_of_texts c.args.texts.now in
     let tick = c.args.tick.nanoseconds in
     let opens : OpensSetup tick setup texts (Ready c.in-Ok-Ready.policed) = subst (λ (o : OpenedCard). OpensSetup tick setup texts o) c.in-Ok-Ready.field-0-is c.in-Ok-Ready.ensures in
-    let opened = opens.2 in
-    let first = policed_start tick opened.card in
+    let times = line_times setup in
+    let opened = opens.1.2 in
+    let first = policed_start tick opened.card (waiting_at tick times (lines_of opens.1.0)) in
     (served_wider g.I.Input g.O.Output c.args.input.now c.forward_cells.new.input c.args.output.now c.forward_cells.new.output c.args.report.now.items
     c.forward_cells.new.report.items c.forward_cells.result
     (ForwardsCapture forward_rules c.args.others (forward_start tick c.args.link first)) (IsSetupForwarded c.args.others tick c.args.link setup texts)
-    (λ octets text report done forwards. inr (opens.0, opens.1, inr (opened.card, opened.reached, forwards))) (c.forward_cells.ensures first opened.led opened.shown)).reported
+    (λ octets text report done forwards. opened_setup IsFaultOfRules c.args.others tick c.args.link setup texts octets text report done opens.0
+    (inr (opens.1.0, opens.1.1, inr (opened.card, opened.reached, forwards)))) (c.forward_cells.ensures first opened.led opened.shown)).reported

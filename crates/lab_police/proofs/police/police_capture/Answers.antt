@@ -1,14 +1,21 @@
 -- The text of `police` is that of the script's faults, or that of the capture.
-use Rattle.std.proofs.Common.{◌≡◌, List, ℕ, [], inl, inr, refl, subst}
+use Rattle.std.proofs.Common.{◌≡◌, ◌∙◌, List, ℕ, [], inl, inr, refl, ap, option_map, subst}
+use Rattle.card_core.specs.Agreement.{CoreView}
+use Rattle.card_core.specs.declared.shape.Shape.{Shape}
 use Rattle.lab_captures.proofs.CaptureTexts.{a_front, all_needed, not_read}
 use Rattle.lab_captures.proofs.Progresses.{if_done, if_given, on_fault}
 use Rattle.text_io.proofs.Public.{at-result, nothing-begins}
 use Rattle.text_io.specs.declared.ending.Done.TheVariants.{Ended, Whole}
 use Rattle.lab_captures.specs.CaptureText.{IsCaptureText}
 use Rattle.lab_captures.specs.CellFilter.{filter_start}
+use Rattle.upc_cell.specs.declared.side.Side.{Side}
 use Rattle.lab_police.specs.PoliceText.{IsPoliceText, police_rules, police_start}
+use Rattle.lab_police.specs.SpanCounts.{spans_start, ticks_of_span}
+use Rattle.lab_police.specs.inner.SpansShown.{ShowsSpans}
 use Rattle.lab_police.specs.declared.setting_up.SetUp.{SetUp}
-use Rattle.lab_police.specs.inner.SetUpCard.{LeadsScriptTo, IsSetUpAs}
+use Rattle.lab_police.specs.TimedLines.{waiting_at}
+use Rattle.lab_police.specs.inner.SetUpCard.{IsTimedAs, LeadsScriptTo}
+use Rattle.text_io.specs.Lines.{lines_of}
 use Rattle.lab_police.proofs.PoliceLemmas.{served_as}
 use Rattle.lab_police.proofs.EachCapture.{some_police_text}
 use Rattle.lab_police.proofs.police.police_capture.Goals as goal
@@ -17,9 +24,9 @@ pub returns-in-Err : goal.returns-in-Err
 returns-in-Err g c = record {
   text = λ ki ko. tt;
   front = λ ki ko.
-      nothing-begins (IsPoliceText c.args.choice.scope c.args.tick.nanoseconds c.args.setup.now (g.I.Input.rest c.args.input.now))
+      nothing-begins (IsPoliceText c.args.choice.scope c.args.tick.nanoseconds c.args.setup.now c.args.times.now (g.I.Input.rest c.args.input.now))
       (g.O.Output.held c.args.output.now)
-      (some_police_text c.args.choice.scope c.args.tick.nanoseconds c.args.setup.now (g.I.Input.rest c.args.input.now));
+      (some_police_text c.args.choice.scope c.args.tick.nanoseconds c.args.setup.now c.args.times.now (g.I.Input.rest c.args.input.now));
   left = λ ki. tt;
   whole = λ ki same. cc;
   reading = refl;
@@ -30,9 +37,9 @@ pub returns-in-Ok-Faulty : goal.returns-in-Ok-Faulty
 returns-in-Ok-Faulty g c =
     let all = g.I.Input.rest c.args.input.now in
     let line = c.in-Ok-Faulty.text.items in
-    let IsText = IsPoliceText c.args.choice.scope c.args.tick.nanoseconds c.args.setup.now in
+    let IsText = IsPoliceText c.args.choice.scope c.args.tick.nanoseconds c.args.setup.now c.args.times.now in
     let printed : (octets : List ℕ) → IsText octets line Ended = λ octets.
-    inl (subst (λ (s : SetUp). LeadsScriptTo c.args.setup.now s) c.in-Ok-Faulty.field-0-is c.in-Ok-Faulty.ensures, refl) in
+    inl (subst (λ (s : SetUp). LeadsScriptTo c.args.tick.nanoseconds c.args.setup.now c.args.times.now s) c.in-Ok-Faulty.field-0-is c.in-Ok-Faulty.ensures, refl) in
     record {
       text = λ ki ko.
           if_given c.write_faults.result Ended _ _ c.write_faults.ensures.done (c.write_faults.ensures.given ko) (λ gives. (line, gives, printed all));
@@ -47,10 +54,18 @@ returns-in-Ok-Faulty g c =
 
 pub returns-in-Ok-Ready : goal.returns-in-Ok-Ready
 returns-in-Ok-Ready g c =
-    let set : IsSetUpAs c.args.setup.now c.in-Ok-Ready.core =
-    subst (λ (s : SetUp). LeadsScriptTo c.args.setup.now s) c.in-Ok-Ready.field-0-is c.in-Ok-Ready.ensures in
-    let first = police_start c.args.choice.scope c.args.tick.nanoseconds set.card in
+    let tick = c.args.tick.nanoseconds in
+    let script = c.args.setup.now in
+    let times = c.args.times.now in
+    let set : IsTimedAs tick script times c.in-Ok-Ready.timed =
+    subst (λ (s : SetUp). LeadsScriptTo tick script times s) c.in-Ok-Ready.field-0-is c.in-Ok-Ready.ensures in
+    let first = police_start c.args.choice.scope tick set.card (waiting_at tick times (lines_of script)) in
+    let side : c.shape.result.side ≡ set.card.world.shape.side =
+    ap (λ (shape : Shape). shape.side) (c.shape.ensures ∙ ap (λ (core : CoreView). core.shape) c.core.ensures ∙ set.shown.held.agrees.shape) in
+    let spans : ShowsSpans c.spans_of-spans.result first.spans =
+    subst (λ (side : Side). ShowsSpans c.spans_of-spans.result (spans_start side (option_map (λ nanoseconds. ticks_of_span nanoseconds tick) c.args.choice.scope.every)))
+    side c.spans_of-spans.ensures in
     served_as g.I.Input g.O.Output c.args.input.now c.follow_cells.new.input c.args.output.now c.follow_cells.new.output c.follow_cells.result
-    (IsCaptureText police_rules (filter_start c.args.tick.nanoseconds c.args.choice.scope.link) first) (IsPoliceText c.args.choice.scope c.args.tick.nanoseconds c.args.setup.now)
+    (IsCaptureText police_rules (filter_start c.args.tick.nanoseconds c.args.choice.scope.link) first) (IsPoliceText c.args.choice.scope c.args.tick.nanoseconds c.args.setup.now c.args.times.now)
     (λ octets text done printed. inr (set.card, set.reached, printed))
-    (c.follow_cells.ensures first set.led (record { lines = refl; tick = refl; agrees = set.agrees; begun = refl; spans = c.spans_of.ensures; not_judged = c.none.ensures }))
+    (c.follow_cells.ensures first set.led (record { lines = refl; tick = refl; timed = set.shown; commanded = refl; begun = refl; spans = spans; not_judged = c.none.ensures }))

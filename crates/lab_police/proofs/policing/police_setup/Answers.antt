@@ -1,19 +1,18 @@
--- The text of `police` for a setup script with files of rules is that of the first rules with a fault, or that of the capture.
-use Rattle.std.proofs.Common.{◌≡◌, List, ℕ, [], inl, inr, refl, subst, sym}
+-- The text of `police` for a setup script is that of its lines without their times, or names the line whose time falls.
+use Rattle.std.proofs.Common.{◌≡◌, List, ℕ, [], Option, refl, subst, sym}
 use Rattle.std.proofs.lemmas.Result.{IfOk-weaker}
 use Rattle.lab_captures.proofs.CaptureTexts.{a_front, all_needed, not_read}
 use Rattle.lab_captures.proofs.Progresses.{if_done, if_given, on_fault}
 use Rattle.text_io.proofs.Public.{at-result, nothing-begins}
 use Rattle.text_io.specs.declared.ending.Done.TheVariants.{Ended, Whole}
+use Rattle.lab_police.proofs.Existence.{polices_each}
 use Rattle.lab_police.proofs.PoliceLemmas.{served_as}
-use Rattle.lab_police.specs.PoliceText.{IsPoliceText}
-use Rattle.lab_police.proofs.Existence.{may_be_policed, polices_each}
-use Rattle.lab_police.specs.FaultyRules.{HasFaultyRules}
-use Rattle.lab_police.specs.RulesFiles.{IsFaultOfRules, octets_of_texts}
-use Rattle.lab_police.specs.SetupPrograms.{HasPrograms}
-use Rattle.lab_police.specs.SetupText.{MayBeSetupPoliced}
-use Rattle.lab_police.specs.declared.expanding.Expanded.{Expanded}
-use Rattle.lab_police.specs.inner.Expansion.{ExpandsTo}
+use Rattle.lab_police.proofs.TimedLemmas.{falling_setup, timed_setup}
+use Rattle.lab_police.specs.RulesFiles.{IsFaultOfRules, MayBeFaultOfRules, octets_of_texts}
+use Rattle.lab_police.specs.SetupText.{IsTimedPolicedBy, MayBeSetupPoliced}
+use Rattle.lab_police.specs.declared.timed_lines.TimedScript.{TimedScript}
+use Rattle.lab_police.specs.declared.timed_lines.TimedScript.TheVariants.{Falls}
+use Rattle.lab_police.specs.inner.TimedScripts.{HasTimes, TakesTimes}
 use Rattle.lab_police.proofs.policing.police_setup.Goals as goal
 
 pub returns-in-Err-clause-served : goal.returns-in-Err-clause-served
@@ -31,16 +30,49 @@ returns-in-Err-clause-served g c =
       writing = refl;
     }
 
-pub returns-in-Ok-Faulty-clause-served : goal.returns-in-Ok-Faulty-clause-served
-returns-in-Ok-Faulty-clause-served g c =
+pub returns-in-Ok-Ready-clause-served : goal.returns-in-Ok-Ready-clause-served
+returns-in-Ok-Ready-clause-served g c =
+    let texts = octets_of_texts c.args.texts.now in
+    let scope = c.args.choice.scope in
+    let tick = c.args.tick.nanoseconds in
+    let script = c.deref.result.now in
+    let times = c.deref-in-Ok-Ready.result.now in
+    let made : HasTimes c.args.setup.now c.in-Ok-Ready.script.items c.in-Ok-Ready.times.items =
+    subst (λ (s : TimedScript). TakesTimes c.args.setup.now s) c.in-Ok-Ready.field-0-is c.in-Ok-Ready.ensures in
+    let has : HasTimes c.args.setup.now script times =
+    subst (λ (xs : List ℕ). HasTimes c.args.setup.now xs times) (sym c.deref.ensures.value)
+    (subst (λ (ts : List (Option ℕ)). HasTimes c.args.setup.now c.in-Ok-Ready.script.items ts) (sym c.deref-in-Ok-Ready.ensures.value) made) in
+    served_as g.I.Input g.O.Output c.args.input.now c.police_timed.new.input c.args.output.now c.police_timed.new.output c.police_timed.result
+    (IsTimedPolicedBy MayBeFaultOfRules scope tick script times texts) (MayBeSetupPoliced scope tick c.args.setup.now texts)
+    (λ octets text done printed. timed_setup MayBeFaultOfRules scope tick c.args.setup.now script times texts octets text done has printed)
+    c.police_timed.ensures.served
+
+pub returns-in-Ok-Ready-clause-policed : goal.returns-in-Ok-Ready-clause-policed
+returns-in-Ok-Ready-clause-policed g c ki ko =
+    let texts = octets_of_texts c.args.texts.now in
+    let scope = c.args.choice.scope in
+    let tick = c.args.tick.nanoseconds in
+    let script = c.deref.result.now in
+    let times = c.deref-in-Ok-Ready.result.now in
+    let made : HasTimes c.args.setup.now c.in-Ok-Ready.script.items c.in-Ok-Ready.times.items =
+    subst (λ (s : TimedScript). TakesTimes c.args.setup.now s) c.in-Ok-Ready.field-0-is c.in-Ok-Ready.ensures in
+    let has : HasTimes c.args.setup.now script times =
+    subst (λ (xs : List ℕ). HasTimes c.args.setup.now xs times) (sym c.deref.ensures.value)
+    (subst (λ (ts : List (Option ℕ)). HasTimes c.args.setup.now c.in-Ok-Ready.script.items ts) (sym c.deref-in-Ok-Ready.ensures.value) made) in
+    IfOk-weaker c.police_timed.result _ _
+    (λ done adds. (adds.0, adds.1, timed_setup IsFaultOfRules scope tick c.args.setup.now script times texts (g.I.Input.rest c.args.input.now) adds.0 done has adds.2))
+    (c.police_timed.ensures.policed ki ko)
+
+pub returns-in-Ok-Falls-clause-served : goal.returns-in-Ok-Falls-clause-served
+returns-in-Ok-Falls-clause-served g c =
     let all = g.I.Input.rest c.args.input.now in
-    let line = c.in-Ok-Faulty.text.items in
+    let line = c.in-Ok-Falls.text.items in
     let texts = octets_of_texts c.args.texts.now in
     let IsText = MayBeSetupPoliced c.args.choice.scope c.args.tick.nanoseconds c.args.setup.now texts in
-    let faulty : HasFaultyRules IsFaultOfRules c.args.setup.now texts line =
-    subst (λ (e : Expanded). ExpandsTo c.args.setup.now texts e) c.in-Ok-Faulty.field-0-is c.in-Ok-Faulty.ensures in
+    let falls : TakesTimes c.args.setup.now (Falls c.in-Ok-Falls.text) =
+    subst (λ (s : TimedScript). TakesTimes c.args.setup.now s) c.in-Ok-Falls.field-0-is c.in-Ok-Falls.ensures in
     let printed : (octets : List ℕ) → IsText octets line Ended = λ octets.
-    may_be_policed c.args.choice.scope c.args.tick.nanoseconds c.args.setup.now texts octets line Ended (inl (faulty, refl)) in
+    falling_setup MayBeFaultOfRules c.args.choice.scope c.args.tick.nanoseconds c.args.setup.now texts octets line falls.0 falls.1 falls.2 in
     record {
       text = λ ki ko.
           if_given c.write_faults.result Ended _ _ c.write_faults.ensures.done (c.write_faults.ensures.given ko) (λ gives. (line, gives, printed all));
@@ -54,40 +86,15 @@ returns-in-Ok-Faulty-clause-served g c =
       writing = c.write_faults.ensures.writing;
     }
 
-pub returns-in-Ok-Faulty-clause-policed : goal.returns-in-Ok-Faulty-clause-policed
-returns-in-Ok-Faulty-clause-policed g c ki ko =
+pub returns-in-Ok-Falls-clause-policed : goal.returns-in-Ok-Falls-clause-policed
+returns-in-Ok-Falls-clause-policed g c ki ko =
     let texts = octets_of_texts c.args.texts.now in
-    let faulty : HasFaultyRules IsFaultOfRules c.args.setup.now texts c.in-Ok-Faulty.text.items =
-    subst (λ (e : Expanded). ExpandsTo c.args.setup.now texts e) c.in-Ok-Faulty.field-0-is c.in-Ok-Faulty.ensures in
+    let falls : TakesTimes c.args.setup.now (Falls c.in-Ok-Falls.text) =
+    subst (λ (s : TimedScript). TakesTimes c.args.setup.now s) c.in-Ok-Falls.field-0-is c.in-Ok-Falls.ensures in
     if_given c.write_faults.result Ended _ _ c.write_faults.ensures.done (c.write_faults.ensures.given ko)
-    (λ gives. (c.in-Ok-Faulty.text.items, gives, inl (faulty, refl)))
-
-pub returns-in-Ok-Itself-clause-served : goal.returns-in-Ok-Itself-clause-served
-returns-in-Ok-Itself-clause-served g c =
-    let texts = octets_of_texts c.args.texts.now in
-    let made : HasPrograms c.args.setup.now texts c.args.setup.now =
-    subst (λ (e : Expanded). ExpandsTo c.args.setup.now texts e) c.in-Ok-Itself.field-0-is c.in-Ok-Itself.ensures in
-    served_as g.I.Input g.O.Output c.args.input.now c.police_capture.new.input c.args.output.now c.police_capture.new.output c.police_capture.result
-    (IsPoliceText c.args.choice.scope c.args.tick.nanoseconds c.args.setup.now)
-    (MayBeSetupPoliced c.args.choice.scope c.args.tick.nanoseconds c.args.setup.now texts)
-    (λ octets text done printed. inr (c.args.setup.now, made, printed)) c.police_capture.ensures
-
-pub returns-in-Ok-Itself-clause-policed : goal.returns-in-Ok-Itself-clause-policed
-returns-in-Ok-Itself-clause-policed g c ki ko =
-    let texts = octets_of_texts c.args.texts.now in
-    let made : HasPrograms c.args.setup.now texts c.args.setup.now =
-    subst (λ (e : Expanded). ExpandsTo c.args.setup.now texts e) c.in-Ok-Itself.field-0-is c.in-Ok-Itself.ensures in
-    IfOk-weaker c.police_capture.result _ _ (λ done adds. (adds.0, adds.1, inr (c.args.setup.now, made, adds.2))) (c.police_capture.ensures.text ki ko)
-
-pub returns-in-Ok-Replaced-clause-served : goal.returns-in-Ok-Replaced-clause-served
-returns-in-Ok-Replaced-clause-served g c =
-    let texts = octets_of_texts c.args.texts.now in
-    let script = c.in-Ok-Replaced.script.items in
-    let made : HasPrograms c.args.setup.now texts script =
-    subst (λ (e : Expanded). ExpandsTo c.args.setup.now texts e) c.in-Ok-Replaced.field-0-is c.in-Ok-Replaced.ensures in
-    served_as g.I.Input g.O.Output c.args.input.now c.police_capture-in-Ok-Replaced.new.input c.args.output.now c.police_capture-in-Ok-Replaced.new.output
-    c.police_capture-in-Ok-Replaced.result
-    (IsPoliceText c.args.choice.scope c.args.tick.nanoseconds c.deref.result.now)
-    (MayBeSetupPoliced c.args.choice.scope c.args.tick.nanoseconds c.args.setup.now texts)
-    (λ octets text done printed. inr (c.deref.result.now, subst (HasPrograms c.args.setup.now texts) (sym c.deref.ensures.value) made, printed))
-    c.police_capture-in-Ok-Replaced.ensures
+    (λ gives. (
+      c.in-Ok-Falls.text.items,
+      gives,
+      falling_setup IsFaultOfRules c.args.choice.scope c.args.tick.nanoseconds c.args.setup.now texts
+          (g.I.Input.rest c.args.input.now) c.in-Ok-Falls.text.items falls.0 falls.1 falls.2,
+    ))

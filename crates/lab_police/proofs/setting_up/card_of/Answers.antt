@@ -1,10 +1,10 @@
 -- A script without a fault leads to a card.
-use Rattle.std.proofs.Common.{◌∙◌, List, ℕ, Some, None, Ok, Bor, ap, refl, subst}
+use Rattle.std.proofs.Common.{◌∙◌, List, ℕ, Option, Some, None, Ok, Bor, ap, refl, subst}
 use Rattle.text_io.specs.Lines.{lines_of}
 use Rattle.text_io.specs.Printing.{EndsAt, Prints}
 use Rattle.text_io.specs.declared.ending.Done.TheVariants.{Ended}
 use Rattle.upc_run.specs.RunText.{RunWorld, run_rules}
-use Rattle.upc_run.specs.ShownCard.{ShowsCore}
+use Rattle.upc_run.specs.ShownCard.{Held, ShowsRun}
 use Rattle.lab_police.proofs.SetUpLemmas.{ends_card, never_ended}
 use Rattle.lab_police.proofs.setting_up.card_of.Goals as goal
 
@@ -14,7 +14,7 @@ returns-in-Some c =
     let ends : EndsAt run_rules 0 None (lines_of c.args.script.now) end.0 end.1 =
     subst (λ (r : Bor (List ℕ)). EndsAt run_rules 0 None (lines_of r.now) end.0 end.1) c.new-input.ensures.reader end.3 in
     let card = ends_card c.args.script.now end.0 end.1 ends in
-    let shown : ShowsCore (Some c.in-Some.core) end.1 = subst (λ o. ShowsCore o end.1) c.in-Some.is (c.into_core.ensures end.1 end.2) in
+    let shown : ShowsRun (Some c.in-Some.card) end.1 = subst (λ (o : Option Held). ShowsRun o end.1) c.in-Some.is (c.into_card.ensures end.1 end.2) in
     record {
       card = card.0;
       reached = record {
@@ -24,7 +24,7 @@ returns-in-Some c =
         reached = subst (λ (it : RunWorld). EndsAt run_rules 0 None (lines_of c.args.script.now) end.0 it) card.1 ends;
       };
       led = card.2;
-      agrees = subst (λ (it : RunWorld). ShowsCore (Some c.in-Some.core) it) card.1 shown;
+      shown = subst (λ (it : RunWorld). ShowsRun (Some c.in-Some.card) it) card.1 shown;
     }
 
 pub unreachable-requires : goal.unreachable-requires
@@ -33,8 +33,8 @@ unreachable-requires c =
     let ends : EndsAt run_rules 0 None (lines_of c.args.script.now) end.0 end.1 =
     subst (λ (r : Bor (List ℕ)). EndsAt run_rules 0 None (lines_of r.now) end.0 end.1) c.new-input.ensures.reader end.3 in
     let card = ends_card c.args.script.now end.0 end.1 ends in
-    let shown : ShowsCore None end.1 = subst (λ o. ShowsCore o end.1) c.in-None.is (c.into_core.ensures end.1 end.2) in
-    subst (λ (it : RunWorld). ShowsCore None it) card.1 shown
+    let shown : ShowsRun None end.1 = subst (λ (o : Option Held). ShowsRun o end.1) c.in-None.is (c.into_card.ensures end.1 end.2) in
+    subst (λ (it : RunWorld). ShowsRun None it) card.1 shown
 
 pub unreachable-requires-in-Ok-Ended : goal.unreachable-requires-in-Ok-Ended
 unreachable-requires-in-Ok-Ended c =

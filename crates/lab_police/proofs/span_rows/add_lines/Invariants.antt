@@ -6,4 +6,4 @@ use Rattle.lab_police.specs.SpanCounts.{span_line}
 use Rattle.lab_police.proofs.span_rows.add_lines.Given as goal
 
 abbrev pub invariant-loop-row : goal.invariant-loop-row
-invariant-loop-row l = l.answers.items ++ flat_map (span_line l.begin) l.row-iterator ≡ l.fn.answers.items ++ flat_map (span_line l.begin) (values_of l.rows.entries)
+invariant-loop-row l = l.answers.items ++ flat_map (span_line l.side l.begin) l.row-iterator ≡ l.fn.answers.items ++ flat_map (span_line l.side l.begin) (values_of l.rows.entries)

@@ -1,7 +1,7 @@
 use Rattle.std.proofs.Common.{codes}
 use Rattle.std.proofs.lemmas.Result.{on_ok_weaker}
 use Rattle.lab_scripts.specs.Places.{quoted}
-use Rattle.lab_scripts.specs.WrongWords.{meant_opening, unopened_sentence}
+use Rattle.lab_scripts.specs.WrongWords.{unopened_sentence, unopened_text}
 use Rattle.lab_scripts.proofs.Added.{three-added}
 use Rattle.lab_scripts.proofs.wrong_words.add_unopened.Goals as goal
 
@@ -9,7 +9,7 @@ pub returns : goal.returns
 unfolding unopened_sentence
 returns c =
     let word = c.args.word.now in
-    on_ok_weaker c.add_meant_opening.result
-    (three-added c.args.answers.now.items c.add_quoted.new.answers.items c.add_text.new.answers.items c.add_meant_opening.new.answers.items (quoted word) (codes " opens no card")
-    (meant_opening word) c.in_ok-add_quoted.ensures c.in_ok-add_text.ensures)
-    c.add_meant_opening.ensures
+    on_ok_weaker c.add_unopened_text.result
+    (three-added c.args.answers.now.items c.add_quoted.new.answers.items c.add_text.new.answers.items c.add_unopened_text.new.answers.items (quoted word) (codes " opens no card")
+    (unopened_text word) c.in_ok-add_quoted.ensures c.in_ok-add_text.ensures)
+    c.add_unopened_text.ensures

@@ -1,13 +1,13 @@
 -- Loop invariant: the files so far and those of the lines that are left are those of the script.
 use Rattle.std.proofs.Common.{◌≡◌, ◌++◌, ◌+◌, ◌≤◌, length}
 use Rattle.text_io.specs.Lines.{lines_of}
-use Rattle.lab_police.specs.FilesRead.{files_in, files_read, octets_of_names}
-use Rattle.lab_police.proofs.card_room.files_read.Given as goal
+use Rattle.lab_police.specs.FilesRead.{files_in, files_read_plain, octets_of_names}
+use Rattle.lab_police.proofs.card_room.files_of_lines.Given as goal
 
 abbrev pub invariant-loop-line : goal.invariant-loop-line
 invariant-loop-line l = record {
   counted : l.met + length l.left ≤ length l.script;
-  files : octets_of_names l.files.items ++ files_in l.met l.room (lines_of l.left) ≡ files_read l.script;
+  files : octets_of_names l.files.items ++ files_in l.met l.room (lines_of l.left) ≡ files_read_plain l.script;
 }
 
 abbrev pub decreases-loop-line : goal.decreases-loop-line
