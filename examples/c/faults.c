@@ -381,7 +381,7 @@ static void kept_card(void)
 	upc_journal journal;
 	upc_id id = {0, 0};
 
-	no_card("side 2", 2, 0, 1, 1, 1);
+	no_card("side 4", 4, 0, 1, 1, 1);
 	no_card("no programs", UPC_UNI, 0, 0, 1, 1);
 	no_card("4097 lines", UPC_NNI, 1024, 4097, 17, 1);
 	no_card("17 ports", UPC_UNI, 1, 4096, 17, 0);
@@ -456,8 +456,10 @@ int main(void)
 	cell("octets", 52, UPC_UNI);
 	cell("octets between nodes", 52, UPC_NNI);
 	cell("51 octets", 51, UPC_UNI);
-	cell("53 octets", 53, 2);
-	cell("side 2", 52, 2);
+	cell("53 octets", 53, 4);
+	cell("octets on a path", 52, UPC_UNI_PATHS);
+	cell("octets on a path between nodes", 52, UPC_NNI_PATHS);
+	cell("side 4", 52, 4);
 	for (k = 0; k < sizeof programs / sizeof *programs; k++)
 		program(programs[k]);
 	for (k = 0; k < sizeof sources / sizeof *sources; k++)

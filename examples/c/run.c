@@ -8,9 +8,11 @@
 
 enum { MOST_NAMES = 4096, MOST_OCTETS = 32768, MOST_LINE = 70000 };
 
-/* The card of the script, the side of its cells, and its programs by name: p1 is the first. */
+/* The card of the script, the side of its cells, whether its connections are virtual paths, and its programs by name: p1 is
+ * the first. */
 static upc_card card;
 static uint32_t side;
+static int has_paths;
 static upc_id names[MOST_NAMES];
 static unsigned long named;
 
@@ -77,16 +79,18 @@ static unsigned long name_in(const upc_id *id)
 
 static void open_card(const char *line)
 {
+	static const uint32_t sides[2][2] = {{UPC_UNI, UPC_UNI_PATHS}, {UPC_NNI, UPC_NNI_PATHS}};
 	upc_shape shape = {UPC_UNI, 0, 0, 0, 0};
 	upc_fault fault;
-	char word[4] = "uni";
+	char word[4] = "uni", last[6] = "";
 
-	if (sscanf(line, "card %" SCNu64 " %" SCNu64 " %" SCNu64 " %" SCNu64 " %3s", &shape.programs, &shape.lines, &shape.ports,
-	           &shape.journal, word) < 4) {
+	if (sscanf(line, "card %" SCNu64 " %" SCNu64 " %" SCNu64 " %" SCNu64 " %3s %5s", &shape.programs, &shape.lines,
+	           &shape.ports, &shape.journal, word, last) < 4) {
 		printf("fault script 2 NoCard\n");
 		exit(1);
 	}
-	shape.side = side = strcmp(word, "nni") == 0 ? UPC_NNI : UPC_UNI;
+	has_paths = strcmp(last, "paths") == 0;
+	shape.side = side = sides[strcmp(word, "nni") == 0][has_paths];
 	if (upc_card_new(&shape, &card, &fault) != 0) {
 		print_fault(&fault);
 		exit(1);
@@ -146,6 +150,16 @@ static int contracts_of(char *words, upc_contract *contracts)
 	return count;
 }
 
+/* Prints a word and the name of a connection. */
+static void print_name(const char *word, unsigned path, unsigned channel)
+{
+	printf("%s %u/", word, path);
+	if (has_paths)
+		printf("*");
+	else
+		printf("%u", channel);
+}
+
 static void set_up(unsigned path, unsigned channel, unsigned long name, char *words)
 {
 	upc_contract contracts[UPC_MOST_CONTRACTS];
@@ -166,8 +180,10 @@ static void set_up(unsigned path, unsigned channel, unsigned long name, char *wo
 		printf("fault desk 1 NoProgram\n");
 	else if (upc_card_setup(&card, (uint16_t)path, (uint16_t)channel, program, contracts, (size_t)count, &fault) != 0)
 		print_fault(&fault);
-	else
-		printf("set %u/%u\n", path, channel);
+	else {
+		print_name("set", path, channel);
+		printf("\n");
+	}
 }
 
 static void reload(unsigned path, unsigned channel, unsigned long name)
@@ -180,8 +196,10 @@ static void reload(unsigned path, unsigned channel, unsigned long name)
 		printf("fault desk 1 NoProgram\n");
 	else if (upc_card_reload(&card, (uint16_t)path, (uint16_t)channel, program, &earlier, &fault) != 0)
 		print_fault(&fault);
-	else
-		printf("reloaded %u/%u p%lu\n", path, channel, name);
+	else {
+		print_name("reloaded", path, channel);
+		printf(" p%lu\n", name);
+	}
 }
 
 /* upc_card_release or upc_card_cut. */
@@ -216,8 +234,9 @@ static void print_journal(const char *word, unsigned path, unsigned channel, han
 	else {
 		for (k = 0; k < journal.cells; k++)
 			counts[room[k].verdict]++;
-		printf("%s %u/%u %lu %lu %lu %lu %lu\n", word, path, channel, (unsigned long)journal.cells, counts[UPC_PASS],
-		       counts[UPC_TAG], counts[UPC_DISCARD], counts[UPC_REFUSE]);
+		print_name(word, path, channel);
+		printf(" %lu %lu %lu %lu %lu\n", (unsigned long)journal.cells, counts[UPC_PASS], counts[UPC_TAG],
+		       counts[UPC_DISCARD], counts[UPC_REFUSE]);
 	}
 	free(room);
 }
@@ -244,11 +263,26 @@ static void police(uint64_t moment, const char *digits)
 		print_fault(&fault);
 		return;
 	}
-	printf("%s %u/%u p%lu %" PRIu32, verdicts[answer.verdict], (unsigned)fields.vpi, (unsigned)fields.vci,
-	       name_in(&answer.program), answer.value);
+	print_name(verdicts[answer.verdict], fields.vpi, fields.vci);
+	printf(" p%lu %" PRIu32, name_in(&answer.program), answer.value);
 	if (answer.verdict == UPC_PASS || answer.verdict == UPC_TAG)
 		printf(" %02x%02x%02x%02x", octets[0], octets[1], octets[2], octets[3]);
 	printf("\n");
+}
+
+/* Reads a path and a channel after a word. On a card of virtual paths the channel is the word `*`, and 0 for the library.
+ * Returns the rest of the line, or NULL if they aren't there. */
+static char *connection_after(const char *word, char *line, unsigned *path, unsigned *channel)
+{
+	size_t length = strlen(word);
+	int end = 0;
+
+	if (strncmp(line, word, length) != 0 || strspn(line + length, " \t") == 0)
+		return NULL;
+	*channel = 0;
+	if (has_paths ? sscanf(line + length, "%u *%n", path, &end) < 1 : sscanf(line + length, "%u %u%n", path, channel, &end) < 2)
+		return NULL;
+	return end > 0 ? line + length + end : NULL; /* 0 if the star isn't there */
 }
 
 static void obey(char *line)
@@ -257,19 +291,20 @@ static void obey(char *line)
 	unsigned path, channel;
 	unsigned long name;
 	uint64_t moment;
+	char *rest;
 	int end = 0;
 
 	if (sscanf(line, "load %69999s", digits) == 1)
 		load(digits);
 	else if (sscanf(line, "retire p%lu", &name) == 1)
 		retire(name);
-	else if (sscanf(line, "setup %u %u p%lu%n", &path, &channel, &name, &end) == 3)
-		set_up(path, channel, name, line + end);
-	else if (sscanf(line, "reload %u %u p%lu", &path, &channel, &name) == 3)
+	else if ((rest = connection_after("setup", line, &path, &channel)) != NULL && sscanf(rest, " p%lu%n", &name, &end) == 1)
+		set_up(path, channel, name, rest + end);
+	else if ((rest = connection_after("reload", line, &path, &channel)) != NULL && sscanf(rest, " p%lu", &name) == 1)
 		reload(path, channel, name);
-	else if (sscanf(line, "release %u %u", &path, &channel) == 2)
+	else if (connection_after("release", line, &path, &channel) != NULL)
 		print_journal("released", path, channel, upc_card_release);
-	else if (sscanf(line, "cut %u %u", &path, &channel) == 2)
+	else if (connection_after("cut", line, &path, &channel) != NULL)
 		print_journal("cut", path, channel, upc_card_cut);
 	else if (sscanf(line, "cell %" SCNu64 " %69999s", &moment, digits) == 2)
 		police(moment, digits);

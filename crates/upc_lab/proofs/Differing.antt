@@ -1,4 +1,4 @@
--- The status of `differ`, of `unused` and of `forward` is that of the program, if the words ask for it.
+-- The status of `differ`, of `unused`, of `rules` and of `forward` is that of the program, if the words ask for it.
 use Rattle.std.proofs.Common.{◌≡◌, ℕ, true, Some, Result, Ok, Err, refl, ◌∙◌}
 use Rattle.text_io.specs.declared.ending.Done.{Done}
 use Rattle.text_io.specs.declared.ending.Done.TheVariants.{Whole, Ended}
@@ -12,7 +12,7 @@ use Rattle.lab_differ.specs.declared.finding.Finding.TheVariants.{Nothing, Somet
 use Rattle.lab_options.specs.declared.differ.DifferOptions.{DifferOptions}
 use Rattle.lab_options.specs.declared.forward.ForwardOptions.{ForwardOptions}
 use Rattle.upc_lab.specs.Comparison.{finding_status}
-use Rattle.upc_lab.specs.SetupFile.{asks_unused, differ_in, forward_in}
+use Rattle.upc_lab.specs.SetupFile.{asks_rules, asks_unused, differ_in, forward_in}
 use Rattle.upc_lab.specs.declared.choice.Asked.{Asked}
 
 -- A run with the status of a finding.
@@ -31,6 +31,10 @@ differ_status (Err stop) options status is ends = absurd (cc)
 pub unused_status : (chosen : Result Asked Stop) (status : ℕ) → asks_unused chosen ≡ true → (ended : Result Finding RunFault) × (status ≡ finding_status ended) → IsStatusFor chosen status
 unused_status (Ok asked) status is ends = let run = run_with ends.0 in (run.0, ends.1 ∙ run.1)
 unused_status (Err stop) status is ends = absurd (cc)
+
+pub rules_status : (chosen : Result Asked Stop) (status : ℕ) → asks_rules chosen ≡ true → (ended : Result Done RunFault) × (status ≡ status_of ended) → IsStatusFor chosen status
+rules_status (Ok asked) status is ends = ends
+rules_status (Err stop) status is ends = absurd (cc)
 
 pub forward_status : (chosen : Result Asked Stop) (options : ForwardOptions) (status : ℕ) → forward_in chosen ≡ Some options
     → (ended : Result Done RunFault) × (status ≡ status_of ended) → IsStatusFor chosen status

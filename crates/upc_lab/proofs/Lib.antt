@@ -2,3 +2,5 @@ pub mod LabChoosing
 pub mod Texts
 pub mod Differing
 pub mod Forwarding
+pub mod Hinting
+pub mod SettingUp

@@ -1,18 +1,16 @@
 -- Each subcommand has an answer to every input.
 use Rattle.std.proofs.Common.{ℕ, List, Option, option_map}
 use Rattle.text_io.specs.declared.ending.Done.{Done}
-use Rattle.lab_captures.proofs.Public.{fixed_total, some_capture_text, some_cells_text}
-use Rattle.lab_captures.specs.CellFilter.{filter_start}
+use Rattle.lab_captures.proofs.Public.{some_cells_text}
 use Rattle.lab_differ.proofs.Public.{some-differ_text, some-unused_text}
 use Rattle.lab_faults.proofs.Public.{some-explain_text}
 use Rattle.lab_forward.proofs.Public.{some_agreed_records}
-use Rattle.lab_fit.specs.FitText.{fit_closes, fit_rules, fit_start, fit_steps}
-use Rattle.lab_fit.proofs.Public.{some_links_text}
+use Rattle.lab_fit.proofs.Public.{some_fit_text, some_links_text}
 use Rattle.lab_programs.proofs.Public.{some-list_text, some-trace_text}
 use Rattle.lab_rules.proofs.Public.{some-asm_text, some-rules_text, some-why_text}
 use Rattle.lab_police.proofs.Public.{some_agreed_text}
 use Rattle.lab_sizes.proofs.Public.{some-sizes_text}
-use Rattle.upc_lab.specs.LabText.{IsAskedText, IsLabText, kinds_asked, others_asked, scope_asked}
+use Rattle.upc_lab.specs.LabText.{IsAskedText, IsLabText, fit_choice, kinds_asked, others_asked, rules_asked, scope_asked}
 use Rattle.upc_lab.specs.declared.choice.Asked.{Asked}
 use Rattle.upc_lab.specs.declared.choice.Asked.TheVariants.{Plain, Why, Cells, Fit, Police, Differ, Forward}
 use Rattle.upc_lab.specs.declared.choice.Subcommand.{Subcommand}
@@ -35,9 +33,7 @@ some-asked_text (Why options) setup tick rules old octets = some-why_text option
 some-asked_text (Cells options) setup tick rules old octets = some_cells_text options.tick.nanoseconds options.link octets
 some-asked_text (Police options) setup tick rules old octets =
     some_agreed_text (scope_asked options) tick (option_map (λ it. it.nanoseconds) options.tick) setup rules octets
-some-asked_text (Fit options) setup tick rules old octets =
-    some_capture_text fit_rules (fixed_total fit_steps fit_closes) (filter_start options.tick.nanoseconds options.link)
-    (fit_start options.increment options.side options.clp) octets tt
+some-asked_text (Fit options) setup tick rules old octets = some_fit_text (fit_choice options) (rules_asked options old) octets
 some-asked_text (Forward options) setup tick rules old octets =
     some_agreed_records (others_asked options.others) tick (option_map (λ it. it.nanoseconds) options.tick) options.link setup rules octets
 some-asked_text (Differ options) setup tick rules old octets = some-differ_text (kinds_asked options.programs) options.all old octets

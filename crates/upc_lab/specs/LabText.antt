@@ -1,17 +1,19 @@
 -- The output of each subcommand of `upc-lab`.
-use Rattle.std.specs.Prelude.{ℕ, if◌then◌else◌, Bool, List, Option, option_map}
+use Rattle.std.specs.Prelude.{ℕ, if◌then◌else◌, Bool, List, Option, Some, None, option_map}
 use Rattle.lab_captures.specs.CellsText.{IsCellsText}
 use Rattle.lab_differ.specs.DifferText.{IsDifferAnswer}
 use Rattle.lab_differ.specs.declared.kinds.TextKind.TheVariants.{Rules, Program}
 use Rattle.lab_differ.specs.declared.kinds.TextKinds.{TextKinds}
 use Rattle.lab_differ.specs.UnusedText.{IsUnusedAnswer}
-use Rattle.lab_fit.specs.FitText.{IsFitText}
+use Rattle.lab_fit.specs.FitAsked.{IsFitAsked}
+use Rattle.lab_fit.specs.declared.fit_choice.FitChoice.{FitChoice}
 use Rattle.lab_faults.specs.Explained.{IsExplainText}
 use Rattle.lab_forward.specs.AgreedForward.{MayBeForwardedAsAgreed}
 use Rattle.lab_forward.specs.Reporting.{HasReportedText}
 use Rattle.lab_forward.specs.declared.others.Others.{Others}
 use Rattle.lab_forward.specs.declared.others.Others.TheVariants.{Pass, Drop}
 use Rattle.lab_fit.specs.LinksText.{IsLinksText}
+use Rattle.lab_options.specs.declared.fit.FitOptions.{FitOptions}
 use Rattle.lab_options.specs.declared.programs.Programs.{Programs}
 use Rattle.lab_options.specs.declared.programs.Programs.TheVariants as which
 use Rattle.lab_programs.specs.ListedProgram.{IsListText}
@@ -48,6 +50,25 @@ others_asked others = if others then Pass else Drop
 abbrev pub scope_asked : PoliceOptions → PoliceScope
 scope_asked options = record { link = options.link; lines = options.lines; every = options.every }
 
+-- What options of `fit` ask for, beside rules.
+abbrev pub fit_choice : FitOptions → FitChoice
+fit_choice options = record {
+  increment = options.increment;
+  tick = options.tick;
+  link = options.link;
+  side = options.side;
+  clp = options.clp;
+}
+
+-- The octets of a file of rules, which are these, if there is such a file.
+abbrev pub octets_if_named : {Name : Type 0} → Option Name → List ℕ → Option (List ℕ)
+octets_if_named None read = None
+octets_if_named (Some name) read = Some read
+
+-- The octets of the rules that options of `fit` ask for, if they do. These were read from the file that they name.
+abbrev pub rules_asked : FitOptions → List ℕ → Option (List ℕ)
+rules_asked options read = octets_if_named options.rules read
+
 -- What the texts are of which these are programs.
 abbrev pub kinds_asked : Programs → TextKinds
 kinds_asked which.Neither = record { old = Rules; new = Rules }
@@ -56,13 +77,14 @@ kinds_asked which.New = record { old = Rules; new = Program }
 kinds_asked which.Both = record { old = Program; new = Program }
 
 -- The output for the octets of the files that the words name, which are a setup script, with the tick that it names, files of rules and an old
--- text of `differ`, and for a whole input, and how the run ends. Only `police` and `forward` have the first three, and only `differ` the last.
+-- text of `differ` or the rules of `fit`, and for a whole input, and how the run ends. Only `police` and `forward` have the first three, and only
+-- `differ` and `fit` the last.
 abbrev pub IsAskedText : List ℕ → Option ℕ → List (List ℕ) → List ℕ → Asked → List ℕ → List ℕ → Done → Type 0
 IsAskedText setup tick rules old (Plain subcommand) = IsLabText subcommand
 IsAskedText setup tick rules old (Why options) = MayBeWhyText options.count
 IsAskedText setup tick rules old (Cells options) = IsCellsText options.tick.nanoseconds options.link
 IsAskedText setup tick rules old (Police options) = MayBePolicedAsAgreed (scope_asked options) tick (option_map (λ asked. asked.nanoseconds) options.tick) setup rules
-IsAskedText setup tick rules old (Fit options) = IsFitText options.increment options.tick.nanoseconds options.link options.side options.clp
+IsAskedText setup tick rules old (Fit options) = IsFitAsked (fit_choice options) (rules_asked options old)
 IsAskedText setup tick rules old (Forward options) = HasReportedText (MayBeForwardedAsAgreed (others_asked options.others) tick
     (option_map (λ asked. asked.nanoseconds) options.tick) options.link setup rules)
 IsAskedText setup tick rules old (Differ options) = IsDifferAnswer (kinds_asked options.programs) options.all old

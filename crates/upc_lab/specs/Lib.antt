@@ -6,6 +6,8 @@ pub mod FailureLines
 pub mod ShownNames
 pub mod Comparison
 pub mod ForwardRun
+pub mod RulesRun
+pub mod SetupHints
 pub mod SetupFile
 pub mod Progress
 pub mod inner

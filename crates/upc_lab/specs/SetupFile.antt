@@ -1,4 +1,5 @@
--- What the program does with the files that the words name: a setup script and the files of rules that it names, or an old text of `differ`.
+-- What the program does with the files that the words name: a setup script and the files of rules that it names, an old text of `differ`, or the
+-- rules of `fit`.
 use Rattle.std.specs.Prelude.{◌≡◌, ◌⊎◌, ◌==◌, IsTrue, if◌then◌else◌, ℕ, List, [], ◌++◌, Option, Some, None, MatchBool, MatchOption, Bool, true, false, Result, Ok, Err, codes, length, option_map}
 use Rattle.std.specs.Path.{path_with_file_name}
 use Rattle.std.specs.Str.{bytes_eq}
@@ -19,7 +20,9 @@ use Rattle.lab_options.specs.declared.differ.DifferOptions.{DifferOptions}
 use Rattle.lab_options.specs.declared.forward.ForwardOptions.{ForwardOptions}
 use Rattle.upc_lab.specs.Comparison.{CarriesFinding}
 use Rattle.upc_lab.specs.ForwardRun.{CarriesForward}
+use Rattle.upc_lab.specs.RulesRun.{CarriesRules}
 use Rattle.upc_lab.specs.LabText.{IsAskedText, kinds_asked, others_asked}
+use Rattle.upc_lab.specs.SetupHints.{MayBeSetupHints}
 use Rattle.upc_lab.specs.ShownNames.{shown_name}
 use Rattle.upc_lab.specs.declared.choice.Asked.{Asked}
 use Rattle.upc_lab.specs.declared.choice.Asked.TheVariants.{Plain, Why, Cells, Fit, Police, Differ, Forward}
@@ -78,9 +81,42 @@ asks_unused (Ok (Forward options)) = false
 asks_unused (Ok (Differ options)) = false
 asks_unused (Err stop) = false
 
+-- Whether this is `rules`.
+abbrev pub is_rules : Subcommand → Bool
+is_rules lab.Rules = true
+is_rules lab.Asm = false
+is_rules lab.Unused = false
+is_rules lab.List = false
+is_rules lab.Trace = false
+is_rules lab.Size = false
+is_rules lab.Explain = false
+is_rules lab.Links = false
+
+-- Whether the words ask for `rules`.
+abbrev pub asks_rules : Result Asked Stop → Bool
+asks_rules (Ok (Plain subcommand)) = is_rules subcommand
+asks_rules (Ok (Why options)) = false
+asks_rules (Ok (Cells options)) = false
+asks_rules (Ok (Fit options)) = false
+asks_rules (Ok (Police options)) = false
+asks_rules (Ok (Forward options)) = false
+asks_rules (Ok (Differ options)) = false
+asks_rules (Err stop) = false
+
 -- The name of the file with the old text, if the words name one.
 abbrev pub old_name : Result Asked Stop → Option (List ℕ)
 old_name chosen = option_map (λ options. string_bytes options.old) (differ_in chosen)
+
+-- The name of the file with the rules of `fit`, if the words name one.
+abbrev pub fit_rules_name : Result Asked Stop → Option (List ℕ)
+fit_rules_name (Ok (Plain subcommand)) = None
+fit_rules_name (Ok (Why options)) = None
+fit_rules_name (Ok (Cells options)) = None
+fit_rules_name (Ok (Fit options)) = option_map string_bytes options.rules
+fit_rules_name (Ok (Police options)) = None
+fit_rules_name (Ok (Forward options)) = None
+fit_rules_name (Ok (Differ options)) = None
+fit_rules_name (Err stop) = None
 
 -- The name of a file that the command line gives by a word that is shown as this.
 abbrev pub IsGivenAs : List ℕ → List ℕ → Type 0
@@ -121,12 +157,19 @@ tick_in_files files = option_map (λ tick. tick.nanoseconds) files.tick
 abbrev pub rules_in_files : SetupFiles → List (List ℕ)
 rules_in_files files = octets_of_texts files.rules.items
 
+-- The effect of the program for words that ask for neither `differ`, `forward` nor `rules`.
+abbrev pub CarriesSilent : {Source Sink Errors : Type 0} → (RunFault → List ℕ) → Result Asked Stop → SetupFiles
+    → InputView Source → Source → Source → OutputView Sink → Sink → Sink → OutputView Errors → Errors → Errors → ℕ → Type 0
+CarriesSilent message chosen files I input input' O output output' E errors errors' status = MatchBool (asks_unused chosen)
+    (CarriesFinding message IsUnusedText I input input' O output output' E errors errors' status)
+    (CarriesOut message (IsAskedText files.script.items (tick_in_files files) (rules_in_files files) files.old.items) chosen I input input' O output output' E errors errors' status)
+
 -- The effect of the program for words that ask for neither `differ` nor `forward`.
 abbrev pub CarriesPlain : {Source Sink Errors : Type 0} → (RunFault → List ℕ) → Result Asked Stop → SetupFiles
     → InputView Source → Source → Source → OutputView Sink → Sink → Sink → OutputView Errors → Errors → Errors → ℕ → Type 0
-CarriesPlain message chosen files I input input' O output output' E errors errors' status = MatchBool (asks_unused chosen)
-    (CarriesFinding message IsUnusedText I input input' O output output' E errors errors' status)
-    (CarriesOut message (IsAskedText files.script.items (tick_in_files files) (rules_in_files files) files.old.items) chosen I input input' O output output' E errors errors' status)
+CarriesPlain message chosen files I input input' O output output' E errors errors' status = MatchBool (asks_rules chosen)
+    (CarriesRules message I input input' O output output' E errors errors' status)
+    (CarriesSilent message chosen files I input input' O output output' E errors errors' status)
 
 -- What is written for what is asked of `forward`, with these files, and what is reported.
 abbrev pub ForwardsAsked : SetupFiles → ForwardOptions → ReportedTexts
@@ -153,11 +196,19 @@ CarriesWith message chosen files I input input' O output output' E errors errors
     (CarriesOther message chosen files I input input' O output output' E errors errors' status)
     (λ options. CarriesFinding message (IsDifferText (kinds_asked options.programs) options.all files.old.items) I input input' O output output' E errors errors' status)
 
+-- The same. If the words name a setup script, the hints about its files of rules are first written to the error output.
+abbrev pub CarriesHinted : {Source Sink Errors : Type 0} → (RunFault → List ℕ) → Result Asked Stop → SetupFiles
+    → InputView Source → Source → Source → OutputView Sink → Sink → Sink → OutputView Errors → Errors → Errors → ℕ → Type 0
+CarriesHinted {Errors = Errors} message chosen files I input input' O output output' E errors errors' status = MatchOption (setup_name chosen)
+    (CarriesWith message chosen files I input input' O output output' E errors errors' status)
+    (λ name. (hints : List ℕ) × (hinted : Errors) × MayBeSetupHints files.script.items (rules_in_files files) hints × WritesMessage E errors hinted hints
+    × CarriesWith message chosen files I input input' O output output' E hinted errors' status)
+
 -- The same, for files that may not have been read. If a file
 -- couldn't be read, nothing is read or written but the message about it.
 abbrev pub CarriesAllOut : {Source Sink Errors : Type 0} → (RunFault → List ℕ) → Result Asked Stop → Result SetupFiles Unreadable
     → InputView Source → Source → Source → OutputView Sink → Sink → Sink → OutputView Errors → Errors → Errors → ℕ → Type 0
-CarriesAllOut message chosen (Ok files) = CarriesWith message chosen files
+CarriesAllOut message chosen (Ok files) = CarriesHinted message chosen files
 CarriesAllOut message chosen (Err unreadable) = λ I input input' O output output' E errors errors' status.
     (status ≡ 3) × IsIdle I input input' O output output' × WritesMessage E errors errors' (unreadable_message unreadable)
 

@@ -2,3 +2,4 @@
 pub mod ReasonedLine
 pub mod ProgressText
 pub mod OnlyWord
+pub mod NamesMet

@@ -1,6 +1,6 @@
 //! Runs the program over three devices and returns its exit status.
 
-ghost use Rattle.std.specs.Prelude.{◌≡◌, IfErr, OnOk, Result, option_map};
+ghost use Rattle.std.specs.Prelude.{◌≡◌, IfErr, OnOk, Result, is_some, option_map};
 ghost use Rattle.text_io.specs.Serving.{IsServed};
 ghost use Rattle.command_line.specs.ExitStatus.{status_of};
 ghost use Rattle.command_line.specs.Invocation.{CarriesOut, IsStatusFor};
@@ -14,19 +14,21 @@ ghost use Rattle.text_io.specs.declared.ending.RunFault.{RunFault as Failed};
 ghost use Rattle.upc_lab.specs.Comparison.{CarriesFinding, finding_status};
 ghost use Rattle.upc_lab.specs.ForwardRun.{CarriesForward};
 ghost use Rattle.upc_lab.specs.LabMessages.{lab_failure_line, shell_status_of};
-ghost use Rattle.upc_lab.specs.LabText.{IsAskedText, IsLabText, kinds_asked, others_asked, scope_asked};
-ghost use Rattle.upc_lab.specs.SetupFile.{CarriesAllOut, CarriesOther, CarriesPlain, CarriesWith, ForwardsAsked, IsStatusIn, MayForwardAsked, asks_unused, differ_in, forward_in, rules_in_files, tick_in_files};
+ghost use Rattle.upc_lab.specs.LabText.{IsAskedText, IsLabText, fit_choice, kinds_asked, others_asked, rules_asked, scope_asked};
+ghost use Rattle.upc_lab.specs.RulesRun.{CarriesRules};
+ghost use Rattle.upc_lab.specs.SetupFile.{CarriesAllOut, CarriesHinted, CarriesOther, CarriesPlain, CarriesSilent, CarriesWith, ForwardsAsked, IsStatusIn, MayForwardAsked, asks_rules, asks_unused, differ_in, forward_in, rules_in_files, setup_name, tick_in_files};
 
 use crate::choice::{Asked, Subcommand};
 use crate::reason::Reasoned;
 use crate::setup_file::{SetupFiles, Unreadable};
+use crate::setup_hints::setup_comments;
 use command_line::{Stop, status, write_message};
 use lab_captures::cells_of_capture;
 use lab_differ::{Finding, TextKind, TextKinds, compare_texts, ended_by, unused_in_text};
-use lab_faults::{Ahead, explain_faults};
-use lab_fit::{fit_capture, links_of_capture};
+use lab_faults::{Ahead, Comments, compile_with_hints, explain_faults};
+use lab_fit::{FitChoice, fit_capture, links_of_capture};
 use lab_forward::{Others, forward_as_agreed};
-use lab_options::{DifferOptions, ForwardOptions, PoliceOptions, Programs};
+use lab_options::{DifferOptions, FitOptions, ForwardOptions, PoliceOptions, Programs};
 use lab_police::{PoliceChoice, PoliceScope, police_as_agreed};
 use lab_programs::{list_program, trace_cells};
 use lab_rules::{assemble_rules, compile_rules, decide_cells};
@@ -122,6 +124,29 @@ fn scope_asked(options: &PoliceOptions) -> PoliceScope
     }
 }
 
+/// Returns what options of `fit` ask for, beside rules.
+fn fit_choice(options: &FitOptions) -> FitChoice
+    ensures { result ≡ fit_choice options.now }
+{
+    FitChoice {
+        increment: options.increment,
+        tick: options.tick,
+        link: options.link,
+        side: options.side,
+        clp: options.clp,
+    }
+}
+
+/// Returns the octets of the rules that options of `fit` ask for, if they do. These were read from the file that they name.
+fn rules_asked<'a>(options: &FitOptions, read: &'a [u8]) -> Option<&'a [u8]>
+    ensures { option_map (λ rules. rules.now) result ≡ rules_asked options.now read.now }
+{
+    match &options.rules {
+        Some(_) => Some(read),
+        None => None,
+    }
+}
+
 /// Returns what the texts are of which these are programs.
 fn kinds_asked(programs: Programs) -> TextKinds
     ensures { result ≡ kinds_asked programs }
@@ -162,11 +187,8 @@ fn run<R: Threads, I: Ahead + Send, O: Output>(
             rt,
             THREADS,
             alloc,
-            options.increment,
-            options.tick,
-            options.link,
-            options.side,
-            options.clp,
+            fit_choice(options),
+            rules_asked(options, files.old.as_slice()),
             input,
             output,
         ),
@@ -327,8 +349,8 @@ fn carry_out_with<R: Threads, I: Ahead + Reasoned + Send, O: Output + Reasoned, 
     }
 }
 
-/// Does what words that ask for neither `differ` nor `forward` ask for, and returns the exit status. `unused` has one of its own.
-fn carry_out_plain<R: Threads, I: Ahead + Reasoned + Send, O: Output + Reasoned, E: Output>(
+/// Does what words that ask for neither `differ`, `forward` nor `rules` ask for, and returns the exit status. `unused` has one of its own.
+fn carry_out_silent<R: Threads, I: Ahead + Reasoned + Send, O: Output + Reasoned, E: Output>(
     rt: &R,
     alloc: Global,
     chosen: &Result<Asked, Stop>,
@@ -337,7 +359,7 @@ fn carry_out_plain<R: Threads, I: Ahead + Reasoned + Send, O: Output + Reasoned,
     output: &mut O,
     errors: &mut E,
 ) -> u8
-    ensures carried { I.is_known → O.is_known → E.is_known → CarriesPlain
+    ensures carried { I.is_known → O.is_known → E.is_known → CarriesSilent
         (lab_failure_line (I.message input.new) (O.message output.new) (O.is_closed output.new))
         chosen.now files.now I.Input input.old input.new O.Output output.old output.new E.Output errors.old errors.new result }
     ensures status { IsStatusFor chosen.now result }
@@ -349,13 +371,13 @@ fn carry_out_plain<R: Threads, I: Ahead + Reasoned + Send, O: Output + Reasoned,
     }
 }
 
-/// Returns what the words ask of `forward`, if they do.
-fn forward_in(chosen: &Result<Asked, Stop>) -> Option<&ForwardOptions>
-    ensures { option_map (λ options. options.now) result ≡ forward_in chosen.now }
+/// Returns whether the words ask for `rules`.
+fn asks_rules(chosen: &Result<Asked, Stop>) -> bool
+    ensures { result ≡ asks_rules chosen.now }
 {
     match chosen {
-        Ok(Asked::Forward(options)) => Some(options),
-        _ => None,
+        Ok(Asked::Plain(Subcommand::Rules)) => true,
+        _ => false,
     }
 }
 
@@ -377,6 +399,56 @@ fn report_run<I: Reasoned, O: Reasoned, E: Output>(
         Err(fault) => write_message(errors, line_of(fault, input, output)),
     }
     status(&ended)
+}
+
+/// Compiles the rules of the whole input, and then writes the hints about them to the error output, and returns the exit status. A failure
+/// gets a message.
+fn carry_out_rules<I: Ahead + Reasoned, O: Output + Reasoned, E: Output>(
+    alloc: Global,
+    input: &mut I,
+    output: &mut O,
+    errors: &mut E,
+) -> u8
+    ensures carried { I.is_known → O.is_known → E.is_known → CarriesRules
+        (lab_failure_line (I.message input.new) (O.message output.new) (O.is_closed output.new))
+        I.Input input.old input.new O.Output output.old output.new E.Output errors.old errors.new result }
+    ensures status { (ended : Result TheDone Failed) × (result ≡ status_of ended) }
+{
+    let mut comments = Comments::Made(Vec::new(alloc));
+    let ended = compile_with_hints(alloc, input, output, &mut comments);
+    report_run(ended, comments.text(), input, output, errors)
+}
+
+/// Does what words that ask for neither `differ` nor `forward` ask for, and returns the exit status. `rules` has one of its own.
+fn carry_out_plain<R: Threads, I: Ahead + Reasoned + Send, O: Output + Reasoned, E: Output>(
+    rt: &R,
+    alloc: Global,
+    chosen: &Result<Asked, Stop>,
+    files: &SetupFiles,
+    input: &mut I,
+    output: &mut O,
+    errors: &mut E,
+) -> u8
+    ensures carried { I.is_known → O.is_known → E.is_known → CarriesPlain
+        (lab_failure_line (I.message input.new) (O.message output.new) (O.is_closed output.new))
+        chosen.now files.now I.Input input.old input.new O.Output output.old output.new E.Output errors.old errors.new result }
+    ensures status { IsStatusFor chosen.now result }
+{
+    if asks_rules(chosen) {
+        carry_out_rules(alloc, input, output, errors)
+    } else {
+        carry_out_silent(rt, alloc, chosen, files, input, output, errors)
+    }
+}
+
+/// Returns what the words ask of `forward`, if they do.
+fn forward_in(chosen: &Result<Asked, Stop>) -> Option<&ForwardOptions>
+    ensures { option_map (λ options. options.now) result ≡ forward_in chosen.now }
+{
+    match chosen {
+        Ok(Asked::Forward(options)) => Some(options),
+        _ => None,
+    }
 }
 
 /// Writes the records of the capture that go on, and then what is reported of the run to the error output, and returns the exit status. A failure
@@ -461,6 +533,40 @@ fn carry_out_read<R: Threads, I: Ahead + Reasoned + Send, O: Output + Reasoned, 
     }
 }
 
+/// Returns whether the words name a setup script.
+fn names_setup(chosen: &Result<Asked, Stop>) -> bool
+    ensures { result ≡ is_some (setup_name chosen.now) }
+{
+    match chosen {
+        Ok(Asked::Police(_) | Asked::Forward(_)) => true,
+        _ => false,
+    }
+}
+
+/// Does what the words ask for, with the files that they name, and returns the exit status. If they name a setup script, it first writes the
+/// hints about its files of rules to the error output.
+fn carry_out_hinted<R: Threads, I: Ahead + Reasoned + Send, O: Output + Reasoned, E: Output>(
+    rt: &R,
+    alloc: Global,
+    chosen: &Result<Asked, Stop>,
+    files: &SetupFiles,
+    input: &mut I,
+    output: &mut O,
+    errors: &mut E,
+) -> u8
+    ensures carried { I.is_known → O.is_known → E.is_known → CarriesHinted
+        (lab_failure_line (I.message input.new) (O.message output.new) (O.is_closed output.new))
+        chosen.now files.now I.Input input.old input.new O.Output output.old output.new E.Output errors.old errors.new result }
+    ensures status { IsStatusFor chosen.now result }
+{
+    if !names_setup(chosen) {
+        return carry_out_read(rt, alloc, chosen, files, input, output, errors);
+    }
+    let comments = setup_comments(alloc, files);
+    write_message(errors, comments.text());
+    carry_out_read(rt, alloc, chosen, files, input, output, errors)
+}
+
 /// Does what the words ask for, and returns the exit status. If a file that they name could not be read, it only writes a message
 /// that says so, and the status is 3.
 pub fn carry_out<R: Threads, I: Ahead + Reasoned + Send, O: Output + Reasoned, E: Output>(
@@ -478,7 +584,7 @@ pub fn carry_out<R: Threads, I: Ahead + Reasoned + Send, O: Output + Reasoned, E
     ensures status { IsStatusIn chosen.now setup.now result }
 {
     match setup {
-        Ok(files) => carry_out_read(rt, alloc, chosen, files, input, output, errors),
+        Ok(files) => carry_out_hinted(rt, alloc, chosen, files, input, output, errors),
         Err(unreadable) => {
             write_message(errors, unreadable.message());
             3

@@ -10,6 +10,7 @@ mod notice;
 mod progress;
 mod reason;
 mod setup_file;
+mod setup_hints;
 #[cfg(test)]
 mod tests;
 
@@ -19,7 +20,7 @@ pub use invocation::{carry_out, shell_status};
 pub use lab_captures::cells_of_capture;
 pub use lab_differ::{Finding, TextKind, TextKinds, compare_texts, unused_in_text};
 pub use lab_faults::{LookedAt, explain_faults};
-pub use lab_fit::{fit_capture, links_of_capture};
+pub use lab_fit::{FitChoice, fit_capture, links_of_capture};
 pub use lab_options::{
     CellsOptions, DifferOptions, FitOptions, ForwardOptions, PoliceOptions, Programs, WhyOptions,
     cells_options, differ_options, fit_options, forward_options, police_options, why_options,

@@ -1,10 +1,10 @@
-//! The files that the words name: the setup script of `police` and the rules that it names, and the old rules of `differ`.
+//! The files that the words name: the setup script of `police` and the rules that it names, the old rules of `differ`, and the rules of `fit`.
 
 ghost use Rattle.std.specs.Prelude.{◌≡◌, ◌⊎◌, IfErr, IfOk, IfSome, IsOkAnd, None, []};
 ghost use Rattle.std.specs.Path.{path_with_file_name};
 ghost use Rattle.lab_police.specs.FilesRead.{AreTextsForFiles, IsTextForFile, files_read, octets_of_name, octets_of_names};
 ghost use Rattle.lab_police.specs.RulesFiles.{octets_of_text, octets_of_texts};
-ghost use Rattle.upc_lab.specs.SetupFile.{IsUnreadable, IsUnreadableSetup, IsUnreadableShown, old_name, setup_name, unreadable_line, unreadable_message};
+ghost use Rattle.upc_lab.specs.SetupFile.{IsUnreadable, IsUnreadableSetup, IsUnreadableShown, old_name, fit_rules_name, setup_name, unreadable_line, unreadable_message};
 
 use crate::choice::Asked;
 use crate::file_names::{add_shown_name, name_given};
@@ -41,7 +41,7 @@ pub struct SetupFiles {
     pub tick: Option<Tick>,
     /// The octets of the file of rules that each line `rules NAME` of the script names, in order. Lines that name the same file share them.
     pub rules: Vec<SharedText>,
-    /// The octets of the old text of `differ`, as far as they were read.
+    /// The octets of the old text of `differ`, or of the rules of `fit`, as far as they were read.
     pub old: Vec<u8>,
 }
 
@@ -355,7 +355,7 @@ fn read_shown<R: Files + AllocGlobal, C: CommandLine>(
     }
 }
 
-/// Reads the old text in the file with this name.
+/// Reads the old text, or the rules of `fit`, in the file with this name.
 fn read_old_file<R: Files + AllocGlobal>(rt: &R, name: &[u8]) -> Result<SetupFiles, Unreadable>
     ensures script { IfOk result (λ files. files.script.items ≡ []) }
     ensures rules { IfOk result (λ files. files.rules.items ≡ []) }
@@ -373,7 +373,7 @@ fn read_old_file<R: Files + AllocGlobal>(rt: &R, name: &[u8]) -> Result<SetupFil
     })
 }
 
-/// Reads the old text in the file that is shown by this name.
+/// Reads the old text, or the rules of `fit`, in the file that is shown by this name.
 fn read_old_shown<R: Files + AllocGlobal, C: CommandLine>(
     rt: &R,
     line: &C,
@@ -390,8 +390,8 @@ fn read_old_shown<R: Files + AllocGlobal, C: CommandLine>(
     }
 }
 
-/// Reads the files that the words name: the setup script of `police` and the files of rules that it names, or the old text of `differ`.
-/// Other words name none. `line` is the command line of these words.
+/// Reads the files that the words name: the setup script of `police` and the files of rules that it names, the old text of `differ`, or the rules
+/// of `fit`. Other words name none. `line` is the command line of these words.
 ///
 /// No contract is about the octets of a file. A script is read up to a line over the limits, and a file of rules up to its limit and an
 /// octet more. A file of rules isn't read if no program of it could be loaded ([`files_read`]), and it is read once for all lines that name
@@ -401,16 +401,21 @@ pub fn read_setup<R: Files + AllocGlobal, C: CommandLine>(
     line: &C,
     chosen: &Result<Asked, Stop>,
 ) -> Result<SetupFiles, Unreadable>
-    ensures unnamed { setup_name chosen.now ≡ None → old_name chosen.now ≡ None
+    ensures unnamed { setup_name chosen.now ≡ None → old_name chosen.now ≡ None → fit_rules_name chosen.now ≡ None
         → IsOkAnd result (λ files. (files.script.items ≡ []) × (files.rules.items ≡ []) × (files.old.items ≡ [])) }
     ensures texts { IfOk result (λ files. AreTextsForFiles (files_read files.script.items) (octets_of_texts files.rules.items)) }
     ensures unreadable { IfErr result (λ unreadable. IfSome (setup_name chosen.now) (λ shown. IsUnreadableShown shown unreadable)) }
     ensures unreadable_old { IfErr result (λ unreadable. IfSome (old_name chosen.now) (λ shown. IsUnreadableShown shown unreadable)) }
+    ensures unreadable_rules { IfErr result (λ unreadable. IfSome (fit_rules_name chosen.now) (λ shown. IsUnreadableShown shown unreadable)) }
 {
     match chosen {
         Ok(Asked::Police(options)) => read_shown(rt, line, options.setup.as_str()),
         Ok(Asked::Forward(options)) => read_shown(rt, line, options.setup.as_str()),
         Ok(Asked::Differ(options)) => read_old_shown(rt, line, options.old.as_str()),
+        Ok(Asked::Fit(options)) => match &options.rules {
+            Some(name) => read_old_shown(rt, line, name.as_str()),
+            None => Ok(SetupFiles::none(rt.alloc())),
+        },
         _ => Ok(SetupFiles::none(rt.alloc())),
     }
 }

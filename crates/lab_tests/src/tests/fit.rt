@@ -2,7 +2,7 @@
 
 use super::link::{plain, record_of};
 use captures::{Link, Tick};
-use lab_fit::{FitFault, fit_capture};
+use lab_fit::{FitChoice, FitFault, fit_capture};
 use std::alloc::Global;
 use std::test::Fail;
 use std::thread::Threads;
@@ -16,6 +16,8 @@ fn fitted(
     records: &[(u8, u8, u8)],
     increment: u64,
     link: Option<Link>,
+    side: Side,
+    rules: Option<&[u8]>,
 ) -> Result<(Vec<u8>, Done), RunFault> {
     let Some(tick) = Tick::new(1_000_000_000) else {
         return Err(RunFault::NoMemory);
@@ -31,18 +33,14 @@ fn fitted(
     }
     let mut source = ReaderInput::new(capture.as_slice());
     let mut sink = WriterOutput::new(Vec::new(alloc));
-    let done = fit_capture(
-        rt,
-        2,
-        alloc,
+    let choice = FitChoice {
         increment,
         tick,
         link,
-        Side::Uni,
-        None,
-        &mut source,
-        &mut sink,
-    )?;
+        side,
+        clp: None,
+    };
+    let done = fit_capture(rt, 2, alloc, choice, rules, &mut source, &mut sink)?;
     Ok((sink.writer, done))
 }
 
@@ -83,7 +81,62 @@ fn least_limits_by_hand(rt: HostRuntime) -> Result<(), Fail> {
             Done::Ended,
         ),
     ] {
-        match fitted(&rt, rt.alloc(), &cells[..count], increment, link) {
+        match fitted(
+            &rt,
+            rt.alloc(),
+            &cells[..count],
+            increment,
+            link,
+            Side::Uni,
+            None,
+        ) {
+            Ok((printed, ended)) => {
+                assert_eq!(rt; printed.as_slice(), text);
+                assert_eq!(rt; ended, done);
+            }
+            Err(_) => return Err(Fail::new("no text")),
+        }
+    }
+    Ok(())
+}
+
+#[test]
+fn limits_of_values_and_of_paths(rt: HostRuntime) -> Result<(), Fail> {
+    let cells = [
+        (0, 101, 0),
+        (3, 100, 0),
+        (10, 101, 0),
+        (14, 101, 0),
+        (20, 101, 0),
+        (33, 100, 0),
+    ];
+    for (side, rules, text, done) in [
+        (
+            Side::UniPaths,
+            None,
+            &b"vpi\tvci\tcells\tlimit\trecord\n1\t*\t6\t20\t5\n"[..],
+            Done::Whole,
+        ),
+        (
+            Side::Uni,
+            Some(&b"vci 100 -> 4294967295\nvci 102 -> 1\n"[..]),
+            b"vpi\tvci\tvalue\tcells\tlimit\trecord\n1\t100\t4294967295\t2\t0\t2\n1\t101\t0\t4\t10\t5\n",
+            Done::Whole,
+        ),
+        (
+            Side::UniPaths,
+            Some(b"vci 100 -> 2\notherwise -> 1\n"),
+            b"vpi\tvci\tvalue\tcells\tlimit\trecord\n1\t*\t1\t4\t10\t5\n1\t*\t2\t2\t0\t2\n",
+            Done::Whole,
+        ),
+        (
+            Side::Uni,
+            Some(b"vpi any -> 1\n"),
+            b"rules: fault rules 1 BadLine 1 5\n",
+            Done::Ended,
+        ),
+    ] {
+        match fitted(&rt, rt.alloc(), &cells, 10, None, side, rules) {
             Ok((printed, ended)) => {
                 assert_eq!(rt; printed.as_slice(), text);
                 assert_eq!(rt; ended, done);

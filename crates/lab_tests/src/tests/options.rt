@@ -86,32 +86,49 @@ fn help_is_requested(rt: HostRuntime) -> Result<(), Fail> {
 #[test]
 fn fit_wants_an_increment(rt: HostRuntime) -> Result<(), Fail> {
     let tick = Tick::new(100).expect(&rt, "a tick");
-    for (line, increment, link, side, clp) in [
-        ("--increment 1", 1, None, Side::Uni, None),
+    for (line, increment, link, side, clp, rules) in [
+        ("--increment 1", 1, None, Side::Uni, None, None),
         (
-            "--increment 281474976710656 --side nni",
+            "--increment 281474976710656 --side nni --paths",
             1 << 48,
             None,
-            Side::Nni,
+            Side::NniPaths,
+            None,
             None,
         ),
         (
-            "--side=uni --link 3 --increment=10 --clp 0",
+            "--paths --increment 2 --rules a",
+            2,
+            None,
+            Side::UniPaths,
+            None,
+            Some("a"),
+        ),
+        (
+            "--side=uni --link 3 --increment=10 --clp 0 --rules=a.rules",
             10,
             Some(plain(3)),
             Side::Uni,
             Some(0),
+            Some("a.rules"),
         ),
     ] {
+        let rules = match rules {
+            Some(name) => Some(String::from_str(rt.alloc(), name)?),
+            None => None,
+        };
         let options = FitOptions {
             increment,
             tick,
             link,
             side,
             clp,
+            rules,
         };
-        let answer = fit_options(rt.alloc(), words_of(rt.alloc(), line)?);
-        assert!(rt; matches!(answer, Ok(found) if found == options), "{line}");
+        match fit_options(rt.alloc(), words_of(rt.alloc(), line)?) {
+            Ok(found) => assert!(rt; found == options, "{line}"),
+            Err(_stop) => return Err(Fail::new(line)),
+        }
     }
     for line in [
         "",
@@ -122,6 +139,8 @@ fn fit_wants_an_increment(rt: HostRuntime) -> Result<(), Fail> {
         "--increment 1 --tick 0s",
         "--increment 1 --link 8",
         "--increment 1 --clp 2",
+        "--increment 1 --paths yes",
+        "--increment 1 --rules=",
     ] {
         let answer = fit_options(rt.alloc(), words_of(rt.alloc(), line)?);
         assert!(rt; matches!(answer, Err(Stop::Words(_))), "{line}");

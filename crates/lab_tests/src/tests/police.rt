@@ -3,7 +3,7 @@
 use super::link::record_of;
 use captures::Tick;
 use lab_captures::CellLines;
-use lab_police::{PoliceChoice, PoliceScope, police_capture};
+use lab_police::{PoliceChoice, PoliceScope, police_setup};
 use std::alloc::{AllocError, Global};
 use std::test::Fail;
 use std::thread::Threads;
@@ -26,10 +26,11 @@ fn policed(
     };
     let mut source = ReaderInput::new(capture);
     let mut sink = WriterOutput::new(Vec::new(alloc));
-    let done = police_capture(
+    let done = police_setup(
         rt,
         alloc,
         setup,
+        &[],
         PoliceChoice {
             threads,
             scope: PoliceScope {

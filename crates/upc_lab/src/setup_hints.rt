@@ -1,0 +1,132 @@
+//! The hints about the files of rules that a setup script names.
+
+ghost use Rattle.std.specs.Prelude.{◌≡◌, ◌||◌, not, ℕ, List, [], IfOk, OnOk};
+ghost use Rattle.std.specs.Str.{bytes_eq};
+ghost use Rattle.lab_faults.specs.HintComments.{AreHintsAbout, text_of_comments};
+ghost use Rattle.lab_police.specs.FilesRead.{octets_of_name, octets_of_names};
+ghost use Rattle.lab_police.specs.RulesFiles.{octets_of_texts};
+ghost use Rattle.text_io.specs.Devices.{Adds};
+ghost use Rattle.upc_lab.specs.SetupFile.{rules_in_files};
+ghost use Rattle.upc_lab.specs.SetupHints.{AreFileHints, AreFilesHints, AreSetupHints, MayBeSetupHints, file_front, names_with_file};
+ghost use Rattle.upc_lab.specs.inner.NamesMet.{HasNames, has_name};
+
+use crate::file_names::add_shown_name;
+use crate::setup_file::SetupFiles;
+use lab_faults::{Comments, add_hints_about};
+use lab_police::{SharedText, files_read};
+use std::alloc::{AllocError, Global};
+use std::collections::BTreeSet;
+
+/// The names of the files that were met.
+#[derive(Drop)]
+struct NamesMet<'a> {
+    pub names: BTreeSet<&'a [u8]>,
+}
+
+impl<'a> NamesMet<'a> {
+    /// Returns that no name was met.
+    fn none(alloc: Global) -> NamesMet<'a>
+        ensures { HasNames result [] }
+    {
+        NamesMet {
+            names: BTreeSet::new(alloc),
+        }
+    }
+
+    /// Meets a name. Returns whether it is new.
+    fn meet(&mut self, name: &'a [u8]) -> Result<bool, AllocError>
+        ensures fresh { IfOk result (λ fresh. fresh ≡ not (has_name self.old name.entry.now)) }
+        ensures names { IfOk result (λ _. (other : List ℕ) → has_name self.new other ≡ (bytes_eq name.entry.now other || has_name self.old other)) }
+    {
+        let fresh = self.names.insert(name)?;
+        Ok(fresh)
+    }
+}
+
+/// Returns what comes before a hint about the file of rules with this name.
+#[tactic(auto, using(std::proofs::lemmas::List::append_assoc))]
+fn file_front(alloc: Global, name: &[u8]) -> Result<Vec<u8>, AllocError>
+    ensures { IfOk result (λ front. front.items ≡ file_front name.now) }
+{
+    let mut front = Vec::new(alloc);
+    front.extend_from_slice(b"# ")?;
+    add_shown_name(alloc, &mut front, name)?;
+    front.extend_from_slice(b": ")?;
+    Ok(front)
+}
+
+/// Appends the hints about the file of rules with this name.
+fn add_hints_after_name(
+    alloc: Global,
+    hints: &mut Vec<u8>,
+    name: &[u8],
+    text: &[u8],
+) -> Result<(), AllocError>
+    ensures { OnOk result (Adds (AreHintsAbout (file_front name.now) text.now) hints.old.items hints.new.items) }
+{
+    let front = file_front(alloc, name)?;
+    add_hints_about(alloc, hints, &front, text)
+}
+
+/// Appends the hints about a file of rules, unless it isn't read, or its name was met before.
+fn add_file_hints<'a>(
+    alloc: Global,
+    hints: &mut Vec<u8>,
+    met: &mut NamesMet<'a>,
+    file: &'a Option<Vec<u8>>,
+    text: &[u8],
+) -> Result<(), AllocError>
+    ensures hinted { (before : List (List ℕ)) → HasNames met.old before
+        → OnOk result (Adds (AreFileHints before (octets_of_name file.now) text.now) hints.old.items hints.new.items) }
+    ensures met { (before : List (List ℕ)) → HasNames met.old before → OnOk result (HasNames met.new (names_with_file (octets_of_name file.now) before)) }
+{
+    let Some(name) = file else {
+        return Ok(());
+    };
+    if !met.meet(name.as_slice())? {
+        return Ok(());
+    }
+    add_hints_after_name(alloc, hints, name, text)
+}
+
+/// Returns the hints about these files of rules with these texts.
+fn files_hints(
+    alloc: Global,
+    files: &[Option<Vec<u8>>],
+    texts: &[SharedText],
+) -> Result<Vec<u8>, AllocError>
+    ensures { IfOk result (λ hints. AreFilesHints [] (octets_of_names files.now) (octets_of_texts texts.now) hints.items) }
+{
+    let mut hints = Vec::new(alloc);
+    let mut met = NamesMet::none(alloc);
+    let mut left = files;
+    let mut texts_left = texts;
+    while let [file, rest @ ..] = left {
+        let [text, texts_rest @ ..] = texts_left else {
+            return Ok(hints);
+        };
+        add_file_hints(alloc, &mut hints, &mut met, file, text.as_slice())?;
+        left = rest;
+        texts_left = texts_rest;
+    }
+    Ok(hints)
+}
+
+/// Returns the hints about the files of rules that a setup script names.
+fn setup_hints(alloc: Global, script: &[u8], texts: &[SharedText]) -> Result<Vec<u8>, AllocError>
+    ensures { IfOk result (λ hints. AreSetupHints script.now (octets_of_texts texts.now) hints.items) }
+{
+    let files = files_read(alloc, script)?;
+    files_hints(alloc, &files, texts)
+}
+
+/// Returns the hints about the files of rules that the setup script names as comments, each with the name of its file. A file that several lines
+/// name has its hints once.
+pub(crate) fn setup_comments(alloc: Global, files: &SetupFiles) -> Comments
+    ensures { MayBeSetupHints files.now.script.items (rules_in_files files.now) (text_of_comments result) }
+{
+    match setup_hints(alloc, &files.script, &files.rules) {
+        Ok(hints) => Comments::Made(hints),
+        Err(_) => Comments::NoMemory,
+    }
+}
