@@ -80,6 +80,12 @@ def wanted_of_why(program, text, after, random_source):
     return cells, "".join(shown(decision) for decision in decisions), counted(reader, decisions), 0
 
 
+def line_of(cell, random_source):
+    """Returns a line with a cell: its digits, or the line that a script has."""
+    moment = random_source.choice(["", "cell 0 ", f" cell\t{random_source.randrange(2**70)}  "])
+    return f"{moment}{cell.hex()}\n"
+
+
 def difference_of_why(program, text, random_source):
     """Returns what differs between `why` and the reference, or None."""
     # The line feed ends the last line, if none does. Without a line `cells` there are no cells, and the text may end as it is.
@@ -89,7 +95,7 @@ def difference_of_why(program, text, random_source):
     if random_source.random() < 0.02:
         text, after = text + b"cells # " + b"." * (MOST_LINE_OCTETS - 7) + b"\n", b""
     cells, wanted, counts, status = wanted_of_why(program, text, after, random_source)
-    octets = text + after + "".join(f"{cell.hex()}\n" for cell in cells).encode()
+    octets = text + after + "".join(line_of(cell, random_source) for cell in cells).encode()
     answer, ended = answered(program, octets, "why")
     if answer == wanted and ended == status:
         is_counted = answered(program, octets, "why", "--count") == (counts, status)

@@ -1,7 +1,8 @@
--- The output of `upc-lab why`. The lines before the line `cells` are a text of rules, and each line after it is a cell. The answer to a
+-- The output of `upc-lab why`. The lines before the line `cells` are a text of rules, and each line after it has a cell. The answer to a
 -- cell is the line of the rule that decides it, and its value. With `--count` cells have no answer, and at the end of the input each rule
 -- has a line that says how many of them it decided.
 use Rattle.std.specs.Prelude.{◌≡◌, ◌⊎◌, ◌≤◌, ℕ, ◌==◌, ◌&&◌, nat_le, Bool, false, if◌then◌else◌, List, [], ◌∷◌, ◌++◌, length, codes, decimal, Option, Some, None, Result, Ok, Err}
+use Rattle.std.specs.List.{list_all}
 use Rattle.std.specs.Str.{bytes_eq}
 use Rattle.bpf_code.specs.declared.instr.Instr.{Instr}
 use Rattle.cell_rules.specs.declared.deciding.Decision.{Decision}
@@ -13,7 +14,7 @@ use Rattle.text_io.specs.Gathered.{gathered}
 use Rattle.text_io.specs.Limits.{most_line_octets}
 use Rattle.text_io.specs.Lines.{Line, lines_of, line_content}
 use Rattle.text_io.specs.Printing.{Rules, Prints}
-use Rattle.text_io.specs.Words.{words_of, is_silent}
+use Rattle.text_io.specs.Words.{is_digit, is_silent, words_of}
 use Rattle.text_io.specs.declared.ending.Done.{Done}
 use Rattle.text_io.specs.declared.ending.Done.TheVariants.{Whole}
 use Rattle.upc_words.specs.FaultLines.{line, bad_line, bad_hex, too_long, wrong_length}
@@ -68,11 +69,25 @@ abbrev pub cell_word_read : Option (List ℕ) → Result (List ℕ) (List ℕ)
 cell_word_read None = Err bad_hex
 cell_word_read (Some octets) = cell_octets_read (cell_of_octets octets)
 
--- The cell of a line with words, which is one hexadecimal word.
+-- Whether a word is that of a moment: all of it is decimal digits. Which moment it is doesn't matter.
+abbrev pub is_moment : List ℕ → Bool
+is_moment = list_all is_digit
+
+-- The word of the cell among the words of a line `cell MOMENT CELL`, as scripts have it.
+abbrev pub word_of_cell_line : List (List ℕ) → Option (List ℕ)
+word_of_cell_line (name ∷ moment ∷ word ∷ []) = if bytes_eq name (codes "cell") && is_moment moment then Some word else None
+word_of_cell_line _ = None
+
+-- The cell of a word, if there is one.
+abbrev pub cell_if_word : Option (List ℕ) → Result (List ℕ) (List ℕ)
+cell_if_word None = Err bad_line
+cell_if_word (Some word) = cell_word_read (octets_of_digits word)
+
+-- The cell of a line with words: one hexadecimal word, or the words of a line `cell MOMENT CELL`.
 abbrev pub cell_words_read : List (List ℕ) → Result (List ℕ) (List ℕ)
 cell_words_read [] = Err bad_line
 cell_words_read (word ∷ []) = cell_word_read (octets_of_digits word)
-cell_words_read (word ∷ other ∷ words) = Err bad_line
+cell_words_read (word ∷ other ∷ words) = cell_if_word (word_of_cell_line (word ∷ other ∷ words))
 
 -- The cell of a line after the line `cells`, or the answer to a line without one. That of a line without words and of a comment is empty.
 abbrev pub cell_line_read : List (List ℕ) → Result (List ℕ) (List ℕ)

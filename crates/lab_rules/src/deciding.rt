@@ -9,7 +9,7 @@ ghost use Rattle.text_io.specs.Words.{words_of};
 ghost use Rattle.text_io.specs.declared.ending.Done.TheVariants.{Ended};
 ghost use Rattle.upc_words.specs.Hexadecimal.{octets_of_digits};
 ghost use Rattle.lab_rules.specs.RulesAnswers.{AnswersBy, PrintsFault};
-ghost use Rattle.lab_rules.specs.WhyText.{HasCode, IsWhyText, MayBeWhyText, cell_line_read, cell_word_read, decision_text, value_text};
+ghost use Rattle.lab_rules.specs.WhyText.{HasCode, IsWhyText, MayBeWhyText, cell_if_word, cell_line_read, cell_word_read, decision_text, is_moment, value_text, word_of_cell_line};
 ghost use Rattle.lab_rules.specs.inner.Counted.{AnswersWhyLine, AreCounts, IsLineRead};
 ghost use Rattle.lab_rules.specs.inner.Places.{FindsRules};
 
@@ -22,7 +22,8 @@ use cell_rules::Decision;
 use rules_text::{RuleFault, RuleKind, RulePlace};
 use std::alloc::{AllocError, Global};
 use text_io::{
-    Done, Input, LineWords, Machine, Output, RunFault, Turn, answer_lines, give_last, line_words,
+    Done, Input, LineWords, Machine, Output, RunFault, Turn, answer_lines, first_word, give_last,
+    line_words,
 };
 use upc_cell::Cell;
 use upc_words::{
@@ -70,6 +71,42 @@ fn cell_in_word(
     Ok(None)
 }
 
+/// Returns whether a word is that of a moment.
+fn is_moment(word: &[u8]) -> bool
+    ensures { result ≡ is_moment word.now }
+{
+    word.iter().all(|octet| matches!(*octet, b'0'..=b'9'))
+}
+
+/// Returns the word of the cell in a line `cell MOMENT CELL`, as scripts have it.
+fn word_of_cell_line(line: &[u8]) -> Option<&[u8]>
+    ensures { option_map (λ word. word.now) result ≡ word_of_cell_line (words_of line.now) }
+{
+    let (name, after_name) = first_word(line)?;
+    let (moment, after_moment) = first_word(after_name)?;
+    let (word, rest) = first_word(after_moment)?;
+    if first_word(rest).is_none() && name == b"cell" && is_moment(moment) {
+        Some(word)
+    } else {
+        None
+    }
+}
+
+/// Reads the word of a cell, or appends the answer to a line without one.
+fn cell_if_word(
+    alloc: Global,
+    word: Option<&[u8]>,
+    answers: &mut Vec<u8>,
+) -> Result<Option<Cell>, AllocError>
+    ensures { IfOk result (IsLineRead (cell_if_word (option_map (λ word. word.now) word)) answers.old.items answers.new.items) }
+{
+    let Some(word) = word else {
+        add_bad_line(answers)?;
+        return Ok(None);
+    };
+    cell_in_word(alloc, word, answers)
+}
+
 /// Reads a line after the line `cells`, or appends the answer to one without a cell.
 fn cell_in_line(
     alloc: Global,
@@ -79,11 +116,10 @@ fn cell_in_line(
     ensures { IfOk result (IsLineRead (cell_line_read (words_of line.now)) answers.old.items answers.new.items) }
 {
     match line_words(line) {
-        LineWords::One(word) => return cell_in_word(alloc, word, answers),
-        LineWords::Silent => {}
-        LineWords::Several => add_bad_line(answers)?,
+        LineWords::One(word) => cell_in_word(alloc, word, answers),
+        LineWords::Silent => Ok(None),
+        LineWords::Several => cell_if_word(alloc, word_of_cell_line(line), answers),
     }
-    Ok(None)
 }
 
 /// The subcommand as a machine, after the line `cells`.
@@ -211,8 +247,8 @@ fn counts_if(alloc: Global, count: bool) -> Option<Counts>
     None
 }
 
-/// Answers an input. The lines before the line `cells` are a text of rules, within its limits; docs/RULES.md has it. Each line after it is a
-/// cell, and its answer is the line of the rule that decides it, and its value. If cells are counted they have no answer, and at the end each
+/// Answers an input. The lines before the line `cells` are a text of rules, within its limits; docs/RULES.md has it. Each line after it has a
+/// cell, alone or as a script has it, and its answer is the line of the rule that decides it, and its value. If cells are counted they have no answer, and at the end each
 /// rule has a line with the number of cells that it decided. A text with a fault is answered by the fault.
 ///
 /// # Errors
