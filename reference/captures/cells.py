@@ -6,10 +6,10 @@ from captures.making import capture_of
 from captures.reading import link_for
 
 
-def cells_of(octets, tick, link):
-    """Returns the output for a file and the exit status. A tick is in nanoseconds."""
+def cells_of(octets, tick, link, numbered=False):
+    """Returns the output for a file and the exit status. A tick is in nanoseconds. The numbers of records may be asked for."""
     capture = Capture(octets, tick, link)
-    lines = "".join(f"cell {it.moment} {it.cell.hex()}\n" for it in capture.cells)
+    lines = "".join(f"# record {it.number}\n" * numbered + f"cell {it.moment} {it.cell.hex()}\n" for it in capture.cells)
     ended = capture.refused or capture.several
     text = lines + (ended or capture.closing())
     return text.encode(), 1 if ended or capture.fault else 0
@@ -19,9 +19,10 @@ def difference(lab, draw):
     """Returns what differs on a random capture, or None."""
     octets = capture_of(draw)
     (word, tick), link = draw.choice([("1us", 1000), ("100ns", 100), ("3ns", 3), ("1s", 10**9)]), link_for(draw, octets)
-    words = ["--tick", word] + (["--link", link] if link is not None else [])
+    numbered = draw.random() < 0.3
+    words = ["--tick", word] + (["--link", link] if link is not None else []) + ["--record"] * numbered
     ran = subprocess.run([lab, "cells", *words], input=octets, stdout=subprocess.PIPE, stderr=subprocess.PIPE)
-    ours, theirs = (ran.stdout, ran.returncode), cells_of(octets, tick, link)
+    ours, theirs = (ran.stdout, ran.returncode), cells_of(octets, tick, link, numbered)
     if ours == theirs and not ran.stderr:
         return None
     return f"{' '.join(words)} of {octets.hex()} prints {ours} {ran.stderr}, not {theirs}"

@@ -2,7 +2,8 @@
 
     python3 -m captures.forward UPC_LAB [COUNT] [SEED]
 
-Output, messages and status are compared octet for octet. Where a line of the script has a fault, the messages are the output of `upc-lab explain`.
+Output, messages and status are compared octet for octet. Where a line of the script has a fault, the messages are the output of `upc-lab explain`;
+otherwise they begin with its hints.
 Then what was forwarded is policed by the same script: no cell of it is discarded or tagged. The last line is 'N passed, M failed'.
 """
 import os
@@ -14,6 +15,7 @@ import tempfile
 from captures import making
 from captures.forwarding import forwarded
 from captures.police_cases import TICKS, Traffic, capture_of, case_of, edges, usual_lines, without_faults
+from captures.police import hints_of
 from captures.policing import card_of, tick_of
 from captures.fit_cases import as_pcap
 from captures.making import in_pcapng
@@ -56,7 +58,7 @@ def wanted(program, script, octets, tick, link, others):
     if given is None:
         explained = program.ran(["explain"], TimedScript(tick_of(script)[1]).faulty())
         return b"", explained[0], explained[2]
-    return given
+    return given[0], hints_of(program, script) + given[1], given[2]
 
 
 def difference(ours, theirs):

@@ -66,12 +66,22 @@ class Program:
         return self.ran(["police", *shlex.split(words.format(*[shlex.quote(self.setup)] * 2))], ONE.octets)
 
 
+def hints_of(program, script):
+    """Returns the comments about a setup without a fault: the hints that `upc-lab explain` has."""
+    timed = TimedScript(tick_of(script)[1])
+    if timed.falls is not None:
+        return b""
+    explained, _, status = program.ran(["explain"], timed.plain)
+    hints = b"".join(b"# " + line for line in explained.splitlines(keepends=True) if line.startswith(b"hint "))
+    return hints if status == 0 and hints and program.ran(["explain"], timed.before)[2] == 0 else b""
+
+
 def wanted(program, case):
     """Returns what the program has to answer to a case."""
     given = policed(*case) if case.tick != 100 else policed(*case._replace(tick=None))
     if given is None:
         return program.ran(["explain"], TimedScript(tick_of(case.script)[1]).faulty())
-    return given[0], b"", given[1]
+    return given[0], hints_of(program, case.script), given[1]
 
 
 def wrong_lines(ours, theirs):
@@ -140,8 +150,8 @@ class Rules:
     def wrong(self):
         """Returns what is wrong with the answer, or None."""
         ours = self.program.police(self.named_case)
-        output, _, status = (self.fault, b"", 1) if self.fault else wanted(self.program, self.expanded_case)
-        theirs = (output, self.comments, status)
+        output, hints, status = (self.fault, b"", 1) if self.fault else wanted(self.program, self.expanded_case)
+        theirs = (output, self.comments + hints, status)
         return None if ours == theirs else wrong_lines(ours, theirs)
 
 

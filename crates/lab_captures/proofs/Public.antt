@@ -1,8 +1,8 @@
 -- Lemmas for other crates.
-use Rattle.std.proofs.Common.{◌≡◌, ℕ, List, Option}
+use Rattle.std.proofs.Common.{◌≡◌, ℕ, Bool, List, Option}
 use Rattle.captures.specs.declared.link.Link.{Link}
 use Rattle.lab_captures.specs.CellFilter.{filter_start}
-use Rattle.lab_captures.specs.CellsText.{IsCellsText, cells_closes, cells_rules, cells_steps}
+use Rattle.lab_captures.specs.CellsText.{IsCellsText, cells_closes, cells_rules, cells_start, cells_steps}
 use Rattle.lab_captures.proofs.CaptureTexts as texts
 pub use Rattle.lab_captures.specs.inner.FixedRules.{fixed_total}
 pub use Rattle.lab_captures.proofs.CaptureTexts.{some_capture_text, one_fixed_text}
@@ -11,12 +11,14 @@ pub use Rattle.lab_captures.proofs.Progresses.{on_done}
 use Rattle.text_io.specs.declared.ending.Done.{Done}
 
 -- A file has a text of `cells`.
-pub some_cells_text : (tick : ℕ) (link : Option Link) (octets : List ℕ) → (text : List ℕ) × (done : Done) × IsCellsText tick link octets text done
-some_cells_text tick link octets =
-    texts.some_capture_text cells_rules (fixed_total cells_steps cells_closes) (filter_start tick link) tt octets tt
+pub some_cells_text : (tick : ℕ) (link : Option Link) (numbered : Bool) (octets : List ℕ)
+    → (text : List ℕ) × (done : Done) × IsCellsText tick link numbered octets text done
+some_cells_text tick link numbered octets =
+    texts.some_capture_text cells_rules (fixed_total cells_steps cells_closes) (filter_start tick link) (cells_start numbered) octets tt
 
 -- It has only one.
-pub one_cells_text : (tick : ℕ) (link : Option Link) (octets one other : List ℕ) (ends other_ends : Done)
-    → IsCellsText tick link octets one ends → IsCellsText tick link octets other other_ends → (one ≡ other) × (ends ≡ other_ends)
-one_cells_text tick link octets one other ends other_ends first second =
-    texts.one_fixed_text cells_steps cells_closes (filter_start tick link) tt octets one other ends other_ends first second
+pub one_cells_text : (tick : ℕ) (link : Option Link) (numbered : Bool) (octets one other : List ℕ) (ends other_ends : Done)
+    → IsCellsText tick link numbered octets one ends → IsCellsText tick link numbered octets other other_ends
+    → (one ≡ other) × (ends ≡ other_ends)
+one_cells_text tick link numbered octets one other ends other_ends first second =
+    texts.one_fixed_text cells_steps cells_closes (filter_start tick link) (cells_start numbered) octets one other ends other_ends first second

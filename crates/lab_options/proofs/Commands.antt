@@ -5,6 +5,7 @@ use Rattle.clap.proofs.OnLiterals.{clap_on_literals}
 use Rattle.command_line.specs.Arguments.{app_with_rules}
 use Rattle.lab_options.specs.CellsOptions.{cells_app}
 use Rattle.lab_options.specs.DifferOptions.{differ_app}
+use Rattle.lab_options.specs.ExplainOptions.{explain_app}
 use Rattle.lab_options.specs.FitOptions.{fit_app}
 use Rattle.lab_options.specs.ForwardOptions.{forward_app}
 use Rattle.lab_options.specs.PoliceOptions.{police_app}
@@ -33,3 +34,7 @@ forward_is_free = refl
 pub why_is_free : is_simple_and_free why_app ≡ true
 unfolding why_app app_with_rules clap_on_literals
 why_is_free = refl
+
+pub explain_is_free : is_simple_and_free explain_app ≡ true
+unfolding explain_app app_with_rules clap_on_literals
+explain_is_free = refl

@@ -8,4 +8,5 @@ pub mod PoliceOptions
 pub mod ForwardOptions
 pub mod DifferOptions
 pub mod WhyOptions
+pub mod ExplainOptions
 pub mod inner

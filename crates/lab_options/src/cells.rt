@@ -7,9 +7,9 @@ ghost use Rattle.lab_options.specs.CellsOptions.{AsksCells, CellsAsked, IsCellsS
 ghost use Rattle.lab_options.specs.inner.Answered.{AnswersValues, cells_spelled};
 
 use crate::link::link_of;
-use crate::values::{LINK, TICK, WRONG_LINK, WRONG_TICK, tick_of, wrong_value};
+use crate::values::{LINK, TICK, WRONG_LINK, WRONG_TICK, is_record_given, tick_of, wrong_value};
 use captures::{Link, Tick};
-use command_line::{Options, Stop, Value, values_of_words};
+use command_line::{Argument, Form, Options, Stop, Value, values_of_words};
 use std::alloc::Global;
 
 /// What `upc-lab cells` should do.
@@ -19,16 +19,26 @@ pub struct CellsOptions {
     pub tick: Tick,
     /// The link whose cells are read. Without one the cells of a capture may be of one link only.
     pub link: Option<Link>,
+    /// Whether each cell comes after a comment with the number of its record.
+    pub numbered: bool,
 }
+
+const RECORD: Argument = Argument {
+    name: "record",
+    form: Form::Flag,
+    default: None,
+    required: false,
+    help: "Print a comment with the number of its record before each cell",
+};
 
 const CELLS: Options = Options {
     name: "upc-lab cells",
     about: "Print the ATM cells of a capture of a link as lines of a script",
     after_help: "Standard input is an ERF file, or pcap or pcapng with ERF records.\nExample: examples/make-capture | upc-lab cells --tick 1us",
-    arguments: &[TICK, LINK],
+    arguments: &[TICK, LINK, RECORD],
 };
 
-/// Reads the words after `upc-lab cells`: `--tick TIME`, which is 100ns if it isn't given, and `--link LINK`. The forms of
+/// Reads the words after `upc-lab cells`: `--tick TIME`, which is 100ns if it isn't given, `--link LINK` and `--record`. The forms of
 /// help that `clap` has request help. Any other word is an error, and so is a wrong value.
 pub fn cells_options(alloc: Global, words: Vec<String>) -> Result<CellsOptions, Stop>
     ensures asked { IfOk result (λ options. AsksCells (map string_bytes words.items) (cells_asked_by options)) }
@@ -50,7 +60,11 @@ fn read(alloc: Global, values: &[Value]) -> Result<CellsOptions, Stop>
     let Some(link) = link_of(values) else {
         return Err(wrong_value(alloc, WRONG_LINK));
     };
-    Ok(CellsOptions { tick, link })
+    Ok(CellsOptions {
+        tick,
+        link,
+        numbered: is_record_given(values),
+    })
 }
 
 fn answer_to(alloc: Global, found: Result<Vec<Value>, Stop>) -> Result<CellsOptions, Stop>

@@ -8,12 +8,12 @@ ghost use Rattle.lab_options.specs.inner.Answered.{AnswersValues, fit_spelled};
 
 use crate::link::link_of;
 use crate::values::{
-    LINK, TICK, WRONG_LINK, WRONG_TICK, asked_clp_of, fit_increment_of, fit_side_of, rules_name_of,
-    tick_of, wrong_value,
+    LINK, TICK, WRONG_LINK, WRONG_TICK, asked_clp_of, fit_increment_of, fit_side_of, owned,
+    rules_name_of, tick_of, wrong_value,
 };
 use captures::{Link, Tick};
 use command_line::{Argument, Form, Options, Stop, Value, values_of_words};
-use std::alloc::{AllocError, Global};
+use std::alloc::Global;
 use upc_cell::Side;
 
 /// What `upc-lab fit` should do.
@@ -91,19 +91,6 @@ pub fn fit_options(alloc: Global, words: Vec<String>) -> Result<FitOptions, Stop
 {
     let found = values_of_words(alloc, &FIT, words);
     answer_to(alloc, found)
-}
-
-/// Returns a text of its own, if there is one.
-fn owned(alloc: Global, text: Option<&str>) -> Result<Option<String>, AllocError>
-    ensures { IfOk result (λ owned. option_map (λ it. string_bytes it) owned ≡ option_map (λ it. it.now) text.entry) }
-{
-    match text {
-        None => Ok(None),
-        Some(text) => match String::from_str(alloc, text) {
-            Ok(text) => Ok(Some(text)),
-            Err(_) => Err(AllocError),
-        },
-    }
 }
 
 /// Returns the options that these values spell.

@@ -3,6 +3,7 @@
 
 mod cells;
 mod differ;
+mod explain;
 mod fit;
 mod forward;
 pub mod laws;
@@ -14,6 +15,7 @@ mod why;
 
 pub use cells::{CellsOptions, cells_options};
 pub use differ::{DifferOptions, differ_options};
+pub use explain::{ExplainOptions, explain_options};
 pub use fit::{FitOptions, fit_options};
 pub use forward::{ForwardOptions, forward_options};
 pub use police::{PoliceOptions, police_options};

@@ -1,6 +1,7 @@
 //! The values of options.
 
-ghost use Rattle.std.specs.Prelude.{◌≡◌, codes, option_map};
+ghost use Rattle.std.specs.Prelude.{◌≡◌, IfOk, codes, option_map};
+ghost use Rattle.std.specs.String.{string_bytes};
 ghost use Rattle.command_line.specs.Arguments.{text_named, texts_of};
 ghost use Rattle.lab_options.specs.OptionValues.{asked_clp_of, asked_file_of, asked_tick_of, cell_lines_of, clp_named, every_of, fit_increment_of, fit_side_of, file_name_of, file_named, is_given, others_of, pairs_of, side_named, threads_of, tick_of};
 ghost use Rattle.lab_options.specs.inner.Answered.{IsWrongValue};
@@ -9,7 +10,7 @@ use captures::Tick;
 use command_line::{Argument, Form, Stop, Value, text_of};
 use lab_captures::CellLines;
 use lab_sizes::duration;
-use std::alloc::Global;
+use std::alloc::{AllocError, Global};
 use upc_cell::Side;
 use upc_script::number;
 
@@ -178,6 +179,29 @@ pub(crate) fn rules_name_of(values: &[Value]) -> Option<Option<&str>>
     Some(Some(file_named(word)?))
 }
 
+/// Returns the name of the file with a setup script to explain, if one is given. None if it is empty.
+pub(crate) fn explained_name_of(values: &[Value]) -> Option<Option<&str>>
+    ensures { option_map (λ name. option_map (λ it. it.now) name) result ≡ asked_file_of (text_named (texts_of values.now) (codes "setup")) }
+{
+    let Some(word) = text_of(values, "setup") else {
+        return Some(None);
+    };
+    Some(Some(file_named(word)?))
+}
+
+/// Returns a text of its own, if there is one.
+pub(crate) fn owned(alloc: Global, text: Option<&str>) -> Result<Option<String>, AllocError>
+    ensures { IfOk result (λ owned. option_map (λ it. string_bytes it) owned ≡ option_map (λ it. it.now) text.entry) }
+{
+    match text {
+        None => Ok(None),
+        Some(text) => match String::from_str(alloc, text) {
+            Ok(text) => Ok(Some(text)),
+            Err(_) => Err(AllocError),
+        },
+    }
+}
+
 /// Returns whether the value of `--lines` asks for all pairs of lines.
 pub(crate) fn pairs_of(values: &[Value]) -> Option<bool>
     ensures { result ≡ pairs_of (text_named (texts_of values.now) (codes "lines")) }
@@ -227,6 +251,13 @@ pub(crate) fn is_count_given(values: &[Value]) -> bool
     ensures { result ≡ is_given (text_named (texts_of values.now) (codes "count")) }
 {
     is_given(values, "count")
+}
+
+/// Returns whether `--record` is given.
+pub(crate) fn is_record_given(values: &[Value]) -> bool
+    ensures { result ≡ is_given (text_named (texts_of values.now) (codes "record")) }
+{
+    is_given(values, "record")
 }
 
 /// Returns why the words give no options: a value is wrong, and this message says which and what is right.

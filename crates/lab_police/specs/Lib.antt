@@ -21,4 +21,5 @@ pub mod SetupTick
 pub mod SetupText
 pub mod SetupLaws
 pub mod PolicedCards
+pub mod ExplainedSetups
 pub mod inner

@@ -6,6 +6,7 @@ mod cell_lines;
 mod compiling;
 mod connection_counts;
 mod expanding;
+mod explained_setup;
 mod file_names;
 pub mod laws;
 mod not_judged;
@@ -27,6 +28,7 @@ mod timed_card;
 mod timed_lines;
 
 pub use card_room::{CardRoom, files_read};
+pub use explained_setup::{explain_setup, hints_of_setup};
 pub use file_names::add_escaped_name;
 pub use not_judged::NotJudged;
 pub use police::{PoliceChoice, police_capture, write_faults};

@@ -22,17 +22,39 @@ pub(crate) enum SetUp {
     Ready(TimedCard),
 }
 
+/// The explanation of a script.
+#[derive(Drop)]
+pub(crate) struct Explanation {
+    /// Its text.
+    pub text: Vec<u8>,
+    /// Ended if the script has a fault, Whole if it has none.
+    pub done: Done,
+}
+
+/// Returns the explanation of a script.
+pub(crate) fn explanation_of(alloc: Global, script: &[u8]) -> Result<Explanation, AllocError>
+    ensures { IfOk result (λ explanation. IsScriptExplained script.now explanation.text.items explanation.done) }
+{
+    let mut input = ReaderInput::new(script);
+    let mut output = WriterOutput::new(Vec::new(alloc));
+    match explain_script(alloc, &mut input, &mut output) {
+        Ok(done) => Ok(Explanation {
+            text: output.writer,
+            done,
+        }),
+        Err(_) => Err(AllocError),
+    }
+}
+
 /// Returns the explanation of the faults of a script, if it has any.
 fn faults_of(alloc: Global, script: &[u8]) -> Result<Option<Vec<u8>>, AllocError>
     ensures faulty { IfOk result (λ found. IfSome found (λ text. IsScriptExplained script.now text.items Done.Ended)) }
     ensures faultless { IfOk result (λ found. IfNone found (RunsWhole script.now)) }
 {
-    let mut input = ReaderInput::new(script);
-    let mut output = WriterOutput::new(Vec::new(alloc));
-    match explain_script(alloc, &mut input, &mut output) {
-        Ok(Done::Ended) => Ok(Some(output.writer)),
-        Ok(Done::Whole) => Ok(None),
-        Err(_) => Err(AllocError),
+    let explanation = explanation_of(alloc, script)?;
+    match explanation.done {
+        Done::Ended => Ok(Some(explanation.text)),
+        Done::Whole => Ok(None),
     }
 }
 

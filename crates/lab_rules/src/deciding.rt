@@ -85,7 +85,7 @@ fn word_of_cell_line(line: &[u8]) -> Option<&[u8]>
     let (name, after_name) = first_word(line)?;
     let (moment, after_moment) = first_word(after_name)?;
     let (word, rest) = first_word(after_moment)?;
-    if first_word(rest).is_none() && name == b"cell" && is_moment(moment) {
+    if first_word(rest).is_none() && name == b"cell".as_slice() && is_moment(moment) {
         Some(word)
     } else {
         None
@@ -98,7 +98,7 @@ fn cell_if_word(
     word: Option<&[u8]>,
     answers: &mut Vec<u8>,
 ) -> Result<Option<Cell>, AllocError>
-    ensures { IfOk result (IsLineRead (cell_if_word (option_map (λ word. word.now) word)) answers.old.items answers.new.items) }
+    ensures { IfOk result (IsLineRead (cell_if_word (option_map (λ it. it.now) word.entry)) answers.old.items answers.new.items) }
 {
     let Some(word) = word else {
         add_bad_line(answers)?;

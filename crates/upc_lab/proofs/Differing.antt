@@ -1,4 +1,4 @@
--- The status of `differ`, of `unused`, of `rules` and of `forward` is that of the program, if the words ask for it.
+-- The status of `differ`, `unused`, `rules`, `forward` and `explain` is that of the program, if the words ask for it.
 use Rattle.std.proofs.Common.{◌≡◌, ℕ, true, Some, Result, Ok, Err, refl, ◌∙◌}
 use Rattle.text_io.specs.declared.ending.Done.{Done}
 use Rattle.text_io.specs.declared.ending.Done.TheVariants.{Whole, Ended}
@@ -12,7 +12,7 @@ use Rattle.lab_differ.specs.declared.finding.Finding.TheVariants.{Nothing, Somet
 use Rattle.lab_options.specs.declared.differ.DifferOptions.{DifferOptions}
 use Rattle.lab_options.specs.declared.forward.ForwardOptions.{ForwardOptions}
 use Rattle.upc_lab.specs.Comparison.{finding_status}
-use Rattle.upc_lab.specs.SetupFile.{asks_rules, asks_unused, differ_in, forward_in}
+use Rattle.upc_lab.specs.SetupFile.{asks_rules, asks_unused, differ_in, explains_setup, forward_in}
 use Rattle.upc_lab.specs.declared.choice.Asked.{Asked}
 
 -- A run with the status of a finding.
@@ -40,3 +40,7 @@ pub forward_status : (chosen : Result Asked Stop) (options : ForwardOptions) (st
     → (ended : Result Done RunFault) × (status ≡ status_of ended) → IsStatusFor chosen status
 forward_status (Ok asked) options status is ends = ends
 forward_status (Err stop) options status is ends = absurd (cc)
+
+pub explain_status : (chosen : Result Asked Stop) (status : ℕ) → explains_setup chosen ≡ true → (ended : Result Done RunFault) × (status ≡ status_of ended) → IsStatusFor chosen status
+explain_status (Ok asked) status is ends = ends
+explain_status (Err stop) status is ends = absurd (cc)

@@ -11,7 +11,7 @@ use Rattle.command_line.specs.declared.stop.Stop.{Stop}
 use Rattle.command_line.specs.declared.stop.Stop.TheVariants.{NoMemory}
 use Rattle.upc_lab.specs.LabWords.{AsksLab, IsLabStop, IsStopOf, NamesLab, begun_by, lab_app, lab_faults_in, lab_subcommands, lab_table, own_subcommands, with_options_named}
 use Rattle.upc_lab.specs.declared.choice.Asked.{Asked}
-use Rattle.upc_lab.specs.declared.choice.Asked.TheVariants.{Plain, Why, Cells, Fit, Police, Differ, Forward}
+use Rattle.upc_lab.specs.declared.choice.Asked.TheVariants.{Plain, Why, Cells, Fit, Police, Differ, Forward, Explain}
 use Rattle.upc_lab.specs.declared.choice.Subcommand.{Subcommand}
 use Rattle.upc_lab.specs.declared.help_words.WithOptions.{WithOptions}
 use Rattle.upc_lab.specs.declared.help_words.WithOptions.TheVariants as own
@@ -161,6 +161,7 @@ granted_plain words stop (Fit options) plain granted h = let bad : Some own.Fit 
 granted_plain words stop (Police options) plain granted h = let bad : Some own.Police ≡ None = sym h.0 ∙ plain in cc
 granted_plain words stop (Forward options) plain granted h = let bad : Some own.Forward ≡ None = sym h.0 ∙ plain in cc
 granted_plain words stop (Differ options) plain granted h = let bad : Some own.Differ ≡ None = sym h.0 ∙ plain in cc
+granted_plain words stop (Explain options) plain granted h = let bad : Some own.Explain ≡ None = sym h.0 ∙ plain in cc
 
 -- A stop that the words may give as a subcommand without options is one that they may give.
 pub stopped_plain : (words : List Text) (stop : Stop) → begun_by words ≡ None → StopsAt (lab_faults_in words) stop → IsLabStop words stop

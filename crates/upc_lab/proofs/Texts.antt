@@ -12,7 +12,7 @@ use Rattle.lab_police.proofs.Public.{some_agreed_text}
 use Rattle.lab_sizes.proofs.Public.{some-sizes_text}
 use Rattle.upc_lab.specs.LabText.{IsAskedText, IsLabText, fit_choice, kinds_asked, others_asked, rules_asked, scope_asked}
 use Rattle.upc_lab.specs.declared.choice.Asked.{Asked}
-use Rattle.upc_lab.specs.declared.choice.Asked.TheVariants.{Plain, Why, Cells, Fit, Police, Differ, Forward}
+use Rattle.upc_lab.specs.declared.choice.Asked.TheVariants.{Plain, Why, Cells, Fit, Police, Differ, Forward, Explain}
 use Rattle.upc_lab.specs.declared.choice.Subcommand.{Subcommand}
 use Rattle.upc_lab.specs.declared.choice.Subcommand.TheVariants as lab
 
@@ -23,17 +23,17 @@ some-lab_text lab.Unused octets = some-unused_text octets
 some-lab_text lab.List octets = some-list_text octets
 some-lab_text lab.Trace octets = some-trace_text octets
 some-lab_text lab.Size octets = some-sizes_text octets
-some-lab_text lab.Explain octets = some-explain_text octets
 some-lab_text lab.Links octets = some_links_text octets
 
 pub some-asked_text : (asked : Asked) (setup : List ℕ) (tick : Option ℕ) (rules : List (List ℕ)) (old octets : List ℕ)
     → (answer : List ℕ) × (done : Done) × IsAskedText setup tick rules old asked octets answer done
 some-asked_text (Plain subcommand) setup tick rules old octets = some-lab_text subcommand octets
 some-asked_text (Why options) setup tick rules old octets = some-why_text options.count octets
-some-asked_text (Cells options) setup tick rules old octets = some_cells_text options.tick.nanoseconds options.link octets
+some-asked_text (Cells options) setup tick rules old octets = some_cells_text options.tick.nanoseconds options.link options.numbered octets
 some-asked_text (Police options) setup tick rules old octets =
     some_agreed_text (scope_asked options) tick (option_map (λ it. it.nanoseconds) options.tick) setup rules octets
 some-asked_text (Fit options) setup tick rules old octets = some_fit_text (fit_choice options) (rules_asked options old) octets
 some-asked_text (Forward options) setup tick rules old octets =
     some_agreed_records (others_asked options.others) tick (option_map (λ it. it.nanoseconds) options.tick) options.link setup rules octets
 some-asked_text (Differ options) setup tick rules old octets = some-differ_text (kinds_asked options.programs) options.all old octets
+some-asked_text (Explain options) setup tick rules old octets = some-explain_text octets

@@ -3,7 +3,7 @@ use Rattle.std.specs.Prelude.{ℕ, ◌==◌, Bool, ◌&&◌, if◌then◌else◌
 use Rattle.text_io.specs.declared.ending.RunFault.{RunFault}
 use Rattle.text_io.specs.declared.ending.RunFault.TheVariants.{ReadFailed, WriteFailed, NoMemory}
 use Rattle.upc_lab.specs.declared.choice.Asked.{Asked}
-use Rattle.upc_lab.specs.declared.choice.Asked.TheVariants.{Plain, Why, Cells, Fit, Police, Differ, Forward}
+use Rattle.upc_lab.specs.declared.choice.Asked.TheVariants.{Plain, Why, Cells, Fit, Police, Differ, Forward, Explain}
 use Rattle.upc_lab.specs.declared.choice.Subcommand.{Subcommand}
 use Rattle.upc_lab.specs.declared.choice.Subcommand.TheVariants as lab
 
@@ -27,7 +27,6 @@ lab_name_of lab.Unused = codes "unused"
 lab_name_of lab.List = codes "list"
 lab_name_of lab.Trace = codes "trace"
 lab_name_of lab.Size = codes "size"
-lab_name_of lab.Explain = codes "explain"
 lab_name_of lab.Links = codes "links"
 
 -- What a subcommand waits for.
@@ -38,14 +37,13 @@ lab_input_of lab.Unused = codes "reading rules from the terminal, to its end"
 lab_input_of lab.List = codes "reading a program from the terminal, to its end"
 lab_input_of lab.Trace = codes "reading a program and cells from the terminal, to its end"
 lab_input_of lab.Size = codes "reading contracts from the terminal, to its end"
-lab_input_of lab.Explain = codes "reading a script from the terminal, or a line `source` or `rules` and what it says, to its end"
 lab_input_of lab.Links = codes "reading a capture from the terminal, to its end"
 
 -- The name of the subcommand, and what it waits for.
 abbrev pub lab_notice : Subcommand → List ℕ
 lab_notice subcommand = codes "upc-lab " ++ lab_name_of subcommand ++ codes ": " ++ lab_input_of subcommand
 
--- The notice for what was asked.
+-- The notice for what was asked, unless it is that a setup script is explained, for which nothing is read.
 abbrev pub asked_notice : Asked → List ℕ
 asked_notice (Plain subcommand) = lab_notice subcommand
 asked_notice (Why options) = codes "upc-lab why: reading rules, a line `cells` and cells from the terminal, to its end"
@@ -54,3 +52,4 @@ asked_notice (Fit options) = codes "upc-lab fit: reading a capture from the term
 asked_notice (Police options) = codes "upc-lab police: reading a capture from the terminal, to its end"
 asked_notice (Forward options) = codes "upc-lab forward: reading a capture from the terminal, to its end"
 asked_notice (Differ options) = codes "upc-lab differ: reading rules or a program from the terminal, to its end"
+asked_notice (Explain options) = codes "upc-lab explain: reading a script from the terminal, or a line `source` or `rules` and what it says, to its end"

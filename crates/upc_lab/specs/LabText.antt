@@ -27,7 +27,7 @@ use Rattle.lab_police.specs.declared.scope.PoliceScope.{PoliceScope}
 use Rattle.lab_sizes.specs.SizeText.{IsSizesText}
 use Rattle.text_io.specs.declared.ending.Done.{Done}
 use Rattle.upc_lab.specs.declared.choice.Asked.{Asked}
-use Rattle.upc_lab.specs.declared.choice.Asked.TheVariants.{Plain, Why, Cells, Fit, Police, Differ, Forward}
+use Rattle.upc_lab.specs.declared.choice.Asked.TheVariants.{Plain, Why, Cells, Fit, Police, Differ, Forward, Explain}
 use Rattle.upc_lab.specs.declared.choice.Subcommand.{Subcommand}
 use Rattle.upc_lab.specs.declared.choice.Subcommand.TheVariants as lab
 
@@ -39,7 +39,6 @@ IsLabText lab.Unused = IsUnusedAnswer
 IsLabText lab.List = IsListText
 IsLabText lab.Trace = IsTraceText
 IsLabText lab.Size = IsSizesText
-IsLabText lab.Explain = IsExplainText
 IsLabText lab.Links = IsLinksText
 
 -- What becomes of other records.
@@ -78,13 +77,14 @@ kinds_asked which.Both = record { old = Program; new = Program }
 
 -- The output for the octets of the files that the words name, which are a setup script, with the tick that it names, files of rules and an old
 -- text of `differ` or the rules of `fit`, and for a whole input, and how the run ends. Only `police` and `forward` have the first three, and only
--- `differ` and `fit` the last.
+-- `differ` and `fit` the last. `explain` is the one without `--setup`, with which it reads no input (`CarriesExplained`).
 abbrev pub IsAskedText : List ℕ → Option ℕ → List (List ℕ) → List ℕ → Asked → List ℕ → List ℕ → Done → Type 0
 IsAskedText setup tick rules old (Plain subcommand) = IsLabText subcommand
 IsAskedText setup tick rules old (Why options) = MayBeWhyText options.count
-IsAskedText setup tick rules old (Cells options) = IsCellsText options.tick.nanoseconds options.link
+IsAskedText setup tick rules old (Cells options) = IsCellsText options.tick.nanoseconds options.link options.numbered
 IsAskedText setup tick rules old (Police options) = MayBePolicedAsAgreed (scope_asked options) tick (option_map (λ asked. asked.nanoseconds) options.tick) setup rules
 IsAskedText setup tick rules old (Fit options) = IsFitAsked (fit_choice options) (rules_asked options old)
 IsAskedText setup tick rules old (Forward options) = HasReportedText (MayBeForwardedAsAgreed (others_asked options.others) tick
     (option_map (λ asked. asked.nanoseconds) options.tick) options.link setup rules)
 IsAskedText setup tick rules old (Differ options) = IsDifferAnswer (kinds_asked options.programs) options.all old
+IsAskedText setup tick rules old (Explain options) = IsExplainText

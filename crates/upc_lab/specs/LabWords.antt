@@ -10,29 +10,29 @@ use Rattle.command_line.specs.Subcommands.{NamesRow, app_with, meaning_in, row_n
 use Rattle.command_line.specs.declared.stop.Stop.{Stop}
 use Rattle.lab_options.specs.CellsOptions.{AsksCells, IsCellsStop, cells_asked_by}
 use Rattle.lab_options.specs.DifferOptions.{AsksDiffer, IsDifferStop, differ_asked_by}
+use Rattle.lab_options.specs.ExplainOptions.{AsksExplain, IsExplainStop, explain_asked_by}
 use Rattle.lab_options.specs.FitOptions.{AsksFit, IsFitStop, asked_by}
 use Rattle.lab_options.specs.ForwardOptions.{AsksForward, IsForwardStop, forward_asked_by}
 use Rattle.lab_options.specs.PoliceOptions.{AsksPolice, IsPoliceStop, police_asked_by}
 use Rattle.lab_options.specs.WhyOptions.{AsksWhy, IsWhyStop, why_asked_by}
 use Rattle.upc_lab.specs.declared.choice.Asked.{Asked}
-use Rattle.upc_lab.specs.declared.choice.Asked.TheVariants.{Plain, Why, Cells, Fit, Police, Differ, Forward}
+use Rattle.upc_lab.specs.declared.choice.Asked.TheVariants.{Plain, Why, Cells, Fit, Police, Differ, Forward, Explain}
 use Rattle.upc_lab.specs.declared.choice.Subcommand.{Subcommand}
 use Rattle.upc_lab.specs.declared.choice.Subcommand.TheVariants as lab
 use Rattle.upc_lab.specs.declared.help_words.WithOptions.{WithOptions}
 use Rattle.upc_lab.specs.declared.help_words.WithOptions.TheVariants as own
 
--- The name of each subcommand without options: those for rules, those for programs, that for contracts, that for faults, and that for the
--- links of a capture.
+-- The name of each subcommand without options: those for rules, those for programs, that for contracts, and that for the links of a capture.
 abbrev pub lab_subcommands : List (Text × Subcommand)
 lab_subcommands =
     (codes "rules", lab.Rules) ∷ (codes "asm", lab.Asm) ∷ (codes "unused", lab.Unused) ∷ (codes "list", lab.List)
-    ∷ (codes "trace", lab.Trace) ∷ (codes "size", lab.Size) ∷ (codes "explain", lab.Explain) ∷ (codes "links", lab.Links) ∷ []
+    ∷ (codes "trace", lab.Trace) ∷ (codes "size", lab.Size) ∷ (codes "links", lab.Links) ∷ []
 
 -- The name of each subcommand with options.
 abbrev pub own_subcommands : List (Text × WithOptions)
 own_subcommands =
     (codes "why", own.Why) ∷ (codes "cells", own.Cells) ∷ (codes "fit", own.Fit) ∷ (codes "police", own.Police)
-    ∷ (codes "forward", own.Forward) ∷ (codes "differ", own.Differ) ∷ []
+    ∷ (codes "forward", own.Forward) ∷ (codes "differ", own.Differ) ∷ (codes "explain", own.Explain) ∷ []
 
 -- Each subcommand of the command. Those with options, which mean nothing here, have a command of their own: words that begin with the name of
 -- one are read by it.
@@ -71,6 +71,7 @@ AsksLab words (Fit options) = (begun_by words ≡ Some own.Fit) × AsksFit (drop
 AsksLab words (Police options) = (begun_by words ≡ Some own.Police) × AsksPolice (drop 1 words) (police_asked_by options)
 AsksLab words (Forward options) = (begun_by words ≡ Some own.Forward) × AsksForward (drop 1 words) (forward_asked_by options)
 AsksLab words (Differ options) = (begun_by words ≡ Some own.Differ) × AsksDiffer (drop 1 words) (differ_asked_by options)
+AsksLab words (Explain options) = (begun_by words ≡ Some own.Explain) × AsksExplain (drop 1 words) (explain_asked_by options)
 
 -- The Stops that the words of such a subcommand may give, or those of any other words.
 abbrev pub IsStopOf : Option WithOptions → List Text → Stop → Type 0
@@ -81,6 +82,7 @@ IsStopOf (Some own.Fit) words stop = IsFitStop (drop 1 words) stop
 IsStopOf (Some own.Police) words stop = IsPoliceStop (drop 1 words) stop
 IsStopOf (Some own.Forward) words stop = IsForwardStop (drop 1 words) stop
 IsStopOf (Some own.Differ) words stop = IsDifferStop (drop 1 words) stop
+IsStopOf (Some own.Explain) words stop = IsExplainStop (drop 1 words) stop
 
 -- The Stops that words may give. NoMemory is always allowed.
 abbrev pub IsLabStop : List Text → Stop → Type 0

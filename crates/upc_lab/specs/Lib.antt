@@ -6,6 +6,7 @@ pub mod FailureLines
 pub mod ShownNames
 pub mod Comparison
 pub mod ForwardRun
+pub mod ExplainRun
 pub mod RulesRun
 pub mod SetupHints
 pub mod SetupFile

@@ -4,7 +4,7 @@ use Rattle.text_io.specs.declared.device.Output.{Ghosts as OutputView}
 use Rattle.command_line.specs.declared.stop.Stop.{Stop}
 use Rattle.command_line.specs.Messages.{WritesMessage}
 use Rattle.upc_lab.specs.declared.choice.Asked.{Asked}
-use Rattle.upc_lab.specs.declared.choice.Asked.TheVariants.{Plain, Why, Cells, Fit, Police, Differ, Forward}
+use Rattle.upc_lab.specs.declared.choice.Asked.TheVariants.{Plain, Why, Cells, Fit, Police, Differ, Forward, Explain}
 use Rattle.upc_lab.specs.declared.choice.Subcommand.{Subcommand}
 use Rattle.upc_lab.specs.declared.choice.Subcommand.TheVariants as lab
 
@@ -16,7 +16,6 @@ reads_links lab.Unused = false
 reads_links lab.List = false
 reads_links lab.Trace = false
 reads_links lab.Size = false
-reads_links lab.Explain = false
 reads_links lab.Links = true
 
 -- The words ask for a subcommand that reads a capture.
@@ -28,6 +27,7 @@ reads_capture (Ok (Fit options)) = true
 reads_capture (Ok (Police options)) = true
 reads_capture (Ok (Forward options)) = true
 reads_capture (Ok (Differ options)) = false
+reads_capture (Ok (Explain options)) = false
 reads_capture (Err stop) = false
 
 -- The device that shows the progress gets this text, or nothing if no allocation is left for it. Without a device nothing is shown.

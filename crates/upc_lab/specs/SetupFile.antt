@@ -1,6 +1,6 @@
 -- What the program does with the files that the words name: a setup script and the files of rules that it names, an old text of `differ`, or the
 -- rules of `fit`.
-use Rattle.std.specs.Prelude.{◌≡◌, ◌⊎◌, ◌==◌, IsTrue, if◌then◌else◌, ℕ, List, [], ◌++◌, Option, Some, None, MatchBool, MatchOption, Bool, true, false, Result, Ok, Err, codes, length, option_map}
+use Rattle.std.specs.Prelude.{◌≡◌, ◌⊎◌, ◌==◌, IsTrue, if◌then◌else◌, ℕ, List, [], ◌++◌, Option, Some, None, MatchBool, MatchOption, Bool, true, false, Result, Ok, Err, codes, is_some, length, not, option_map}
 use Rattle.std.specs.Path.{path_with_file_name}
 use Rattle.std.specs.Str.{bytes_eq}
 use Rattle.std.specs.String.{string_bytes}
@@ -19,13 +19,14 @@ use Rattle.lab_forward.specs.Reporting.{ReportedTexts}
 use Rattle.lab_options.specs.declared.differ.DifferOptions.{DifferOptions}
 use Rattle.lab_options.specs.declared.forward.ForwardOptions.{ForwardOptions}
 use Rattle.upc_lab.specs.Comparison.{CarriesFinding}
+use Rattle.upc_lab.specs.ExplainRun.{CarriesExplained}
 use Rattle.upc_lab.specs.ForwardRun.{CarriesForward}
 use Rattle.upc_lab.specs.RulesRun.{CarriesRules}
 use Rattle.upc_lab.specs.LabText.{IsAskedText, kinds_asked, others_asked}
 use Rattle.upc_lab.specs.SetupHints.{MayBeSetupHints}
 use Rattle.upc_lab.specs.ShownNames.{shown_name}
 use Rattle.upc_lab.specs.declared.choice.Asked.{Asked}
-use Rattle.upc_lab.specs.declared.choice.Asked.TheVariants.{Plain, Why, Cells, Fit, Police, Differ, Forward}
+use Rattle.upc_lab.specs.declared.choice.Asked.TheVariants.{Plain, Why, Cells, Fit, Police, Differ, Forward, Explain}
 use Rattle.upc_lab.specs.declared.choice.Subcommand.{Subcommand}
 use Rattle.upc_lab.specs.declared.choice.Subcommand.TheVariants as lab
 use Rattle.upc_lab.specs.declared.setup_file.SetupFiles.{SetupFiles}
@@ -35,7 +36,20 @@ use Rattle.upc_lab.specs.declared.setup_file.Unreadable.{Unreadable}
 abbrev pub setup_name : Result Asked Stop → Option (List ℕ)
 setup_name (Ok (Police options)) = Some (string_bytes options.setup)
 setup_name (Ok (Forward options)) = Some (string_bytes options.setup)
+setup_name (Ok (Explain options)) = option_map string_bytes options.setup
 setup_name _ = None
+
+-- Whether the words ask that a setup script is explained.
+abbrev pub explains_setup : Result Asked Stop → Bool
+explains_setup (Ok (Plain subcommand)) = false
+explains_setup (Ok (Why options)) = false
+explains_setup (Ok (Cells options)) = false
+explains_setup (Ok (Fit options)) = false
+explains_setup (Ok (Police options)) = false
+explains_setup (Ok (Forward options)) = false
+explains_setup (Ok (Differ options)) = false
+explains_setup (Ok (Explain options)) = is_some options.setup
+explains_setup (Err stop) = false
 
 -- What `differ` is asked for, if the words ask for it.
 abbrev pub differ_in : Result Asked Stop → Option DifferOptions
@@ -46,6 +60,7 @@ differ_in (Ok (Fit options)) = None
 differ_in (Ok (Police options)) = None
 differ_in (Ok (Forward options)) = None
 differ_in (Ok (Differ options)) = Some options
+differ_in (Ok (Explain options)) = None
 differ_in (Err stop) = None
 
 -- What `forward` is asked for, if the words ask for it.
@@ -57,6 +72,7 @@ forward_in (Ok (Fit options)) = None
 forward_in (Ok (Police options)) = None
 forward_in (Ok (Forward options)) = Some options
 forward_in (Ok (Differ options)) = None
+forward_in (Ok (Explain options)) = None
 forward_in (Err stop) = None
 
 -- Whether this is `unused`.
@@ -67,7 +83,6 @@ is_unused lab.Asm = false
 is_unused lab.List = false
 is_unused lab.Trace = false
 is_unused lab.Size = false
-is_unused lab.Explain = false
 is_unused lab.Links = false
 
 -- Whether the words ask for `unused`.
@@ -79,6 +94,7 @@ asks_unused (Ok (Fit options)) = false
 asks_unused (Ok (Police options)) = false
 asks_unused (Ok (Forward options)) = false
 asks_unused (Ok (Differ options)) = false
+asks_unused (Ok (Explain options)) = false
 asks_unused (Err stop) = false
 
 -- Whether this is `rules`.
@@ -89,7 +105,6 @@ is_rules lab.Unused = false
 is_rules lab.List = false
 is_rules lab.Trace = false
 is_rules lab.Size = false
-is_rules lab.Explain = false
 is_rules lab.Links = false
 
 -- Whether the words ask for `rules`.
@@ -101,6 +116,7 @@ asks_rules (Ok (Fit options)) = false
 asks_rules (Ok (Police options)) = false
 asks_rules (Ok (Forward options)) = false
 asks_rules (Ok (Differ options)) = false
+asks_rules (Ok (Explain options)) = false
 asks_rules (Err stop) = false
 
 -- The name of the file with the old text, if the words name one.
@@ -116,6 +132,7 @@ fit_rules_name (Ok (Fit options)) = option_map string_bytes options.rules
 fit_rules_name (Ok (Police options)) = None
 fit_rules_name (Ok (Forward options)) = None
 fit_rules_name (Ok (Differ options)) = None
+fit_rules_name (Ok (Explain options)) = None
 fit_rules_name (Err stop) = None
 
 -- The name of a file that the command line gives by a word that is shown as this.
@@ -188,21 +205,29 @@ CarriesOther message chosen files I input input' O output output' E errors error
     (CarriesPlain message chosen files I input input' O output output' E errors errors' status)
     (λ options. CarriesForward message (ForwardsAsked files options) (MayForwardAsked files options) I input input' O output output' E errors errors' status)
 
--- The effect of the program for its words and for the octets of the files that they name, which were read, with these messages for
--- failures.
+-- The effect of the program for its words, which don't ask that a setup script is explained, and for the octets of the files that they name, which
+-- were read, with these messages for failures.
 abbrev pub CarriesWith : {Source Sink Errors : Type 0} → (RunFault → List ℕ) → Result Asked Stop → SetupFiles
     → InputView Source → Source → Source → OutputView Sink → Sink → Sink → OutputView Errors → Errors → Errors → ℕ → Type 0
 CarriesWith message chosen files I input input' O output output' E errors errors' status = MatchOption (differ_in chosen)
     (CarriesOther message chosen files I input input' O output output' E errors errors' status)
     (λ options. CarriesFinding message (IsDifferText (kinds_asked options.programs) options.all files.old.items) I input input' O output output' E errors errors' status)
 
--- The same. If the words name a setup script, the hints about its files of rules are first written to the error output.
+-- The same, also for words that ask that a setup script is explained.
+abbrev pub CarriesNamed : {Source Sink Errors : Type 0} → (RunFault → List ℕ) → Result Asked Stop → SetupFiles
+    → InputView Source → Source → Source → OutputView Sink → Sink → Sink → OutputView Errors → Errors → Errors → ℕ → Type 0
+CarriesNamed message chosen files I input input' O output output' E errors errors' status = MatchBool (explains_setup chosen)
+    (CarriesExplained message files.script.items (rules_in_files files) I input input' O output output' E errors errors' status)
+    (CarriesWith message chosen files I input input' O output output' E errors errors' status)
+
+-- The same. If the words name a setup script, the hints about its files of rules are first written to the error output, and those about the script
+-- itself, unless it is explained.
 abbrev pub CarriesHinted : {Source Sink Errors : Type 0} → (RunFault → List ℕ) → Result Asked Stop → SetupFiles
     → InputView Source → Source → Source → OutputView Sink → Sink → Sink → OutputView Errors → Errors → Errors → ℕ → Type 0
 CarriesHinted {Errors = Errors} message chosen files I input input' O output output' E errors errors' status = MatchOption (setup_name chosen)
-    (CarriesWith message chosen files I input input' O output output' E errors errors' status)
-    (λ name. (hints : List ℕ) × (hinted : Errors) × MayBeSetupHints files.script.items (rules_in_files files) hints × WritesMessage E errors hinted hints
-    × CarriesWith message chosen files I input input' O output output' E hinted errors' status)
+    (CarriesNamed message chosen files I input input' O output output' E errors errors' status)
+    (λ name. (hints : List ℕ) × (hinted : Errors) × MayBeSetupHints (not (explains_setup chosen)) files.script.items (rules_in_files files) hints × WritesMessage E errors hinted hints
+    × CarriesNamed message chosen files I input input' O output output' E hinted errors' status)
 
 -- The same, for files that may not have been read. If a file
 -- couldn't be read, nothing is read or written but the message about it.

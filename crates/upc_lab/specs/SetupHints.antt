@@ -1,8 +1,9 @@
--- The hints about the files of rules that a setup script names.
+-- The hints about a setup script and the files of rules that it names.
 use Rattle.std.specs.Prelude.{◌≡◌, ◌⊎◌, ℕ, List, [], ◌∷◌, ◌++◌, codes, Bool, Option, Some, None, MatchBool}
 use Rattle.std.specs.List.{list_any}
 use Rattle.std.specs.Str.{bytes_eq}
 use Rattle.lab_faults.specs.HintComments.{AreHintsAbout, no_memory_comment}
+use Rattle.lab_police.specs.ExplainedSetups.{AreHintsOfSetup}
 use Rattle.lab_police.specs.FilesRead.{files_read}
 use Rattle.upc_lab.specs.ShownNames.{shown_name}
 
@@ -31,10 +32,15 @@ AreFilesHints before (file ∷ files) [] hints = hints ≡ []
 AreFilesHints before (file ∷ files) (text ∷ texts) hints =
     (first more : List ℕ) × AreFileHints before file text first × AreFilesHints (names_with_file file before) files texts more × (hints ≡ first ++ more)
 
--- The hints about the files of rules that a setup script names, with these texts.
-abbrev pub AreSetupHints : List ℕ → List (List ℕ) → List ℕ → Type 0
-AreSetupHints script texts hints = AreFilesHints [] (files_read script) texts hints
+-- The hints about the script itself, if they are wanted.
+abbrev pub AreOwnHints : Bool → List ℕ → List (List ℕ) → List ℕ → Type 0
+AreOwnHints wanted script texts hints = MatchBool wanted (AreHintsOfSetup script texts hints) (hints ≡ [])
+
+-- The hints about the files of rules that a setup script names, with these texts, and then those about the script itself, if they are wanted.
+abbrev pub AreSetupHints : Bool → List ℕ → List (List ℕ) → List ℕ → Type 0
+AreSetupHints own script texts hints =
+    (first more : List ℕ) × AreFilesHints [] (files_read script) texts first × AreOwnHints own script texts more × (hints ≡ first ++ more)
 
 -- The same, or that no memory was left for them.
-abbrev pub MayBeSetupHints : List ℕ → List (List ℕ) → List ℕ → Type 0
-MayBeSetupHints script texts hints = AreSetupHints script texts hints ⊎ (hints ≡ no_memory_comment)
+abbrev pub MayBeSetupHints : Bool → List ℕ → List (List ℕ) → List ℕ → Type 0
+MayBeSetupHints own script texts hints = AreSetupHints own script texts hints ⊎ (hints ≡ no_memory_comment)

@@ -9,8 +9,9 @@ ghost use Rattle.upc_lab.specs.declared.choice.Asked.{Asked as TheAsked};
 use crate::help_words::{WithOptions, begun_by, help_on, with_options_shown};
 use command_line::{Program, Row, Stop, VERSION, row_of_words};
 use lab_options::{
-    CellsOptions, DifferOptions, FitOptions, ForwardOptions, PoliceOptions, WhyOptions,
-    cells_options, differ_options, fit_options, forward_options, police_options, why_options,
+    CellsOptions, DifferOptions, ExplainOptions, FitOptions, ForwardOptions, PoliceOptions,
+    WhyOptions, cells_options, differ_options, explain_options, fit_options, forward_options,
+    police_options, why_options,
 };
 use std::alloc::Global;
 
@@ -29,8 +30,6 @@ pub enum Subcommand {
     Trace,
     /// Print the buckets of contracts, and the rates that they police.
     Size,
-    /// Print the faults of a script or a source, each with its line and column and a sentence.
-    Explain,
     /// Print the links of a capture.
     Links,
 }
@@ -52,6 +51,8 @@ pub enum Asked {
     Differ(DifferOptions),
     /// Write the records of a capture whose cells pass.
     Forward(ForwardOptions),
+    /// Print the faults of a script, a setup, a source or rules, each with its line and column and a sentence.
+    Explain(ExplainOptions),
 }
 
 /// The program, without its subcommands.
@@ -102,12 +103,6 @@ const SUBCOMMANDS: [Row<Option<Subcommand>>; 14] = [
         means: Some(Subcommand::Size),
     },
     Row {
-        name: "explain",
-        about: "Explain the faults of a script, or after a line `source` or `rules` that of a source or of rules",
-        example: Some("Example: upc-lab explain < examples/desk-refusals.run"),
-        means: Some(Subcommand::Explain),
-    },
-    Row {
         name: "links",
         about: "Print the links of a capture, with their cells, times and losses",
         example: Some("Example: examples/make-capture | upc-lab links"),
@@ -149,6 +144,12 @@ const SUBCOMMANDS: [Row<Option<Subcommand>>; 14] = [
         example: Some("It has options: `upc-lab differ --help` lists them"),
         means: None,
     },
+    Row {
+        name: "explain",
+        about: "Explain the faults of a script, or after a line `source` or `rules` that of a source or of rules",
+        example: Some("It has an option: `upc-lab explain --help` lists it"),
+        means: None,
+    },
 ];
 
 /// Reads the words after the program's name: the name of a subcommand with options and these, or the name of another subcommand. The forms of
@@ -187,6 +188,10 @@ pub fn choose(alloc: Global, words: Vec<String>) -> Result<Asked, Stop>
         },
         Some(WithOptions::Differ) => match differ_options(alloc, without_first(words)) {
             Ok(options) => Ok(Asked::Differ(options)),
+            Err(stop) => Err(stop),
+        },
+        Some(WithOptions::Explain) => match explain_options(alloc, without_first(words)) {
+            Ok(options) => Ok(Asked::Explain(options)),
             Err(stop) => Err(stop),
         },
         None => {

@@ -8,7 +8,8 @@ ghost use Rattle.upc_lab.specs.LabWords.{begun_by, with_options_named};
 
 use command_line::Stop;
 use lab_options::{
-    cells_options, differ_options, fit_options, forward_options, police_options, why_options,
+    cells_options, differ_options, explain_options, fit_options, forward_options, police_options,
+    why_options,
 };
 use std::alloc::Global;
 
@@ -27,6 +28,8 @@ pub enum WithOptions {
     Forward,
     /// `differ`.
     Differ,
+    /// `explain`.
+    Explain,
 }
 
 /// Returns the subcommand with options that has this name.
@@ -45,6 +48,8 @@ fn with_options_named(name: &[u8]) -> Option<WithOptions>
         Some(WithOptions::Forward)
     } else if b"differ".as_slice() == name {
         Some(WithOptions::Differ)
+    } else if b"explain".as_slice() == name {
+        Some(WithOptions::Explain)
     } else {
         None
     }
@@ -102,5 +107,6 @@ fn own_help(alloc: Global, subject: Option<WithOptions>) -> Option<Stop> {
         WithOptions::Police => police_options(alloc, words).err(),
         WithOptions::Forward => forward_options(alloc, words).err(),
         WithOptions::Differ => differ_options(alloc, words).err(),
+        WithOptions::Explain => explain_options(alloc, words).err(),
     }
 }

@@ -12,11 +12,12 @@ ghost use Rattle.lab_differ.specs.declared.finding.Finding.{Finding as Found};
 ghost use Rattle.text_io.specs.declared.ending.Done.{Done as TheDone};
 ghost use Rattle.text_io.specs.declared.ending.RunFault.{RunFault as Failed};
 ghost use Rattle.upc_lab.specs.Comparison.{CarriesFinding, finding_status};
+ghost use Rattle.upc_lab.specs.ExplainRun.{CarriesExplained};
 ghost use Rattle.upc_lab.specs.ForwardRun.{CarriesForward};
 ghost use Rattle.upc_lab.specs.LabMessages.{lab_failure_line, shell_status_of};
 ghost use Rattle.upc_lab.specs.LabText.{IsAskedText, IsLabText, fit_choice, kinds_asked, others_asked, rules_asked, scope_asked};
 ghost use Rattle.upc_lab.specs.RulesRun.{CarriesRules};
-ghost use Rattle.upc_lab.specs.SetupFile.{CarriesAllOut, CarriesHinted, CarriesOther, CarriesPlain, CarriesSilent, CarriesWith, ForwardsAsked, IsStatusIn, MayForwardAsked, asks_rules, asks_unused, differ_in, forward_in, rules_in_files, setup_name, tick_in_files};
+ghost use Rattle.upc_lab.specs.SetupFile.{CarriesAllOut, CarriesHinted, CarriesNamed, CarriesOther, CarriesPlain, CarriesSilent, CarriesWith, ForwardsAsked, IsStatusIn, MayForwardAsked, asks_rules, asks_unused, differ_in, explains_setup, forward_in, rules_in_files, setup_name, tick_in_files};
 
 use crate::choice::{Asked, Subcommand};
 use crate::reason::Reasoned;
@@ -29,7 +30,7 @@ use lab_faults::{Ahead, Comments, compile_with_hints, explain_faults};
 use lab_fit::{FitChoice, fit_capture, links_of_capture};
 use lab_forward::{Others, forward_as_agreed};
 use lab_options::{DifferOptions, FitOptions, ForwardOptions, PoliceOptions, Programs};
-use lab_police::{PoliceChoice, PoliceScope, police_as_agreed};
+use lab_police::{PoliceChoice, PoliceScope, explain_setup, police_as_agreed};
 use lab_programs::{list_program, trace_cells};
 use lab_rules::{assemble_rules, compile_rules, decide_cells};
 use lab_sizes::size_contracts;
@@ -98,7 +99,6 @@ fn run_plain<I: Ahead, O: Output>(
         Subcommand::List => list_program(alloc, input, output),
         Subcommand::Trace => trace_cells(alloc, input, output),
         Subcommand::Size => size_contracts(alloc, input, output),
-        Subcommand::Explain => explain_faults(alloc, input, output),
         Subcommand::Links => links_of_capture(alloc, input, output),
     }
 }
@@ -180,6 +180,7 @@ fn run<R: Threads, I: Ahead + Send, O: Output>(
             alloc,
             options.tick,
             options.link,
+            options.numbered,
             input,
             output,
         ),
@@ -226,6 +227,7 @@ fn run<R: Threads, I: Ahead + Send, O: Output>(
             input,
             output,
         )),
+        Asked::Explain(_) => explain_faults(alloc, input, output),
     }
 }
 
@@ -504,7 +506,8 @@ fn carry_out_other<R: Threads, I: Ahead + Reasoned + Send, O: Output + Reasoned,
     }
 }
 
-/// Does what the words ask for, with the files that they name, and returns the exit status. A comparison has one of its own.
+/// Does what words that ask for no explanation of a setup script ask for, with the files that they name, and returns the exit status. A comparison
+/// has one of its own.
 fn carry_out_read<R: Threads, I: Ahead + Reasoned + Send, O: Output + Reasoned, E: Output>(
     rt: &R,
     alloc: Global,
@@ -533,18 +536,72 @@ fn carry_out_read<R: Threads, I: Ahead + Reasoned + Send, O: Output + Reasoned, 
     }
 }
 
+/// Returns whether the words ask that a setup script is explained. Nothing is read then.
+pub(crate) fn explains_setup(chosen: &Result<Asked, Stop>) -> bool
+    ensures { result ≡ explains_setup chosen.now }
+{
+    match chosen {
+        Ok(Asked::Explain(options)) => options.setup.is_some(),
+        _ => false,
+    }
+}
+
 /// Returns whether the words name a setup script.
 fn names_setup(chosen: &Result<Asked, Stop>) -> bool
     ensures { result ≡ is_some (setup_name chosen.now) }
 {
     match chosen {
         Ok(Asked::Police(_) | Asked::Forward(_)) => true,
-        _ => false,
+        _ => explains_setup(chosen),
+    }
+}
+
+/// Explains a setup script, and returns the exit status. A failure gets a message. Nothing is read.
+fn carry_out_explained<I: Ahead + Reasoned, O: Output + Reasoned, E: Output>(
+    alloc: Global,
+    files: &SetupFiles,
+    input: &mut I,
+    output: &mut O,
+    errors: &mut E,
+) -> u8
+    ensures carried { I.is_known → O.is_known → E.is_known → CarriesExplained
+        (lab_failure_line (I.message input.new) (O.message output.new) (O.is_closed output.new))
+        files.now.script.items (rules_in_files files.now) I.Input input.old input.new O.Output output.old output.new E.Output errors.old errors.new result }
+    ensures status { (ended : Result TheDone Failed) × (result ≡ status_of ended) }
+{
+    let ended = explain_setup(
+        alloc,
+        files.script.as_slice(),
+        files.rules.as_slice(),
+        output,
+    );
+    report(ended, input, output, errors)
+}
+
+/// Does what the words ask for, with the files that they name, and returns the exit status. A setup script is explained apart.
+fn carry_out_named<R: Threads, I: Ahead + Reasoned + Send, O: Output + Reasoned, E: Output>(
+    rt: &R,
+    alloc: Global,
+    chosen: &Result<Asked, Stop>,
+    files: &SetupFiles,
+    input: &mut I,
+    output: &mut O,
+    errors: &mut E,
+) -> u8
+    ensures carried { I.is_known → O.is_known → E.is_known → CarriesNamed
+        (lab_failure_line (I.message input.new) (O.message output.new) (O.is_closed output.new))
+        chosen.now files.now I.Input input.old input.new O.Output output.old output.new E.Output errors.old errors.new result }
+    ensures status { IsStatusFor chosen.now result }
+{
+    if explains_setup(chosen) {
+        carry_out_explained(alloc, files, input, output, errors)
+    } else {
+        carry_out_read(rt, alloc, chosen, files, input, output, errors)
     }
 }
 
 /// Does what the words ask for, with the files that they name, and returns the exit status. If they name a setup script, it first writes the
-/// hints about its files of rules to the error output.
+/// hints about its files of rules, and about the script itself unless it is explained, to the error output.
 fn carry_out_hinted<R: Threads, I: Ahead + Reasoned + Send, O: Output + Reasoned, E: Output>(
     rt: &R,
     alloc: Global,
@@ -560,11 +617,11 @@ fn carry_out_hinted<R: Threads, I: Ahead + Reasoned + Send, O: Output + Reasoned
     ensures status { IsStatusFor chosen.now result }
 {
     if !names_setup(chosen) {
-        return carry_out_read(rt, alloc, chosen, files, input, output, errors);
+        return carry_out_named(rt, alloc, chosen, files, input, output, errors);
     }
-    let comments = setup_comments(alloc, files);
+    let comments = setup_comments(alloc, !explains_setup(chosen), files);
     write_message(errors, comments.text());
-    carry_out_read(rt, alloc, chosen, files, input, output, errors)
+    carry_out_named(rt, alloc, chosen, files, input, output, errors)
 }
 
 /// Does what the words ask for, and returns the exit status. If a file that they name could not be read, it only writes a message

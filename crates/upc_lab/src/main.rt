@@ -16,16 +16,18 @@ mod tests;
 
 pub use choice::{Asked, Subcommand, choose};
 use command_line::{OfProcess, Stop, status, words_after_name};
+use invocation::explains_setup;
 pub use invocation::{carry_out, shell_status};
 pub use lab_captures::cells_of_capture;
 pub use lab_differ::{Finding, TextKind, TextKinds, compare_texts, unused_in_text};
 pub use lab_faults::{LookedAt, explain_faults};
 pub use lab_fit::{FitChoice, fit_capture, links_of_capture};
 pub use lab_options::{
-    CellsOptions, DifferOptions, FitOptions, ForwardOptions, PoliceOptions, Programs, WhyOptions,
-    cells_options, differ_options, fit_options, forward_options, police_options, why_options,
+    CellsOptions, DifferOptions, ExplainOptions, FitOptions, ForwardOptions, PoliceOptions,
+    Programs, WhyOptions, cells_options, differ_options, explain_options, fit_options,
+    forward_options, police_options, why_options,
 };
-pub use lab_police::police_as_agreed;
+pub use lab_police::{explain_setup, police_as_agreed};
 pub use lab_programs::{list_program, trace_cells};
 pub use lab_rules::{assemble_rules, compile_rules, decide_cells};
 pub use lab_sizes::size_contracts;
@@ -57,6 +59,7 @@ fn main(rt: HostRuntime) -> ExitCode {
     let setup = read_setup(&rt, &line, &chosen);
     if let Ok(asked) = &chosen
         && setup.is_ok()
+        && !explains_setup(&chosen)
         && rt.stdin().is_terminal()
     {
         let _ = eprintln!(rt; "{}", awaited(asked));

@@ -22,6 +22,8 @@ pub fn awaited(asked: &Asked) -> &'static str
         Asked::Forward(_) => "upc-lab forward: reading a capture from the terminal, to its end",
         Asked::Differ(_) =>
             "upc-lab differ: reading rules or a program from the terminal, to its end",
+        Asked::Explain(_) =>
+            "upc-lab explain: reading a script from the terminal, or a line `source` or `rules` and what it says, to its end",
     }
 }
 
@@ -38,8 +40,6 @@ fn notice_of(subcommand: Subcommand) -> &'static str
         Subcommand::Trace =>
             "upc-lab trace: reading a program and cells from the terminal, to its end",
         Subcommand::Size => "upc-lab size: reading contracts from the terminal, to its end",
-        Subcommand::Explain =>
-            "upc-lab explain: reading a script from the terminal, or a line `source` or `rules` and what it says, to its end",
         Subcommand::Links => "upc-lab links: reading a capture from the terminal, to its end",
     }
 }

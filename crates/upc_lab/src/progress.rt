@@ -28,7 +28,7 @@ pub fn reads_capture(chosen: &Result<Asked, Stop>) -> bool
     match chosen {
         Ok(Asked::Cells(_) | Asked::Fit(_) | Asked::Police(_) | Asked::Forward(_)) => true,
         Ok(Asked::Plain(subcommand)) => reads_links(*subcommand),
-        Ok(Asked::Why(_) | Asked::Differ(_)) | Err(_) => false,
+        Ok(Asked::Why(_) | Asked::Differ(_) | Asked::Explain(_)) | Err(_) => false,
     }
 }
 

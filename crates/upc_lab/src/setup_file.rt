@@ -390,8 +390,8 @@ fn read_old_shown<R: Files + AllocGlobal, C: CommandLine>(
     }
 }
 
-/// Reads the files that the words name: the setup script of `police` and the files of rules that it names, the old text of `differ`, or the rules
-/// of `fit`. Other words name none. `line` is the command line of these words.
+/// Reads the files that the words name: the setup script of `police`, `forward` or `explain` and the files of rules that it names, the old text of
+/// `differ`, or the rules of `fit`. Other words name none. `line` is the command line of these words.
 ///
 /// No contract is about the octets of a file. A script is read up to a line over the limits, and a file of rules up to its limit and an
 /// octet more. A file of rules isn't read if no program of it could be loaded ([`files_read`]), and it is read once for all lines that name
@@ -414,6 +414,10 @@ pub fn read_setup<R: Files + AllocGlobal, C: CommandLine>(
         Ok(Asked::Differ(options)) => read_old_shown(rt, line, options.old.as_str()),
         Ok(Asked::Fit(options)) => match &options.rules {
             Some(name) => read_old_shown(rt, line, name.as_str()),
+            None => Ok(SetupFiles::none(rt.alloc())),
+        },
+        Ok(Asked::Explain(options)) => match &options.setup {
+            Some(name) => read_shown(rt, line, name.as_str()),
             None => Ok(SetupFiles::none(rt.alloc())),
         },
         _ => Ok(SetupFiles::none(rt.alloc())),

@@ -1,4 +1,4 @@
-//! The hints about the files of rules that a setup script names.
+//! The hints about a setup script and the files of rules that it names.
 
 ghost use Rattle.std.specs.Prelude.{◌≡◌, ◌||◌, not, ℕ, List, [], IfOk, OnOk};
 ghost use Rattle.std.specs.Str.{bytes_eq};
@@ -7,13 +7,13 @@ ghost use Rattle.lab_police.specs.FilesRead.{octets_of_name, octets_of_names};
 ghost use Rattle.lab_police.specs.RulesFiles.{octets_of_texts};
 ghost use Rattle.text_io.specs.Devices.{Adds};
 ghost use Rattle.upc_lab.specs.SetupFile.{rules_in_files};
-ghost use Rattle.upc_lab.specs.SetupHints.{AreFileHints, AreFilesHints, AreSetupHints, MayBeSetupHints, file_front, names_with_file};
+ghost use Rattle.upc_lab.specs.SetupHints.{AreFileHints, AreFilesHints, AreOwnHints, AreSetupHints, MayBeSetupHints, file_front, names_with_file};
 ghost use Rattle.upc_lab.specs.inner.NamesMet.{HasNames, has_name};
 
 use crate::file_names::add_shown_name;
 use crate::setup_file::SetupFiles;
 use lab_faults::{Comments, add_hints_about};
-use lab_police::{SharedText, files_read};
+use lab_police::{SharedText, files_read, hints_of_setup};
 use std::alloc::{AllocError, Global};
 use std::collections::BTreeSet;
 
@@ -112,20 +112,44 @@ fn files_hints(
     Ok(hints)
 }
 
-/// Returns the hints about the files of rules that a setup script names.
-fn setup_hints(alloc: Global, script: &[u8], texts: &[SharedText]) -> Result<Vec<u8>, AllocError>
-    ensures { IfOk result (λ hints. AreSetupHints script.now (octets_of_texts texts.now) hints.items) }
+/// Returns the hints about the script itself, if they are wanted.
+fn own_hints(
+    alloc: Global,
+    wanted: bool,
+    script: &[u8],
+    texts: &[SharedText],
+) -> Result<Vec<u8>, AllocError>
+    ensures { IfOk result (λ hints. AreOwnHints wanted script.now (octets_of_texts texts.now) hints.items) }
 {
-    let files = files_read(alloc, script)?;
-    files_hints(alloc, &files, texts)
+    if wanted {
+        hints_of_setup(alloc, script, texts)
+    } else {
+        Ok(Vec::new(alloc))
+    }
 }
 
-/// Returns the hints about the files of rules that the setup script names as comments, each with the name of its file. A file that several lines
-/// name has its hints once.
-pub(crate) fn setup_comments(alloc: Global, files: &SetupFiles) -> Comments
-    ensures { MayBeSetupHints files.now.script.items (rules_in_files files.now) (text_of_comments result) }
+/// Returns the hints about the files of rules that a setup script names, and then those about the script itself, if they are wanted.
+fn setup_hints(
+    alloc: Global,
+    own: bool,
+    script: &[u8],
+    texts: &[SharedText],
+) -> Result<Vec<u8>, AllocError>
+    ensures { IfOk result (λ hints. AreSetupHints own script.now (octets_of_texts texts.now) hints.items) }
 {
-    match setup_hints(alloc, &files.script, &files.rules) {
+    let files = files_read(alloc, script)?;
+    let mut hints = files_hints(alloc, &files, texts)?;
+    let more = own_hints(alloc, own, script, texts)?;
+    hints.extend_from_slice(&more)?;
+    Ok(hints)
+}
+
+/// Returns the hints about a setup script as comments: those about the files of rules that it names, each with the name of its file, and those about
+/// the script itself, if they are wanted. A file that several lines name has its hints once.
+pub(crate) fn setup_comments(alloc: Global, own: bool, files: &SetupFiles) -> Comments
+    ensures { MayBeSetupHints own files.now.script.items (rules_in_files files.now) (text_of_comments result) }
+{
+    match setup_hints(alloc, own, &files.script, &files.rules) {
         Ok(hints) => Comments::Made(hints),
         Err(_) => Comments::NoMemory,
     }

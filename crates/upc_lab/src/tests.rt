@@ -291,6 +291,7 @@ fn the_options_of_cells_are_read(rt: HostRuntime) -> Result<(), Fail> {
                 connection: 3,
             }),
         }),
+        numbered: false,
     };
     assert!(rt; matches!(answer, Ok(Asked::Cells(found)) if found == options));
     Ok(())

@@ -6,6 +6,7 @@ use Rattle.command_line.specs.declared.stop.Stop.{Stop}
 use Rattle.command_line.specs.declared.stop.Stop.TheVariants.{Help, Words, NoMemory}
 use Rattle.lab_options.specs.CellsOptions.{CellsAsked, cells_values}
 use Rattle.lab_options.specs.DifferOptions.{DifferAsked, differ_values}
+use Rattle.lab_options.specs.ExplainOptions.{ExplainAsked, explain_values}
 use Rattle.lab_options.specs.FitOptions.{FitAsked, fit_values}
 use Rattle.lab_options.specs.ForwardOptions.{ForwardAsked, forward_values}
 use Rattle.lab_options.specs.PoliceOptions.{PoliceAsked, police_values}
@@ -25,7 +26,7 @@ AnswersValues asked_by spelled (Err NoMemory) = ⊤
 
 -- What named values of `cells` spell.
 abbrev pub cells_spelled : List (Text × Option Text) → Option CellsAsked
-cells_spelled texts = cells_values (text_named texts (codes "tick")) (text_named texts (codes "link"))
+cells_spelled texts = cells_values (text_named texts (codes "tick")) (text_named texts (codes "link")) (text_named texts (codes "record"))
 
 -- What named values of `fit` spell.
 abbrev pub fit_spelled : List (Text × Option Text) → Option FitAsked
@@ -49,3 +50,7 @@ forward_spelled texts = forward_values (text_named texts (codes "SETUP")) (text_
 -- What named values of `why` spell.
 abbrev pub why_spelled : List (Text × Option Text) → Option WhyAsked
 why_spelled texts = why_values (text_named texts (codes "count"))
+
+-- What named values of `explain` spell.
+abbrev pub explain_spelled : List (Text × Option Text) → Option ExplainAsked
+explain_spelled texts = explain_values (text_named texts (codes "setup"))

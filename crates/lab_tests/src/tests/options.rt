@@ -4,7 +4,9 @@ use super::link::plain;
 use captures::{Channel, Link, Tick};
 use command_line::Stop;
 use lab_captures::CellLines;
-use lab_options::{CellsOptions, FitOptions, cells_options, fit_options, police_options};
+use lab_options::{
+    CellsOptions, FitOptions, cells_options, explain_options, fit_options, police_options,
+};
 use std::alloc::{AllocError, Global};
 use std::test::Fail;
 use upc_cell::Side;
@@ -19,12 +21,12 @@ fn words_of(alloc: Global, line: &str) -> Result<Vec<String>, AllocError> {
 
 #[test]
 fn options_have_their_values_or_their_defaults(rt: HostRuntime) -> Result<(), Fail> {
-    for (line, nanoseconds, link) in [
-        ("", 100, None),
-        ("--tick 1us", 1000, None),
-        ("--tick=2ns --link=3", 2, Some(plain(3))),
-        ("--link 0 --tick 1s", 1000000000, Some(plain(0))),
-        ("--link 7", 100, Some(plain(7))),
+    for (line, nanoseconds, link, numbered) in [
+        ("", 100, None, false),
+        ("--tick 1us", 1000, None, false),
+        ("--tick=2ns --record --link=3", 2, Some(plain(3)), true),
+        ("--link 0 --tick 1s", 1000000000, Some(plain(0)), false),
+        ("--link 7 --record", 100, Some(plain(7)), true),
         (
             "--link 18446744073709551615:1/15/2047",
             100,
@@ -36,12 +38,13 @@ fn options_have_their_values_or_their_defaults(rt: HostRuntime) -> Result<(), Fa
                     connection: 2047,
                 }),
             }),
+            false,
         ),
     ] {
         let answer = cells_options(rt.alloc(), words_of(rt.alloc(), line)?);
         let tick = Tick::new(nanoseconds).expect(&rt, "a tick");
         assert!(rt;
-            matches!(answer, Ok(options) if options == CellsOptions { tick, link }),
+            matches!(answer, Ok(options) if options == CellsOptions { tick, link, numbered }),
             "{line}"
         );
     }
@@ -66,6 +69,7 @@ fn wrong_words_are_refused(rt: HostRuntime) -> Result<(), Fail> {
         "--link 0/16/0",
         "--link 0/0/2048",
         "--link 18446744073709551616:0",
+        "--record=1",
         "--threads 2",
     ] {
         let answer = cells_options(rt.alloc(), words_of(rt.alloc(), line)?);
@@ -197,6 +201,25 @@ fn police_wants_a_file(rt: HostRuntime) -> Result<(), Fail> {
         "--lines none",
     ] {
         let answer = police_options(rt.alloc(), words_of(rt.alloc(), line)?);
+        assert!(rt; matches!(answer, Err(Stop::Words(_))), "{line}");
+    }
+    Ok(())
+}
+
+#[test]
+fn explain_may_name_a_setup(rt: HostRuntime) -> Result<(), Fail> {
+    for (line, setup) in [
+        ("", None),
+        ("--setup a.setup", Some("a.setup")),
+        ("--setup=--tick", Some("--tick")),
+    ] {
+        let Ok(found) = explain_options(rt.alloc(), words_of(rt.alloc(), line)?) else {
+            return Err(Fail::new(line));
+        };
+        assert!(rt; found.setup.as_deref() == setup, "{line}");
+    }
+    for line in ["a.setup", "--setup", "--setup=", "--setup a --setup b"] {
+        let answer = explain_options(rt.alloc(), words_of(rt.alloc(), line)?);
         assert!(rt; matches!(answer, Err(Stop::Words(_))), "{line}");
     }
     Ok(())

@@ -2,4 +2,4 @@ use Rattle.lab_captures.proofs.Public.{one_cells_text, some_cells_text}
 use Rattle.lab_captures.proofs.laws.captures_have_one_text.Goals as goal
 
 pub returns : goal.returns
-returns c = λ tick link octets. (some_cells_text tick link octets, one_cells_text tick link octets)
+returns c = λ tick link numbered octets. (some_cells_text tick link numbered octets, one_cells_text tick link numbered octets)
