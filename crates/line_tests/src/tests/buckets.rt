@@ -1,5 +1,6 @@
 //! Cells at the limits of each contract, with their verdicts.
 
+use super::{expect, expect_printed};
 use leaky::*;
 use std::process::Abort;
 use std::test::Fail;
@@ -7,12 +8,9 @@ use std::test::Fail;
 /// Expects these verdicts on cells of these CLPs and moments, from the initial state.
 fn assert_verdicts(rt: &impl Abort, contract: &Contract, cells: &[(bool, u32, Verdict)]) {
     let mut levels = Levels::new();
-    for (clp, moment, verdict) in cells {
-        assert_eq!(rt;
-            judge(contract, &mut levels, *clp, u64::from(*moment)),
-            *verdict,
-            "at {moment}"
-        );
+    for (clp, moment, wanted) in cells {
+        let found = judge(contract, &mut levels, *clp, u64::from(*moment));
+        expect(rt, "a verdict", (*moment, found), (*moment, *wanted));
     }
 }
 
@@ -156,53 +154,61 @@ fn the_greatest_numbers_are_judged(rt: HostRuntime) -> Result<(), Fail> {
         judge(&contract, &mut levels, false, LAST_MOMENT),
         Verdict::Pass
     );
-    assert_eq!(rt;
-        judge(&contract, &mut levels, false, LAST_MOMENT),
-        Verdict::Discard
-    );
-    assert_eq!(rt; levels.first, LAST_MOMENT + 2 * MOST_TICKS);
-    assert_eq!(rt; levels.second, 0);
+    let third = judge(&contract, &mut levels, false, LAST_MOMENT);
+    let found = (third, levels.first, levels.second);
+    let greatest = LAST_MOMENT + 2 * MOST_TICKS;
+    expect(&rt, "a third", found, (Verdict::Discard, greatest, 0));
     Ok(())
 }
 
 #[test]
 fn rates_out_of_range_are_refused(rt: HostRuntime) {
-    assert_eq!(rt; Gcra::new(0, 0), Err(GcraFault::ZeroIncrement));
-    assert_eq!(rt; Gcra::new(0, MOST_TICKS + 1), Err(GcraFault::ZeroIncrement));
-    assert_eq!(rt; Gcra::new(281474976710657, 0), Err(GcraFault::TooLarge));
-    assert_eq!(rt; Gcra::new(1, 281474976710657), Err(GcraFault::TooLarge));
+    for (increment, limit, fault) in [
+        (0, 0, GcraFault::ZeroIncrement),
+        (0, MOST_TICKS + 1, GcraFault::ZeroIncrement),
+        (281474976710657, 0, GcraFault::TooLarge),
+        (1, 281474976710657, GcraFault::TooLarge),
+    ] {
+        let found = Gcra::new(increment, limit);
+        expect(&rt, "a rate", (increment, found), (increment, Err(fault)));
+    }
 }
 
 #[test]
 fn burst_tolerances(rt: HostRuntime) {
-    assert_eq!(rt; burst_tolerance(3, 20, 5), Ok(30));
-    assert_eq!(rt; burst_tolerance(1, 20, 5), Ok(0));
-    assert_eq!(rt; burst_tolerance(0, 20, 5), Err(BtFault::ZeroMbs));
-    assert_eq!(rt; burst_tolerance(3, 5, 20), Err(BtFault::PeakSlower));
-    assert_eq!(rt;
-        burst_tolerance(281474976710658, 2, 1),
-        Err(BtFault::TooLarge)
-    );
-    assert_eq!(rt; burst_tolerance(281474976710657, 2, 1), Ok(MOST_TICKS));
-    assert_eq!(rt;
-        burst_tolerance(u64::MAX, u64::MAX, 0),
-        Err(BtFault::TooLarge)
-    );
+    for (cells, sustained, peak, wanted) in [
+        (3, 20, 5, Ok(30)),
+        (1, 20, 5, Ok(0)),
+        (0, 20, 5, Err(BtFault::ZeroMbs)),
+        (3, 5, 20, Err(BtFault::PeakSlower)),
+        (281474976710658, 2, 1, Err(BtFault::TooLarge)),
+        (281474976710657, 2, 1, Ok(MOST_TICKS)),
+        (u64::MAX, u64::MAX, 0, Err(BtFault::TooLarge)),
+    ] {
+        let found = burst_tolerance(cells, sustained, peak);
+        expect(&rt, "a tolerance", (cells, found), (cells, wanted));
+    }
 }
 
 #[test]
 fn defaults(rt: HostRuntime) -> Result<(), Fail> {
-    assert_eq!(rt; Gcra::default(), Gcra::new(1, 0)?);
-    assert_eq!(rt; Contract::default(), Contract::Cbr1(Gcra::new(1, 0)?));
-    assert_eq!(rt; Levels::default(), Levels::new());
+    let rate = Gcra::new(1, 0)?;
+    expect(&rt, "a rate", Gcra::default(), rate);
+    expect(&rt, "a contract", Contract::default(), Contract::Cbr1(rate));
+    expect(&rt, "levels", Levels::default(), Levels::new());
     Ok(())
 }
 
 #[test]
 fn faults_are_printed_by_number_and_name(rt: HostRuntime) -> Result<(), Fail> {
-    let text = format!(in rt.alloc(); "{}, {}", GcraFault::TooLarge, BtFault::PeakSlower)?;
-    assert_eq!(rt; text.as_str(), "2 TooLarge, 2 PeakSlower");
-    Ok(())
+    expect_printed(&rt, rt.alloc(), &[(GcraFault::TooLarge, "2 TooLarge")])?;
+    expect_printed(&rt, rt.alloc(), &[(BtFault::PeakSlower, "2 PeakSlower")])
+}
+
+/// The number of the bucket of an excess, and its ticks.
+fn numbers_of(excess: Option<Excess>) -> Option<(u8, u64)> {
+    let excess = excess?;
+    Some((excess.bucket.number(), excess.ticks))
 }
 
 /// Expects this excess, by bucket and ticks, of a cell of this CLP and moment.
@@ -212,12 +218,9 @@ fn assert_excess(
     levels: &Levels,
     cells: &[(bool, u64, Option<(u8, u64)>)],
 ) {
-    for (clp, moment, expected) in cells {
-        let found = excess_at(contract, levels, *clp, *moment);
-        assert!(rt;
-            found.map(|excess| (excess.bucket.number(), excess.ticks)) == *expected,
-            "at {moment}"
-        );
+    for (clp, moment, wanted) in cells {
+        let found = numbers_of(excess_at(contract, levels, *clp, *moment));
+        expect(rt, "an excess", (*moment, found), (*moment, *wanted));
     }
 }
 
@@ -242,12 +245,10 @@ fn an_excess_names_the_bucket_and_the_ticks(rt: HostRuntime) -> Result<(), Fail>
             (false, 28, None),
         ],
     );
-    let fill = levels.fill_at(8);
-    assert!(rt;
-        fill == Fill {
-            first: 2,
-            second: 32
-        }
-    );
+    let wanted = Fill {
+        first: 2,
+        second: 32,
+    };
+    expect(&rt, "what is left at 8", levels.fill_at(8), wanted);
     Ok(())
 }

@@ -1,8 +1,10 @@
 //! Connections that are policed, cut and released, and directories.
 
-ghost use Rattle.std.specs.Prelude.{ℕ, ◌≡◌, ◌≤◌, None, Some, IfOk, OnOk, IsTrue};
+ghost use Rattle.std.specs.Prelude.{◌≡◌, ◌≤◌, None, Some, IfOk, OnOk};
+ghost use Rattle.line_record.specs.Directory.{IsEmpty};
 ghost use Rattle.line_record.specs.Line.{IsHeld};
 
+use super::{expect, expect_printed};
 use arrayvec::ArrayVec;
 use gen_arena::Id;
 use leaky::{Contract, Gcra, LAST_MOMENT, Verdict};
@@ -58,18 +60,19 @@ fn verdict(line: &mut Line, moment: u64, value: u32) -> Result<Verdict, LineFaul
     Ok(entry.verdict)
 }
 
-/// Expects this result for a cell of cell loss priority 0.
-fn expect_verdict(
+/// Expects these results for cells of cell loss priority 0, by moment and value.
+fn expect_verdicts(
     rt: &impl Abort,
     line: &mut Line,
-    moment: u64,
-    value: u32,
-    answer: Result<Verdict, LineFault>,
+    cells: &[(u64, u32, Result<Verdict, LineFault>)],
 )
     requires { IsHeld line.old }
-    ensures { line.new.owner ≡ line.old.owner }
+    ensures { IsHeld line.new }
 {
-    assert_eq!(rt; verdict(line, moment, value), answer, "at {moment}");
+    for (moment, value, wanted) in cells {
+        let found = verdict(line, *moment, *value);
+        expect(rt, "a verdict", (*moment, found), (*moment, *wanted));
+    }
 }
 
 /// Expects this seating, or none, from a directory.
@@ -85,71 +88,140 @@ fn is_shared<T: Send + Sync>() {}
 #[test]
 fn a_cut_keeps_the_buckets_and_pieces_chain(rt: HostRuntime) -> Result<(), Fail> {
     let mut line = policed_line(rt.alloc(), 2)?;
-    expect_verdict(&rt, &mut line, 0, 1, Ok(Verdict::Pass));
-    expect_verdict(&rt, &mut line, 5, 1, Ok(Verdict::Discard));
-    expect_verdict(&rt, &mut line, 4, 1, Err(LineFault::Back(5)));
-    expect_verdict(&rt, &mut line, 10, 1, Err(LineFault::Full));
-    expect_verdict(&rt, &mut line, LAST_MOMENT + 1, 1, Err(LineFault::TooLate));
+    expect_two_pieces(&rt, &mut line)
+}
+
+/// Expects that the cells on a new line with a journal of two are cut in two pieces.
+fn expect_two_pieces(rt: &impl Abort, line: &mut Line) -> Result<(), Fail>
+    requires { IsHeld line.old }
+{
+    expect_verdicts(
+        rt,
+        line,
+        &[
+            (0, 1, Ok(Verdict::Pass)),
+            (5, 1, Ok(Verdict::Discard)),
+            (4, 1, Err(LineFault::Back(5))),
+            (10, 1, Err(LineFault::Full)),
+            (LAST_MOMENT + 1, 1, Err(LineFault::TooLate)),
+        ],
+    );
     let first = line.cut()?;
-    assert_eq!(rt; first.entries().len(), 2);
-    assert_eq!(rt; line.entries().len(), 0);
-    expect_verdict(&rt, &mut line, 9, 1, Ok(Verdict::Discard));
-    expect_verdict(&rt, &mut line, 10, 1, Ok(Verdict::Pass));
+    expect(rt, "what is left", line.entries().len(), 0);
+    let second = second_piece(rt, line);
+    expect_chain(rt, [first, second]);
+    Ok(())
+}
+
+/// Two more cells, and the piece that is left at the end.
+fn second_piece(rt: &impl Abort, line: &mut Line) -> Piece
+    requires { IsHeld line.old }
+{
+    expect_verdicts(
+        rt,
+        line,
+        &[(9, 1, Ok(Verdict::Discard)), (10, 1, Ok(Verdict::Pass))],
+    );
     let counts = Tally {
         passed: 2,
         tagged: 0,
         discarded: 2,
         refused: 0,
     };
-    assert_eq!(rt; line.counts(), counts);
+    expect(rt, "the counts", line.counts(), counts);
     let second = line.close();
-    assert_eq!(rt; second.entries().len(), 2);
-    assert!(rt; line.is_free());
-    assert_eq!(rt; line.counts(), counts);
-    let (before, after) = (first.end(), second.start());
-    assert_eq!(rt; before.last, 5);
-    assert!(rt; before == after);
-    let mut pieces = [first, second];
-    assert_eq!(rt; chain(&pieces), Ok(()));
+    expect(rt, "free", line.is_free(), true);
+    expect(rt, "the counts then", line.counts(), counts);
+    second
+}
+
+/// Expects that these pieces chain, and not the other way round.
+fn expect_chain(rt: &impl Abort, pieces: [Piece; 2]) {
+    let mut pieces = pieces;
+    expect_meeting(rt, &pieces[0], &pieces[1]);
+    expect(rt, "in order", chain(&pieces), Ok(()));
     pieces.swap(0, 1);
-    assert_eq!(rt; chain(&pieces), Err(1));
-    assert_eq!(rt; chain(&[]), Ok(()));
-    Ok(())
+    expect(rt, "in another order", chain(&pieces), Err(1));
+    expect(rt, "no piece", chain(&[]), Ok(()));
+}
+
+/// Expects that two pieces of two cells each meet at 5.
+fn expect_meeting(rt: &impl Abort, first: &Piece, second: &Piece) {
+    let lengths = (first.entries().len(), second.entries().len());
+    expect(rt, "the cells", lengths, (2, 2));
+    let (before, after) = (first.end(), second.start());
+    expect(rt, "the last moment", before.last, 5);
+    expect(rt, "the same state", before == after, true);
 }
 
 /// A value that names no contract leaves the buckets unchanged, but later cells must not be earlier.
 #[test]
 fn a_refused_cell_charges_no_bucket(rt: HostRuntime) -> Result<(), Fail> {
     let mut line = policed_line(rt.alloc(), 3)?;
-    expect_verdict(&rt, &mut line, 3, 0, Ok(Verdict::Refuse));
-    expect_verdict(&rt, &mut line, 7, 2, Ok(Verdict::Refuse));
-    expect_verdict(&rt, &mut line, 6, 1, Err(LineFault::Back(7)));
-    assert_eq!(rt; line.last(), 7);
-    expect_verdict(&rt, &mut line, 7, 1, Ok(Verdict::Pass));
-    assert_eq!(rt; line.counts().of(Verdict::Refuse), 2);
-    expect_verdict(&rt, &mut line, 17, 1, Err(LineFault::Full));
+    expect_refused(&rt, &mut line);
     Ok(())
+}
+
+/// Expects it of a new line with a journal of three.
+fn expect_refused(rt: &impl Abort, line: &mut Line)
+    requires { IsHeld line.old }
+{
+    expect_verdicts(
+        rt,
+        line,
+        &[
+            (3, 0, Ok(Verdict::Refuse)),
+            (7, 2, Ok(Verdict::Refuse)),
+            (6, 1, Err(LineFault::Back(7))),
+        ],
+    );
+    expect(rt, "the last moment", line.last(), 7);
+    expect_verdicts(rt, line, &[(7, 1, Ok(Verdict::Pass))]);
+    let refused = line.counts().of(Verdict::Refuse);
+    expect(rt, "the refused cells", refused, 2);
+    expect_verdicts(rt, line, &[(17, 1, Err(LineFault::Full))]);
 }
 
 #[test]
 fn a_line_serves_one_connection_after_another(rt: HostRuntime) -> Result<(), Fail> {
     let mut line = Line::new(rt.alloc(), 4)?;
-    assert!(rt; line.is_free() && !line.is_ready() && line.owner().is_none());
+    expect_each_served(&rt, &mut line)
+}
+
+/// Expects that a free line is prepared and serves two connections.
+fn expect_each_served(rt: &impl Abort, line: &mut Line) -> Result<(), Fail>
+    requires { line.old.owner ≡ None }
+{
+    let found = (line.is_free(), line.is_ready(), line.owner());
+    expect(rt, "a new line", found, (true, false, None));
     line.prepare()?;
-    assert!(rt; line.is_ready());
+    expect(rt, "a prepared line", line.is_ready(), true);
     for incarnation in 1..3 {
         assert!(rt; line.is_free());
-        let owner = owner(incarnation)?;
-        open_for(&mut line, owner)?;
-        assert!(rt; !line.is_ready() && line.owner() == Some(owner));
-        expect_verdict(&rt, &mut line, 0, 1, Ok(Verdict::Pass));
-        assert_eq!(rt; line.counts().cells(), incarnation);
-        let piece = line.close();
-        assert_eq!(rt; piece.owner(), owner);
-        assert_eq!(rt; piece.contracts().len(), 1);
-        assert_eq!(rt; piece.end().last, 0);
+        expect_served(rt, line, incarnation)?;
     }
     Ok(())
+}
+
+/// Expects that a free line serves 1/100 for one cell.
+fn expect_served(rt: &impl Abort, line: &mut Line, incarnation: u64) -> Result<(), Fail>
+    requires { line.old.owner ≡ None }
+{
+    let owner = owner(incarnation)?;
+    open_for(line, owner)?;
+    let found = (line.is_ready(), line.owner());
+    expect(rt, "an open line", found, (false, Some(owner)));
+    expect_verdicts(rt, line, &[(0, 1, Ok(Verdict::Pass))]);
+    expect(rt, "the cells", line.counts().cells(), incarnation);
+    expect_piece(rt, &line.close(), owner);
+    Ok(())
+}
+
+/// Expects a piece of this connection under one contract, whose last cell was at 0.
+fn expect_piece(rt: &impl Abort, piece: &Piece, owner: Owner) {
+    expect(rt, "its connection", piece.owner(), owner);
+    expect(rt, "its contracts", piece.contracts().len(), 1);
+    expect(rt, "its last moment", piece.end().last, 0);
 }
 
 #[test]
@@ -160,48 +232,68 @@ fn a_directory_gives_incarnations_up_to_the_last(rt: HostRuntime) -> Result<(), 
         (1, 0, DirFault::BadFirst),
         (1, last + 1, DirFault::BadFirst),
     ] {
-        assert_eq!(rt;
-            Directory::new(rt.alloc(), lines, first).err(),
-            Some(fault),
-            "{lines} {first}"
-        );
+        let found = Directory::new(rt.alloc(), lines, first).err();
+        let wanted = (lines, first, Some(fault));
+        expect(&rt, "a directory", (lines, first, found), wanted);
     }
     let mut directory = Directory::new(rt.alloc(), 1, last)?;
+    expect_last(&rt, &mut directory)
+}
+
+/// Expects that a directory with one line and one incarnation gives that.
+fn expect_last(rt: &impl Abort, directory: &mut Directory) -> Result<(), Fail>
+    requires { IsEmpty directory.old 1 LAST_INCARNATION }
+{
     let vc = Vc::new(1, 100)?;
-    assert!(rt; !directory.worn());
-    assert_eq!(rt; directory.put(vc, 0, program(0)), Ok(last));
-    assert!(rt; directory.worn());
-    assert_eq!(rt; directory.free_line(), None);
-    assert_eq!(rt;
-        directory.take(vc).map(|seating| seating.incarnation),
-        Some(last)
-    );
-    assert!(rt; directory.worn() && directory.free_line() == Some(0));
+    expect(rt, "worn", directory.worn(), false);
+    let given = directory.put(vc, 0, program(0));
+    expect(rt, "the last", given, Ok(LAST_INCARNATION));
+    let found = (directory.worn(), directory.free_line());
+    expect(rt, "worn, and the line", found, (true, None));
+    let taken = directory.take(vc).ok_or("a seating")?;
+    expect(rt, "its number", taken.incarnation, LAST_INCARNATION);
+    let found = (directory.worn(), directory.free_line());
+    expect(rt, "still worn, and the line", found, (true, Some(0)));
     Ok(())
 }
 
 #[test]
 fn connections_are_found_moved_and_taken(rt: HostRuntime) -> Result<(), Fail> {
-    let mut directory = Directory::new(rt.alloc(), 2, 1)?;
     let one = Vc::new(1, 100)?;
     let other = Vc::new(1, 101)?;
-    expect_seating(&rt, directory.find(one), None);
-    assert_eq!(rt; directory.put(one, 1, program(0)), Ok(1));
-    assert_eq!(rt; directory.free_line(), Some(0));
-    expect_seating(&rt, directory.find(other), None);
-    assert_eq!(rt; directory.move_to(other, program(1)), None);
-    assert_eq!(rt; directory.move_to(one, program(1)), Some(program(0)));
-    assert!(rt; directory.names(program(1)) && !directory.names(program(0)));
-    let seating = Seating {
+    let mut directory = Directory::new(rt.alloc(), 2, 1)?;
+    expect_put(&rt, &mut directory, one, other);
+    expect_moved_and_taken(&rt, &mut directory, one);
+    Ok(())
+}
+
+/// Expects that an empty directory of two lines has the one connection after its put, and not the other.
+fn expect_put(rt: &impl Abort, directory: &mut Directory, one: Vc, other: Vc)
+    requires { IsEmpty directory.old 2 1 }
+{
+    expect(rt, "before its put", directory.find(one), None);
+    expect(rt, "its number", directory.put(one, 1, program(0)), Ok(1));
+    expect(rt, "a free line", directory.free_line(), Some(0));
+    expect(rt, "the other", directory.find(other), None);
+    let moved = directory.move_to(other, program(1));
+    expect(rt, "the other is moved", moved, None);
+}
+
+/// Expects that this connection on line 1 is moved from the first program to the second, and taken.
+fn expect_moved_and_taken(rt: &impl Abort, directory: &mut Directory, vc: Vc) {
+    let moved = directory.move_to(vc, program(1));
+    expect(rt, "the program before", moved, Some(program(0)));
+    let named = (directory.names(program(1)), directory.names(program(0)));
+    expect(rt, "which programs are named", named, (true, false));
+    let seating = Some(Seating {
         line: 1,
         incarnation: 1,
         program: program(1),
-    };
-    expect_seating(&rt, directory.find(one), Some(seating));
-    expect_seating(&rt, directory.take(one), Some(seating));
-    expect_seating(&rt, directory.take(one), None);
-    assert!(rt; !directory.names(program(1)));
-    Ok(())
+    });
+    expect(rt, "it is found", directory.find(vc), seating);
+    expect(rt, "it is taken", directory.take(vc), seating);
+    expect(rt, "it is taken again", directory.take(vc), None);
+    expect(rt, "the program", directory.names(program(1)), false);
 }
 
 #[test]
@@ -213,40 +305,65 @@ fn lines_and_directories_cross_threads() {
 
 #[test]
 fn faults_are_printed_by_number_and_name(rt: HostRuntime) -> Result<(), Fail> {
-    let text = format!(in rt.alloc();
-        "{}, {}, {}, {}",
-        LineFault::TooLate,
-        LineFault::Back(5),
-        LineFault::Full,
-        LineFault::NoMemory
+    expect_printed(
+        &rt,
+        rt.alloc(),
+        &[
+            (LineFault::TooLate, "1 TooLate"),
+            (LineFault::Back(5), "2 Back 5"),
+            (LineFault::Full, "3 Full"),
+            (LineFault::NoMemory, "4 NoMemory"),
+        ],
     )?;
-    assert_eq!(rt; text.as_str(), "1 TooLate, 2 Back 5, 3 Full, 4 NoMemory");
-    let text = format!(in rt.alloc();
-        "{}, {}, {}",
-        DirFault::NoLines,
-        DirFault::BadFirst,
-        DirFault::NoMemory
-    )?;
-    assert_eq!(rt; text.as_str(), "1 NoLines, 2 BadFirst, 3 NoMemory");
-    Ok(())
+    expect_printed(
+        &rt,
+        rt.alloc(),
+        &[
+            (DirFault::NoLines, "1 NoLines"),
+            (DirFault::BadFirst, "2 BadFirst"),
+            (DirFault::NoMemory, "3 NoMemory"),
+        ],
+    )
 }
 
 /// The largest journal is filled, returned by a cut, and returned again at the end.
 #[test]
 fn the_largest_journal_is_filled_cut_and_closed(rt: HostRuntime) -> Result<(), Fail> {
     let mut line = policed_line(rt.alloc(), MOST_ENTRIES)?;
-    for moment in 0..u64::from(MOST_ENTRIES) {
-        verdict(&mut line, moment, 1)?;
-    }
-    expect_verdict(&rt, &mut line, LAST_MOMENT, 1, Err(LineFault::Full));
+    expect_largest(&rt, &mut line)
+}
+
+/// Expects it of a new line with the largest journal.
+fn expect_largest(rt: &impl Abort, line: &mut Line) -> Result<(), Fail>
+    requires { IsHeld line.old }
+{
+    fill(line)?;
+    expect_verdicts(rt, line, &[(LAST_MOMENT, 1, Err(LineFault::Full))]);
     let first = line.cut()?;
-    assert_eq!(rt; first.entries().len(), 65536);
-    expect_verdict(&rt, &mut line, LAST_MOMENT, 1, Ok(Verdict::Pass));
-    let second = line.close();
-    assert_eq!(rt; second.entries().len(), 1);
-    assert!(rt; first.end().is_same(second.start()));
-    assert!(rt; !first.end().is_same(second.end()));
+    expect_verdicts(rt, line, &[(LAST_MOMENT, 1, Ok(Verdict::Pass))]);
+    expect_both(rt, [first, line.close()]);
     Ok(())
+}
+
+/// As many cells as the largest journal has entries, a tick apart.
+fn fill(line: &mut Line) -> Result<(), LineFault>
+    requires { IsHeld line.old }
+    ensures { IsHeld line.new }
+{
+    for moment in 0..u64::from(MOST_ENTRIES) {
+        verdict(line, moment, 1)?;
+    }
+    Ok(())
+}
+
+/// Expects a piece of all these cells, and one of one cell that continues it.
+fn expect_both(rt: &impl Abort, pieces: [Piece; 2]) {
+    let [first, second] = &pieces;
+    let lengths = (first.entries().len(), second.entries().len());
+    expect(rt, "the cells", lengths, (65536, 1));
+    let is_next = first.end().is_same(second.start());
+    let is_still = first.end().is_same(second.end());
+    expect(rt, "the states", (is_next, is_still), (true, false));
 }
 
 #[test]
@@ -269,34 +386,55 @@ fn tallies_are_added(rt: HostRuntime) {
         discarded: 33,
         refused: 44,
     };
-    assert_eq!(rt; one.plus(other), both);
-    assert_eq!(rt; Tally::total(&[one, other, Tally::new()]), both);
-    assert_eq!(rt; Tally::total(&[]), Tally::new());
+    expect(&rt, "two", one.plus(other), both);
+    let three = Tally::total(&[one, other, Tally::new()]);
+    expect(&rt, "three", three, both);
+    expect(&rt, "none", Tally::total(&[]), Tally::new());
 }
 
 /// A path between nodes of the network has twelve bits.
 #[test]
 fn connections_between_nodes_are_found_by_their_whole_path(rt: HostRuntime) -> Result<(), Fail> {
-    let mut directory = Directory::new(rt.alloc(), 2, 1)?;
     let user = Vc::new(255, 65535)?;
     let node = Vc::new_at(Side::Nni, 4095, 65535)?;
-    assert_eq!(rt; directory.put(node, 0, program(0)), Ok(1));
-    expect_seating(&rt, directory.find(user), None);
-    assert_eq!(rt; directory.put(user, 1, program(0)), Ok(2));
-    assert_eq!(rt; directory.find(node).map(|seating| seating.line), Some(0));
-    assert_eq!(rt; directory.take(user).map(|seating| seating.line), Some(1));
+    let mut directory = Directory::new(rt.alloc(), 2, 1)?;
+    expect_both_found(&rt, &mut directory, user, node);
+    expect_owners(&rt, user, node);
+    Ok(())
+}
+
+/// Expects that an empty directory of two lines tells these connections apart.
+fn expect_both_found(rt: &impl Abort, directory: &mut Directory, user: Vc, node: Vc)
+    requires { IsEmpty directory.old 2 1 }
+{
+    expect(rt, "the first", directory.put(node, 0, program(0)), Ok(1));
+    expect_seating(rt, directory.find(user), None);
+    expect(rt, "the second", directory.put(user, 1, program(0)), Ok(2));
+    let found = line_of(directory.find(node));
+    expect(rt, "the line of the first", found, Some(0));
+    let taken = line_of(directory.take(user));
+    expect(rt, "the line of the second", taken, Some(1));
+}
+
+fn line_of(seating: Option<Seating>) -> Option<u16> {
+    Some(seating?.line)
+}
+
+/// Expects that an owner is the same only with the same connection and incarnation.
+fn expect_owners(rt: &impl Abort, user: Vc, node: Vc) {
     let one = Owner {
         vc: node,
         incarnation: 1,
     };
-    for (vc, incarnation, is_same) in [(node, 1, true), (node, 2, false), (user, 1, false)] {
-        assert_eq!(rt;
-            same_owner(one, Owner { vc, incarnation }),
-            is_same,
-            "{incarnation}"
+    for (vc, incarnation, wanted) in [(node, 1, true), (node, 2, false), (user, 1, false)] {
+        let is_same = same_owner(one, Owner { vc, incarnation });
+        expect(
+            rt,
+            "the same",
+            (incarnation, is_same),
+            (incarnation, wanted),
         );
     }
-    Ok(())
 }
 
 /// A policer of one connection.
@@ -324,25 +462,41 @@ fn a_connection_is_policed(rt: HostRuntime) -> Result<(), Fail> {
 /// As many connections as a card can have lines, each found on its own line.
 #[test]
 fn a_directory_of_4096_lines_is_filled(rt: HostRuntime) -> Result<(), Fail> {
+    let is_made = Directory::new(rt.alloc(), u16::MAX, 1).is_ok();
+    expect(&rt, "the most lines", is_made, true);
     let mut directory = Directory::new(rt.alloc(), 4096, 1)?;
-    for number in 0..4096u16 {
-        let vc = Vc::new_at(Side::Nni, number, 100)?;
-        expect_seating(&rt, directory.find(vc), None);
-        let line = directory.free_line().ok_or("a free line")?;
-        assert!(rt; !directory.worn());
-        assert_eq!(rt;
-            directory.put(vc, line, program(0)),
-            Ok(u64::from(number) + 1)
-        );
+    expect_all_put_and_taken(&rt, &mut directory)
+}
+
+/// Expects that an empty directory takes 4096 connections, and no more, and gives each back.
+fn expect_all_put_and_taken(rt: &impl Abort, directory: &mut Directory) -> Result<(), Fail> {
+    for number in 0..4096 {
+        expect_next_put(rt, directory, number)?;
     }
-    assert_eq!(rt; directory.free_line(), None);
-    for number in 0..4096u16 {
-        let seating = directory
-            .take(Vc::new_at(Side::Nni, number, 100)?)
-            .ok_or("a seating")?;
-        assert_eq!(rt; seating.incarnation, u64::from(number) + 1);
+    expect(rt, "a free line", directory.free_line(), None);
+    for number in 0..4096 {
+        expect_taken(rt, directory, number)?;
     }
-    assert_eq!(rt; directory.free_line(), Some(0));
-    assert!(rt; Directory::new(rt.alloc(), u16::MAX, 1).is_ok());
+    expect(rt, "a free line then", directory.free_line(), Some(0));
+    Ok(())
+}
+
+/// Expects that the connection on the path with this number isn't there and gets a free line.
+fn expect_next_put(rt: &impl Abort, directory: &mut Directory, number: u16) -> Result<(), Fail> {
+    let vc = Vc::new_at(Side::Nni, number, 100)?;
+    expect_seating(rt, directory.find(vc), None);
+    let line = directory.free_line().ok_or("a free line")?;
+    assert!(rt; !directory.worn());
+    let given = directory.put(vc, line, program(0));
+    expect(rt, "its number", given, Ok(u64::from(number) + 1));
+    Ok(())
+}
+
+/// Takes this connection, and expects that it has the incarnation that it got.
+fn expect_taken(rt: &impl Abort, directory: &mut Directory, number: u16) -> Result<(), Fail> {
+    let vc = Vc::new_at(Side::Nni, number, 100)?;
+    let seating = directory.take(vc).ok_or("a seating")?;
+    let wanted = u64::from(number) + 1;
+    expect(rt, "its number", seating.incarnation, wanted);
     Ok(())
 }
