@@ -12,7 +12,10 @@ use card_core::{Ask, CardFault, Core, DeskFault, Reply, Shape, Step, Unjudged};
 use gen_arena::Id;
 use leaky::{Contract, Gcra, Verdict};
 use std::alloc::Global;
+use std::fmt::Debug;
+use std::process::Abort;
 use std::test::Fail;
+use std::thread::Threads;
 use upc_cell::{Cell, Side, Vc};
 
 /// The headers of 1/100, 1/101, 1/102, 2/100 and 2/101.
@@ -26,6 +29,11 @@ const HEADERS: [[u8; 4]; 5] = [
 
 /// The header of 3/7, which is never set up.
 const UNKNOWN: [u8; 4] = [0x00, 0x30, 0x00, 0x70];
+
+/// Expects this value of what is named. A comparison in a test costs the prover more than a call.
+fn expect<T: Copy + PartialEq + Debug>(rt: &impl Abort, what: &str, found: T, wanted: T) {
+    assert_eq!(rt; found, wanted, "{what}");
+}
 
 fn shape() -> Shape {
     Shape {
@@ -96,28 +104,76 @@ fn id_for(shelf: &Shelf, ids: &[Id], vc: Vc) -> Result<Id, Fail> {
     }
 }
 
-/// Sets up the connections of all headers, each with a program of its own card, and returns the program's ids.
-fn open_all(alloc: Global, shelf: &mut Shelf) -> Result<Vec<Id>, Fail> {
-    let ids = load_all(alloc, shelf, 1)?;
+/// Sets up a connection on the shelf.
+fn set_up(shelf: &mut Shelf, asked: Ask) -> Result<(), Fail> {
+    match shelf.setup(asked) {
+        Reply::SetUp(_) => Ok(()),
+        _ => Err(Fail::from("not set up")),
+    }
+}
+
+/// Sets up the connections of all headers, each with a program of its own card.
+fn set_up_all(shelf: &mut Shelf, ids: &[Id]) -> Result<(), Fail> {
     for header in &HEADERS {
         let vc = cell(header).vc();
-        let program = id_for(shelf, &ids, vc)?;
-        let Reply::SetUp(_) = shelf.setup(ask(vc, program)?) else {
-            return Err(Fail::from("not set up"));
-        };
+        let program = id_for(shelf, ids, vc)?;
+        set_up(shelf, ask(vc, program)?)?;
     }
+    Ok(())
+}
+
+/// The same with new programs, whose ids are returned.
+fn open_all(alloc: Global, shelf: &mut Shelf) -> Result<Vec<Id>, Fail> {
+    let ids = load_all(alloc, shelf, 1)?;
+    set_up_all(shelf, &ids)?;
     Ok(ids)
+}
+
+/// A shelf with all these connections.
+fn open_shelf(alloc: Global, cards: usize) -> Result<Shelf, Fail> {
+    let mut shelf = Shelf::new(alloc, shape(), cards)?;
+    open_all(alloc, &mut shelf)?;
+    Ok(shelf)
+}
+
+/// Takes one step. It promises nothing, so the prover carries no contract of a step through a test.
+fn take(core: &mut Core, step: Step) -> Reply {
+    core.step(step)
+}
+
+/// Puts a program that gives this value into a card.
+fn load_on_card(alloc: Global, core: &mut Core, value: u32) -> Result<Id, Fail> {
+    id_of(take(core, Step::Load(constant(alloc, value)?)))
+}
+
+/// Sets up a connection on a card.
+fn set_up_on_card(core: &mut Core, asked: Ask) -> Result<(), Fail> {
+    match take(core, Step::Setup(asked)) {
+        Reply::SetUp(_) => Ok(()),
+        _ => Err(Fail::from("not set up")),
+    }
+}
+
+/// Sets up the connections of all headers under one program.
+fn set_up_all_on_card(core: &mut Core, program: Id) -> Result<(), Fail> {
+    for header in &HEADERS {
+        set_up_on_card(core, ask(cell(header).vc(), program)?)?;
+    }
+    Ok(())
+}
+
+/// The same with new programs, which give 1 and 2, and whose ids are returned. The connections have the first.
+fn open_on_card(alloc: Global, core: &mut Core) -> Result<(Id, Id), Fail> {
+    let one = load_on_card(alloc, core, 1)?;
+    let two = load_on_card(alloc, core, 2)?;
+    set_up_all_on_card(core, one)?;
+    Ok((one, two))
 }
 
 /// One card with all these connections.
 fn one_card(alloc: Global) -> Result<Core, Fail> {
     let mut core = Core::new(alloc, shape())?;
-    let program = id_of(core.step(Step::Load(constant(alloc, 1)?)))?;
-    for header in &HEADERS {
-        let Reply::SetUp(_) = core.step(Step::Setup(ask(cell(header).vc(), program)?)) else {
-            return Err(Fail::from("not set up"));
-        };
-    }
+    open_on_card(alloc, &mut core)?;
     Ok(core)
 }
 
@@ -188,20 +244,20 @@ struct Theirs {
 
 fn our_shelf(alloc: Global, cards: usize) -> Result<Ours, Fail> {
     let mut shelf = Shelf::new(alloc, shape(), cards)?;
-    let ones = open_all(alloc, &mut shelf)?;
-    let twos = load_all(alloc, &mut shelf, 2)?;
+    let (ones, twos) = open_with_both(alloc, &mut shelf)?;
     Ok(Ours { shelf, ones, twos })
+}
+
+/// Sets up all connections, and returns the ids of both programs.
+fn open_with_both(alloc: Global, shelf: &mut Shelf) -> Result<(Vec<Id>, Vec<Id>), Fail> {
+    let ones = open_all(alloc, shelf)?;
+    let twos = load_all(alloc, shelf, 2)?;
+    Ok((ones, twos))
 }
 
 fn their_card(alloc: Global) -> Result<Theirs, Fail> {
     let mut core = Core::new(alloc, shape())?;
-    let one = id_of(core.step(Step::Load(constant(alloc, 1)?)))?;
-    let two = id_of(core.step(Step::Load(constant(alloc, 2)?)))?;
-    for header in &HEADERS {
-        let Reply::SetUp(_) = core.step(Step::Setup(ask(cell(header).vc(), one)?)) else {
-            return Err(Fail::from("not set up"));
-        };
-    }
+    let (one, two) = open_on_card(alloc, &mut core)?;
     Ok(Theirs { core, one, two })
 }
 
@@ -304,7 +360,7 @@ fn their_reply(theirs: &mut Theirs, call: Call, vc: Vc) -> Result<Reply, Fail> {
         Call::Cut => Step::Cut(vc),
         Call::Release => Step::Release(vc),
     };
-    Ok(theirs.core.step(step))
+    Ok(take(&mut theirs.core, step))
 }
 
 /// What is seen of a reply: how many entries a piece has that was handed out, or that the desk has done something else.
@@ -326,52 +382,144 @@ fn reply_alike(ours: &mut Ours, theirs: &mut Theirs, call: Call, place: u8) -> R
 #[test]
 fn batches_with_desk_calls_between_are_decided_as_by_one_card(rt: HostRuntime) -> Result<(), Fail> {
     for cards in [1, 2, 3, 16] {
-        let mut ours = our_shelf(rt.alloc(), cards)?;
-        let mut theirs = their_card(rt.alloc())?;
-        let mut batch = 0u32;
-        for (call, place) in CALLS {
-            let all = random_arrivals(rt.alloc(), batch)?;
-            let decisions = ours.shelf.police(&rt, rt.alloc(), &all, 4)?;
-            let same = decides_all(&mut theirs.core, &all, &decisions);
-            let replies = reply_alike(&mut ours, &mut theirs, call, place)?;
-            let sums = ours.shelf.totals() == theirs.core.totals();
-            assert_eq!(rt;
-                (cards, batch, same, replies, sums),
-                (cards, batch, true, true, true)
-            );
-            batch = batch.wrapping_add(1);
-        }
-        let totals = theirs.core.totals();
-        assert!(rt; totals.passed > 0 && totals.discarded > 0 && totals.refused > 0);
+        expect_alike(&rt, rt.alloc(), cards)?;
     }
     Ok(())
+}
+
+/// Expects that a shelf of so many cards decides as one card.
+fn expect_alike<R: Threads + Sync + Abort>(
+    rt: &R,
+    alloc: Global,
+    cards: usize,
+) -> Result<(), Fail> {
+    let mut ours = our_shelf(alloc, cards)?;
+    expect_alike_by(rt, alloc, &mut ours)
+}
+
+/// The same of this shelf.
+fn expect_alike_by<R: Threads + Sync + Abort>(
+    rt: &R,
+    alloc: Global,
+    ours: &mut Ours,
+) -> Result<(), Fail> {
+    let mut theirs = their_card(alloc)?;
+    expect_alike_after_all(rt, alloc, ours, &mut theirs)
+}
+
+/// Expects that both decide alike after each call.
+fn expect_alike_after_all<R: Threads + Sync + Abort>(
+    rt: &R,
+    alloc: Global,
+    ours: &mut Ours,
+    theirs: &mut Theirs,
+) -> Result<(), Fail> {
+    let mut batch = 0u32;
+    for (call, place) in CALLS {
+        let all = random_arrivals(alloc, batch)?;
+        let same = are_decided_alike(rt, alloc, ours, theirs, &all)?;
+        let replies = reply_alike(ours, theirs, call, place)?;
+        let sums = ours.shelf.totals() == theirs.core.totals();
+        let found = (ours.shelf.cards(), batch, same, replies, sums);
+        expect(rt, "a batch", found, (found.0, batch, true, true, true));
+        batch = batch.wrapping_add(1);
+    }
+    let totals = theirs.core.totals();
+    let some = (totals.passed > 0, totals.discarded > 0, totals.refused > 0);
+    expect(rt, "cells of each verdict", some, (true, true, true));
+    Ok(())
+}
+
+/// Whether the shelf and the card decide alike about these arrivals.
+fn are_decided_alike<R: Threads + Sync>(
+    rt: &R,
+    alloc: Global,
+    ours: &mut Ours,
+    theirs: &mut Theirs,
+    all: &[Arrival],
+) -> Result<bool, Fail> {
+    let decisions = ours.shelf.police(rt, alloc, all, 4)?;
+    Ok(decides_all(&mut theirs.core, all, &decisions))
 }
 
 #[test]
 fn a_room_takes_batch_after_batch(rt: HostRuntime) -> Result<(), Fail> {
     let mut room = Room::new(rt.alloc(), 16, 24)?;
-    let empty = room.decisions().is_empty();
-    assert_eq!(rt; (room.cards(), room.most(), empty), (16, 24, true));
+    expect_room(&rt, rt.alloc(), &mut room)
+}
+
+/// Expects that an empty room for 16 cards and 24 arrivals serves shelves of several sizes.
+fn expect_room<R: Threads + Sync + Abort>(
+    rt: &R,
+    alloc: Global,
+    room: &mut Room,
+) -> Result<(), Fail> {
+    let found = (room.cards(), room.most(), room.decisions().is_empty());
+    expect(rt, "an empty room", found, (16, 24, true));
     for cards in [1, 3, 16] {
-        let mut ours = our_shelf(rt.alloc(), cards)?;
-        let mut twin = our_shelf(rt.alloc(), cards)?;
-        let mut theirs = their_card(rt.alloc())?;
-        let mut batch = 0u32;
-        for size in [0usize, 1, 24, 5] {
-            let mut all = random_arrivals(rt.alloc(), batch)?;
-            all.truncate(size);
-            let done = ours.shelf.police_in(&rt, &mut room, &all, 4);
-            let decisions = twin.shelf.police(&rt, rt.alloc(), &all, 4)?;
-            let same = room.decisions() == decisions.as_slice();
-            let right = decides_all(&mut theirs.core, &all, room.decisions());
-            assert_eq!(rt;
-                (cards, decisions.len(), done, same, right),
-                (cards, size, Ok(()), true, true)
-            );
-            batch = batch.wrapping_add(1);
-        }
+        let mut ours = our_shelf(alloc, cards)?;
+        expect_room_for(rt, alloc, room, &mut ours.shelf, cards)?;
     }
     Ok(())
+}
+
+/// Expects that this shelf polices in the room as another one of the same size without it.
+fn expect_room_for<R: Threads + Sync + Abort>(
+    rt: &R,
+    alloc: Global,
+    room: &mut Room,
+    shelf: &mut Shelf,
+    cards: usize,
+) -> Result<(), Fail> {
+    let mut twin = our_shelf(alloc, cards)?;
+    expect_as_twin(rt, alloc, room, shelf, &mut twin.shelf)
+}
+
+/// Expects that both shelves decide as one card.
+fn expect_as_twin<R: Threads + Sync + Abort>(
+    rt: &R,
+    alloc: Global,
+    room: &mut Room,
+    shelf: &mut Shelf,
+    twin: &mut Shelf,
+) -> Result<(), Fail> {
+    let mut theirs = their_card(alloc)?;
+    expect_each_size(rt, alloc, room, shelf, twin, &mut theirs.core)
+}
+
+/// The same for batches of several sizes.
+fn expect_each_size<R: Threads + Sync + Abort>(
+    rt: &R,
+    alloc: Global,
+    room: &mut Room,
+    shelf: &mut Shelf,
+    twin: &mut Shelf,
+    core: &mut Core,
+) -> Result<(), Fail> {
+    let mut batch = 0u32;
+    for size in [0usize, 1, 24, 5] {
+        let mut all = random_arrivals(alloc, batch)?;
+        all.truncate(size);
+        let done = shelf.police_in(rt, room, &all, 4);
+        let same = are_decided_so(rt, alloc, twin, &all, room.decisions())?;
+        let right = decides_all(core, &all, room.decisions());
+        let found = (twin.cards(), all.len(), done, same, right);
+        expect(rt, "a batch", found, (found.0, size, Ok(()), true, true));
+        batch = batch.wrapping_add(1);
+    }
+    Ok(())
+}
+
+/// Whether a shelf decides so about these arrivals.
+fn are_decided_so<R: Threads + Sync>(
+    rt: &R,
+    alloc: Global,
+    shelf: &mut Shelf,
+    all: &[Arrival],
+    wanted: &[Decision],
+) -> Result<bool, Fail> {
+    let decisions = shelf.police(rt, alloc, all, 4)?;
+    Ok(decisions.len() == all.len() && decisions.as_slice() == wanted)
 }
 
 #[test]
@@ -379,77 +527,169 @@ fn a_room_that_is_too_small_changes_nothing(rt: HostRuntime) -> Result<(), Fail>
     let all = random_arrivals(rt.alloc(), 0)?;
     let mut few = random_arrivals(rt.alloc(), 0)?;
     few.truncate(1);
-    let mut ours = our_shelf(rt.alloc(), 3)?;
-    let mut short = Room::new(rt.alloc(), 3, 23)?;
-    let mut narrow = Room::new(rt.alloc(), 2, 24)?;
-    let fits = ours.shelf.police_in(&rt, &mut short, &few, 2);
-    let before = ours.shelf.totals();
-    let long = ours.shelf.police_in(&rt, &mut short, &all, 2);
-    let wide = ours.shelf.police_in(&rt, &mut narrow, &few, 2);
-    assert_eq!(rt;
-        (fits, long, wide),
-        (Ok(()), Err(NoRoom::Arrivals), Err(NoRoom::Cards))
-    );
-    let same = ours.shelf.totals() == before;
-    assert_eq!(rt;
-        (short.decisions().len(), narrow.decisions().len(), same),
-        (1, 0, true)
-    );
+    expect_no_room(&rt, rt.alloc(), &few, &all)
+}
+
+/// Expects it of one arrival and of all 24.
+fn expect_no_room<R: Threads + Sync + Abort>(
+    rt: &R,
+    alloc: Global,
+    few: &[Arrival],
+    all: &[Arrival],
+) -> Result<(), Fail> {
+    let mut ours = our_shelf(alloc, 3)?;
+    expect_too_short(rt, alloc, &mut ours.shelf, few, all)?;
+    expect_too_narrow(rt, alloc, &mut ours.shelf, few)
+}
+
+/// Expects that a room for 23 arrivals takes the few, and that the shelf is as before when it doesn't take all.
+fn expect_too_short<R: Threads + Sync + Abort>(
+    rt: &R,
+    alloc: Global,
+    shelf: &mut Shelf,
+    few: &[Arrival],
+    all: &[Arrival],
+) -> Result<(), Fail> {
+    let mut short = Room::new(alloc, 3, 23)?;
+    let fits = shelf.police_in(rt, &mut short, few, 2);
+    let before = shelf.totals();
+    let long = shelf.police_in(rt, &mut short, all, 2);
+    let same = shelf.totals() == before;
+    expect(rt, "a fit", fits, Ok(()));
+    expect(rt, "too many", (long, same), (Err(NoRoom::Arrivals), true));
+    expect(rt, "the decisions", short.decisions().len(), 1);
     Ok(())
+}
+
+/// The same of a room for two cards.
+fn expect_too_narrow<R: Threads + Sync + Abort>(
+    rt: &R,
+    alloc: Global,
+    shelf: &mut Shelf,
+    few: &[Arrival],
+) -> Result<(), Fail> {
+    let mut narrow = Room::new(alloc, 2, 24)?;
+    let before = shelf.totals();
+    let wide = shelf.police_in(rt, &mut narrow, few, 2);
+    let same = shelf.totals() == before;
+    expect(rt, "too many", (wide, same), (Err(NoRoom::Cards), true));
+    expect(rt, "the decisions", narrow.decisions().len(), 0);
+    Ok(())
+}
+
+/// What a reply says, in a word.
+fn word_of(reply: &Reply) -> &'static str {
+    match reply {
+        Reply::Reloaded(_) => "reloaded",
+        Reply::Cut(_) => "cut",
+        Reply::Released(_) => "released",
+        Reply::Retired(_) => "retired",
+        Reply::Refused(DeskFault::InUse) => "in use",
+        _ => "otherwise",
+    }
+}
+
+/// What a card of the shelf says when this program is retired, or that there is no such card.
+fn retired_on(shelf: &mut Shelf, card: usize, id: Id) -> &'static str {
+    match shelf.retire_on(card, id) {
+        Some(reply) => word_of(&reply),
+        None => "no card",
+    }
+}
+
+/// The only decision about this arrival.
+fn decision_about<R: Threads + Sync>(
+    rt: &R,
+    alloc: Global,
+    shelf: &mut Shelf,
+    arrival: Arrival,
+    threads: usize,
+) -> Result<Decision, Fail> {
+    let decisions = shelf.police(rt, alloc, &[arrival], threads)?;
+    match decisions.as_slice() {
+        [one] => Ok(*one),
+        _ => Err(Fail::from("not one decision")),
+    }
 }
 
 #[test]
 fn a_connection_comes_and_goes_on_its_card(rt: HostRuntime) -> Result<(), Fail> {
-    let mut shelf = Shelf::new(rt.alloc(), shape(), 3)?;
-    open_all(rt.alloc(), &mut shelf)?;
-    let vc = Vc::new(1, 100)?;
+    let mut shelf = open_shelf(rt.alloc(), 3)?;
+    expect_coming_and_going(&rt, rt.alloc(), &mut shelf)
+}
+
+/// Expects it of 1/100 on a shelf with all connections.
+fn expect_coming_and_going<R: Threads + Sync + Abort>(
+    rt: &R,
+    alloc: Global,
+    shelf: &mut Shelf,
+) -> Result<(), Fail> {
+    let vc = vc_at(0);
     let card = shelf.card_of(vc);
-    let second = load(&mut shelf, card, constant(rt.alloc(), 1)?)?;
-    assert!(rt; matches!(shelf.reload(vc, second), Reply::Reloaded(_)));
-    assert!(rt;
-        matches!(
-            shelf.retire_on(card, second),
-            Some(Reply::Refused(DeskFault::InUse))
-        )
-    );
+    let second = load(shelf, card, constant(alloc, 1)?)?;
+    expect_reloaded(rt, shelf, vc, second);
     let arrival = Arrival {
-        cell: cell(&[0x00, 0x10, 0x06, 0x40]),
+        cell: cell(&HEADERS[0]),
         moment: 7,
     };
-    let decisions = shelf.police(&rt, rt.alloc(), &[arrival], 0)?;
-    assert_eq!(rt; decisions.len(), 1);
-    let Reply::Cut(piece) = shelf.cut(vc) else {
-        return Err(Fail::from("no piece"));
-    };
-    assert_eq!(rt; piece.entries().len(), 1);
-    assert!(rt; matches!(shelf.release(vc), Reply::Released(_)));
-    assert!(rt; matches!(shelf.retire_on(card, second), Some(Reply::Retired(_))));
-    let decisions = shelf.police(&rt, rt.alloc(), &[arrival], 2)?;
-    for one in &decisions {
-        assert_eq!(rt; *one, Err(Unjudged::NoConnection));
-    }
+    let _ = decision_about(rt, alloc, shelf, arrival, 0)?;
+    expect_one_entry(rt, shelf, vc);
+    expect_gone(rt, shelf, vc, second);
+    let gone = decision_about(rt, alloc, shelf, arrival, 2)?;
+    expect(rt, "a cell then", gone, Err(Unjudged::NoConnection));
     Ok(())
+}
+
+/// Expects that a connection gets this program, which is then in use.
+fn expect_reloaded(rt: &impl Abort, shelf: &mut Shelf, vc: Vc, program: Id) {
+    let card = shelf.card_of(vc);
+    let reloaded = word_of(&shelf.reload(vc, program));
+    expect(rt, "a reload", reloaded, "reloaded");
+    let retired = retired_on(shelf, card, program);
+    expect(rt, "a retirement", retired, "in use");
+}
+
+/// Expects that the journal of a connection has one entry.
+fn expect_one_entry(rt: &impl Abort, shelf: &mut Shelf, vc: Vc) {
+    let reply = shelf.cut(vc);
+    let found = (word_of(&reply), outcome(&reply));
+    expect(rt, "a cut", found, ("cut", Some(1)));
+}
+
+/// Expects that a connection is released and its program retired.
+fn expect_gone(rt: &impl Abort, shelf: &mut Shelf, vc: Vc, program: Id) {
+    let card = shelf.card_of(vc);
+    let released = word_of(&shelf.release(vc));
+    expect(rt, "a release", released, "released");
+    let retired = retired_on(shelf, card, program);
+    expect(rt, "a retirement", retired, "retired");
 }
 
 #[test]
 fn a_shelf_has_1_to_64_cards_of_a_shape(rt: HostRuntime) -> Result<(), Fail> {
-    let alloc = rt.alloc();
     let mut bad = shape();
     bad.ports = 0;
-    assert!(rt; matches!(Shelf::new(alloc, shape(), 0), Err(ShelfFault::Cards)));
-    assert!(rt; matches!(Shelf::new(alloc, bad, 65), Err(ShelfFault::Cards)));
-    assert!(rt;
-        matches!(
-            Shelf::new(alloc, bad, 64),
-            Err(ShelfFault::Card(CardFault::Ports))
-        )
-    );
-    let mut shelf = Shelf::new(alloc, shape(), 64)?;
-    assert_eq!(rt; (shelf.cards(), shelf.shape()), (64, shape()));
-    assert!(rt; shelf.load_on(64, constant(alloc, 1)?).is_err());
-    let id = load(&mut shelf, 63, constant(alloc, 1)?)?;
-    assert!(rt; shelf.retire_on(64, id).is_none());
-    assert!(rt; matches!(shelf.retire_on(63, id), Some(Reply::Retired(_))));
+    for (shape, cards, fault) in [
+        (shape(), 0, ShelfFault::Cards),
+        (bad, 65, ShelfFault::Cards),
+        (bad, 64, ShelfFault::Card(CardFault::Ports)),
+    ] {
+        let found = Shelf::new(rt.alloc(), shape, cards).err();
+        expect(&rt, "a shelf", (cards, found), (cards, Some(fault)));
+    }
+    let mut shelf = Shelf::new(rt.alloc(), shape(), 64)?;
+    expect_cards(&rt, rt.alloc(), &mut shelf)
+}
+
+/// Expects that the cards of a shelf of 64 go from 0 to 63.
+fn expect_cards(rt: &impl Abort, alloc: Global, shelf: &mut Shelf) -> Result<(), Fail> {
+    let found = (shelf.cards(), shelf.shape());
+    expect(rt, "the shelf", found, (64, shape()));
+    let refused = shelf.load_on(64, constant(alloc, 1)?).is_err();
+    expect(rt, "a program for card 64", refused, true);
+    let id = load(shelf, 63, constant(alloc, 1)?)?;
+    let found = (retired_on(shelf, 64, id), retired_on(shelf, 63, id));
+    expect(rt, "retirements", found, ("no card", "retired"));
     Ok(())
 }
 
@@ -461,47 +701,59 @@ fn load_on_all(alloc: Global, shelf: &mut Shelf) -> Result<Vec<Id>, Fail> {
     }
 }
 
-/// Sets up a connection under the program of these ids, and returns the number of its card.
-fn set_up_under(shelf: &mut Shelf, vc: Vc, ids: &[Id]) -> Result<usize, Fail> {
-    let card = shelf.card_of(vc);
-    let Some(id) = ids.get(card) else {
-        return Err(Fail::from("no such id"));
-    };
-    match shelf.setup(ask(vc, *id)?) {
-        Reply::SetUp(_) => Ok(card),
-        _ => Err(Fail::from("not set up")),
-    }
-}
-
 #[test]
 fn a_program_is_retired_from_every_card_or_from_none(rt: HostRuntime) -> Result<(), Fail> {
     let mut shelf = Shelf::new(rt.alloc(), shape(), 3)?;
-    let ids = load_on_all(rt.alloc(), &mut shelf)?;
+    expect_retired(&rt, rt.alloc(), &mut shelf)
+}
+
+/// Expects it of a program on a new shelf.
+fn expect_retired(rt: &impl Abort, alloc: Global, shelf: &mut Shelf) -> Result<(), Fail> {
+    let ids = load_on_all(alloc, shelf)?;
+    expect_ids_retired(rt, shelf, &ids)
+}
+
+/// Expects it of the program with these ids, also while a connection has it.
+fn expect_ids_retired(rt: &impl Abort, shelf: &mut Shelf, ids: &[Id]) -> Result<(), Fail> {
     let vc = Vc::new(1, 100)?;
-    let card = set_up_under(&mut shelf, vc, &ids)?;
-    let in_use = shelf.retire(&ids);
-    assert_eq!(rt; in_use, Err(ProgramFault::Card(card, DeskFault::InUse)));
-    assert!(rt; matches!(shelf.release(vc), Reply::Released(_)));
-    assert_eq!(rt; shelf.retire(&[]), Err(ProgramFault::Ids));
-    assert_eq!(rt; shelf.retire(&ids), Ok(()));
-    let gone = shelf.retire(&ids);
-    assert_eq!(rt; gone, Err(ProgramFault::Card(0, DeskFault::NoProgram)));
+    let card = shelf.card_of(vc);
+    let program = id_for(shelf, ids, vc)?;
+    set_up(shelf, ask(vc, program)?)?;
+    let in_use = ProgramFault::Card(card, DeskFault::InUse);
+    let gone = ProgramFault::Card(0, DeskFault::NoProgram);
+    expect(rt, "in use", shelf.retire(ids), Err(in_use));
+    let released = word_of(&shelf.release(vc));
+    expect(rt, "a release", released, "released");
+    expect(rt, "no ids", shelf.retire(&[]), Err(ProgramFault::Ids));
+    expect(rt, "retired", shelf.retire(ids), Ok(()));
+    expect(rt, "gone", shelf.retire(ids), Err(gone));
     Ok(())
 }
 
 #[test]
 fn a_full_card_keeps_a_program_off_every_card(rt: HostRuntime) -> Result<(), Fail> {
     let mut shelf = Shelf::new(rt.alloc(), shape(), 3)?;
-    let ids = load_on_all(rt.alloc(), &mut shelf)?;
-    assert_eq!(rt; ids.len(), 3);
-    let last = load(&mut shelf, 2, constant(rt.alloc(), 1)?)?;
-    let Err((fault, program)) = shelf.load(rt.alloc(), constant(rt.alloc(), 1)?) else {
-        return Err(Fail::from("loaded"));
-    };
-    assert_eq!(rt; fault, ProgramFault::Card(2, DeskFault::ProgramsFull));
-    assert_eq!(rt; program.code().len(), 1);
-    assert!(rt; matches!(shelf.retire_on(2, last), Some(Reply::Retired(_))));
-    let others = load_on_all(rt.alloc(), &mut shelf)?;
-    assert_eq!(rt; others.len(), 3);
+    expect_kept_off(&rt, rt.alloc(), &mut shelf)
+}
+
+/// Expects it of a new shelf, whose third card is filled.
+fn expect_kept_off(rt: &impl Abort, alloc: Global, shelf: &mut Shelf) -> Result<(), Fail> {
+    let before = load_on_all(alloc, shelf)?.len();
+    let last = load(shelf, 2, constant(alloc, 1)?)?;
+    let refused = refused(alloc, shelf)?;
+    let retired = retired_on(shelf, 2, last);
+    let after = load_on_all(alloc, shelf)?.len();
+    let full = ProgramFault::Card(2, DeskFault::ProgramsFull);
+    expect(rt, "the ids", (before, after), (3, 3));
+    expect(rt, "a program for all", refused, (full, 1));
+    expect(rt, "a retirement", retired, "retired");
     Ok(())
+}
+
+/// Why a program isn't loaded on every card, and how many instructions come back.
+fn refused(alloc: Global, shelf: &mut Shelf) -> Result<(ProgramFault, usize), Fail> {
+    match shelf.load(alloc, constant(alloc, 1)?) {
+        Err((fault, program)) => Ok((fault, program.code().len())),
+        Ok(_) => Err(Fail::from("loaded")),
+    }
 }

@@ -1,9 +1,10 @@
 //! Cards police their arrivals at the same time. No clause can say this: a body that uses one thread gives the same answers.
 
-use super::{arrivals, open_all, shape};
+use super::{arrivals, expect, open_shelf};
 use crate::gate::Gate;
 use crate::{Arrival, Room, Shelf};
 use std::alloc::Global;
+use std::process::Abort;
 use std::sync::atomic::{AtomicU64, Ordering};
 use std::test::Fail;
 use std::thread::{self, Threads};
@@ -39,10 +40,13 @@ fn meet<R: Threads + Sync>(
     alloc: Global,
     shelf: &mut Shelf,
     all: &[Arrival],
-    came: &AtomicU64,
-    met: &AtomicU64,
 ) -> Result<u64, Fail> {
-    let gate = Meeting { came, met };
+    let came = AtomicU64::new(0);
+    let met = AtomicU64::new(0);
+    let gate = Meeting {
+        came: &came,
+        met: &met,
+    };
     shelf.police_at(rt, alloc, all, 2, &gate)?;
     Ok(met.load(Ordering::SeqCst))
 }
@@ -53,36 +57,48 @@ fn meet_in_room<R: Threads + Sync>(
     shelf: &mut Shelf,
     room: &mut Room,
     all: &[Arrival],
-    came: &AtomicU64,
-    met: &AtomicU64,
 ) -> u64 {
-    let gate = Meeting { came, met };
+    let came = AtomicU64::new(0);
+    let met = AtomicU64::new(0);
+    let gate = Meeting {
+        came: &came,
+        met: &met,
+    };
     let _ = shelf.police_in_at(rt, room, all, 2, &gate);
     met.load(Ordering::SeqCst)
 }
 
 #[test]
 fn two_cards_police_at_the_same_time(rt: HostRuntime) -> Result<(), Fail> {
-    let mut shelf = Shelf::new(rt.alloc(), shape(), 2)?;
-    open_all(rt.alloc(), &mut shelf)?;
-    let all = arrivals(rt.alloc())?;
-    let came = AtomicU64::new(0);
-    let met = AtomicU64::new(0);
-    assert_eq!(rt; meet(&rt, rt.alloc(), &mut shelf, &all, &came, &met)?, 2);
+    let mut shelf = open_shelf(rt.alloc(), 2)?;
+    expect_meeting(&rt, rt.alloc(), &mut shelf)
+}
+
+/// Expects that both cards of a shelf meet.
+fn expect_meeting<R: Threads + Sync + Abort>(
+    rt: &R,
+    alloc: Global,
+    shelf: &mut Shelf,
+) -> Result<(), Fail> {
+    let all = arrivals(alloc)?;
+    expect(rt, "cards met", meet(rt, alloc, shelf, &all)?, 2);
     Ok(())
 }
 
 #[test]
 fn two_cards_police_in_a_room_at_the_same_time(rt: HostRuntime) -> Result<(), Fail> {
-    let mut shelf = Shelf::new(rt.alloc(), shape(), 2)?;
-    open_all(rt.alloc(), &mut shelf)?;
-    let all = arrivals(rt.alloc())?;
-    let mut room = Room::new(rt.alloc(), 2, all.len())?;
-    let came = AtomicU64::new(0);
-    let met = AtomicU64::new(0);
-    assert_eq!(rt;
-        meet_in_room(&rt, &mut shelf, &mut room, &all, &came, &met),
-        2
-    );
+    let mut shelf = open_shelf(rt.alloc(), 2)?;
+    expect_meeting_in_room(&rt, rt.alloc(), &mut shelf)
+}
+
+/// Expects that both cards of a shelf meet when they police in a room.
+fn expect_meeting_in_room<R: Threads + Sync + Abort>(
+    rt: &R,
+    alloc: Global,
+    shelf: &mut Shelf,
+) -> Result<(), Fail> {
+    let all = arrivals(alloc)?;
+    let mut room = Room::new(alloc, 2, all.len())?;
+    expect(rt, "cards met", meet_in_room(rt, shelf, &mut room, &all), 2);
     Ok(())
 }

@@ -1,52 +1,53 @@
 //! How the faults are printed.
 
+use super::expect;
 use crate::{NoRoom, ProgramFault, ShelfFault};
 use card_core::{CardFault, DeskFault};
-use std::alloc::{AllocError, Global};
+use std::alloc::Global;
 use std::fmt::Display;
+use std::process::Abort;
 use std::test::Fail;
 
-/// What is printed of a value.
-fn text_of(alloc: Global, value: &impl Display) -> Result<String, AllocError> {
-    format!(in alloc; "{value}")
+/// Expects that each value is printed as the text beside it.
+fn expect_printed<T: Copy + Display>(
+    rt: &impl Abort,
+    alloc: Global,
+    rows: &[(T, &str)],
+) -> Result<(), Fail> {
+    for (value, wanted) in rows {
+        let text = format!(in alloc; "{value}")?;
+        expect(rt, "printed", text.as_str(), *wanted);
+    }
+    Ok(())
 }
 
 #[test]
 fn each_fault_is_printed_as_its_number_and_name(rt: HostRuntime) -> Result<(), Fail> {
-    let alloc = rt.alloc();
-    let texts = [
-        (
-            text_of(alloc, &ShelfFault::Card(CardFault::Programs))?,
-            "1 Programs",
-        ),
-        (
-            text_of(alloc, &ShelfFault::Card(CardFault::Lines))?,
-            "2 Lines",
-        ),
-        (
-            text_of(alloc, &ShelfFault::Card(CardFault::Ports))?,
-            "3 Ports",
-        ),
-        (
-            text_of(alloc, &ShelfFault::Card(CardFault::Journal))?,
-            "4 Journal",
-        ),
-        (
-            text_of(alloc, &ShelfFault::Card(CardFault::NoMemory))?,
-            "5 NoMemory",
-        ),
-        (text_of(alloc, &ShelfFault::Cards)?, "6 Cards"),
-        (text_of(alloc, &ProgramFault::NoMemory)?, "1 NoMemory"),
-        (text_of(alloc, &ProgramFault::Ids)?, "2 Ids"),
-        (
-            text_of(alloc, &ProgramFault::Card(63, DeskFault::ProgramsFull))?,
-            "3 Card 63: 6 ProgramsFull",
-        ),
-        (text_of(alloc, &NoRoom::Arrivals)?, "1 Arrivals"),
-        (text_of(alloc, &NoRoom::Cards)?, "2 Cards"),
-    ];
-    for (text, wanted) in &texts {
-        assert_eq!(rt; text.as_str(), *wanted);
-    }
-    Ok(())
+    expect_printed(
+        &rt,
+        rt.alloc(),
+        &[
+            (ShelfFault::Card(CardFault::Programs), "1 Programs"),
+            (ShelfFault::Card(CardFault::Lines), "2 Lines"),
+            (ShelfFault::Card(CardFault::Ports), "3 Ports"),
+            (ShelfFault::Card(CardFault::Journal), "4 Journal"),
+            (ShelfFault::Card(CardFault::NoMemory), "5 NoMemory"),
+            (ShelfFault::Cards, "6 Cards"),
+        ],
+    )?;
+    let full = ProgramFault::Card(63, DeskFault::ProgramsFull);
+    expect_printed(
+        &rt,
+        rt.alloc(),
+        &[
+            (ProgramFault::NoMemory, "1 NoMemory"),
+            (ProgramFault::Ids, "2 Ids"),
+            (full, "3 Card 63: 6 ProgramsFull"),
+        ],
+    )?;
+    expect_printed(
+        &rt,
+        rt.alloc(),
+        &[(NoRoom::Arrivals, "1 Arrivals"), (NoRoom::Cards, "2 Cards")],
+    )
 }

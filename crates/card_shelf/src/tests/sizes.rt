@@ -1,16 +1,44 @@
 //! Shelves, programs, rooms and batches that are larger than those of the other tests.
 
-use super::{HEADERS, ask, cell, decides_all, id_of, shape};
-use crate::{Arrival, Room, Shelf};
+use super::{
+    HEADERS, are_decided_so, cell, decides_all, expect, id_of, set_up_all, set_up_all_on_card,
+    shape, take,
+};
+use crate::{Arrival, Decision, Room, Shelf};
 use bpf_code::Instr;
 use bpf_verify::{Program, verify};
-use card_core::{Core, Reply, Shape, Step};
+use card_core::{Core, Shape, Step};
 use std::alloc::Global;
+use std::process::Abort;
 use std::test::Fail;
+use std::thread::Threads;
 
-/// The number of cards, the number of lines of each, the number of instructions of the program, and the number of arrivals
-/// of the batch.
-const SIZES: [(usize, u64, u32, u32); 2] = [(4, 128, 65, 1_001), (9, 5, 1, 100_001)];
+/// A size.
+#[derive(Clone, Copy)]
+struct Size {
+    cards: usize,
+    /// The number of lines of each card.
+    lines: u64,
+    /// The number of instructions of the program.
+    instructions: u32,
+    /// The number of arrivals of the batch.
+    many: u32,
+}
+
+const SIZES: [Size; 2] = [
+    Size {
+        cards: 4,
+        lines: 128,
+        instructions: 65,
+        many: 1_001,
+    },
+    Size {
+        cards: 9,
+        lines: 5,
+        instructions: 1,
+        many: 100_001,
+    },
+];
 
 /// A shape with this number of lines, and journals for all cells of a connection.
 fn large_shape(lines: u64) -> Shape {
@@ -45,56 +73,96 @@ fn many_arrivals(alloc: Global, many: u32) -> Result<Vec<Arrival>, Fail> {
 }
 
 /// A shelf with all connections under one program.
-fn large_shelf(
-    alloc: Global,
-    shape: Shape,
-    cards: usize,
-    instructions: u32,
-) -> Result<Shelf, Fail> {
-    let mut shelf = Shelf::new(alloc, shape, cards)?;
-    let Ok(ids) = shelf.load(alloc, long_program(alloc, instructions)?) else {
-        return Err(Fail::from("not loaded"));
-    };
-    for header in &HEADERS {
-        let vc = cell(header).vc();
-        let Some(id) = ids.get(shelf.card_of(vc)) else {
-            return Err(Fail::from("no such card"));
-        };
-        let Reply::SetUp(_) = shelf.setup(ask(vc, *id)?) else {
-            return Err(Fail::from("not set up"));
-        };
-    }
+fn large_shelf(alloc: Global, size: Size) -> Result<Shelf, Fail> {
+    let mut shelf = Shelf::new(alloc, large_shape(size.lines), size.cards)?;
+    open_under(alloc, &mut shelf, long_program(alloc, size.instructions)?)?;
     Ok(shelf)
 }
 
+/// Sets up all connections under this program.
+fn open_under(alloc: Global, shelf: &mut Shelf, program: Program) -> Result<(), Fail> {
+    let Ok(ids) = shelf.load(alloc, program) else {
+        return Err(Fail::from("not loaded"));
+    };
+    set_up_all(shelf, &ids)
+}
+
 /// One card with all connections under one program.
-fn large_card(alloc: Global, shape: Shape, instructions: u32) -> Result<Core, Fail> {
-    let mut core = Core::new(alloc, shape)?;
-    let id = id_of(core.step(Step::Load(long_program(alloc, instructions)?)))?;
-    for header in &HEADERS {
-        let Reply::SetUp(_) = core.step(Step::Setup(ask(cell(header).vc(), id)?)) else {
-            return Err(Fail::from("not set up"));
-        };
-    }
+fn large_card(alloc: Global, size: Size) -> Result<Core, Fail> {
+    let mut core = Core::new(alloc, large_shape(size.lines))?;
+    open_on_card(&mut core, long_program(alloc, size.instructions)?)?;
     Ok(core)
+}
+
+/// Sets up all connections under this program.
+fn open_on_card(core: &mut Core, program: Program) -> Result<(), Fail> {
+    let id = id_of(take(core, Step::Load(program)))?;
+    set_up_all_on_card(core, id)
 }
 
 #[test]
 fn large_batches_are_decided_as_by_one_card(rt: HostRuntime) -> Result<(), Fail> {
-    for (cards, lines, instructions, many) in SIZES {
-        let shape = large_shape(lines);
-        let all = many_arrivals(rt.alloc(), many)?;
-        let mut room = Room::new(rt.alloc(), cards, all.len())?;
-        let mut ours = large_shelf(rt.alloc(), shape, cards, instructions)?;
-        let mut twin = large_shelf(rt.alloc(), shape, cards, instructions)?;
-        let mut theirs = large_card(rt.alloc(), shape, instructions)?;
-        let done = ours.police_in(&rt, &mut room, &all, 4);
-        let decisions = twin.police(&rt, rt.alloc(), &all, 4)?;
-        let same = room.decisions() == decisions.as_slice();
-        let right = decides_all(&mut theirs, &all, &decisions);
-        assert_eq!(rt; (cards, done, same, right), (cards, Ok(()), true, true));
-        let totals = ours.totals();
-        assert!(rt; totals.passed > 0 && totals.discarded == 0 && totals.refused == 0);
+    for size in SIZES {
+        let all = many_arrivals(rt.alloc(), size.many)?;
+        expect_as_one_card(&rt, rt.alloc(), size, &all)?;
     }
+    Ok(())
+}
+
+/// Expects it of a shelf of this size and these arrivals.
+fn expect_as_one_card<R: Threads + Sync + Abort>(
+    rt: &R,
+    alloc: Global,
+    size: Size,
+    all: &[Arrival],
+) -> Result<(), Fail> {
+    let mut room = Room::new(alloc, size.cards, all.len())?;
+    expect_passed(rt, alloc, size, &mut room, all)?;
+    expect_as_twin(rt, alloc, size, all, room.decisions())?;
+    expect_right(rt, alloc, size, all, room.decisions())
+}
+
+/// Expects that the shelf polices all arrivals in this room, and that all pass.
+fn expect_passed<R: Threads + Sync + Abort>(
+    rt: &R,
+    alloc: Global,
+    size: Size,
+    room: &mut Room,
+    all: &[Arrival],
+) -> Result<(), Fail> {
+    let mut ours = large_shelf(alloc, size)?;
+    let done = ours.police_in(rt, room, all, 4);
+    expect(rt, "done", (size.cards, done), (size.cards, Ok(())));
+    let totals = ours.totals();
+    let found = (totals.passed > 0, totals.discarded, totals.refused);
+    expect(rt, "the totals", found, (true, 0, 0));
+    Ok(())
+}
+
+/// Expects that another shelf of this size decides so without a room.
+fn expect_as_twin<R: Threads + Sync + Abort>(
+    rt: &R,
+    alloc: Global,
+    size: Size,
+    all: &[Arrival],
+    decisions: &[Decision],
+) -> Result<(), Fail> {
+    let mut twin = large_shelf(alloc, size)?;
+    let same = are_decided_so(rt, alloc, &mut twin, all, decisions)?;
+    expect(rt, "the same", (size.cards, same), (size.cards, true));
+    Ok(())
+}
+
+/// Expects that one card decides so.
+fn expect_right(
+    rt: &impl Abort,
+    alloc: Global,
+    size: Size,
+    all: &[Arrival],
+    decisions: &[Decision],
+) -> Result<(), Fail> {
+    let mut theirs = large_card(alloc, size)?;
+    let right = decides_all(&mut theirs, all, decisions);
+    expect(rt, "right", (size.cards, right), (size.cards, true));
     Ok(())
 }
