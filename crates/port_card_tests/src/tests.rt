@@ -20,6 +20,8 @@ use leaky::{Contract, Gcra, Verdict};
 use line_record::{Entry, Line, Piece, Tally};
 use port_card::{Card, CloseFault, Closing, Desk, Gate, Ledgers, NoWait, PortSeat};
 use std::alloc::Global;
+use std::fmt::Debug;
+use std::process::Abort;
 use std::sync::Wait;
 use std::sync::atomic::{AtomicU64, Ordering};
 use std::test::Fail;
@@ -37,6 +39,11 @@ const OTHER: [u8; 4] = [0x00, 0x10, 0x06, 0x50];
 
 /// The maximum number of turns that a thread waits for another.
 const TURNS: u64 = 10_000_000;
+
+/// Expects this value of what is named. A comparison in a test costs the prover more than a call.
+fn expect<T: Copy + PartialEq + Debug>(rt: &impl Abort, what: &str, found: T, wanted: T) {
+    assert_eq!(rt; found, wanted, "{what}");
+}
 
 /// A shape for the user network interface.
 fn shape(programs: u64, lines: u64, ports: u64, journal: u64) -> Shape
@@ -101,7 +108,7 @@ fn ask(vci: u16, program: Id, limit: u64) -> Result<Ask, Fail> {
     })
 }
 
-/// Loads a program.
+/// Loads a program. Like the calls below, it promises nothing, so the prover carries no contract of the card through a test.
 fn load<S: Ledgers, R: Wait>(
     rt: &R,
     desk: &mut Desk<S>,
@@ -132,16 +139,56 @@ fn set_up<S: Ledgers, R: Wait>(
     }
 }
 
+/// Loads a program that returns 1 for every cell, and sets up a connection with path 1 and this channel.
+fn opened<S: Ledgers, R: Wait>(
+    rt: &R,
+    alloc: Global,
+    desk: &mut Desk<S>,
+    card: &Card<S>,
+    vci: u16,
+) -> Result<Id, Fail> {
+    let program = load(rt, desk, card, constant(alloc, 1)?)?;
+    set_up(rt, desk, card, ask(vci, program, 0)?)?;
+    Ok(program)
+}
+
+/// A cell with this header arrives.
+fn arrive<S: Ledgers, R: Wait>(
+    rt: &R,
+    card: &Card<S>,
+    seat: &mut PortSeat<S>,
+    header: [u8; 4],
+    moment: u64,
+) -> Answer {
+    card.arrive(rt, seat, &cell(header), moment, &NoWait)
+}
+
+/// The journal of a connection.
+fn cut<S: Ledgers, R: Wait>(
+    rt: &R,
+    desk: &mut Desk<S>,
+    card: &Card<S>,
+    vc: Vc,
+) -> Result<Piece, DeskFault> {
+    desk.cut(rt, card, vc)
+}
+
 /// Both seats of a card with two ports, that of port 0 first.
 fn both<S: Ledgers>(seats: Vec<PortSeat<S>>) -> Result<(PortSeat<S>, PortSeat<S>), Fail> {
     let mut seats = seats;
-    let Some(second) = seats.pop() else {
-        return Err(Fail::from("no seat"));
-    };
-    let Some(first) = seats.pop() else {
-        return Err(Fail::from("one seat"));
-    };
-    Ok((first, second))
+    let (second, first) = (seats.pop(), seats.pop());
+    match (first, second) {
+        (Some(first), Some(second)) => Ok((first, second)),
+        _ => Err(Fail::from("no seat")),
+    }
+}
+
+/// The seat of port 0.
+fn first_of<S: Ledgers>(seats: Vec<PortSeat<S>>) -> Result<PortSeat<S>, Fail> {
+    match seats.into_iter().next() {
+        Some(seat) => Ok(seat),
+        None => Err(Fail::from("no seat")),
+    }
 }
 
 /// Closes a card. If an allocation fails, tries once more with the returned values.

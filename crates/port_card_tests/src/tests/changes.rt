@@ -12,7 +12,7 @@ use std::thread::Threads;
 const LOOKS: u64 = 1_000_000;
 
 /// The port's results for its one cell.
-#[derive(Debug, Drop)]
+#[derive(Drop)]
 struct AtPort {
     answer: Answer,
     /// The seat's tallies of the first line and of the second.
@@ -21,7 +21,7 @@ struct AtPort {
 }
 
 /// The desk's results after the cell is answered.
-#[derive(Debug, Drop)]
+#[derive(Drop)]
 struct AtDesk {
     /// The error of the first program's retirement, and of a second try.
     retired: Option<DeskFault>,
@@ -31,7 +31,7 @@ struct AtDesk {
 }
 
 /// The results of a test in which the desk acts while a cell is at its gate.
-#[derive(Debug, Drop)]
+#[derive(Drop)]
 struct Seen {
     /// The desk finished before the gate's turns ran out.
     in_time: bool,
@@ -46,11 +46,12 @@ fn a_cell_of_a_connection_that_was_set_up_again_is_released(rt: HostRuntime) -> 
     let shape = shape(2, 2, 2, 16);
     let blanks = Blanks::new(2, 2);
     let seen = changed::<Brand, HostRuntime>(&rt, rt.alloc(), shape, blanks, false)?;
-    assert!(rt; seen.in_time);
-    assert_eq!(rt; seen.port.answer, Answer::Released);
-    assert_eq!(rt; seen.port.first, Some(Tally::new()));
-    assert_eq!(rt; seen.port.second, Some(Tally::new()));
-    assert_eq!(rt; seen.desk.entries, Some(0));
+    let tallies = (seen.port.first, seen.port.second);
+    let none = Some(Tally::new());
+    expect(&rt, "in time", seen.in_time, true);
+    expect(&rt, "the answer", seen.port.answer, Answer::Released);
+    expect(&rt, "the tallies", tallies, (none, none));
+    expect(&rt, "the journal", seen.desk.entries, Some(0));
     Ok(())
 }
 
@@ -59,22 +60,26 @@ fn a_cell_is_judged_by_the_program_that_was_picked(rt: HostRuntime) -> Result<()
     let shape = shape(2, 2, 2, 16);
     let blanks = Blanks::new(2, 2);
     let seen = changed::<Brand, HostRuntime>(&rt, rt.alloc(), shape, blanks, true)?;
-    assert!(rt; seen.in_time);
-    let Answer::Judged {
-        value,
-        program,
-        verdict,
-        ..
-    } = seen.port.answer
-    else {
-        return Err(Fail::from("not judged"));
-    };
-    assert_eq!(rt; (value, verdict), (1, Verdict::Pass));
-    assert_eq!(rt; program, seen.program);
-    assert_eq!(rt; seen.desk.entries, Some(1));
-    assert_eq!(rt; seen.desk.retired, None);
-    assert_eq!(rt; seen.desk.again, Some(DeskFault::NoProgram));
+    let wanted = Some((1, seen.program, Verdict::Pass));
+    let retired = (seen.desk.retired, seen.desk.again);
+    expect(&rt, "in time", seen.in_time, true);
+    expect(&rt, "the answer", named(seen.port.answer), wanted);
+    expect(&rt, "the journal", seen.desk.entries, Some(1));
+    expect(&rt, "retired", retired, (None, Some(DeskFault::NoProgram)));
     Ok(())
+}
+
+/// The value of a judged cell, the program that gave it, and the verdict.
+fn named(answer: Answer) -> Option<(u32, Id, Verdict)> {
+    match answer {
+        Answer::Judged {
+            value,
+            program,
+            verdict,
+            ..
+        } => Some((value, program, verdict)),
+        _ => None,
+    }
 }
 
 /// Loads two programs, and sets up a connection with the first.
@@ -85,9 +90,8 @@ fn prepared<S: Ledgers, R: Wait>(
     desk: &mut Desk<S>,
     reloads: bool,
 ) -> Result<Errand, Fail> {
-    let program = load(rt, desk, card, constant(alloc, 1)?)?;
+    let program = opened(rt, alloc, desk, card, 100)?;
     let other = load(rt, desk, card, constant(alloc, 2)?)?;
-    set_up(rt, desk, card, ask(100, program, 0)?)?;
     Ok(Errand {
         vc: Vc::new(1, 100)?,
         program,
@@ -108,21 +112,44 @@ fn changed<S: Ledgers + Send + Sync, R: Threads + Wait + Sync>(
     requires names { blanks ≡ S.names }
     requires for_shape { AreFor shape S.names }
 {
-    let (card, seats, mut desk) = Card::<S>::new(alloc, shape, blanks)?;
-    let errand = prepared(rt, alloc, &card, &mut desk, reloads)?;
-    let (first, _) = both(seats)?;
+    let (card, seats, desk) = Card::<S>::new(alloc, shape, blanks)?;
+    changed_on(rt, alloc, &card, seats, desk, reloads)
+}
+
+/// The same on this card.
+fn changed_on<S: Ledgers + Send + Sync, R: Threads + Wait + Sync>(
+    rt: &R,
+    alloc: Global,
+    card: &Card<S>,
+    seats: Vec<PortSeat<S>>,
+    desk: Desk<S>,
+    reloads: bool,
+) -> Result<Seen, Fail> {
+    let mut desk = desk;
+    let errand = prepared(rt, alloc, card, &mut desk, reloads)?;
+    Ok(changed_by(rt, card, first_of(seats)?, desk, errand))
+}
+
+/// The cell and the errand, each on its own thread.
+fn changed_by<S: Ledgers + Send + Sync, R: Threads + Wait + Sync>(
+    rt: &R,
+    card: &Card<S>,
+    seat: PortSeat<S>,
+    desk: Desk<S>,
+    errand: Errand,
+) -> Seen {
     let gate = Until::new();
     let (port, desk) = thread::join(
         rt,
-        || arrive_once(rt, &card, first, &gate),
-        || change(rt, &card, desk, errand, &gate),
+        || arrive_once(rt, card, seat, &gate),
+        || change(rt, card, desk, errand, &gate),
     );
-    Ok(Seen {
+    Seen {
         in_time: gate.was_in_time(),
         program: errand.program,
         port,
         desk,
-    })
+    }
 }
 
 /// One cell arrives at a port. Returns the answer and the seat's tallies of both lines.
@@ -197,7 +224,7 @@ fn change<S: Ledgers, R: Wait>(
     AtDesk {
         retired: desk.retire(rt, card, errand.program).err(),
         again: desk.retire(rt, card, errand.program).err(),
-        entries: entries(desk.cut(rt, card, errand.vc)),
+        entries: entries(cut(rt, &mut desk, card, errand.vc)),
     }
 }
 
@@ -236,9 +263,8 @@ fn a_retirement_waits_for_the_cells_that_were_picked(rt: HostRuntime) -> Result<
     let shape = shape(2, 1, 2, 16);
     let blanks = Blanks::new(1, 2);
     let (early, answer, retired) = waiting::<Brand, HostRuntime>(&rt, rt.alloc(), shape, blanks)?;
-    assert!(rt; !early);
-    assert_eq!(rt; answer, Some((Verdict::Pass, 1)));
-    assert!(rt; retired);
+    expect(&rt, "early, and retired", (early, retired), (false, true));
+    expect(&rt, "the answer", answer, Some((Verdict::Pass, 1)));
     Ok(())
 }
 
@@ -252,22 +278,42 @@ fn waiting<S: Ledgers + Send + Sync, R: Threads + Wait + Sync>(
     requires names { blanks ≡ S.names }
     requires for_shape { AreFor shape S.names }
 {
-    let (card, seats, mut desk) = Card::<S>::new(alloc, shape, blanks)?;
-    let program = load(rt, &mut desk, &card, constant(alloc, 1)?)?;
-    let unnamed = load(rt, &mut desk, &card, constant(alloc, 2)?)?;
-    set_up(rt, &mut desk, &card, ask(100, program, 0)?)?;
-    let (first, _) = both(seats)?;
+    let (card, seats, desk) = Card::<S>::new(alloc, shape, blanks)?;
+    waiting_on(rt, alloc, &card, seats, desk)
+}
+
+/// The same on this card.
+fn waiting_on<S: Ledgers + Send + Sync, R: Threads + Wait + Sync>(
+    rt: &R,
+    alloc: Global,
+    card: &Card<S>,
+    seats: Vec<PortSeat<S>>,
+    desk: Desk<S>,
+) -> Result<(bool, Option<(Verdict, u64)>, bool), Fail> {
+    let mut desk = desk;
+    let errand = prepared(rt, alloc, card, &mut desk, false)?;
+    Ok(waiting_for(rt, card, first_of(seats)?, desk, errand.other))
+}
+
+/// The cell and the retirement, each on its own thread.
+fn waiting_for<S: Ledgers + Send + Sync, R: Threads + Wait + Sync>(
+    rt: &R,
+    card: &Card<S>,
+    seat: PortSeat<S>,
+    desk: Desk<S>,
+    unnamed: Id,
+) -> (bool, Option<(Verdict, u64)>, bool) {
     let gate = Looks::new();
     let (port, retired) = thread::join(
         rt,
-        || arrive_once(rt, &card, first, &gate),
-        || retire_once(rt, &card, desk, unnamed, &gate),
+        || arrive_once(rt, card, seat, &gate),
+        || retire_once(rt, card, desk, unnamed, &gate),
     );
-    Ok((
+    (
         gate.early.load(Ordering::SeqCst) == 1,
         judged(port.answer),
         retired,
-    ))
+    )
 }
 
 /// After the look-up of the cell, retires the program that returns 2. Returns whether the program was returned.

@@ -18,9 +18,9 @@ fn a_port_judges_while_another_is_at_its_gate(rt: HostRuntime) -> Result<(), Fai
         shape,
         blanks,
     )?;
-    assert!(rt; in_time);
-    assert_eq!(rt; first, Some((Verdict::Pass, 1)));
-    assert_eq!(rt; second, Some((Verdict::Pass, 1)));
+    let passed = Some((Verdict::Pass, 1));
+    expect(&rt, "in time", in_time, true);
+    expect(&rt, "the answers", (first, second), (passed, passed));
     Ok(())
 }
 
@@ -35,10 +35,30 @@ fn overlapping<S: Ledgers + Send + Sync, R: Threads + Wait + Sync>(
     requires for_shape { AreFor shape S.names }
 {
     let (card, seats, mut desk) = Card::<S>::new(alloc, shape, blanks)?;
-    let program = load(rt, &mut desk, &card, constant(alloc, 1)?)?;
-    set_up(rt, &mut desk, &card, ask(100, program, 0)?)?;
-    set_up(rt, &mut desk, &card, ask(101, program, 0)?)?;
+    overlapping_on(rt, alloc, &card, seats, &mut desk)
+}
+
+/// The same on this card.
+fn overlapping_on<S: Ledgers + Send + Sync, R: Threads + Wait + Sync>(
+    rt: &R,
+    alloc: Global,
+    card: &Card<S>,
+    seats: Vec<PortSeat<S>>,
+    desk: &mut Desk<S>,
+) -> Result<(bool, Option<(Verdict, u64)>, Option<(Verdict, u64)>), Fail> {
+    let program = opened(rt, alloc, desk, card, 100)?;
+    set_up(rt, desk, card, ask(101, program, 0)?)?;
     let (first, second) = both(seats)?;
+    Ok(overlapping_at(rt, card, first, second))
+}
+
+/// The same at these seats.
+fn overlapping_at<S: Ledgers + Send + Sync, R: Threads + Wait + Sync>(
+    rt: &R,
+    card: &Card<S>,
+    first: PortSeat<S>,
+    second: PortSeat<S>,
+) -> (bool, Option<(Verdict, u64)>, Option<(Verdict, u64)>) {
     let gate = Until::new();
     let (one, other) = thread::join(
         rt,
@@ -49,10 +69,10 @@ fn overlapping<S: Ledgers + Send + Sync, R: Threads + Wait + Sync>(
         || {
             let mut seat = second;
             gate.was_picked();
-            let answer = card.arrive(rt, &mut seat, &cell(OTHER), 0, &NoWait);
+            let answer = arrive(rt, card, &mut seat, OTHER, 0);
             gate.let_go();
             answer
         },
     );
-    Ok((gate.was_in_time(), judged(one), judged(other)))
+    (gate.was_in_time(), judged(one), judged(other))
 }

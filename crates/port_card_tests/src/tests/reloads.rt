@@ -19,8 +19,8 @@ fn a_reload_returns_the_earlier_program_and_keeps_the_journal(rt: HostRuntime) -
     let shape = shape(2, 1, 1, 16);
     let blanks = Blanks::new(1, 1);
     let (program, before, kept) = reloaded::<Brand, HostRuntime>(&rt, rt.alloc(), shape, blanks)?;
-    assert_eq!(rt; before, Ok(program));
-    assert_eq!(rt; kept, Some(2));
+    expect(&rt, "the program before", before, Ok(program));
+    expect(&rt, "the journal", kept, Some(2));
     Ok(())
 }
 
@@ -35,19 +35,48 @@ fn reloaded<S: Ledgers, R: Wait>(
     requires names { blanks ≡ S.names }
     requires for_shape { AreFor shape S.names }
 {
-    let (card, mut seats, mut desk) = Card::<S>::new(alloc, shape, blanks)?;
-    let Some(mut seat) = seats.pop() else {
-        return Err(Fail::from("no seat"));
-    };
-    let program = load(rt, &mut desk, &card, constant(alloc, 1)?)?;
-    let other = load(rt, &mut desk, &card, constant(alloc, 1)?)?;
-    let asked = ask(100, program, 0)?;
-    let vc = asked.vc;
-    set_up(rt, &mut desk, &card, asked)?;
-    card.arrive(rt, &mut seat, &cell(DATA), 0, &NoWait);
-    let before = desk.reload(rt, &card, vc, other);
-    card.arrive(rt, &mut seat, &cell(DATA), 10, &NoWait);
-    Ok((program, before, entries(desk.cut(rt, &card, vc))))
+    let (card, seats, mut desk) = Card::<S>::new(alloc, shape, blanks)?;
+    reloaded_on(rt, alloc, &card, seats, &mut desk)
+}
+
+/// The same on this card.
+fn reloaded_on<S: Ledgers, R: Wait>(
+    rt: &R,
+    alloc: Global,
+    card: &Card<S>,
+    seats: Vec<PortSeat<S>>,
+    desk: &mut Desk<S>,
+) -> Result<(Id, Result<Id, DeskFault>, Option<usize>), Fail> {
+    let mut seat = first_of(seats)?;
+    reloaded_at(rt, alloc, card, &mut seat, desk)
+}
+
+/// The same at this seat.
+fn reloaded_at<S: Ledgers, R: Wait>(
+    rt: &R,
+    alloc: Global,
+    card: &Card<S>,
+    seat: &mut PortSeat<S>,
+    desk: &mut Desk<S>,
+) -> Result<(Id, Result<Id, DeskFault>, Option<usize>), Fail> {
+    let vc = Vc::new(1, 100)?;
+    let program = opened(rt, alloc, desk, card, 100)?;
+    let other = load(rt, desk, card, constant(alloc, 1)?)?;
+    arrive(rt, card, seat, DATA, 0);
+    let before = reload(rt, desk, card, vc, other);
+    arrive(rt, card, seat, DATA, 10);
+    Ok((program, before, entries(cut(rt, desk, card, vc))))
+}
+
+/// Gives a connection another program.
+fn reload<S: Ledgers, R: Wait>(
+    rt: &R,
+    desk: &mut Desk<S>,
+    card: &Card<S>,
+    vc: Vc,
+    program: Id,
+) -> Result<Id, DeskFault> {
+    desk.reload(rt, card, vc, program)
 }
 
 #[test]
@@ -55,7 +84,7 @@ fn no_cell_is_stale_while_the_desk_reloads_and_retires(rt: HostRuntime) -> Resul
     let shape = shape(2, 1, 2, 16);
     let blanks = Blanks::new(1, 2);
     let stale = chased::<Brand, HostRuntime>(&rt, rt.alloc(), shape, blanks)?;
-    assert!(rt; !stale);
+    expect(&rt, "stale", stale, false);
     Ok(())
 }
 
@@ -70,22 +99,43 @@ fn chased<S: Ledgers + Send + Sync, R: Threads + Wait + Sync>(
     requires names { blanks ≡ S.names }
     requires for_shape { AreFor shape S.names }
 {
-    let (card, seats, mut desk) = Card::<S>::new(alloc, shape, blanks)?;
-    let program = load(rt, &mut desk, &card, constant(alloc, 1)?)?;
-    let asked = ask(100, program, 0)?;
-    let vc = asked.vc;
-    set_up(rt, &mut desk, &card, asked)?;
-    let spare = constant(alloc, 1)?;
-    let (first, _) = both(seats)?;
+    let (card, seats, desk) = Card::<S>::new(alloc, shape, blanks)?;
+    chased_on(rt, alloc, &card, seats, desk)
+}
+
+/// The same on this card.
+fn chased_on<S: Ledgers + Send + Sync, R: Threads + Wait + Sync>(
+    rt: &R,
+    alloc: Global,
+    card: &Card<S>,
+    seats: Vec<PortSeat<S>>,
+    desk: Desk<S>,
+) -> Result<bool, Fail> {
+    let mut desk = desk;
+    let vc = Vc::new(1, 100)?;
+    opened(rt, alloc, &mut desk, card, 100)?;
+    let seat = first_of(seats)?;
+    chased_at(rt, card, seat, desk, vc, constant(alloc, 1)?)
+}
+
+/// The same at this seat, with a program to begin with.
+fn chased_at<S: Ledgers + Send + Sync, R: Threads + Wait + Sync>(
+    rt: &R,
+    card: &Card<S>,
+    seat: PortSeat<S>,
+    desk: Desk<S>,
+    vc: Vc,
+    spare: Program,
+) -> Result<bool, Fail> {
     let ended = AtomicU64::new(0);
     let (stale, reloads) = thread::join(
         rt,
         || {
-            let stale = is_any_stale(rt, &card, first);
+            let stale = is_any_stale(rt, card, seat);
             ended.store(1, Ordering::SeqCst);
             stale
         },
-        || reload_until(rt, &card, desk, vc, spare, &ended),
+        || reload_until(rt, card, desk, vc, spare, &ended),
     );
     reloads?;
     Ok(stale)
@@ -96,7 +146,7 @@ fn is_any_stale<S: Ledgers, R: Wait>(rt: &R, card: &Card<S>, seat: PortSeat<S>) 
     let mut seat = seat;
     let mut is_stale = false;
     for moment in 0..CELLS {
-        if card.arrive(rt, &mut seat, &cell(DATA), moment, &NoWait) == Answer::Stale {
+        if arrive(rt, card, &mut seat, DATA, moment) == Answer::Stale {
             is_stale = true;
         }
     }
@@ -132,7 +182,7 @@ fn replaced<S: Ledgers, R: Wait>(
     program: Program,
 ) -> Result<Program, Fail> {
     let id = load(rt, desk, card, program)?;
-    let Ok(before) = desk.reload(rt, card, vc, id) else {
+    let Ok(before) = reload(rt, desk, card, vc, id) else {
         return Err(Fail::from("not reloaded"));
     };
     match desk.retire(rt, card, before) {

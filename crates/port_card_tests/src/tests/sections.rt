@@ -62,61 +62,115 @@ fn shown(
     )
 }
 
+/// The parts of a card: programs, a directory, and two lines.
+#[derive(Drop)]
+struct Parts {
+    store: Store,
+    directory: Directory,
+    first: Line,
+    second: Line,
+}
+
+/// Parts without programs, whose two slots for them have used this generation.
+fn new_parts(alloc: Global, used: u32) -> Result<Parts, Fail> {
+    let store = Arena::new_from(alloc, 2, used)?;
+    let directory = Directory::new(alloc, 3, 1)?;
+    let first = Line::new(alloc, 4)?;
+    let second = Line::new(alloc, 4)?;
+    Ok(Parts {
+        store,
+        directory,
+        first,
+        second,
+    })
+}
+
 #[test]
 fn a_release_of_another_connections_line_is_stale(rt: HostRuntime) -> Result<(), Fail> {
-    let alloc = rt.alloc();
-    let mut store = Arena::new(alloc, 2)?;
-    let program = put(&mut store, constant(alloc, 1)?)?;
-    let another = put(&mut store, constant(alloc, 1)?)?;
-    let mut directory = Directory::new(alloc, 3, 1)?;
-    let mut first = Line::new(alloc, 4)?;
-    let mut second = Line::new(alloc, 4)?;
-    let asked = ask(100, program, 0)?;
-    let vc = asked.vc;
-    seat(&store, &mut directory, &mut first, asked)?;
-    let other = seat(&store, &mut directory, &mut second, ask(101, another, 0)?)?;
-    police(&store, &directory, &mut second, other.vc)?;
-    let (vcs, programs) = ([vc, other.vc], [program, another]);
-    if directory.find(vc).is_none() {
+    let mut parts = new_parts(rt.alloc(), 0)?;
+    let seen = both_seated(rt.alloc(), &mut parts)?;
+    expect_stale(&rt, &mut parts, seen.0, seen.1)
+}
+
+/// Sets up two connections, each with its own program. Two cells arrive on the second. Returns both connections and both
+/// programs.
+fn both_seated(alloc: Global, parts: &mut Parts) -> Result<([Vc; 2], [Id; 2]), Fail> {
+    let program = put(&mut parts.store, constant(alloc, 1)?)?;
+    let another = put(&mut parts.store, constant(alloc, 1)?)?;
+    let first = ask(100, program, 0)?;
+    let second = ask(101, another, 0)?;
+    let vcs = [first.vc, second.vc];
+    seat(&parts.store, &mut parts.directory, &mut parts.first, first)?;
+    seat(
+        &parts.store,
+        &mut parts.directory,
+        &mut parts.second,
+        second,
+    )?;
+    police(&parts.store, &parts.directory, &mut parts.second, vcs[1])?;
+    Ok((vcs, [program, another]))
+}
+
+/// Expects that the first connection isn't released on the line of the second, and that nothing changes.
+fn expect_stale(
+    rt: &impl Abort,
+    parts: &mut Parts,
+    vcs: [Vc; 2],
+    programs: [Id; 2],
+) -> Result<(), Fail> {
+    let places = shown(&parts.directory, vcs, programs);
+    let record = recorded(&parts.second);
+    let [vc, _] = vcs;
+    if parts.directory.find(vc).is_none() {
         return Err(Fail::from("not found"));
     }
-    let places = shown(&directory, vcs, programs);
-    let record = (second.owner(), second.last(), kept(&second));
-    assert_eq!(rt;
-        release(&mut directory, &mut second, vc).err(),
-        Some(DeskFault::Stale)
-    );
-    assert_eq!(rt; shown(&directory, vcs, programs), places);
-    assert_eq!(rt; (second.owner(), second.last(), kept(&second)), record);
+    let fault = release(&mut parts.directory, &mut parts.second, vc).err();
+    expect(rt, "the release", fault, Some(DeskFault::Stale));
+    let places_then = shown(&parts.directory, vcs, programs);
+    expect(rt, "the directory", places_then, places);
+    expect(rt, "the line", recorded(&parts.second), record);
     Ok(())
+}
+
+/// The connection of a line, its last moment, its journal and its counts.
+fn recorded(line: &Line) -> (Option<Owner>, u64, ([Option<Entry>; 3], Tally)) {
+    (line.owner(), line.last(), kept(line))
 }
 
 #[test]
 fn a_worn_store_is_full_and_forgets_what_was_retired(rt: HostRuntime) -> Result<(), Fail> {
-    let alloc = rt.alloc();
-    let mut store = Arena::new_from(alloc, 2, 4294967294)?;
-    let first = put(&mut store, constant(alloc, 1)?)?;
-    let second = put(&mut store, constant(alloc, 2)?)?;
-    assert_eq!(rt;
-        (first.generation, second.generation),
-        (4294967295, 4294967295)
-    );
-    let mut directory = Directory::new(alloc, 1, 1)?;
-    let mut line = Line::new(alloc, 4)?;
+    let mut parts = new_parts(rt.alloc(), 4294967294)?;
+    expect_forgotten(&rt, rt.alloc(), &mut parts)
+}
+
+/// Expects that the first program of a store with one generation left is retired, and that no other takes its slot.
+fn expect_forgotten(rt: &impl Abort, alloc: Global, parts: &mut Parts) -> Result<(), Fail> {
+    let first = put(&mut parts.store, constant(alloc, 1)?)?;
+    let second = put(&mut parts.store, constant(alloc, 2)?)?;
+    let generations = (first.generation, second.generation);
+    expect(rt, "the last ones", generations, (4294967295, 4294967295));
     let asked = ask(100, first, 0)?;
     let vc = asked.vc;
-    seat(&store, &mut directory, &mut line, asked)?;
-    assert_eq!(rt; reload(&store, &mut directory, vc, second), Ok(first));
-    assert!(rt; retire(&mut store, &directory, first).is_ok());
-    let Err((fault, back)) = put_in(&mut store, constant(alloc, 3)?) else {
+    seat(&parts.store, &mut parts.directory, &mut parts.first, asked)?;
+    let before = reload(&parts.store, &mut parts.directory, vc, second);
+    expect(rt, "the program before", before, Ok(first));
+    let retired = retire(&mut parts.store, &parts.directory, first).err();
+    expect(rt, "the first retirement", retired, None);
+    expect_full(rt, &mut parts.store, constant(alloc, 3)?)?;
+    let again = retire(&mut parts.store, &parts.directory, first).err();
+    expect(rt, "the second", again, Some(DeskFault::NoProgram));
+    let is_named = name(&parts.store, first, &cell(DATA)).is_some();
+    expect(rt, "a retired program names", is_named, false);
+    Ok(())
+}
+
+/// Expects that a store gives this program back, which returns 3.
+fn expect_full(rt: &impl Abort, store: &mut Store, program: Program) -> Result<(), Fail> {
+    let Err((fault, back)) = put_in(store, program) else {
         return Err(Fail::from("a worn slot is filled"));
     };
-    assert_eq!(rt; fault, DeskFault::ProgramsFull);
-    assert_eq!(rt; back.code(), [Instr::RetK(3)].as_slice());
-    assert_eq!(rt;
-        retire(&mut store, &directory, first).err(),
-        Some(DeskFault::NoProgram)
-    );
-    assert!(rt; name(&store, first, &cell(DATA)).is_none());
+    let is_back = back.code() == [Instr::RetK(3)].as_slice();
+    let found = (fault, is_back);
+    expect(rt, "a full store", found, (DeskFault::ProgramsFull, true));
     Ok(())
 }

@@ -27,25 +27,22 @@ fn fault_of(alloc: Global, shape: Shape) -> Option<CardFault> {
 
 #[test]
 fn a_card_is_refused_for_the_first_number_out_of_its_limits(rt: HostRuntime) {
-    let alloc = rt.alloc();
-    assert_eq!(rt;
-        fault_of(alloc, shape(0, 0, 0, 0)),
-        Some(CardFault::Programs)
-    );
-    assert_eq!(rt;
-        fault_of(alloc, shape(1025, 1, 1, 1)),
-        Some(CardFault::Programs)
-    );
-    assert_eq!(rt;
-        fault_of(alloc, shape(1, 4097, 17, 0)),
-        Some(CardFault::Lines)
-    );
-    assert_eq!(rt; fault_of(alloc, shape(1, 1, 17, 0)), Some(CardFault::Ports));
-    assert_eq!(rt;
-        fault_of(alloc, shape(1, 1, 1, 65537)),
-        Some(CardFault::Journal)
-    );
-    assert_eq!(rt; fault_of(alloc, shape(1024, 4096, 16, 65536)), None);
+    for (programs, lines, ports, journal, fault) in [
+        (0, 0, 0, 0, Some(CardFault::Programs)),
+        (1025, 1, 1, 1, Some(CardFault::Programs)),
+        (1, 4097, 17, 0, Some(CardFault::Lines)),
+        (1, 1, 17, 0, Some(CardFault::Ports)),
+        (1, 1, 1, 65537, Some(CardFault::Journal)),
+        (1024, 4096, 16, 65536, None),
+    ] {
+        let found = fault_of(rt.alloc(), shape(programs, lines, ports, journal));
+        expect(
+            &rt,
+            "a card",
+            (programs, lines, found),
+            (programs, lines, fault),
+        );
+    }
 }
 
 /// The port numbers of a card's seats, and the first seat's tallies of three lines.
@@ -58,9 +55,13 @@ fn seated<S: Ledgers>(
     requires for_shape { AreFor shape S.names }
 {
     let (_, seats, _) = Card::<S>::new(alloc, shape, blanks)?;
-    let (first, second) = both(seats)?;
-    let tallies = [first.tally(0), first.tally(1), first.tally(2)];
-    Ok(([first.port(), second.port()], tallies))
+    match seats.as_slice() {
+        [first, second] => Ok((
+            [first.port(), second.port()],
+            [first.tally(0), first.tally(1), first.tally(2)],
+        )),
+        _ => Err(Fail::from("not two seats")),
+    }
 }
 
 #[test]
@@ -68,21 +69,20 @@ fn there_is_a_seat_for_each_port_with_a_tally_of_each_line(rt: HostRuntime) -> R
     let shape = shape(1, 2, 2, 2);
     let blanks = Blanks::new(2, 2);
     let (ports, tallies) = seated::<Brand>(rt.alloc(), shape, blanks)?;
-    assert_eq!(rt; ports, [0, 1]);
-    assert_eq!(rt; tallies, [Some(Tally::new()), Some(Tally::new()), None]);
+    let none = Some(Tally::new());
+    expect(&rt, "the ports", ports, [0, 1]);
+    expect(&rt, "the tallies", tallies, [none, none, None]);
     Ok(())
 }
 
 #[test]
 fn why_a_card_is_not_closed_is_printed_by_number_and_name(rt: HostRuntime) -> Result<(), Fail> {
-    let alloc = rt.alloc();
-    assert_eq!(rt;
-        format!(in alloc; "{}", CloseFault::Missing)?.as_str(),
-        "1 Missing"
-    );
-    assert_eq!(rt;
-        format!(in alloc; "{}", CloseFault::NoMemory)?.as_str(),
-        "2 NoMemory"
-    );
+    for (fault, wanted) in [
+        (CloseFault::Missing, "1 Missing"),
+        (CloseFault::NoMemory, "2 NoMemory"),
+    ] {
+        let text = format!(in rt.alloc(); "{fault}")?;
+        expect(&rt, "printed", text.as_str(), wanted);
+    }
     Ok(())
 }

@@ -65,9 +65,10 @@ fn two_ports_police_at_the_same_time(rt: HostRuntime) -> Result<(), Fail> {
         shape,
         blanks,
     )?;
-    assert_eq!(rt; judged(one), Some((Verdict::Pass, 1)));
-    assert_eq!(rt; judged(other), Some((Verdict::Pass, 1)));
-    assert_eq!(rt; closing.total(), tally(2, 0, 0, 0));
-    assert_eq!(rt; closing.uneven, None);
+    let passed = Some((Verdict::Pass, 1));
+    let answers = (judged(one), judged(other));
+    expect(&rt, "the answers", answers, (passed, passed));
+    expect(&rt, "the total", closing.total(), tally(2, 0, 0, 0));
+    expect(&rt, "an uneven line", closing.uneven, None);
     Ok(())
 }
