@@ -1,6 +1,6 @@
 //! Arenas that are filled, emptied and worn out.
 
-use super::{expect, expect_printed};
+use super::expecting::{expect, expect_printed};
 use gen_arena::*;
 use std::alloc::Global;
 use std::fmt::Debug;

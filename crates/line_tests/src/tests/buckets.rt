@@ -1,6 +1,6 @@
 //! Cells at the limits of each contract, with their verdicts.
 
-use super::{expect, expect_printed};
+use super::expecting::{expect, expect_printed};
 use leaky::*;
 use std::process::Abort;
 use std::test::Fail;

@@ -4,7 +4,7 @@ ghost use Rattle.std.specs.Prelude.{◌≡◌, ◌≤◌, None, Some, IfOk, OnOk
 ghost use Rattle.line_record.specs.Directory.{IsEmpty};
 ghost use Rattle.line_record.specs.Line.{IsHeld};
 
-use super::{expect, expect_printed};
+use super::expecting::{expect, expect_printed};
 use arrayvec::ArrayVec;
 use gen_arena::Id;
 use leaky::{Contract, Gcra, LAST_MOMENT, Verdict};

@@ -1,6 +1,6 @@
 //! Tables of the lines of connections.
 
-use super::{expect, expect_printed};
+use super::expecting::{expect, expect_printed};
 use std::alloc::Global;
 use std::process::Abort;
 use std::test::Fail;
