@@ -21,8 +21,8 @@ import kit
 # for each LINES lines.
 SECONDS = {
     "bpf_code": 80, "bpf_verify": 80, "bpf_interp": 70, "bpf_asm": 205, "upc_cell": 30, "gen_arena": 70, "leaky": 40, "line_record": 125,
-    "card_core": 300, "text_io": 100, "upc_words": 55, "upc_script": 130, "upc_card_lines": 30,
-    "upc_programs": 60, "upc_run": 230, "upc_ports": 470, "command_line": 100,
+    "card_core": 300, "text_io": 100, "text_words": 55, "text_script": 130, "text_card": 30,
+    "cmd_programs": 60, "cmd_run": 230, "cmd_ports": 470, "text_command_line": 100,
 }
 LINES = 12
 

@@ -5,16 +5,16 @@
 mod contract;
 mod excess;
 mod gcra;
+mod judging;
 pub mod laws;
 mod levels;
-mod policing;
 mod tolerance;
 mod verdict;
 
 pub use contract::Contract;
 pub use excess::{Excess, WhichBucket, excess_at};
 pub use gcra::{Gcra, GcraFault, MOST_TICKS};
+pub use judging::{LAST_MOMENT, judge};
 pub use levels::{Fill, Levels};
-pub use policing::{LAST_MOMENT, judge};
 pub use tolerance::{BtFault, burst_tolerance};
 pub use verdict::Verdict;

@@ -10,7 +10,7 @@ use Rattle.gen_arena.proofs.Public.{slice_get-set_same, slice_get-set_other}
 use Rattle.upc_cell.specs.declared.vc.Vc.{Vc}
 use Rattle.upc_cell.specs.Connection.{is_same_vc}
 use Rattle.upc_cell.proofs.Public.{vc_cases, vc_itself, vc_differs}
-use Rattle.vc_lines.specs.Lines.{ConnectionTable, line_of, HasSameLines, MovesTo}
+use Rattle.vc_table.specs.Lines.{ConnectionTable, line_of, HasSameLines, MovesTo}
 use Rattle.line_record.specs.declared.directory.Seating.{Seating}
 use Rattle.line_record.specs.Seatings.{seating_in}
 use Rattle.line_record.specs.inner.SeatingChanges.{ChangesAt}

@@ -10,7 +10,7 @@ use gen_arena::Id;
 use std::alloc::Global;
 use std::marker::Model;
 use upc_cell::Vc;
-use vc_lines::{TableFault, VcLines};
+use vc_table::{TableFault, VcLines};
 
 /// For each line, the connection that has it, with its seating. Every cell causes a look-up here. It reads three numbers of the
 /// table and the seat of the line, whichever connections were chosen: in a hash map with a fixed seed, connections can be

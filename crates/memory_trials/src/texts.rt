@@ -2,13 +2,13 @@
 
 use crate::trial::{Attempt, Call, ample_if, made_again, refused_if, try_out};
 use arrayvec::ArrayVec;
+use cmd_ports::run_ports;
+use cmd_programs::{check_source, eval_bytes};
+use cmd_run::run_script;
 use std::alloc::Global;
 use std::sync::Wait;
 use std::thread::Threads;
 use text_io::{Done, ReaderInput, RunFault, WriterOutput};
-use upc_ports::run_ports;
-use upc_programs::{check_source, eval_bytes};
-use upc_run::run_script;
 
 /// A program and two cells, and the output of `eval`.
 const INPUT: &[u8; 83] =

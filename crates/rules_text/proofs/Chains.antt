@@ -1,7 +1,7 @@
 -- A chain with one more part, as it is written.
 use Rattle.std.proofs.Common.{◌≡◌, List, [], ◌∷◌, ◌++◌, Vec, Global, refl, sym, ap, ◌∙◌}
 use mathlib.Core.Former.{Count}
-use Rattle.cell_rules.specs.declared.test.Test.{Test, AllOf, AllOf', AnyOf, Row_of-Test, end_of-Test, more_of-Test, items-the_row-Test, items_hidden-the_row-Test-0}
+use Rattle.rules_cells.specs.declared.test.Test.{Test, AllOf, AllOf', AnyOf, Row_of-Test, end_of-Test, more_of-Test, items-the_row-Test, items_hidden-the_row-Test-0}
 use Rattle.rules_text.specs.RulesRead.{TestsRead, conjunction, disjunction, joined_by_and, joined_by_or, more_tests, no_tests, test_read, tests_read, tests_with, two_tests}
 
 -- The parts of a test that each holds. Those of one of which one holds are taken from it with the same parts.

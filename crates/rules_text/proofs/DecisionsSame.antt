@@ -1,10 +1,10 @@
 -- Rules in memory decide as what they are written as, and the value of a decision is that of the rules.
 use Rattle.std.proofs.Common.{◌≡◌, ℕ, zero, suc, ◌+◌, ◌-◌, Bool, true, false, if◌then◌else◌, List, [], ◌∷◌, map, Option, Some, None, Result, Ok, refl, sym, ap, subst, ◌∙◌, arith}
-use Rattle.cell_rules.specs.Decisions.{value_given, passed_after, decision_by, decision_from, decision_of}
-use Rattle.cell_rules.specs.declared.deciding.Decision.{Decision}
-use Rattle.cell_rules.specs.declared.rules.RuleLine.{RuleLine}
-use Rattle.cell_rules.specs.declared.rules.RuleLine.TheVariants.{Rule, Block, End}
-use Rattle.cell_rules.specs.declared.rules.Rules.{Rules}
+use Rattle.rules_cells.specs.Decisions.{value_given, passed_after, decision_by, decision_from, decision_of}
+use Rattle.rules_cells.specs.declared.deciding.Decision.{Decision}
+use Rattle.rules_cells.specs.declared.rules.RuleLine.{RuleLine}
+use Rattle.rules_cells.specs.declared.rules.RuleLine.TheVariants.{Rule, Block, End}
+use Rattle.rules_cells.specs.declared.rules.Rules.{Rules}
 use Rattle.upc_cell.specs.declared.side.Side.{Side}
 use Rattle.rules_text.specs.DecisionsRead.{line_gives, line_passes, lines_decide, rules_decide}
 use Rattle.rules_text.specs.Laws.{CodeGivesWhatIsDecided}

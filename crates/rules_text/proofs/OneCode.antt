@@ -5,26 +5,26 @@ use Rattle.std.proofs.lemmas.Bool.Decides.{nat_tests}
 use Rattle.bpf_code.specs.declared.instr.Instr.{Instr}
 use Rattle.bpf_code.specs.declared.instr.Size.{Size}
 use Rattle.bpf_code.specs.declared.instr.Size.TheVariants.{Word}
-use Rattle.cell_rules.specs.PlainOf.{ArePlainLines, ArePlainOf, IsAmongOf, IsCompareOf, IsPlainLine, IsPlainOf, at_of, most_of, placed_mask, placed_span, size_of, some_spans, span_below, span_of_one, span_up_to, unit_of}
-use Rattle.cell_rules.specs.declared.field.Field.{Field}
-use Rattle.cell_rules.specs.declared.field.Field.TheVariants.{Gfc, Vpi, Vci, Pti, Clp, Octets}
-use Rattle.cell_rules.specs.declared.relation.Relation.{Relation}
-use Rattle.cell_rules.specs.declared.relation.Relation.TheVariants.{Equal, Unequal, Less, AtMost, Greater, AtLeast, In}
-use Rattle.cell_rules.specs.declared.rules.RuleLine.{RuleLine}
-use Rattle.cell_rules.specs.declared.rules.RuleLine.TheVariants.{Rule, Block, End}
-use Rattle.cell_rules.specs.declared.test.Test.{Test, Row_of-Test, end_of-Test, more_of-Test}
-use Rattle.cell_rules.specs.declared.test.Test as asked
-use Rattle.match_code.specs.Bounds.{IsNotOf}
-use Rattle.match_code.specs.LineCode.{lines_code}
-use Rattle.match_code.specs.Order.{AreApart, IsOrderOf}
-use Rattle.match_code.specs.PlainTests.{is_among, is_in}
-use Rattle.match_code.specs.declared.lines.Line.{Line}
-use Rattle.match_code.specs.declared.lines.Line.TheVariants as line
-use Rattle.match_code.specs.declared.part.Part.{Part}
-use Rattle.match_code.specs.declared.part.Span.{Span}
-use Rattle.match_code.specs.declared.plain_test.PlainTest.{PlainTest}
-use Rattle.match_code.specs.declared.plain_test.PlainTest as plain
-use Rattle.match_code.proofs.Bare.{Bare, BareLine, all_of_bare, any_bare, bare, bare_all_of, bare_always, bare_any, bare_block, bare_comparison, bare_end, bare_not, bare_rule, bares, comparison_bare, line_bare, part_same, same_code}
+use Rattle.rules_cells.specs.PlainOf.{ArePlainLines, ArePlainOf, IsAmongOf, IsCompareOf, IsPlainLine, IsPlainOf, at_of, most_of, placed_mask, placed_span, size_of, some_spans, span_below, span_of_one, span_up_to, unit_of}
+use Rattle.rules_cells.specs.declared.field.Field.{Field}
+use Rattle.rules_cells.specs.declared.field.Field.TheVariants.{Gfc, Vpi, Vci, Pti, Clp, Octets}
+use Rattle.rules_cells.specs.declared.relation.Relation.{Relation}
+use Rattle.rules_cells.specs.declared.relation.Relation.TheVariants.{Equal, Unequal, Less, AtMost, Greater, AtLeast, In}
+use Rattle.rules_cells.specs.declared.rules.RuleLine.{RuleLine}
+use Rattle.rules_cells.specs.declared.rules.RuleLine.TheVariants.{Rule, Block, End}
+use Rattle.rules_cells.specs.declared.test.Test.{Test, Row_of-Test, end_of-Test, more_of-Test}
+use Rattle.rules_cells.specs.declared.test.Test as asked
+use Rattle.rules_code.specs.Bounds.{IsNotOf}
+use Rattle.rules_code.specs.LineCode.{lines_code}
+use Rattle.rules_code.specs.Order.{AreApart, IsOrderOf}
+use Rattle.rules_code.specs.PlainTests.{is_among, is_in}
+use Rattle.rules_code.specs.declared.lines.Line.{Line}
+use Rattle.rules_code.specs.declared.lines.Line.TheVariants as line
+use Rattle.rules_code.specs.declared.packet_part.Part.{Part}
+use Rattle.rules_code.specs.declared.packet_part.Span.{Span}
+use Rattle.rules_code.specs.declared.plain_test.PlainTest.{PlainTest}
+use Rattle.rules_code.specs.declared.plain_test.PlainTest as plain
+use Rattle.rules_code.proofs.Bare.{Bare, BareLine, all_of_bare, any_bare, bare, bare_all_of, bare_always, bare_any, bare_block, bare_comparison, bare_end, bare_not, bare_rule, bares, comparison_bare, line_bare, part_same, same_code}
 use Rattle.upc_cell.specs.Side.{last_vpi}
 use Rattle.upc_cell.specs.declared.side.Side.{Side}
 use Rattle.rules_text.specs.CodeOfText.{IsCodeOfText}

@@ -6,8 +6,8 @@ use Rattle.rules_text.specs.NumberedText.{numbered_read}
 use Rattle.rules_text.specs.PlacesOfText.{IsNumberedCode}
 use Rattle.rules_text.specs.declared.compiler.NumberedCode.{NumberedCode}
 use Rattle.rules_text.proofs.ReadingSteps.{without_numbers}
-use Rattle.cell_rules.specs.Decisions.{decision_of}
-use Rattle.cell_rules.specs.declared.rules.Rules.{Rules}
+use Rattle.rules_cells.specs.Decisions.{decision_of}
+use Rattle.rules_cells.specs.declared.rules.Rules.{Rules}
 use Rattle.rules_text.specs.DecisionsRead.{rules_decide}
 use Rattle.rules_text.specs.RulesRead.{rules_read}
 use Rattle.rules_text.proofs.DecisionsSame as decisions

@@ -1,7 +1,7 @@
 -- The beginnings of tests of the grammar, and how units end them. The tokens of a line that are read so far are always those of one.
 use Rattle.std.proofs.Common.{◌≡◌, ◌+◌, nat_le, nat_lt, ℕ, zero, suc, Bool, true, false, not, if◌then◌else◌, List, [], ◌∷◌, ◌++◌, length, map, Option, Some, None, option_map, Result, Ok, Err, refl, sym, ap, ◌∙◌, subst, append_assoc, append-nil}
 use Rattle.bpf_code.specs.declared.instr.Size.{Size}
-use Rattle.match_code.specs.declared.part.Span.{Span}
+use Rattle.rules_code.specs.declared.packet_part.Span.{Span}
 use Rattle.upc_cell.specs.declared.side.Side.{Side}
 use Rattle.upc_cell.specs.declared.side.Side.TheVariants.{Uni, Nni, UniPaths, NniPaths}
 use Rattle.rules_text.specs.Laws.{IsHeadWritten, IsRuleWritten}

@@ -1,21 +1,21 @@
 -- Rules in memory give each cell the value of what they are written as.
 use Rattle.std.proofs.Common.{◌≡◌, ℕ, zero, suc, Bool, true, false, not, ◌&&◌, ◌||◌, if◌then◌else◌, List, [], ◌∷◌, ◌++◌, map, refl, sym, ap, ◌∙◌}
 use Rattle.bpf_code.specs.declared.instr.Instr.{Instr}
-use Rattle.cell_rules.specs.Fields.{is_so, number_in}
-use Rattle.cell_rules.specs.Promise.{FollowsRules}
-use Rattle.cell_rules.specs.Rules.{rules_value_from, value_of_rules}
-use Rattle.cell_rules.specs.Tests.{is_met, all_are_met, one_is_met}
-use Rattle.cell_rules.specs.declared.field.Field.{Field}
-use Rattle.cell_rules.specs.declared.field.Field.TheVariants.{Gfc, Vpi, Vci, Pti, Clp, Octets}
-use Rattle.cell_rules.specs.declared.relation.Relation.{Relation}
-use Rattle.cell_rules.specs.declared.relation.Relation.TheVariants.{Equal, Unequal, Less, AtMost, Greater, AtLeast, In}
-use Rattle.cell_rules.specs.declared.rules.RuleLine.{RuleLine}
-use Rattle.cell_rules.specs.declared.rules.RuleLine.TheVariants.{Rule, Block, End}
-use Rattle.cell_rules.specs.declared.rules.Rules.{Rules}
-use Rattle.cell_rules.specs.declared.test.Test.{Test, Row_of-Test, end_of-Test, more_of-Test}
-use Rattle.cell_rules.specs.declared.test.Test as asked
-use Rattle.match_code.specs.PlainTests.{is_among, is_in, kept_bits}
-use Rattle.match_code.specs.declared.part.Span.{Span}
+use Rattle.rules_cells.specs.Fields.{is_so, number_in}
+use Rattle.rules_cells.specs.Promise.{FollowsRules}
+use Rattle.rules_cells.specs.Rules.{rules_value_from, value_of_rules}
+use Rattle.rules_cells.specs.Tests.{is_met, all_are_met, one_is_met}
+use Rattle.rules_cells.specs.declared.field.Field.{Field}
+use Rattle.rules_cells.specs.declared.field.Field.TheVariants.{Gfc, Vpi, Vci, Pti, Clp, Octets}
+use Rattle.rules_cells.specs.declared.relation.Relation.{Relation}
+use Rattle.rules_cells.specs.declared.relation.Relation.TheVariants.{Equal, Unequal, Less, AtMost, Greater, AtLeast, In}
+use Rattle.rules_cells.specs.declared.rules.RuleLine.{RuleLine}
+use Rattle.rules_cells.specs.declared.rules.RuleLine.TheVariants.{Rule, Block, End}
+use Rattle.rules_cells.specs.declared.rules.Rules.{Rules}
+use Rattle.rules_cells.specs.declared.test.Test.{Test, Row_of-Test, end_of-Test, more_of-Test}
+use Rattle.rules_cells.specs.declared.test.Test as asked
+use Rattle.rules_code.specs.PlainTests.{is_among, is_in, kept_bits}
+use Rattle.rules_code.specs.declared.packet_part.Span.{Span}
 use Rattle.upc_cell.specs.declared.side.Side.{Side}
 use Rattle.rules_text.specs.RulesRead.{field_read, line_read, relation_read, rules_read, test_read, tests_read}
 use Rattle.rules_text.specs.NumberedText.{HasRules}

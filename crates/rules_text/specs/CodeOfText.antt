@@ -1,10 +1,10 @@
 -- The code that is defined for a text of rules.
 use Rattle.std.specs.Prelude.{◌≡◌, ℕ, List}
 use Rattle.bpf_code.specs.declared.instr.Instr.{Instr}
-use Rattle.cell_rules.specs.PlainOf.{ArePlainLines}
-use Rattle.cell_rules.specs.declared.rules.Rules.{Rules}
-use Rattle.match_code.specs.LineCode.{lines_code}
-use Rattle.match_code.specs.declared.lines.Line.{Line}
+use Rattle.rules_cells.specs.PlainOf.{ArePlainLines}
+use Rattle.rules_cells.specs.declared.rules.Rules.{Rules}
+use Rattle.rules_code.specs.LineCode.{lines_code}
+use Rattle.rules_code.specs.declared.lines.Line.{Line}
 use Rattle.rules_text.specs.NumberedText.{HasRules}
 
 -- The text has rules, and this is the code of the lines that they become.

@@ -1,8 +1,8 @@
--- Which line of rules decides a cell, in the words in which the rules are written. It is what cell_rules decides, which speaks of
+-- Which line of rules decides a cell, in the words in which the rules are written. It is what rules_cells decides, which speaks of
 -- the rules in memory.
 use Rattle.std.specs.Prelude.{ℕ, zero, suc, ◌+◌, ◌-◌, if◌then◌else◌, List, [], ◌∷◌, Option, Some, None}
-use Rattle.cell_rules.specs.Decisions.{decision_by}
-use Rattle.cell_rules.specs.declared.deciding.Decision.{Decision}
+use Rattle.rules_cells.specs.Decisions.{decision_by}
+use Rattle.rules_cells.specs.declared.deciding.Decision.{Decision}
 use Rattle.upc_cell.specs.declared.side.Side.{Side}
 use Rattle.rules_text.specs.RulesRead.{LineRead, rule_line, block_line, end_line, RulesRead}
 use Rattle.rules_text.specs.ValuesRead.{test_holds}

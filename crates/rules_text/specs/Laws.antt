@@ -3,8 +3,8 @@ use Rattle.std.specs.Prelude.{◌≡◌, ◌≤◌, ◌<◌, ◌+◌, ℕ, List,
 use Rattle.bpf_asm.specs.SourceLines.{source_lines}
 use Rattle.bpf_code.specs.declared.instr.Instr.{Instr}
 use Rattle.bpf_interp.specs.Value.{Value}
-use Rattle.cell_rules.specs.Fields.{IsCell}
-use Rattle.cell_rules.specs.declared.deciding.Decision.{Decision}
+use Rattle.rules_cells.specs.Fields.{IsCell}
+use Rattle.rules_cells.specs.declared.deciding.Decision.{Decision}
 use Rattle.rules_text.specs.CodeOfText.{IsCodeOfText}
 use Rattle.rules_text.specs.ContinuedLines.{feed_count, rule_lines}
 use Rattle.rules_text.specs.declared.place.RulePlace.{RulePlace}

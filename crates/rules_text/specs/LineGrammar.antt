@@ -2,7 +2,7 @@
 -- fault, and no token after it is looked at.
 use Rattle.std.specs.Prelude.{ℕ, ◌+◌, Bool, true, false, not, nat_lt, nat_le, if◌then◌else◌, List, [], ◌∷◌, ◌++◌, length, Option, Some, None, Result, Ok, Err}
 use Rattle.bpf_code.specs.declared.instr.Size.{Size}
-use Rattle.match_code.specs.declared.part.Span.{Span}
+use Rattle.rules_code.specs.declared.packet_part.Span.{Span}
 use Rattle.upc_cell.specs.declared.side.Side.{Side}
 use Rattle.upc_cell.specs.declared.side.Side.TheVariants as side_of
 use Rattle.rules_text.specs.RulesRead.{FieldRead, vpi_field, vci_field, LineRead, SignRead, equal_sign, unequal_sign, TestRead, any_cell, comparing, negation, conjunction, two_tests, joined_by_and, joined_by_or, compared, listed, rule_line, block_line, end_line}

@@ -2,7 +2,7 @@
 use Rattle.std.specs.Prelude.{◌≡◌, ℕ, List, Ok}
 use Rattle.rules_text.specs.RulesRead.{rules_read}
 use Rattle.rules_text.specs.TextOfRules.{NumberedRead, numbered_in, rules_in}
-use Rattle.cell_rules.specs.declared.rules.Rules.{Rules}
+use Rattle.rules_cells.specs.declared.rules.Rules.{Rules}
 use Rattle.rules_text.specs.declared.reader.NumberedRules.{NumberedRules}
 
 -- The text has these rules.

@@ -1,9 +1,9 @@
 -- Which line of rules each part of a code is of.
 use Rattle.std.specs.Prelude.{◌≡◌, ℕ, List}
-use Rattle.cell_rules.specs.PlainOf.{ArePlainLines}
-use Rattle.match_code.specs.LineCode.{lines_code}
-use Rattle.match_code.specs.LinePlaces.{line_lengths}
-use Rattle.match_code.specs.declared.lines.Line.{Line}
+use Rattle.rules_cells.specs.PlainOf.{ArePlainLines}
+use Rattle.rules_code.specs.LineCode.{lines_code}
+use Rattle.rules_code.specs.LinePlaces.{line_lengths}
+use Rattle.rules_code.specs.declared.lines.Line.{Line}
 use Rattle.rules_text.specs.NumberedText.{HasNumbered}
 use Rattle.rules_text.specs.declared.compiler.NumberedCode.{NumberedCode}
 use Rattle.rules_text.specs.declared.reader.NumberedRules.{NumberedRules}

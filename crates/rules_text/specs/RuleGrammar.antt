@@ -1,7 +1,7 @@
 -- The grammar of tests: every way to write one, its tokens, and what it means. The reader of lines reads each of them as
 -- this, within its limits: the law `rules_are_read_as_they_are_written` says so.
 use Rattle.std.specs.Prelude.{◌≡◌, ◌+◌, ◌≤◌, ◌<◌, ℕ, Bool, not, false, List, [], ◌∷◌, ◌++◌, length, Option, Some, None, Ok}
-use Rattle.match_code.specs.declared.part.Span.{Span}
+use Rattle.rules_code.specs.declared.packet_part.Span.{Span}
 use Rattle.rules_text.specs.LineGrammar.{LineContext, ListRead, field_list, denied_list, path_list, SubjectRead, field_of_list, list_test, negated_if, path_test}
 use Rattle.rules_text.specs.RulesRead.{FieldRead, vpi_field, octets_field, SignRead, equal_sign, unequal_sign, less_sign, at_most_sign, greater_sign, at_least_sign, TestRead, comparing, joined_by_and, joined_by_or, compared}
 use Rattle.rules_text.specs.RuleTokens.{RuleToken, test_word, not_word, and_word, or_word, field_word, size_word, number_word, open_parenthesis, close_parenthesis, mask_mark, comma_mark, dots_mark, slash_mark, star_mark, sign_mark}

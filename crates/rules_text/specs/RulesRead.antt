@@ -1,16 +1,16 @@
 -- Rules as they are written, without their places in memory.
 use Rattle.std.specs.Prelude.{ℕ, List, [], ◌∷◌, ◌++◌, map, Option}
 use Rattle.bpf_code.specs.declared.instr.Size.{Size}
-use Rattle.cell_rules.specs.declared.field.Field.{Field}
-use Rattle.cell_rules.specs.declared.field.Field.TheVariants.{Gfc, Vpi, Vci, Pti, Clp, Octets}
-use Rattle.cell_rules.specs.declared.relation.Relation.{Relation}
-use Rattle.cell_rules.specs.declared.relation.Relation.TheVariants.{Equal, Unequal, Less, AtMost, Greater, AtLeast, In}
-use Rattle.cell_rules.specs.declared.rules.RuleLine.{RuleLine}
-use Rattle.cell_rules.specs.declared.rules.RuleLine.TheVariants.{Rule, Block, End}
-use Rattle.cell_rules.specs.declared.rules.Rules.{Rules}
-use Rattle.cell_rules.specs.declared.test.Test.{Test, Row_of-Test, end_of-Test, more_of-Test}
-use Rattle.cell_rules.specs.declared.test.Test as asked
-use Rattle.match_code.specs.declared.part.Span.{Span}
+use Rattle.rules_cells.specs.declared.field.Field.{Field}
+use Rattle.rules_cells.specs.declared.field.Field.TheVariants.{Gfc, Vpi, Vci, Pti, Clp, Octets}
+use Rattle.rules_cells.specs.declared.relation.Relation.{Relation}
+use Rattle.rules_cells.specs.declared.relation.Relation.TheVariants.{Equal, Unequal, Less, AtMost, Greater, AtLeast, In}
+use Rattle.rules_cells.specs.declared.rules.RuleLine.{RuleLine}
+use Rattle.rules_cells.specs.declared.rules.RuleLine.TheVariants.{Rule, Block, End}
+use Rattle.rules_cells.specs.declared.rules.Rules.{Rules}
+use Rattle.rules_cells.specs.declared.test.Test.{Test, Row_of-Test, end_of-Test, more_of-Test}
+use Rattle.rules_cells.specs.declared.test.Test as asked
+use Rattle.rules_code.specs.declared.packet_part.Span.{Span}
 use Rattle.upc_cell.specs.declared.side.Side.{Side}
 
 -- A field: one of the header, or the octets from an offset on.

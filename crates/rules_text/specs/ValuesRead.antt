@@ -1,12 +1,12 @@
--- The value that rules give a cell, in the words in which they are written. It is that of cell_rules, which speaks of the
+-- The value that rules give a cell, in the words in which they are written. It is that of rules_cells, which speaks of the
 -- rules in memory.
 use Rattle.std.specs.Prelude.{◌≡◌, ℕ, zero, suc, Bool, true, false, not, ◌&&◌, ◌||◌, ◌==◌, nat_le, nat_lt, if◌then◌else◌, List, [], ◌∷◌, drop, Ok}
 use Rattle.bpf_code.specs.declared.instr.Instr.{Instr}
 use Rattle.bpf_interp.specs.Packet.{octets_loaded}
 use Rattle.bpf_interp.specs.Value.{Value}
 use Rattle.byteorder.specs.Endian.{big_number}
-use Rattle.cell_rules.specs.Fields.{IsCell}
-use Rattle.match_code.specs.PlainTests.{is_among, kept_bits}
+use Rattle.rules_cells.specs.Fields.{IsCell}
+use Rattle.rules_code.specs.PlainTests.{is_among, kept_bits}
 use Rattle.upc_cell.specs.Header.{gfc_of, vci_of, pti_of, clp_of}
 use Rattle.upc_cell.specs.Side.{vpi_at}
 use Rattle.upc_cell.specs.declared.side.Side.{Side}

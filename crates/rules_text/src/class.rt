@@ -7,7 +7,7 @@ ghost use Rattle.rules_text.specs.inner.Seen.{class_seen};
 
 use crate::group::any_of_two;
 use bpf_code::Size;
-use cell_rules::{Field, Octets, Relation, Span, Test};
+use rules_cells::{Field, Octets, Relation, Span, Test};
 use std::alloc::{AllocError, Global};
 
 /// What a word that is a test holds of: cells of ITU-T I.361 and I.610.

@@ -13,7 +13,7 @@ use crate::list::{ListOf, compared, field_of, of_path, test_of_list};
 use crate::subject::{Subject, number_for, octets_of, relation_of};
 use crate::test_reader::MOST_COMPARISONS;
 use bpf_code::Size;
-use cell_rules::Span;
+use rules_cells::Span;
 use std::alloc::Global;
 
 impl LineReader {

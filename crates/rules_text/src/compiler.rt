@@ -2,8 +2,8 @@
 
 ghost use Rattle.std.specs.Prelude.{List, IfOk, IfErr};
 ghost use Rattle.bpf_verify.specs.Accepted.{IsAccepted};
-ghost use Rattle.cell_rules.specs.Promise.{FollowsRules};
-ghost use Rattle.cell_rules.specs.declared.rules.Rules.{Rules};
+ghost use Rattle.rules_cells.specs.Promise.{FollowsRules};
+ghost use Rattle.rules_cells.specs.declared.rules.Rules.{Rules};
 ghost use Rattle.rules_text.specs.PlacesOfText.{IsNumberedCode};
 ghost use Rattle.rules_text.specs.CodeOfText.{IsCodeOfText};
 ghost use Rattle.rules_text.specs.NumberedText.{HasRules};
@@ -14,7 +14,7 @@ use crate::fault::{RuleFault, RuleKind, fault_at};
 use crate::place::RulePlace;
 use crate::reader::{read_numbered, read_rules};
 use bpf_code::Instr;
-use cell_rules::{CodeFault, PlacedCode, compile, compile_placed};
+use rules_cells::{CodeFault, PlacedCode, compile, compile_placed};
 use std::alloc::Global;
 
 /// Compiles a text of rules: returns a code that gives each cell the value of the rules.

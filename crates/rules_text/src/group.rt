@@ -1,12 +1,12 @@
 //! Tests that are put together by `and`, `or` and `not`.
 
 ghost use Rattle.std.specs.Prelude.{◌≡◌, [], ◌∷◌, ◌++◌, IfOk};
-ghost use Rattle.cell_rules.specs.declared.test.Test.{AllOf, AnyOf};
+ghost use Rattle.rules_cells.specs.declared.test.Test.{AllOf, AnyOf};
 ghost use Rattle.rules_text.specs.LineGrammar.{both_of, either_of, group_after_not, group_after_or, group_test, group_with, negated_if, no_group};
 ghost use Rattle.rules_text.specs.RulesRead.{conjunction, disjunction, joined_by_and, joined_by_or, test_read, two_tests};
 ghost use Rattle.rules_text.specs.inner.SeenReading.{group_seen, some_test_seen};
 
-use cell_rules::Test;
+use rules_cells::Test;
 use std::alloc::{AllocError, Global};
 
 /// What was read of a test, or of what is in a parenthesis: alternatives, the last of which isn't whole.

@@ -12,7 +12,7 @@ ghost use Rattle.rules_text.specs.inner.SeenLines.{skipped};
 use crate::class::Class;
 use bpf_asm::number;
 use bpf_code::Size;
-use cell_rules::Field;
+use rules_cells::Field;
 
 /// How a number is related to a constant.
 #[derive(Clone, Copy)]

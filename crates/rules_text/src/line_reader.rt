@@ -15,7 +15,7 @@ use crate::list::ListOf;
 use crate::names::Form;
 use crate::subject::{Subject, value_of};
 use bpf_code::Size;
-use cell_rules::{Field, Octets, RuleLine, Span, Test};
+use rules_cells::{Field, Octets, RuleLine, Span, Test};
 use std::alloc::Global;
 use upc_cell::Side;
 

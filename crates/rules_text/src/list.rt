@@ -7,7 +7,7 @@ ghost use Rattle.rules_text.specs.inner.SeenReading.{list_seen};
 
 use crate::group::all_of_two;
 use crate::subject::Subject;
-use cell_rules::{Field, Relation, Span, Test};
+use rules_cells::{Field, Relation, Span, Test};
 use std::alloc::{AllocError, Global};
 
 /// What a list is of.

@@ -21,7 +21,7 @@ use crate::name_table::NameTable;
 use crate::names::{Form, Name};
 use crate::place::{RulePlace, TextPlace, fault_of_line, place_after};
 use crate::statement_reader::{room_after_line, statement_in};
-use cell_rules::{RuleLine, Rules};
+use rules_cells::{RuleLine, Rules};
 use std::alloc::Global;
 use upc_cell::Side;
 

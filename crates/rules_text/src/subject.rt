@@ -9,7 +9,7 @@ ghost use Rattle.rules_text.specs.inner.SeenReading.{field_found};
 use crate::fault::RuleKind;
 use crate::lexer::{Sign, Token};
 use bpf_code::Size;
-use cell_rules::{Field, Octets, Relation};
+use rules_cells::{Field, Octets, Relation};
 use upc_cell::Side;
 
 /// A number of a cell, with a mask if there is one.

@@ -13,7 +13,7 @@ use crate::group::Group;
 use crate::lexer::Token;
 use crate::line_reader::{Context, LineReader, Statement, Wants};
 use crate::subject::{Subject, header_field, number_for};
-use cell_rules::{Field, RuleLine, Test};
+use rules_cells::{Field, RuleLine, Test};
 use std::alloc::Global;
 
 /// The maximum number of comparisons, words and ranges of a test.

@@ -2,11 +2,11 @@
 use Rattle.std.proofs.Common.{◌≡◌, ℕ, List}
 use Rattle.text_io.specs.declared.ending.Done.{Done}
 use Rattle.upc.specs.Subcommand.{IsTextOf, HasOneText}
-use Rattle.command_line.specs.declared.choice.Choice.{Choice}
-use Rattle.command_line.specs.declared.choice.Choice.TheVariants.{Check, Eval, Run, Ports}
-use Rattle.upc_programs.proofs.Public.{some-check_text, one-check_text, some-eval_text, one-eval_text}
-use Rattle.upc_run.proofs.Public.{some-run_text, one-run_text}
-use Rattle.upc_ports.proofs.Public.{some-ports_text}
+use Rattle.text_command_line.specs.declared.choice.Choice.{Choice}
+use Rattle.text_command_line.specs.declared.choice.Choice.TheVariants.{Check, Eval, Run, Ports}
+use Rattle.cmd_programs.proofs.Public.{some-check_text, one-check_text, some-eval_text, one-eval_text}
+use Rattle.cmd_run.proofs.Public.{some-run_text, one-run_text}
+use Rattle.cmd_ports.proofs.Public.{some-ports_text}
 
 pub some-text_of : (choice : Choice) (octets : List ℕ) → (text : List ℕ) × (done : Done) × IsTextOf choice octets text done
 some-text_of Check octets = some-check_text octets

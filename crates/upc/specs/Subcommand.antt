@@ -1,11 +1,11 @@
 -- The output of each subcommand.
 use Rattle.std.specs.Prelude.{ℕ, List, ⊤}
-use Rattle.upc_programs.specs.Check.{IsCheckText}
-use Rattle.upc_programs.specs.Eval.{IsEvalText}
-use Rattle.upc_run.specs.RunText.{IsRunText}
-use Rattle.upc_ports.specs.PortsText.{IsPortsText}
-use Rattle.command_line.specs.declared.choice.Choice.{Choice}
-use Rattle.command_line.specs.declared.choice.Choice.TheVariants.{Check, Eval, Run, Ports}
+use Rattle.cmd_programs.specs.Check.{IsCheckText}
+use Rattle.cmd_programs.specs.Eval.{IsEvalText}
+use Rattle.cmd_run.specs.RunText.{IsRunText}
+use Rattle.cmd_ports.specs.PortsText.{IsPortsText}
+use Rattle.text_command_line.specs.declared.choice.Choice.{Choice}
+use Rattle.text_command_line.specs.declared.choice.Choice.TheVariants.{Check, Eval, Run, Ports}
 use Rattle.text_io.specs.declared.ending.Done.{Done}
 
 -- The output for a whole input, and how the run ends. For `ports`, IsPortsText doesn't fix every answer.

@@ -3,18 +3,18 @@
 ghost use Rattle.std.specs.Prelude.{◌≡◌, ◌≢◌, Ok as TheOk};
 ghost use Rattle.upc.specs.FailureLines.{failure_line};
 ghost use Rattle.upc.specs.Subcommand.{IsTextOf};
-ghost use Rattle.command_line.specs.declared.choice.Choice.TheVariants.{Ports};
-ghost use Rattle.command_line.specs.ExitStatus.{status_of};
-ghost use Rattle.command_line.specs.Invocation.{CarriesOut, IsStatusFor};
-ghost use Rattle.command_line.specs.Messages.{Reports};
+ghost use Rattle.text_command_line.specs.declared.choice.Choice.TheVariants.{Ports};
+ghost use Rattle.text_command_line.specs.ExitStatus.{status_of};
+ghost use Rattle.text_command_line.specs.Invocation.{CarriesOut, IsStatusFor};
+ghost use Rattle.text_command_line.specs.Messages.{Reports};
 
 use crate::subcommand::run_alone;
-use command_line::{Choice, Stop, status, write_message};
+use cmd_ports::run_ports;
 use std::alloc::Global;
 use std::sync::Wait;
 use std::thread::Threads;
+use text_command_line::{Choice, Stop, status, write_message};
 use text_io::{Done, Input, Output, RunFault, give_all};
-use upc_ports::run_ports;
 
 /// The message for a failure.
 fn line_of(fault: RunFault) -> &'static [u8]

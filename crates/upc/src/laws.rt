@@ -3,7 +3,7 @@
 ghost use Rattle.std.specs.Prelude.{◌≡◌, ℕ, List};
 ghost use Rattle.text_io.specs.declared.ending.Done.{Done as TheDone};
 ghost use Rattle.upc.specs.Subcommand.{IsTextOf, HasOneText};
-ghost use Rattle.command_line.specs.declared.choice.Choice.{Choice as TheChoice};
+ghost use Rattle.text_command_line.specs.declared.choice.Choice.{Choice as TheChoice};
 
 /// Each subcommand has a text for every input.
 pub fn an_input_has_a_text()

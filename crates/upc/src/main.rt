@@ -7,15 +7,15 @@ mod subcommand;
 #[cfg(test)]
 mod tests;
 
-pub use command_line::{Choice, Stop, choose, status};
-use command_line::{OfProcess, awaited, words_after_name};
+pub use cmd_ports::{run_ports, run_ports_with};
+pub use cmd_programs::{check_source, eval_bytes};
+pub use cmd_run::run_script;
 use invocation::{carry_out, carry_out_alone};
 use std::io::IsTerminal;
 use std::process::ExitCode;
+pub use text_command_line::{Choice, Stop, choose, status};
+use text_command_line::{OfProcess, awaited, words_after_name};
 use text_io::{ReaderInput, WriterOutput};
-pub use upc_ports::{run_ports, run_ports_with};
-pub use upc_programs::{check_source, eval_bytes};
-pub use upc_run::run_script;
 
 /// Where the program begins: reads its words, and does what they ask for.
 fn main(rt: HostRuntime) -> ExitCode {

@@ -3,13 +3,13 @@
 ghost use Rattle.std.specs.Prelude.{◌≢◌};
 ghost use Rattle.text_io.specs.Serving.{IsServed};
 ghost use Rattle.upc.specs.Subcommand.{IsTextOf};
-ghost use Rattle.command_line.specs.declared.choice.Choice.TheVariants.{Ports};
+ghost use Rattle.text_command_line.specs.declared.choice.Choice.TheVariants.{Ports};
 
-use command_line::Choice;
+use cmd_programs::{check_source, eval_bytes};
+use cmd_run::run_script;
 use std::alloc::Global;
+use text_command_line::Choice;
 use text_io::{Done, Input, Output, RunFault};
-use upc_programs::{check_source, eval_bytes};
-use upc_run::run_script;
 
 /// Runs a subcommand other than `ports` over the whole input. It uses one thread and always terminates.
 ///

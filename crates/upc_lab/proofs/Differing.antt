@@ -4,13 +4,13 @@ use Rattle.text_io.specs.declared.ending.Done.{Done}
 use Rattle.text_io.specs.declared.ending.Done.TheVariants.{Whole, Ended}
 use Rattle.text_io.specs.declared.ending.RunFault.{RunFault}
 use Rattle.text_io.specs.declared.ending.RunFault.TheVariants.{NoMemory}
-use Rattle.command_line.specs.ExitStatus.{status_of}
-use Rattle.command_line.specs.Invocation.{IsStatusFor}
-use Rattle.command_line.specs.declared.stop.Stop.{Stop}
-use Rattle.lab_differ.specs.declared.finding.Finding.{Finding}
-use Rattle.lab_differ.specs.declared.finding.Finding.TheVariants.{Nothing, Something, Faulty, Undecided}
-use Rattle.lab_options.specs.declared.differ.DifferOptions.{DifferOptions}
-use Rattle.lab_options.specs.declared.forward.ForwardOptions.{ForwardOptions}
+use Rattle.text_command_line.specs.ExitStatus.{status_of}
+use Rattle.text_command_line.specs.Invocation.{IsStatusFor}
+use Rattle.text_command_line.specs.declared.stop.Stop.{Stop}
+use Rattle.cmd_differ.specs.declared.finding.Finding.{Finding}
+use Rattle.cmd_differ.specs.declared.finding.Finding.TheVariants.{Nothing, Something, Faulty, Undecided}
+use Rattle.cmd_options.specs.declared.differ.DifferOptions.{DifferOptions}
+use Rattle.cmd_options.specs.declared.forward.ForwardOptions.{ForwardOptions}
 use Rattle.upc_lab.specs.Comparison.{finding_status}
 use Rattle.upc_lab.specs.SetupFile.{asks_rules, asks_unused, differ_in, explains_setup, forward_in}
 use Rattle.upc_lab.specs.declared.choice.Asked.{Asked}

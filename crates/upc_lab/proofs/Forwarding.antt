@@ -6,8 +6,8 @@ use Rattle.text_io.specs.declared.device.Input.{Ghosts as InputView}
 use Rattle.text_io.specs.declared.device.Output.{Ghosts as OutputView}
 use Rattle.text_io.specs.declared.ending.Done.{Done}
 use Rattle.text_io.specs.declared.ending.RunFault.{RunFault}
-use Rattle.command_line.specs.Messages.{WritesMessage}
-use Rattle.lab_forward.specs.Reporting.{ReportedTexts}
+use Rattle.text_command_line.specs.Messages.{WritesMessage}
+use Rattle.cmd_forward.specs.Reporting.{ReportedTexts}
 use Rattle.upc_lab.specs.ForwardRun.{ReportsRun}
 
 pub reports_run : {Source Sink Errors : Type 0} (message : RunFault → List ℕ) (IsText : ReportedTexts) (I : InputView Source) (input : Source)

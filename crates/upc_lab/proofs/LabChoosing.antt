@@ -3,12 +3,12 @@ use Rattle.std.proofs.Common.{if◌then◌else◌, drop, ◌≡◌, ◌∙◌, B
 use Rattle.std.specs.Str.{bytes_eq}
 use Rattle.clap.specs.Walk.{Text, is_empty}
 use Rattle.clap.proofs.OnLiterals.{clap_on_literals}
-use Rattle.command_line.specs.CommandLines.{kinds_in}
-use Rattle.command_line.specs.PlainCommands.{is_plain_command}
-use Rattle.command_line.specs.Stopping.{StopsAt}
-use Rattle.command_line.specs.Subcommands.{IsEnd, NamesIn, NamesRow, app_with, meaning_in, with_name}
-use Rattle.command_line.specs.declared.stop.Stop.{Stop}
-use Rattle.command_line.specs.declared.stop.Stop.TheVariants.{NoMemory}
+use Rattle.text_command_line.specs.CommandLines.{kinds_in}
+use Rattle.text_command_line.specs.PlainCommands.{is_plain_command}
+use Rattle.text_command_line.specs.Stopping.{StopsAt}
+use Rattle.text_command_line.specs.Subcommands.{IsEnd, NamesIn, NamesRow, app_with, meaning_in, with_name}
+use Rattle.text_command_line.specs.declared.stop.Stop.{Stop}
+use Rattle.text_command_line.specs.declared.stop.Stop.TheVariants.{NoMemory}
 use Rattle.upc_lab.specs.LabWords.{AsksLab, IsLabStop, IsStopOf, NamesLab, begun_by, lab_app, lab_faults_in, lab_subcommands, lab_table, own_subcommands, with_options_named}
 use Rattle.upc_lab.specs.declared.choice.Asked.{Asked}
 use Rattle.upc_lab.specs.declared.choice.Asked.TheVariants.{Plain, Why, Cells, Fit, Police, Differ, Forward, Explain}

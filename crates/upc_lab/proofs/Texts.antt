@@ -1,15 +1,15 @@
 -- Each subcommand has an answer to every input.
 use Rattle.std.proofs.Common.{ℕ, List, Option, option_map}
 use Rattle.text_io.specs.declared.ending.Done.{Done}
-use Rattle.lab_captures.proofs.Public.{some_cells_text}
-use Rattle.lab_differ.proofs.Public.{some-differ_text, some-unused_text}
-use Rattle.lab_faults.proofs.Public.{some-explain_text}
-use Rattle.lab_forward.proofs.Public.{some_agreed_records}
-use Rattle.lab_fit.proofs.Public.{some_fit_text, some_links_text}
-use Rattle.lab_programs.proofs.Public.{some-list_text, some-trace_text}
-use Rattle.lab_rules.proofs.Public.{some-asm_text, some-rules_text, some-why_text}
-use Rattle.lab_police.proofs.Public.{some_agreed_text}
-use Rattle.lab_sizes.proofs.Public.{some-sizes_text}
+use Rattle.captures_text.proofs.Public.{some_cells_text}
+use Rattle.cmd_differ.proofs.Public.{some-differ_text, some-unused_text}
+use Rattle.cmd_explain.proofs.Public.{some-explain_text}
+use Rattle.cmd_forward.proofs.Public.{some_agreed_records}
+use Rattle.cmd_fit.proofs.Public.{some_fit_text, some_links_text}
+use Rattle.cmd_list.proofs.Public.{some-list_text, some-trace_text}
+use Rattle.cmd_rules.proofs.Public.{some-asm_text, some-rules_text, some-why_text}
+use Rattle.cmd_police.proofs.Public.{some_agreed_text}
+use Rattle.cmd_size.proofs.Public.{some-sizes_text}
 use Rattle.upc_lab.specs.LabText.{IsAskedText, IsLabText, fit_choice, kinds_asked, others_asked, rules_asked, scope_asked}
 use Rattle.upc_lab.specs.declared.choice.Asked.{Asked}
 use Rattle.upc_lab.specs.declared.choice.Asked.TheVariants.{Plain, Why, Cells, Fit, Police, Differ, Forward, Explain}

@@ -5,10 +5,10 @@ use Rattle.text_io.specs.Serving.{IsServed}
 use Rattle.text_io.specs.declared.device.Input.{Ghosts as InputView}
 use Rattle.text_io.specs.declared.device.Output.{Ghosts as OutputView}
 use Rattle.text_io.specs.declared.ending.RunFault.{RunFault}
-use Rattle.command_line.specs.Messages.{Reports}
-use Rattle.lab_differ.specs.Findings.{IsAnswerWith, ended_by}
-use Rattle.lab_differ.specs.declared.finding.Finding.{Finding}
-use Rattle.lab_differ.specs.declared.finding.Finding.TheVariants.{Nothing, Something, Faulty, Undecided}
+use Rattle.text_command_line.specs.Messages.{Reports}
+use Rattle.cmd_differ.specs.Findings.{IsAnswerWith, ended_by}
+use Rattle.cmd_differ.specs.declared.finding.Finding.{Finding}
+use Rattle.cmd_differ.specs.declared.finding.Finding.TheVariants.{Nothing, Something, Faulty, Undecided}
 
 -- The exit status, as that of `diff`: 0 if nothing was found, 1 if something was, or if a text has a fault. It is 3 if
 -- nothing was decided, or the call failed.

@@ -5,9 +5,9 @@ use Rattle.text_io.specs.declared.device.Input.{Ghosts as InputView}
 use Rattle.text_io.specs.declared.device.Output.{Ghosts as OutputView}
 use Rattle.text_io.specs.declared.ending.Done.{Done}
 use Rattle.text_io.specs.declared.ending.RunFault.{RunFault}
-use Rattle.command_line.specs.ExitStatus.{status_of}
-use Rattle.command_line.specs.Messages.{Reports}
-use Rattle.lab_police.specs.ExplainedSetups.{IsExplainedInPart, IsSetupExplained}
+use Rattle.text_command_line.specs.ExitStatus.{status_of}
+use Rattle.text_command_line.specs.Messages.{Reports}
+use Rattle.cmd_police.specs.ExplainedSetups.{IsExplainedInPart, IsSetupExplained}
 
 -- The effect of a run for a setup script and the texts of its files of rules, and its exit status: 0 without a fault, and 1 with one.
 pub record CarriesExplained {Source Sink Errors : Type 0} (message : RunFault → List ℕ) (setup : List ℕ) (texts : List (List ℕ)) (I : InputView Source)

@@ -6,9 +6,9 @@ use Rattle.text_io.specs.declared.device.Input.{Ghosts as InputView}
 use Rattle.text_io.specs.declared.device.Output.{Ghosts as OutputView}
 use Rattle.text_io.specs.declared.ending.Done.{Done}
 use Rattle.text_io.specs.declared.ending.RunFault.{RunFault}
-use Rattle.command_line.specs.ExitStatus.{status_of}
-use Rattle.command_line.specs.Messages.{WritesMessage}
-use Rattle.lab_forward.specs.Reporting.{HasReportedText, ReportedTexts}
+use Rattle.text_command_line.specs.ExitStatus.{status_of}
+use Rattle.text_command_line.specs.Messages.{WritesMessage}
+use Rattle.cmd_forward.specs.Reporting.{HasReportedText, ReportedTexts}
 
 -- After a run the output grew by a text of the whole input, and what is reported with it was written to the error output. After a failed run
 -- only the message of its fault was.

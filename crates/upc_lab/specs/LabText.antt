@@ -1,30 +1,30 @@
 -- The output of each subcommand of `upc-lab`.
 use Rattle.std.specs.Prelude.{ℕ, if◌then◌else◌, Bool, List, Option, Some, None, option_map}
-use Rattle.lab_captures.specs.CellsText.{IsCellsText}
-use Rattle.lab_differ.specs.DifferText.{IsDifferAnswer}
-use Rattle.lab_differ.specs.declared.kinds.TextKind.TheVariants.{Rules, Program}
-use Rattle.lab_differ.specs.declared.kinds.TextKinds.{TextKinds}
-use Rattle.lab_differ.specs.UnusedText.{IsUnusedAnswer}
-use Rattle.lab_fit.specs.FitAsked.{IsFitAsked}
-use Rattle.lab_fit.specs.declared.fit_choice.FitChoice.{FitChoice}
-use Rattle.lab_faults.specs.Explained.{IsExplainText}
-use Rattle.lab_forward.specs.AgreedForward.{MayBeForwardedAsAgreed}
-use Rattle.lab_forward.specs.Reporting.{HasReportedText}
-use Rattle.lab_forward.specs.declared.others.Others.{Others}
-use Rattle.lab_forward.specs.declared.others.Others.TheVariants.{Pass, Drop}
-use Rattle.lab_fit.specs.LinksText.{IsLinksText}
-use Rattle.lab_options.specs.declared.fit.FitOptions.{FitOptions}
-use Rattle.lab_options.specs.declared.programs.Programs.{Programs}
-use Rattle.lab_options.specs.declared.programs.Programs.TheVariants as which
-use Rattle.lab_programs.specs.ListedProgram.{IsListText}
-use Rattle.lab_programs.specs.Trace.{IsTraceText}
-use Rattle.lab_rules.specs.AsmText.{MayBeAsmText}
-use Rattle.lab_rules.specs.RulesText.{MayBeRulesText}
-use Rattle.lab_rules.specs.WhyText.{MayBeWhyText}
-use Rattle.lab_options.specs.declared.police.PoliceOptions.{PoliceOptions}
-use Rattle.lab_police.specs.SetupText.{MayBePolicedAsAgreed}
-use Rattle.lab_police.specs.declared.scope.PoliceScope.{PoliceScope}
-use Rattle.lab_sizes.specs.SizeText.{IsSizesText}
+use Rattle.captures_text.specs.CellsText.{IsCellsText}
+use Rattle.cmd_differ.specs.DifferText.{IsDifferAnswer}
+use Rattle.cmd_differ.specs.declared.kinds.TextKind.TheVariants.{Rules, Program}
+use Rattle.cmd_differ.specs.declared.kinds.TextKinds.{TextKinds}
+use Rattle.cmd_differ.specs.UnusedText.{IsUnusedAnswer}
+use Rattle.cmd_fit.specs.FitAsked.{IsFitAsked}
+use Rattle.cmd_fit.specs.declared.fit_choice.FitChoice.{FitChoice}
+use Rattle.cmd_explain.specs.Explained.{IsExplainText}
+use Rattle.cmd_forward.specs.AgreedForward.{MayBeForwardedAsAgreed}
+use Rattle.cmd_forward.specs.Reporting.{HasReportedText}
+use Rattle.cmd_forward.specs.declared.others.Others.{Others}
+use Rattle.cmd_forward.specs.declared.others.Others.TheVariants.{Pass, Drop}
+use Rattle.cmd_fit.specs.LinksText.{IsLinksText}
+use Rattle.cmd_options.specs.declared.fit.FitOptions.{FitOptions}
+use Rattle.cmd_options.specs.declared.programs.Programs.{Programs}
+use Rattle.cmd_options.specs.declared.programs.Programs.TheVariants as which
+use Rattle.cmd_list.specs.ListedProgram.{IsListText}
+use Rattle.cmd_list.specs.Trace.{IsTraceText}
+use Rattle.cmd_rules.specs.AsmText.{MayBeAsmText}
+use Rattle.cmd_rules.specs.RulesText.{MayBeRulesText}
+use Rattle.cmd_rules.specs.WhyText.{MayBeWhyText}
+use Rattle.cmd_options.specs.declared.police_options.PoliceOptions.{PoliceOptions}
+use Rattle.cmd_police.specs.SetupText.{MayBePolicedAsAgreed}
+use Rattle.cmd_police.specs.declared.scope.PoliceScope.{PoliceScope}
+use Rattle.cmd_size.specs.SizeText.{IsSizesText}
 use Rattle.text_io.specs.declared.ending.Done.{Done}
 use Rattle.upc_lab.specs.declared.choice.Asked.{Asked}
 use Rattle.upc_lab.specs.declared.choice.Asked.TheVariants.{Plain, Why, Cells, Fit, Police, Differ, Forward, Explain}

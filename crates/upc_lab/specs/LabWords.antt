@@ -4,17 +4,17 @@ use Rattle.std.specs.Prelude.{◌≡◌, List, [], ◌∷◌, ◌++◌, Option, 
 use Rattle.clap.specs.Walk.{Text}
 use Rattle.clap.specs.Simple.{App}
 use Rattle.clap.specs.Kinds.{Kinds}
-use Rattle.command_line.specs.CommandLines.{kinds_in}
-use Rattle.command_line.specs.Stopping.{StopsAt}
-use Rattle.command_line.specs.Subcommands.{NamesRow, app_with, meaning_in, row_names}
-use Rattle.command_line.specs.declared.stop.Stop.{Stop}
-use Rattle.lab_options.specs.CellsOptions.{AsksCells, IsCellsStop, cells_asked_by}
-use Rattle.lab_options.specs.DifferOptions.{AsksDiffer, IsDifferStop, differ_asked_by}
-use Rattle.lab_options.specs.ExplainOptions.{AsksExplain, IsExplainStop, explain_asked_by}
-use Rattle.lab_options.specs.FitOptions.{AsksFit, IsFitStop, asked_by}
-use Rattle.lab_options.specs.ForwardOptions.{AsksForward, IsForwardStop, forward_asked_by}
-use Rattle.lab_options.specs.PoliceOptions.{AsksPolice, IsPoliceStop, police_asked_by}
-use Rattle.lab_options.specs.WhyOptions.{AsksWhy, IsWhyStop, why_asked_by}
+use Rattle.text_command_line.specs.CommandLines.{kinds_in}
+use Rattle.text_command_line.specs.Stopping.{StopsAt}
+use Rattle.text_command_line.specs.Subcommands.{NamesRow, app_with, meaning_in, row_names}
+use Rattle.text_command_line.specs.declared.stop.Stop.{Stop}
+use Rattle.cmd_options.specs.CellsOptions.{AsksCells, IsCellsStop, cells_asked_by}
+use Rattle.cmd_options.specs.DifferOptions.{AsksDiffer, IsDifferStop, differ_asked_by}
+use Rattle.cmd_options.specs.ExplainOptions.{AsksExplain, IsExplainStop, explain_asked_by}
+use Rattle.cmd_options.specs.FitOptions.{AsksFit, IsFitStop, asked_by}
+use Rattle.cmd_options.specs.ForwardOptions.{AsksForward, IsForwardStop, forward_asked_by}
+use Rattle.cmd_options.specs.PoliceOptions.{AsksPolice, IsPoliceStop, police_asked_by}
+use Rattle.cmd_options.specs.WhyOptions.{AsksWhy, IsWhyStop, why_asked_by}
 use Rattle.upc_lab.specs.declared.choice.Asked.{Asked}
 use Rattle.upc_lab.specs.declared.choice.Asked.TheVariants.{Plain, Why, Cells, Fit, Police, Differ, Forward, Explain}
 use Rattle.upc_lab.specs.declared.choice.Subcommand.{Subcommand}

@@ -1,8 +1,8 @@
 -- What a terminal shows of how much of a capture was read.
 use Rattle.std.specs.Prelude.{◌≡◌, ◌⊎◌, ℕ, List, Bool, true, false, Option, Some, None, Result, Ok, Err}
 use Rattle.text_io.specs.declared.device.Output.{Ghosts as OutputView}
-use Rattle.command_line.specs.declared.stop.Stop.{Stop}
-use Rattle.command_line.specs.Messages.{WritesMessage}
+use Rattle.text_command_line.specs.declared.stop.Stop.{Stop}
+use Rattle.text_command_line.specs.Messages.{WritesMessage}
 use Rattle.upc_lab.specs.declared.choice.Asked.{Asked}
 use Rattle.upc_lab.specs.declared.choice.Asked.TheVariants.{Plain, Why, Cells, Fit, Police, Differ, Forward, Explain}
 use Rattle.upc_lab.specs.declared.choice.Subcommand.{Subcommand}

@@ -6,10 +6,10 @@ use Rattle.text_io.specs.declared.device.Input.{Ghosts as InputView}
 use Rattle.text_io.specs.declared.device.Output.{Ghosts as OutputView}
 use Rattle.text_io.specs.declared.ending.Done.{Done}
 use Rattle.text_io.specs.declared.ending.RunFault.{RunFault}
-use Rattle.command_line.specs.ExitStatus.{status_of}
-use Rattle.command_line.specs.Messages.{WritesMessage}
-use Rattle.lab_faults.specs.HintComments.{MayBeHintComments}
-use Rattle.lab_rules.specs.RulesText.{IsRulesText, MayBeRulesText}
+use Rattle.text_command_line.specs.ExitStatus.{status_of}
+use Rattle.text_command_line.specs.Messages.{WritesMessage}
+use Rattle.cmd_explain.specs.HintComments.{MayBeHintComments}
+use Rattle.cmd_rules.specs.RulesText.{IsRulesText, MayBeRulesText}
 
 -- After a run the comments about these octets were written to the error output. After a failed one only the message of its fault was.
 abbrev pub ReportsHints : {Errors : Type 0} → (RunFault → List ℕ) → List ℕ → OutputView Errors → Errors → Errors → Result Done RunFault → Type 0

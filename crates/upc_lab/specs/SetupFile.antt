@@ -4,20 +4,20 @@ use Rattle.std.specs.Prelude.{◌≡◌, ◌⊎◌, ◌==◌, IsTrue, if◌then�
 use Rattle.std.specs.Path.{path_with_file_name}
 use Rattle.std.specs.Str.{bytes_eq}
 use Rattle.std.specs.String.{string_bytes}
-use Rattle.lab_police.specs.RulesFiles.{octets_of_texts}
+use Rattle.cmd_police.specs.RulesFiles.{octets_of_texts}
 use Rattle.text_io.specs.declared.device.Input.{Ghosts as InputView}
 use Rattle.text_io.specs.declared.device.Output.{Ghosts as OutputView}
 use Rattle.text_io.specs.declared.ending.RunFault.{RunFault}
-use Rattle.command_line.specs.ShownWords.{shown_word}
-use Rattle.command_line.specs.declared.stop.Stop.{Stop}
-use Rattle.command_line.specs.Invocation.{CarriesOut, IsStatusFor}
-use Rattle.command_line.specs.Messages.{IsIdle, WritesMessage}
-use Rattle.lab_differ.specs.DifferText.{IsDifferText}
-use Rattle.lab_differ.specs.UnusedText.{IsUnusedText}
-use Rattle.lab_forward.specs.AgreedForward.{IsForwardedAsAgreed, MayBeForwardedAsAgreed}
-use Rattle.lab_forward.specs.Reporting.{ReportedTexts}
-use Rattle.lab_options.specs.declared.differ.DifferOptions.{DifferOptions}
-use Rattle.lab_options.specs.declared.forward.ForwardOptions.{ForwardOptions}
+use Rattle.text_command_line.specs.ShownWords.{shown_word}
+use Rattle.text_command_line.specs.declared.stop.Stop.{Stop}
+use Rattle.text_command_line.specs.Invocation.{CarriesOut, IsStatusFor}
+use Rattle.text_command_line.specs.Messages.{IsIdle, WritesMessage}
+use Rattle.cmd_differ.specs.DifferText.{IsDifferText}
+use Rattle.cmd_differ.specs.UnusedText.{IsUnusedText}
+use Rattle.cmd_forward.specs.AgreedForward.{IsForwardedAsAgreed, MayBeForwardedAsAgreed}
+use Rattle.cmd_forward.specs.Reporting.{ReportedTexts}
+use Rattle.cmd_options.specs.declared.differ.DifferOptions.{DifferOptions}
+use Rattle.cmd_options.specs.declared.forward.ForwardOptions.{ForwardOptions}
 use Rattle.upc_lab.specs.Comparison.{CarriesFinding}
 use Rattle.upc_lab.specs.ExplainRun.{CarriesExplained}
 use Rattle.upc_lab.specs.ForwardRun.{CarriesForward}

@@ -5,16 +5,16 @@ ghost use Rattle.std.specs.Char.{is_control};
 ghost use Rattle.std.specs.List.{list_any};
 ghost use Rattle.std.specs.Str.{bytes_eq};
 ghost use Rattle.std.specs.String.{string_bytes};
-ghost use Rattle.command_line.specs.ShownWords.{shown_word};
+ghost use Rattle.text_command_line.specs.ShownWords.{shown_word};
 ghost use Rattle.upc_lab.specs.SetupFile.{IsGivenAs};
 ghost use Rattle.upc_lab.specs.ShownNames.{is_terminal_text, shown_name};
 ghost use Rattle.upc_lab.specs.inner.OnlyWord.{is_only};
 
-use command_line::{CommandLine, InMemory, words_after_name};
-use lab_police::add_escaped_name;
+use cmd_police::add_escaped_name;
 use std::alloc::{AllocError, Global};
 use std::env::FillError;
 use std::str;
+use text_command_line::{CommandLine, InMemory, words_after_name};
 
 /// The length limit of a name, in octets, above that of any name that the system takes.
 const ROOM: usize = 4096;

@@ -3,15 +3,15 @@
 ghost use Rattle.std.specs.Prelude.{◌≡◌, map};
 ghost use Rattle.std.specs.String.{string_bytes};
 ghost use Rattle.clap.specs.Kinds.{Kinds};
-ghost use Rattle.command_line.specs.Stopping.{StopsAt};
+ghost use Rattle.text_command_line.specs.Stopping.{StopsAt};
 ghost use Rattle.upc_lab.specs.LabWords.{begun_by, with_options_named};
 
-use command_line::Stop;
-use lab_options::{
+use cmd_options::{
     cells_options, differ_options, explain_options, fit_options, forward_options, police_options,
     why_options,
 };
 use std::alloc::Global;
+use text_command_line::Stop;
 
 /// A subcommand with options.
 #[derive(Clone, Copy, Debug, PartialEq, Eq)]

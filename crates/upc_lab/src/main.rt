@@ -14,23 +14,22 @@ mod setup_hints;
 #[cfg(test)]
 mod tests;
 
+pub use captures_text::cells_of_capture;
 pub use choice::{Asked, Subcommand, choose};
-use command_line::{OfProcess, Stop, status, words_after_name};
-use invocation::explains_setup;
-pub use invocation::{carry_out, shell_status};
-pub use lab_captures::cells_of_capture;
-pub use lab_differ::{Finding, TextKind, TextKinds, compare_texts, unused_in_text};
-pub use lab_faults::{LookedAt, explain_faults};
-pub use lab_fit::{FitChoice, fit_capture, links_of_capture};
-pub use lab_options::{
+pub use cmd_differ::{Finding, TextKind, TextKinds, compare_texts, unused_in_text};
+pub use cmd_explain::{LookedAt, explain_faults};
+pub use cmd_fit::{FitChoice, fit_capture, links_of_capture};
+pub use cmd_list::{list_program, trace_cells};
+pub use cmd_options::{
     CellsOptions, DifferOptions, ExplainOptions, FitOptions, ForwardOptions, PoliceOptions,
     Programs, WhyOptions, cells_options, differ_options, explain_options, fit_options,
     forward_options, police_options, why_options,
 };
-pub use lab_police::{explain_setup, police_as_agreed};
-pub use lab_programs::{list_program, trace_cells};
-pub use lab_rules::{assemble_rules, compile_rules, decide_cells};
-pub use lab_sizes::size_contracts;
+pub use cmd_police::{explain_setup, police_as_agreed};
+pub use cmd_rules::{assemble_rules, compile_rules, decide_cells};
+pub use cmd_size::size_contracts;
+use invocation::explains_setup;
+pub use invocation::{carry_out, shell_status};
 pub use notice::awaited;
 pub use progress::{Counted, reads_capture};
 pub use reason::{Knowing, Reasoned, Work};
@@ -38,6 +37,7 @@ pub use setup_file::{SetupFiles, Unreadable, read_setup};
 use std::alloc::Global;
 use std::io::{BufReader, IsTerminal, Read};
 use std::process::ExitCode;
+use text_command_line::{OfProcess, Stop, status, words_after_name};
 use text_io::{RunFault, WriterOutput};
 
 /// Standard input with a buffer, which has no room if no memory is left. `why` takes an octet at a time, so that it takes nothing after the line

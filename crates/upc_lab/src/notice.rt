@@ -1,7 +1,7 @@
 //! What the program says if its input is a terminal, because nothing else shows that it waits for input.
 
 ghost use Rattle.std.specs.Prelude.{◌≡◌, Some};
-ghost use Rattle.command_line.specs.Subcommands.{meaning_in};
+ghost use Rattle.text_command_line.specs.Subcommands.{meaning_in};
 ghost use Rattle.upc_lab.specs.LabMessages.{asked_notice, lab_name_of, lab_notice};
 ghost use Rattle.upc_lab.specs.LabWords.{lab_subcommands};
 

@@ -6,10 +6,10 @@ ghost use Rattle.upc_lab.specs.inner.ProgressText.{progress_text};
 
 use crate::choice::{Asked, Subcommand};
 use crate::reason::Reasoned;
-use command_line::{Stop, write_message};
 use std::alloc::{AllocError, Global};
+use text_command_line::{Stop, write_message};
 use text_io::{Failed, Input, Output};
-use upc_words::{add_number, add_text};
+use text_words::{add_number, add_text};
 
 /// The number of octets after which a new text is shown: 16 MiB.
 const STEP: u64 = 16777216;

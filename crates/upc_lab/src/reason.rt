@@ -5,7 +5,7 @@ ghost use Rattle.text_io.specs.Devices.{one_more};
 ghost use Rattle.upc_lab.specs.FailureLines.{plain_line, work_text};
 ghost use Rattle.upc_lab.specs.inner.ReasonedLine.{reasoned_line};
 
-use lab_faults::LookedAt;
+use cmd_explain::LookedAt;
 use std::alloc::{AllocError, Global};
 use std::io::{Error, ErrorKind, Read, Write};
 use text_io::{Failed, Input, Output};

@@ -2,16 +2,15 @@
 
 ghost use Rattle.std.specs.Prelude.{◌≡◌, ◌⊎◌, IfErr, IfOk, IfSome, IsOkAnd, None, []};
 ghost use Rattle.std.specs.Path.{path_with_file_name};
-ghost use Rattle.lab_police.specs.FilesRead.{AreTextsForFiles, IsTextForFile, files_read, octets_of_name, octets_of_names};
-ghost use Rattle.lab_police.specs.RulesFiles.{octets_of_text, octets_of_texts};
+ghost use Rattle.cmd_police.specs.FilesRead.{AreTextsForFiles, IsTextForFile, files_read, octets_of_name, octets_of_names};
+ghost use Rattle.cmd_police.specs.RulesFiles.{octets_of_text, octets_of_texts};
 ghost use Rattle.upc_lab.specs.SetupFile.{IsUnreadable, IsUnreadableSetup, IsUnreadableShown, old_name, fit_rules_name, setup_name, unreadable_line, unreadable_message};
 
 use crate::choice::Asked;
 use crate::file_names::{add_shown_name, name_given};
 use crate::reason::in_words;
 use captures::Tick;
-use command_line::{CommandLine, Stop};
-use lab_police::{SharedText, files_read, take_tick};
+use cmd_police::{SharedText, files_read, take_tick};
 use std::alloc::{AllocError, Global};
 use std::collections::BTreeMap;
 use std::fs::File;
@@ -19,6 +18,7 @@ use std::io::Read;
 use std::path::Path;
 use std::rt::Files;
 use std::{io, str};
+use text_command_line::{CommandLine, Stop};
 
 /// The maximum number of octets of a text of rules, or of one with a program.
 const MOST_RULES_OCTETS: u64 = 1048576;

@@ -2,9 +2,9 @@
 
 ghost use Rattle.std.specs.Prelude.{◌≡◌, ◌||◌, not, ℕ, List, [], IfOk, OnOk};
 ghost use Rattle.std.specs.Str.{bytes_eq};
-ghost use Rattle.lab_faults.specs.HintComments.{AreHintsAbout, text_of_comments};
-ghost use Rattle.lab_police.specs.FilesRead.{octets_of_name, octets_of_names};
-ghost use Rattle.lab_police.specs.RulesFiles.{octets_of_texts};
+ghost use Rattle.cmd_explain.specs.HintComments.{AreHintsAbout, text_of_comments};
+ghost use Rattle.cmd_police.specs.FilesRead.{octets_of_name, octets_of_names};
+ghost use Rattle.cmd_police.specs.RulesFiles.{octets_of_texts};
 ghost use Rattle.text_io.specs.Devices.{Adds};
 ghost use Rattle.upc_lab.specs.SetupFile.{rules_in_files};
 ghost use Rattle.upc_lab.specs.SetupHints.{AreFileHints, AreFilesHints, AreOwnHints, AreSetupHints, MayBeSetupHints, file_front, names_with_file};
@@ -12,8 +12,8 @@ ghost use Rattle.upc_lab.specs.inner.NamesMet.{HasNames, has_name};
 
 use crate::file_names::add_shown_name;
 use crate::setup_file::SetupFiles;
-use lab_faults::{Comments, add_hints_about};
-use lab_police::{SharedText, files_read, hints_of_setup};
+use cmd_explain::{Comments, add_hints_about};
+use cmd_police::{SharedText, files_read, hints_of_setup};
 use std::alloc::{AllocError, Global};
 use std::collections::BTreeSet;
 

@@ -9,12 +9,12 @@ use crate::{
     shell_status,
 };
 use captures::{Channel, Link, Tick};
-use command_line::{InMemory, Stop, words_after_name};
 use std::alloc::{AllocError, Global};
 use std::process::Abort;
 use std::rt::Files;
 use std::test::Fail;
 use std::thread::Threads;
+use text_command_line::{InMemory, Stop, words_after_name};
 use text_io::{Failed, FaultyInput, FaultyOutput, Output};
 
 /// The exit status, the output and the messages of a run.

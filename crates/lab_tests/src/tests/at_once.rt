@@ -5,7 +5,7 @@ ghost use Rattle.std.specs.Prelude.{[]};
 
 use super::link::record_of;
 use captures::{Fault, Tick};
-use lab_captures::{CellFollower, CountedCell, PassedOver, follow_cells};
+use captures_text::{CellFollower, CountedCell, PassedOver, follow_cells};
 use std::alloc::{AllocError, Global};
 use std::sync::atomic::{AtomicU64, Ordering};
 use std::test::Fail;

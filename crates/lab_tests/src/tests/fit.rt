@@ -2,7 +2,7 @@
 
 use super::link::{plain, record_of};
 use captures::{Link, Tick};
-use lab_fit::{FitChoice, FitFault, fit_capture};
+use cmd_fit::{FitChoice, FitFault, fit_capture};
 use std::alloc::Global;
 use std::test::Fail;
 use std::thread::Threads;

@@ -2,13 +2,13 @@
 
 use super::link::plain;
 use captures::{Channel, Link, Tick};
-use command_line::Stop;
-use lab_captures::CellLines;
-use lab_options::{
+use captures_text::CellLines;
+use cmd_options::{
     CellsOptions, FitOptions, cells_options, explain_options, fit_options, police_options,
 };
 use std::alloc::{AllocError, Global};
 use std::test::Fail;
+use text_command_line::Stop;
 use upc_cell::Side;
 
 fn words_of(alloc: Global, line: &str) -> Result<Vec<String>, AllocError> {

@@ -2,8 +2,8 @@
 
 use super::link::record_of;
 use captures::Tick;
-use lab_captures::CellLines;
-use lab_police::{PoliceChoice, PoliceScope, police_setup};
+use captures_text::CellLines;
+use cmd_police::{PoliceChoice, PoliceScope, police_setup};
 use std::alloc::{AllocError, Global};
 use std::test::Fail;
 use std::thread::Threads;

@@ -3,7 +3,7 @@ use Rattle.std.specs.Prelude.{◌≡◌, ℕ, Bool, false, Option, Some, None, L
 use Rattle.gen_arena.specs.declared.id.Id.{Id}
 use Rattle.gen_arena.specs.SameId.{is_same_id}
 use Rattle.upc_cell.specs.declared.vc.Vc.{Vc}
-use Rattle.vc_lines.specs.Lines.{ConnectionTable, line_of}
+use Rattle.vc_table.specs.Lines.{ConnectionTable, line_of}
 use Rattle.line_record.specs.declared.directory.Seating.{Seating}
 
 -- A place for each line: the connection that has it, with its seating.

@@ -5,7 +5,7 @@ use std::alloc::Global;
 use std::process::Abort;
 use std::test::Fail;
 use upc_cell::{Side, Vc};
-use vc_lines::{TableFault, VcLines};
+use vc_table::{TableFault, VcLines};
 
 /// A table without connections.
 fn empty_table(alloc: Global) -> Result<VcLines, Fail> {

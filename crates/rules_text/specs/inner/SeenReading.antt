@@ -1,7 +1,7 @@
 -- What the readers have read, in the words of the definitions.
 use Rattle.std.specs.Prelude.{map, reverse, List, Option, Some, None, Result, Ok, Err}
-use Rattle.cell_rules.specs.declared.field.Field.{Field}
-use Rattle.cell_rules.specs.declared.test.Test.{Test}
+use Rattle.rules_cells.specs.declared.field.Field.{Field}
+use Rattle.rules_cells.specs.declared.test.Test.{Test}
 use Rattle.rules_text.specs.LineGrammar.{Awaited, GroupRead, LineContext, ListRead, field_list, denied_list, path_list, Reading, StatementRead, SubjectRead, awaits_start, awaits_unit, awaits_operator, awaits_offset, awaits_relation, awaits_mask, awaits_sign, awaits_constant, awaits_dots, awaits_high, awaits_comma, awaits_low, awaits_slash, awaits_channel, awaits_arrow, awaits_value, awaits_rest, awaits_side, awaits_end, blank_statement, side_statement, line_statement, otherwise_statement}
 use Rattle.rules_text.specs.RulesRead.{FieldRead, TestRead, field_read, line_read, test_read}
 use Rattle.rules_text.specs.TextOfRules.{TextReading}

@@ -1,5 +1,6 @@
 //! Scripts whose ports are threads, with gates; and the errors of a close.
 
+use cmd_ports::run_ports_with;
 use port_card::{CloseFault, Gate};
 use std::alloc::{AllocError, Global};
 use std::sync::Wait;
@@ -7,7 +8,6 @@ use std::sync::atomic::{AtomicU64, Ordering};
 use std::test::Fail;
 use std::thread::{self, Threads};
 use text_io::{Done, ReaderInput, RunFault, WriterOutput};
-use upc_ports::run_ports_with;
 
 /// The maximum number of turns of a gate.
 const TURNS: u64 = 10_000_000;

@@ -1,9 +1,9 @@
 //! The words that choose a subcommand, ask for help, or are refused.
 
 use crate::{Choice, Stop, choose};
-use command_line::{InMemory, words_after_name};
 use std::alloc::{AllocError, Global};
 use std::test::Fail;
+use text_command_line::{InMemory, words_after_name};
 
 fn chosen_by(alloc: Global, line: &str) -> Result<Result<Choice, Stop>, AllocError> {
     let mut words = Vec::new(alloc);

@@ -1,6 +1,6 @@
 //! Comparisons of texts of rules.
 
-use cell_diagrams::{compare, give_same};
+use rules_diagrams::{compare, give_same};
 use rules_text::read_rules;
 use std::alloc::Global;
 use std::test::Fail;

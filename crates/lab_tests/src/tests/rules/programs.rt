@@ -1,7 +1,7 @@
 //! Comparisons of programs with rules, and with programs.
 
 use bpf_asm::assemble;
-use cell_diagrams::{Compared, Uncompared, compare_sides, give_same};
+use rules_diagrams::{Compared, Uncompared, compare_sides, give_same};
 use rules_text::{compile_text, read_rules};
 use std::alloc::Global;
 use std::test::Fail;

@@ -1,5 +1,5 @@
 use Rattle.std.proofs.Common.{inl, inr, refl}
-use Rattle.match_code.specs.LineCode.{lines_code}
+use Rattle.rules_code.specs.LineCode.{lines_code}
 use Rattle.rules_text.specs.NumberedText.{numbered_read}
 use Rattle.rules_text.specs.TextFaults.{IsCompilingFault}
 use Rattle.rules_text.proofs.ReadingSteps.{without_numbers, fault_without_numbers, fault_onward, returned_fault}

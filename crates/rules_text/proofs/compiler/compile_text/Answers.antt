@@ -1,5 +1,5 @@
 use Rattle.std.proofs.Common.{refl, inr}
-use Rattle.match_code.specs.LineCode.{lines_code}
+use Rattle.rules_code.specs.LineCode.{lines_code}
 use Rattle.rules_text.proofs.compiler.compile_text.Goals as goal
 
 pub returns-in-Ok-clause-code : goal.returns-in-Ok-clause-code

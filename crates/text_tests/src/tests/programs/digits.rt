@@ -1,8 +1,8 @@
 //! Cell words compared with the library's reading.
 
 use std::process::Abort;
+use text_words::cell_of_digits;
 use upc_cell::Cell;
-use upc_words::cell_of_digits;
 
 /// Expects that a word is read as the library reads it: these octets, or nothing.
 fn expect_as(rt: &impl Abort, word: &[u8], read: bool, octets: [u8; 52]) {

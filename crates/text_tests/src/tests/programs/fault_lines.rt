@@ -3,10 +3,10 @@
 use bpf_asm::{AsmFault, AsmKind};
 use bpf_code::DecodeFault;
 use bpf_verify::Fault;
+use cmd_programs::{add_asm_fault, add_decode_fault, add_verify_fault};
 use std::process::Abort;
 use std::string::String;
 use std::test::Fail;
-use upc_programs::{add_asm_fault, add_decode_fault, add_verify_fault};
 
 /// Expects that the answers are this line.
 fn expect(rt: &impl Abort, answers: &Vec<u8>, line: &String) {

@@ -3,7 +3,7 @@
 use card_core::{CardFault, DeskFault};
 use leaky::GcraFault;
 use std::test::Fail;
-use upc_card_lines::{add_desk_fault, add_gcra_fault, add_shape_fault};
+use text_card::{add_desk_fault, add_gcra_fault, add_shape_fault};
 
 #[test]
 fn a_fault_of_a_rate_is_printed_as_itself(rt: HostRuntime) -> Result<(), Fail> {

@@ -3,7 +3,7 @@
 use arrayvec::ArrayVec;
 use leaky::{Contract, Gcra};
 use std::test::Fail;
-use upc_script::{Rate, Wanted, contracts_of};
+use text_script::{Rate, Wanted, contracts_of};
 
 /// The largest number of ticks of a rate.
 const MOST: u64 = 281474976710656;

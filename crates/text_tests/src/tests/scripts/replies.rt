@@ -6,7 +6,7 @@ use leaky::Verdict;
 use std::alloc::{AllocError, Global};
 use std::process::Abort;
 use std::test::Fail;
-use upc_card_lines::add_answer;
+use text_card::add_answer;
 use upc_cell::{Cell, Side, Vc};
 
 /// A cell with this verdict, the largest value and a header of ones.

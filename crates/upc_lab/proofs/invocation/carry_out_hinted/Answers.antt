@@ -1,6 +1,6 @@
 -- The words name a setup script, whose hints are written, or they don't.
 use Rattle.std.proofs.Common.{sym, ◌∙◌}
-use Rattle.lab_faults.specs.HintComments.{text_of_comments}
+use Rattle.cmd_explain.specs.HintComments.{text_of_comments}
 use Rattle.upc_lab.specs.SetupFile.{setup_name}
 use Rattle.upc_lab.proofs.Hinting.{with_setup, without_setup}
 use Rattle.upc_lab.proofs.invocation.carry_out_hinted.Goals as goal

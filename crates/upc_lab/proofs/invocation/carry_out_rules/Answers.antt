@@ -1,5 +1,5 @@
 -- The effect is that of the run, and of its hints or its message.
-use Rattle.lab_faults.specs.HintComments.{text_of_comments}
+use Rattle.cmd_explain.specs.HintComments.{text_of_comments}
 use Rattle.upc_lab.proofs.Hinting.{reports_hints}
 use Rattle.upc_lab.proofs.invocation.carry_out_rules.Goals as goal
 

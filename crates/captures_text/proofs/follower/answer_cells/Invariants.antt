@@ -1,0 +1,10 @@
+-- Loop invariant: the cells so far are answered.
+use Rattle.std.proofs.Common.{take}
+use Rattle.captures_text.specs.inner.Answered.{AnswersCells}
+use Rattle.captures_text.proofs.follower.answer_cells.Given as goal
+use Rattle.text_io.specs.declared.machine.Turn.TheVariants.{GoesOn}
+
+abbrev pub invariant-loop-counted : goal.invariant-loop-counted
+invariant-loop-counted g l =
+    let f = g.F.CellFollower in
+    AnswersCells f.rules (f.shows l.fn.follower) (take l.counted-index l.cells) GoesOn (f.shows l.follower) l.fn.answers.items l.answers.items

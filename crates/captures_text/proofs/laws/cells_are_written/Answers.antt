@@ -1,0 +1,5 @@
+use Rattle.captures_text.proofs.CountedLemmas.{cells-are-written}
+use Rattle.captures_text.proofs.laws.cells_are_written.Goals as goal
+
+pub returns : goal.returns
+returns c = cells-are-written

@@ -1,0 +1,11 @@
+-- Loop invariant: the frames so far were read.
+use Rattle.std.proofs.Common.{length}
+use Rattle.captures_text.specs.inner.Ahead.{ReadsSoFar}
+use Rattle.captures_text.proofs.reading_ahead.ReadingAhead.read.Given as goal
+
+abbrev pub invariant-loop-coming : goal.invariant-loop-coming
+invariant-loop-coming l = ReadsSoFar l.fn.self l.self l.fn.cells.items l.cells.items
+
+-- Each frame has some octets.
+abbrev pub decreases-loop-coming : goal.decreases-loop-coming
+decreases-loop-coming l = length l.self.window

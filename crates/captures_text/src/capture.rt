@@ -1,0 +1,146 @@
+//! The text of the cells of a whole capture.
+
+ghost use Rattle.std.specs.Prelude.{◌≡◌, ◌≢◌, ◌≤◌, ◌++◌, [], Err, Some, length, IfOk, OnErr, OnOk};
+ghost use Rattle.captures.specs.Opening.{file_opening, opening_of};
+ghost use Rattle.captures_text.specs.CaptureFaults.{file_fault_line};
+ghost use Rattle.captures_text.specs.CaptureText.{IsCaptureText, short_fault as fault_if_short};
+ghost use Rattle.captures_text.specs.CellFilter.{filter_start};
+ghost use Rattle.captures_text.specs.CellFollowing.{OfEachWorld};
+ghost use Rattle.text_io.specs.Devices.{IsPart, one_more};
+ghost use Rattle.text_io.specs.Failures.{write_failures};
+ghost use Rattle.text_io.specs.Serving.{IsServed};
+
+use crate::driver::follow_on;
+use crate::fault_lines::add_file_fault;
+use crate::filter::CellFilter;
+use crate::follower::{CellFollower, answers_each_cell};
+use crate::passed::PassedOver;
+use crate::reading_ahead::{ReadingAhead, WINDOW_ROOM};
+use captures::{
+    Fault, FileFault, Link, Opening, Reader, RecordFault, Tick, is_text, open, open_whole,
+};
+use std::alloc::Global;
+use std::thread::Threads;
+use text_io::{Done, Failed, Input, Output, RunFault, Window, give_last};
+
+/// Reads the first octets of a file, until they say what it is or the file ends, and returns what it is.
+pub fn find_opening<I: Input>(
+    window: &mut Window<WINDOW_ROOM>,
+    input: &mut I,
+) -> Result<Opening, Failed>
+    requires { window.old ≡ [] }
+    ensures octets { I.is_known → IfOk result (λ _. I.rest input.old ≡ window.new ++ I.rest input.new) }
+    ensures opening { IfOk result (λ opening. opening ≡ file_opening window.new) }
+    ensures bounded { length window.new ≤ 524288 }
+    ensures end { I.is_known → IfOk result (λ _. opening_of window.new ≡ Opening.Undecided → I.rest input.new ≡ []) }
+    ensures calm { OnOk result (I.failures input.new ≡ I.failures input.old) }
+    ensures failed { OnErr result (I.failures input.new ≡ one_more (I.failures input.old)) }
+{
+    loop {
+        match open(window.octets()) {
+            Opening::Undecided => {}
+            _ => return Ok(open_whole(window.octets())),
+        }
+        if window.fill(input)? == 0 {
+            return Ok(open_whole(window.octets()));
+        }
+    }
+}
+
+/// Returns the fault of a file that is too short for a capture.
+pub fn short_fault(octets: &[u8]) -> Fault
+    ensures { result ≡ fault_if_short octets.now }
+{
+    let reason = if is_text(octets) {
+        RecordFault::ShortText
+    } else {
+        RecordFault::CutOff
+    };
+    Fault { at: 0, reason }
+}
+
+/// Answers a file that isn't read.
+fn refuse<O: Output>(alloc: Global, output: &mut O, fault: FileFault) -> Result<Done, RunFault>
+    ensures done { IfOk result (λ done. done ≡ Done.Ended) }
+    ensures given { O.is_known → OnOk result (O.held output.new ≡ O.held output.old ++ file_fault_line fault) }
+    ensures front { O.is_known → OnErr result (IsPart (O.held output.old) (O.held output.new) (file_fault_line fault)) }
+    ensures fault { result ≢ Err RunFault.ReadFailed }
+    ensures writing { O.failures output.new ≡ write_failures result (O.failures output.old) }
+{
+    let mut answers = Vec::new(alloc);
+    match add_file_fault(&mut answers, fault) {
+        Err(_) => Err(RunFault::NoMemory),
+        Ok(()) => give_last(output, &mut answers, Done::Ended),
+    }
+}
+
+/// Answers a file that is too short for a capture.
+fn close_short<O: Output, F: CellFollower>(
+    alloc: Global,
+    output: &mut O,
+    follower: &F,
+    passed: &PassedOver,
+    octets: &[u8],
+) -> Result<Done, RunFault>
+    ensures done { IfOk result (λ done. done ≡ Done.Ended) }
+    ensures given { O.is_known → OnOk result (OfEachWorld F.rules (F.shows follower.now) (λ world.
+        O.held output.new ≡ O.held output.old ++ F.rules.closes world passed.now (Some (fault_if_short octets.now)))) }
+    ensures front { O.is_known → OnErr result (OfEachWorld F.rules (F.shows follower.now) (λ world.
+        IsPart (O.held output.old) (O.held output.new) (F.rules.closes world passed.now (Some (fault_if_short octets.now))))) }
+    ensures fault { result ≢ Err RunFault.ReadFailed }
+    ensures writing { O.failures output.new ≡ write_failures result (O.failures output.old) }
+{
+    let fault = short_fault(octets);
+    let mut answers = Vec::new(alloc);
+    match follower.close(passed, Some(fault), &mut answers) {
+        Err(_) => Err(RunFault::NoMemory),
+        Ok(()) => give_last(output, &mut answers, Done::Ended),
+    }
+}
+
+/// Runs a follower over the cells of a capture that count, in bounded memory: two buffers of 524,288 octets, the cells that were read from
+/// them, and the answers to these cells.
+///
+/// With one thread, what was read is answered before more is read. With two, records are read on one thread while the cells of those before
+/// them are answered on another, as long as each reading fills the buffer: that of a file does, and that of a pipe doesn't.
+///
+/// # Errors
+///
+/// `ReadFailed` or `WriteFailed` if that device failed; the run ends at the first failure. `NoMemory` if an
+/// allocation fails. The output is then a prefix of the text.
+pub fn follow_cells<R: Threads, I: Input + Send, O: Output, F: CellFollower + Send>(
+    rt: &R,
+    threads: usize,
+    alloc: Global,
+    tick: Tick,
+    link: Option<Link>,
+    input: &mut I,
+    output: &mut O,
+    follower: &mut F,
+) -> Result<Done, RunFault>
+    ensures { OfEachWorld F.rules (F.shows follower.old) (λ world.
+        IsServed (IsCaptureText F.rules (filter_start tick.nanoseconds link) world)
+        I.Input input.old input.new O.Output output.old output.new result) }
+{
+    answers_each_cell(follower);
+    let filter = CellFilter::new(tick, link);
+    let Ok(mut window) = Window::<WINDOW_ROOM>::new(alloc) else {
+        return Err(RunFault::NoMemory);
+    };
+    match find_opening(&mut window, input) {
+        Err(_) => Err(RunFault::ReadFailed),
+        Ok(Opening::Refused(fault)) => refuse(alloc, output, fault),
+        Ok(Opening::Undecided) => {
+            close_short(alloc, output, follower, &filter.passed(), window.octets())
+        }
+        Ok(Opening::Opened(format)) => {
+            window.skip(format.start());
+            let reading = ReadingAhead {
+                window,
+                reader: Reader::new(format),
+                filter,
+            };
+            follow_on(rt, 1 < threads, alloc, input, output, follower, reading)
+        }
+    }
+}

@@ -1,0 +1,132 @@
+//! The cells of a capture as lines of a script: `upc-lab cells`.
+
+ghost use Rattle.std.specs.Prelude.{◌≡◌, ◌++◌, OnOk};
+ghost use Rattle.hex.specs.Hex.{encode_lower};
+ghost use Rattle.captures_text.specs.CellsText.{IsCellsText, cell_line, cells_start, counted_line, record_comment};
+ghost use Rattle.text_io.specs.Serving.{IsServed};
+
+use crate::capture::follow_cells;
+use crate::counted::CountedCell;
+use crate::follower::CellFollower;
+use crate::passed::PassedOver;
+use crate::run_lines::add_closing;
+use captures::{Fault, Link, Tick};
+use std::alloc::{AllocError, Global};
+use std::thread::Threads;
+use text_io::{Done, Input, Output, RunFault, Turn};
+use text_words::{add_number, add_text};
+use upc_cell::{CELL_OCTETS, Cell};
+
+/// A run of `cells`.
+#[derive(Clone, Copy, Drop, Debug)]
+pub(crate) struct Cells {
+    /// Whether each cell comes after the number of its record.
+    pub numbered: bool,
+}
+
+/// Appends the octets of a cell in hexadecimal digits.
+fn add_octets(answers: &mut Vec<u8>, cell: &Cell) -> Result<(), AllocError>
+    ensures { OnOk result (answers.new.items ≡ answers.old.items ++ encode_lower cell.now) }
+{
+    let mut digits = [0; 104];
+    if hex::encode_to_slice(&cell.bytes()[..CELL_OCTETS], &mut digits).is_err() {
+        unreachable!();
+    }
+    add_text(answers, &digits)
+}
+
+/// Appends the line of a cell.
+#[tactic(auto, using(std::proofs::lemmas::List::append_assoc))]
+fn add_cell(answers: &mut Vec<u8>, counted: &CountedCell) -> Result<(), AllocError>
+    ensures { OnOk result (answers.new.items ≡ answers.old.items ++ cell_line counted.now.moment counted.now.cell) }
+{
+    add_text(answers, b"cell ")?;
+    add_number(answers, counted.moment)?;
+    add_text(answers, b" ")?;
+    add_octets(answers, &counted.cell)?;
+    answers.push(b'\n')?;
+    Ok(())
+}
+
+/// Appends the comment with the number of a record.
+#[tactic(auto, using(std::proofs::lemmas::List::append_assoc))]
+fn add_record_comment(answers: &mut Vec<u8>, number: u64) -> Result<(), AllocError>
+    ensures { OnOk result (answers.new.items ≡ answers.old.items ++ record_comment number) }
+{
+    add_text(answers, b"# record ")?;
+    add_number(answers, number)?;
+    answers.push(b'\n')?;
+    Ok(())
+}
+
+/// Appends the line of a cell that counts, after the number of its record if that is asked for.
+#[tactic(auto, using(std::proofs::lemmas::List::append_assoc))]
+fn add_counted(
+    answers: &mut Vec<u8>,
+    numbered: bool,
+    counted: &CountedCell,
+) -> Result<(), AllocError>
+    ensures { OnOk result (answers.new.items ≡ answers.old.items ++ counted_line numbered counted.now) }
+{
+    if numbered {
+        add_record_comment(answers, counted.number)?;
+    }
+    add_cell(answers, counted)
+}
+
+impl CellFollower for Cells {
+    ghost use Rattle.captures_text.specs.CellsText.{CellsWorld, cells_closes, cells_rules, cells_steps};
+    ghost use Rattle.captures_text.specs.inner.FixedRules.{fixed_total};
+
+    ghost World = { CellsWorld };
+
+    ghost shows = { λ cells world. world.numbered ≡ cells.numbered };
+
+    ghost rules = { cells_rules };
+
+    fn follow_cell(
+        &mut self,
+        counted: &CountedCell,
+        answers: &mut Vec<u8>,
+    ) -> Result<Turn, AllocError> {
+        add_counted(answers, self.numbered, counted)?;
+        Ok(Turn::GoesOn)
+    }
+
+    fn close(
+        &self,
+        passed: &PassedOver,
+        ending: Option<Fault>,
+        answers: &mut Vec<u8>,
+    ) -> Result<(), AllocError> {
+        add_closing(answers, passed, ending)
+    }
+
+    ghost is_total = { fixed_total cells_steps cells_closes };
+}
+
+/// Answers a capture by its cells, each as a line of a script for `upc run` or `upc ports`. Moments are ticks since the first cell. With
+/// `numbered` a comment with the number of its record comes before each. If no link is asked for, a cell of a second link ends the run. Comments say how many records were passed over and why.
+///
+/// With `threads` above 1, records are read on one thread while the cells of earlier ones are written on another, as in [`follow_cells`]. The
+/// output is the same.
+///
+/// # Errors
+///
+/// `ReadFailed` or `WriteFailed` if that device failed; the run ends at the first failure. `NoMemory` if an
+/// allocation fails. The output is then a prefix of the text.
+pub fn cells_of_capture<R: Threads, I: Input + Send, O: Output>(
+    rt: &R,
+    threads: usize,
+    alloc: Global,
+    tick: Tick,
+    link: Option<Link>,
+    numbered: bool,
+    input: &mut I,
+    output: &mut O,
+) -> Result<Done, RunFault>
+    ensures { IsServed (IsCellsText tick.nanoseconds link numbered) I.Input input.old input.new O.Output output.old output.new result }
+{
+    let mut cells = Cells { numbered };
+    follow_cells(rt, threads, alloc, tick, link, input, output, &mut cells)
+}

@@ -1,0 +1,127 @@
+//! The driver: runs a follower over the cells of a capture that count.
+
+ghost use Rattle.std.specs.Prelude.{◌≡◌, ◌≢◌, ◌+◌, ◌<◌, ◌≤◌, ◌++◌, List, ℕ, [], None, Ok, Err, length, take, true, IfOk, OnErr, OnOk};
+ghost use Rattle.captures.specs.Frames.{first_frame};
+ghost use Rattle.captures_text.specs.CaptureText.{done_at as ends_at};
+ghost use Rattle.captures_text.specs.CellFollowing.{OfEachWorld};
+ghost use Rattle.captures_text.specs.inner.Ahead.{IsQueuedText};
+ghost use Rattle.captures_text.specs.inner.Progress.{HasRead};
+ghost use Rattle.text_io.specs.Devices.{Adds, IsPart};
+ghost use Rattle.text_io.specs.Failures.{read_failures, write_failures};
+ghost use Rattle.text_io.specs.Printing.{IsFront};
+ghost use Rattle.text_io.specs.declared.ending.Done.{Done as TheDone};
+
+use crate::follower::{CellFollower, answers_each_cell};
+use crate::one_thread::{Going, advance};
+use crate::queue::Queue;
+use crate::reading_ahead::ReadingAhead;
+use crate::two_threads::give_and_go_ahead;
+use captures::Fault;
+use std::alloc::Global;
+use std::thread::Threads;
+use text_io::{Done, Input, Output, RunFault, give_if_enough, give_last, refill};
+
+/// Returns how a run ends at this end of a capture.
+pub fn done_at(ending: Option<Fault>) -> Done
+    ensures { result ≡ ends_at ending }
+{
+    match ending {
+        None => Done::Whole,
+        Some(_) => Done::Ended,
+    }
+}
+
+/// Answers the octets that wait at the end of the input, which are no whole frame, and writes the last answers.
+fn finish<O: Output, F: CellFollower>(
+    output: &mut O,
+    follower: &F,
+    reading: &ReadingAhead,
+    answers: &mut Vec<u8>,
+) -> Result<Done, RunFault>
+    requires { first_frame reading.now.reader.format reading.now.reader.at reading.now.window ≡ None }
+    ensures given { O.is_known → IfOk result (λ done. OfEachWorld F.rules (F.shows follower.now) (λ world. (here : List ℕ)
+        × (O.held output.new ≡ O.held output.old ++ (answers.old.items ++ here))
+        × IsQueuedText F.rules reading.now [] world reading.now.window here done)) }
+    ensures front { O.is_known → OnErr result (OfEachWorld F.rules (F.shows follower.now) (λ world. (here : List ℕ) × (done : TheDone)
+        × IsPart (O.held output.old) (O.held output.new) (answers.old.items ++ here)
+        × IsQueuedText F.rules reading.now [] world reading.now.window here done)) }
+    ensures text { IfOk result (λ done. OfEachWorld F.rules (F.shows follower.now) (λ world.
+        (here : List ℕ) × IsQueuedText F.rules reading.now [] world reading.now.window here done)) }
+    ensures fault { result ≢ Err RunFault.ReadFailed }
+    ensures writing { O.failures output.new ≡ write_failures result (O.failures output.old) }
+{
+    let ending = reading.reader.end(reading.window.octets());
+    let done = done_at(ending);
+    match follower.close(&reading.filter.passed(), ending, answers) {
+        Err(_) => Err(RunFault::NoMemory),
+        Ok(()) => give_last(output, answers, done),
+    }
+}
+
+/// Returns whether less waits than the longest frame has, so that there is room for more octets.
+fn is_short(reading: &ReadingAhead) -> bool
+    ensures { result ≡ true → length reading.now.window < 131072 }
+{
+    reading.window.octets().len() < 131_072
+}
+
+/// Runs a follower over the cells of a capture that count, from here on: those of the octets that wait, and then those of the input.
+pub(crate) fn follow_on<R: Threads, I: Input + Send, O: Output, F: CellFollower + Send>(
+    rt: &R,
+    at_once: bool,
+    alloc: Global,
+    input: &mut I,
+    output: &mut O,
+    follower: &mut F,
+    mut reading: ReadingAhead,
+) -> Result<Done, RunFault>
+    requires { length reading.window ≤ 524288 }
+    ensures text { I.is_known → O.is_known → IfOk result (λ done. OfEachWorld F.rules (F.shows follower.old) (λ first.
+        Adds (λ text. IsQueuedText F.rules reading [] first (reading.window ++ I.rest input.old) text done)
+        (O.held output.old) (O.held output.new))) }
+    ensures front { I.is_known → O.is_known → OnErr result (OfEachWorld F.rules (F.shows follower.old) (λ first.
+        Adds (IsFront (IsQueuedText F.rules reading [] first (reading.window ++ I.rest input.old)))
+        (O.held output.old) (O.held output.new))) }
+    ensures left { I.is_known → IfOk result (λ done. OfEachWorld F.rules (F.shows follower.old) (λ first.
+        HasRead (IsQueuedText F.rules reading [] first) reading.window (I.rest input.old) (I.rest input.new) done)) }
+    ensures whole { I.is_known → result ≡ Ok Done.Whole → I.rest input.new ≡ [] }
+    ensures read { I.failures input.new ≡ read_failures result (I.failures input.old) }
+    ensures written { O.failures output.new ≡ write_failures result (O.failures output.old) }
+{
+    answers_each_cell(follower);
+    let mut queue = Queue::new(alloc);
+    let mut answers = Vec::new(alloc);
+    loop {
+        if at_once && reading.window.is_full() && !queue.cells.is_empty() && is_short(&reading) {
+            match give_and_go_ahead(
+                rt,
+                input,
+                output,
+                &mut reading,
+                &mut queue,
+                follower,
+                &mut answers,
+            ) {
+                Err(fault) => return Err(fault),
+                Ok(Going::Ended) => return give_last(output, &mut answers, Done::Ended),
+                Ok(Going::On) => {}
+                Ok(Going::Wants) => {}
+            }
+        } else {
+            match advance(at_once, &mut reading, &mut queue, follower, &mut answers) {
+                Err(_) => return Err(RunFault::NoMemory),
+                Ok(Going::Ended) => return give_last(output, &mut answers, Done::Ended),
+                Ok(Going::On) => {
+                    if give_if_enough(output, &mut answers).is_err() {
+                        return Err(RunFault::WriteFailed);
+                    }
+                }
+                Ok(Going::Wants) => match refill(&mut reading.window, input, output, &mut answers) {
+                    Err(fault) => return Err(fault),
+                    Ok(0) => return finish(output, follower, &reading, &mut answers),
+                    Ok(_) => {}
+                },
+            }
+        }
+    }
+}

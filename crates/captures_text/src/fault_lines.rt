@@ -1,0 +1,75 @@
+//! The fault lines of captures. Each function appends to the answers.
+
+ghost use Rattle.std.specs.Prelude.{◌≡◌, ◌++◌, decimal, OnOk};
+ghost use Rattle.captures_text.specs.CaptureFaults.{capture_fault_line, file_fault_line, record_fault_text};
+
+use captures::{Fault, FileFault, RecordFault};
+use std::alloc::AllocError;
+use text_words::{add_number, add_numbered, add_text};
+
+/// Appends the answer to a file that isn't read.
+pub fn add_file_fault(answers: &mut Vec<u8>, fault: FileFault) -> Result<(), AllocError>
+    ensures { OnOk result (answers.new.items ≡ answers.old.items ++ file_fault_line fault) }
+{
+    match fault {
+        FileFault::Gzip => add_text(answers, b"fault file 1 Gzip\n"),
+        FileFault::OtherLink(link) => {
+            add_numbered(answers, b"fault file 2 OtherLink ", link as usize)
+        }
+        FileFault::Text => add_text(answers, b"fault file 3 Text\n"),
+        FileFault::Xz => add_text(answers, b"fault file 4 Xz\n"),
+        FileFault::Bzip2 => add_text(answers, b"fault file 5 Bzip2\n"),
+        FileFault::Zstd => add_text(answers, b"fault file 6 Zstd\n"),
+        FileFault::Empty => add_text(answers, b"fault file 7 Empty\n"),
+    }
+}
+
+/// Appends a text and a number.
+#[tactic(auto, using(std::proofs::lemmas::List::append_assoc))]
+pub(crate) fn add_with_number(
+    answers: &mut Vec<u8>,
+    text: &[u8],
+    number: u32,
+) -> Result<(), AllocError>
+    ensures { OnOk result (answers.new.items ≡ answers.old.items ++ (text.now ++ decimal number)) }
+{
+    add_text(answers, text)?;
+    add_number(answers, u64::from(number))
+}
+
+/// Appends the number and name of a fault.
+fn add_record_fault(answers: &mut Vec<u8>, fault: RecordFault) -> Result<(), AllocError>
+    ensures { OnOk result (answers.new.items ≡ answers.old.items ++ record_fault_text fault) }
+{
+    match fault {
+        RecordFault::CutOff => add_text(answers, b"1 CutOff"),
+        RecordFault::ShortLength(n) => add_with_number(answers, b"2 ShortLength ", n),
+        RecordFault::LongLength(n) => add_with_number(answers, b"3 LongLength ", n),
+        RecordFault::ShortRecord => add_text(answers, b"4 ShortRecord"),
+        RecordFault::TooFar => add_text(answers, b"5 TooFar"),
+        RecordFault::OddLength(n) => add_with_number(answers, b"6 OddLength ", n),
+        RecordFault::LengthsDiffer(n) => add_with_number(answers, b"7 LengthsDiffer ", n),
+        RecordFault::OtherMagic(n) => add_with_number(answers, b"8 OtherMagic ", n),
+        RecordFault::OtherVersion(n) => {
+            add_with_number(answers, b"9 OtherVersion ", u32::from(n))
+        }
+        RecordFault::ShortBlock(n) => add_with_number(answers, b"10 ShortBlock ", n),
+        RecordFault::OtherLink(n) => add_with_number(answers, b"11 OtherLink ", u32::from(n)),
+        RecordFault::NoInterface(n) => add_with_number(answers, b"12 NoInterface ", n),
+        RecordFault::LongPacket(n) => add_with_number(answers, b"13 LongPacket ", n),
+        RecordFault::ShortText => add_text(answers, b"14 ShortText"),
+    }
+}
+
+/// Appends the answer to a place at which a file is no capture.
+#[tactic(auto, using(std::proofs::lemmas::List::append_assoc))]
+pub(crate) fn add_capture_fault(answers: &mut Vec<u8>, fault: Fault) -> Result<(), AllocError>
+    ensures { OnOk result (answers.new.items ≡ answers.old.items ++ capture_fault_line fault) }
+{
+    add_text(answers, b"fault capture ")?;
+    add_record_fault(answers, fault.reason)?;
+    answers.push(b' ')?;
+    add_number(answers, fault.at)?;
+    answers.push(b'\n')?;
+    Ok(())
+}

@@ -1,0 +1,139 @@
+//! Which cells of a capture count, and at which moments.
+
+ghost use Rattle.std.specs.Prelude.{◌≡◌};
+ghost use Rattle.captures_text.specs.CellFilter.{filter_at_link, filter_at_time, filter_content, filter_passage, filter_record, filter_start, filter_state};
+
+use crate::passed::PassedOver;
+use captures::{Clock, LentCell, Link, Passage, Record, Tick};
+
+/// What a record is to a run that reads the cells of one link.
+#[derive(PartialEq, Eq, Drop, Debug)]
+pub enum Filtered<'a> {
+    /// Its cell counts: the moment, in ticks since the first cell of the capture, and the cell.
+    Counts(u64, LentCell<'a>),
+    /// It is passed over.
+    Passed,
+    /// Its cell is of a second link, and none was asked for: the first link, and this one.
+    Several(Link, Link),
+}
+
+/// Says of each record of a capture whether its cell counts. If a link was asked for, its cells count, otherwise those of the first
+/// cell's link. A cell with a time before that of an earlier one does not count.
+#[derive(Clone, Copy, Drop, Debug)]
+pub struct CellFilter {
+    tick: Tick,
+    /// Whether a link was asked for.
+    asked: bool,
+    /// The link that was asked for, or that of the first cell.
+    link: Option<Link>,
+    /// None before the first cell.
+    clock: Option<Clock>,
+    passed: PassedOver,
+}
+
+impl CellFilter {
+    /// Starts with this tick, for the link that was asked for.
+    pub fn new(tick: Tick, link: Option<Link>) -> CellFilter
+        ensures { filter_state result ≡ filter_start tick.nanoseconds link }
+    {
+        CellFilter {
+            tick,
+            asked: link.is_some(),
+            link,
+            clock: None,
+            passed: PassedOver::none(),
+        }
+    }
+
+    // no edit: it returns a field
+    /// Returns the records passed over so far.
+    pub fn passed(&self) -> PassedOver
+        ensures { result ≡ (filter_state self.now).passed }
+    {
+        self.passed
+    }
+
+    /// Reads a cell of the right link.
+    #[inline(always)]
+    fn read_at<'a>(
+        &mut self,
+        mut clock: Clock,
+        record_read: &Record<'a>,
+        cell: &LentCell<'a>,
+    ) -> Filtered<'a>
+        ensures { filter_at_time (filter_state self.old) clock.first clock.latest record_read.now cell.now
+            ≡ (result, filter_state self.new) }
+    {
+        let moment = clock.read(record_read.time, self.tick);
+        self.clock = Some(clock);
+        match moment {
+            None => {
+                self.passed.back = self.passed.back.with(record_read.number);
+                Filtered::Passed
+            }
+            Some(moment) => Filtered::Counts(moment, cell.lend()),
+        }
+    }
+
+    /// Reads a cell.
+    #[inline(always)]
+    fn read_cell<'a>(
+        &mut self,
+        clock: Clock,
+        record_read: &Record<'a>,
+        cell: &LentCell<'a>,
+    ) -> Filtered<'a>
+        ensures { filter_at_link (filter_state self.old) clock.first clock.latest record_read.now cell.now self.old.link
+            ≡ (result, filter_state self.new) }
+    {
+        match self.link {
+            None => self.link = Some(record_read.link),
+            Some(link) if link.is_same(record_read.link) => {}
+            Some(link) => {
+                if !self.asked {
+                    return Filtered::Several(link, record_read.link);
+                }
+                self.passed.other_link = self.passed.other_link.with(record_read.number);
+                self.clock = Some(clock);
+                return Filtered::Passed;
+            }
+        }
+        self.read_at(clock, record_read, cell)
+    }
+
+    /// Counts a block or a packet without a record.
+    pub fn pass(&mut self, passage: Passage)
+        ensures { filter_state self.new ≡ filter_passage (filter_state self.old) passage }
+    {
+        self.passed.pass(passage);
+    }
+
+    /// Reads the next record. It is inlined, as `Reader::next` is.
+    #[inline(always)]
+    pub fn read<'a>(&mut self, record_read: &Record<'a>) -> Filtered<'a>
+        ensures { filter_record (filter_state self.old) record_read.now ≡ (result, filter_state self.new) }
+    {
+        self.passed.mark(record_read.marks, record_read.number);
+        self.read_content(record_read)
+    }
+
+    /// Reads what a record holds.
+    #[inline(always)]
+    fn read_content<'a>(&mut self, record_read: &Record<'a>) -> Filtered<'a>
+        ensures { filter_content (filter_state self.old) record_read.now record_read.now.content ≡ (result, filter_state self.new) }
+    {
+        match &record_read.content {
+            Err(why) => {
+                self.passed.count(*why, record_read.number);
+                Filtered::Passed
+            }
+            Ok(cell) => {
+                let clock = match self.clock {
+                    Some(clock) => clock,
+                    None => Clock::new(record_read.time),
+                };
+                self.read_cell(clock, record_read, cell)
+            }
+        }
+    }
+}

@@ -1,0 +1,67 @@
+//! Programs that answer the cells of a capture that count.
+
+ghost use Rattle.std.specs.Prelude.{IfOk, OnOk};
+ghost use Rattle.captures_text.specs.CellFollowing.{ClosesCells, FollowsCell};
+ghost use Rattle.captures_text.specs.inner.Answered.{AnswersCells};
+ghost use Rattle.captures_text.specs.CellRules.{AnswersEachCell, CellRules};
+
+use crate::counted::CountedCell;
+use crate::passed::PassedOver;
+use captures::Fault;
+use std::alloc::AllocError;
+use text_io::Turn;
+
+/// A program that gets one cell that counts after another and answers each.
+///
+/// Its rules say which answers are allowed, as steps from world to world. A follower doesn't have to store its world:
+/// it shows worlds, and its answer must be allowed from each of them.
+pub trait CellFollower {
+    ghost World: { Type 0 };
+
+    ghost shows: { Self → World → Type 0 };
+
+    ghost rules: { CellRules World };
+
+    /// Appends the answer to a cell to the answers.
+    fn follow_cell(
+        &mut self,
+        counted: &CountedCell,
+        answers: &mut Vec<u8>,
+    ) -> Result<Turn, AllocError>
+        ensures { IfOk result (λ turn.
+            FollowsCell rules (shows self.old) counted.now turn (shows self.new) answers.old.items answers.new.items) };
+
+    /// Appends the answer to the end of the capture, or to its fault, to the answers. These records were passed over.
+    fn close(
+        &self,
+        passed: &PassedOver,
+        ending: Option<Fault>,
+        answers: &mut Vec<u8>,
+    ) -> Result<(), AllocError>
+        ensures { OnOk result (ClosesCells rules (shows self.now) passed.now ending answers.old.items answers.new.items) };
+
+    ghost is_total: { AnswersEachCell rules };
+}
+
+/// Does nothing at run time. Its contract repeats a fact of the trait, for callers that move the follower to another thread.
+pub(crate) fn answers_each_cell<F: CellFollower>(_: &F)
+    ensures { AnswersEachCell F.rules }
+{}
+
+/// Answers cells in order, up to one that ends the run.
+pub(crate) fn answer_cells<F: CellFollower>(
+    follower: &mut F,
+    cells: &[CountedCell],
+    answers: &mut Vec<u8>,
+) -> Result<Turn, AllocError>
+    ensures { IfOk result (λ turn.
+        AnswersCells F.rules (F.shows follower.old) cells.now turn (F.shows follower.new) answers.old.items answers.new.items) }
+{
+    for counted in cells {
+        match follower.follow_cell(counted, answers)? {
+            Turn::GoesOn => {}
+            Turn::Ends => return Ok(Turn::Ends),
+        }
+    }
+    Ok(Turn::GoesOn)
+}

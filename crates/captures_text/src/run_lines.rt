@@ -1,0 +1,47 @@
+//! Lines that several subcommands over captures write. Each function appends to the answers.
+
+ghost use Rattle.std.specs.Prelude.{◌≡◌, ◌++◌, OnOk};
+ghost use Rattle.captures_text.specs.RunLines.{closing_lines, ending_line, several_line};
+
+use crate::fault_lines::add_capture_fault;
+use crate::link_words::add_link;
+use crate::passed::{PassedOver, add_passed};
+use captures::{Fault, Link};
+use std::alloc::AllocError;
+use text_words::add_text;
+
+/// Appends the answer to a cell of a second link.
+#[tactic(auto, using(std::proofs::lemmas::List::append_assoc))]
+pub fn add_several(answers: &mut Vec<u8>, one: Link, other: Link) -> Result<(), AllocError>
+    ensures { OnOk result (answers.new.items ≡ answers.old.items ++ several_line one other) }
+{
+    add_text(answers, b"fault link 1 Several ")?;
+    add_link(answers, one)?;
+    add_text(answers, b" ")?;
+    add_link(answers, other)?;
+    answers.push(b'\n')?;
+    Ok(())
+}
+
+/// Appends the fault at which the reading ended, if there is one.
+fn add_ending(answers: &mut Vec<u8>, ending: Option<Fault>) -> Result<(), AllocError>
+    ensures { OnOk result (answers.new.items ≡ answers.old.items ++ ending_line ending) }
+{
+    match ending {
+        Some(fault) => add_capture_fault(answers, fault),
+        None => Ok(()),
+    }
+}
+
+/// Appends the comments about records that were passed over, and the fault at which the reading ended.
+#[tactic(auto, using(std::proofs::lemmas::List::append_assoc))]
+pub fn add_closing(
+    answers: &mut Vec<u8>,
+    passed: &PassedOver,
+    ending: Option<Fault>,
+) -> Result<(), AllocError>
+    ensures { OnOk result (answers.new.items ≡ answers.old.items ++ closing_lines passed.now ending) }
+{
+    add_passed(answers, passed)?;
+    add_ending(answers, ending)
+}

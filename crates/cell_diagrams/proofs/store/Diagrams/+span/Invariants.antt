@@ -1,4 +1,0 @@
-use Rattle.cell_diagrams.proofs.store.Diagrams.+span.Given as goal
-
-abbrev pub decreases-span : goal.decreases-span
-decreases-span l = l.bits.width

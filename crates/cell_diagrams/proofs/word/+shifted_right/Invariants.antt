@@ -1,5 +1,0 @@
-use Rattle.std.proofs.Common.{length}
-use Rattle.cell_diagrams.proofs.word.+shifted_right.Given as goal
-
-abbrev pub decreases-shifted_right : goal.decreases-shifted_right
-decreases-shifted_right l = length l.bits.now

@@ -1,4 +1,0 @@
-use Rattle.cell_diagrams.proofs.word.+spelled.Given as goal
-
-abbrev pub decreases-spelled : goal.decreases-spelled
-decreases-spelled l = l.many

@@ -1,5 +1,0 @@
-use Rattle.std.proofs.Common.{length}
-use Rattle.cell_diagrams.proofs.word_tests.+tested.Given as goal
-
-abbrev pub decreases-tested : goal.decreases-tested
-decreases-tested l = length l.bits.now

@@ -1,0 +1,39 @@
+//! What was found of texts of rules.
+
+ghost use Rattle.std.specs.Prelude.{◌≡◌};
+ghost use Rattle.cmd_differ.specs.Findings.{ended_by, finding_done};
+
+use text_io::{Done, RunFault};
+
+/// What was found of one text of rules, or of two.
+#[derive(Clone, Copy, Debug, PartialEq, Eq)]
+pub enum Finding {
+    /// Both texts give each cell the same value; each rule decides some cell.
+    Nothing,
+    /// They give some cell two values; some rule decides no cell.
+    Something,
+    /// A text has a fault.
+    Faulty,
+    /// There are too many cases to decide.
+    Undecided,
+}
+
+/// How a run with this finding ends.
+pub(crate) fn done_of(finding: Finding) -> Done
+    ensures { result ≡ finding_done finding }
+{
+    match finding {
+        Finding::Nothing => Done::Whole,
+        Finding::Something | Finding::Faulty | Finding::Undecided => Done::Ended,
+    }
+}
+
+/// How a run with this result ends: where nothing was found, it is a whole answer.
+pub fn ended_by(found: Result<Finding, RunFault>) -> Result<Done, RunFault>
+    ensures { result ≡ ended_by found }
+{
+    match found {
+        Ok(finding) => Ok(done_of(finding)),
+        Err(fault) => Err(fault),
+    }
+}

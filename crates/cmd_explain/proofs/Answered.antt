@@ -1,0 +1,151 @@
+-- Every input has an answer.
+use Rattle.std.proofs.Common.{◌≡◌, ℕ, ◌+◌, ◌<◌, ◌≤◌, inl, inr, List, [], ◌∷◌, ◌++◌, Option, Some, None, length, reverse, codes, decimal, refl, ap, sym, ◌∙◌, subst, arith, append-nil, nat_lt, if◌then◌else◌}
+use Rattle.bpf_asm.proofs.Public.{meaning-or_fault}
+use Rattle.bpf_asm.specs.Grammar.{AreLines, SourceLine}
+use Rattle.bpf_asm.specs.Labels.{statements_of}
+use Rattle.bpf_asm.specs.Meaning.{IsMeaning, MeanFrom}
+use Rattle.bpf_asm.specs.SourceLines.{source_lines}
+use Rattle.bpf_verify.specs.Accepted.{IsAccepted}
+use Rattle.bpf_code.specs.declared.instr.Instr.{Instr}
+use Rattle.bpf_verify.proofs.Public.{accepted-or_fault}
+use Rattle.bpf_verify.specs.Faults.{FailsFirst}
+use Rattle.bpf_verify.specs.declared.fault.Fault.{Fault}
+use Rattle.bpf_verify.specs.declared.fault.Fault.TheVariants as fault
+use Rattle.cmd_explain.specs.CodeReasons.{IsRest, code_sentence, code_start, numbers_text}
+use Rattle.cmd_explain.specs.Explained.{ExplainsCode, ExplainsSource, ExplainsWithin, IsExplainText, IsFaultsOrScript, IsSourceText}
+use Rattle.cmd_explain.specs.FaultSentences.{IsFaultsText, PrintsFaults, most_fault_octets}
+use Rattle.cmd_explain.specs.InputKinds.{faults_after, rules_after, source_after}
+use Rattle.cmd_explain.specs.inner.FaultsTotal.{faults-answered}
+use Rattle.cmd_explain.proofs.RulesAnswered.{ended-rules_explained}
+use Rattle.cmd_explain.specs.RulesExplained.{MayBeRulesExplained}
+use Rattle.cmd_explain.specs.Hints.{hints_of}
+use Rattle.cmd_explain.specs.LinesFound.{instruction_lines}
+use Rattle.cmd_explain.specs.SourceReasons.{source_explanation}
+use Rattle.cmd_explain_script.proofs.Public.{some-script_text}
+use Rattle.cmd_explain_script.specs.ScriptText.{IsScriptExplained}
+use Rattle.std.specs.Option.{MatchOption}
+use Rattle.text_io.specs.Devices.{TakesEnough}
+use Rattle.text_io.specs.Gathered.{AnswersGathered, gathered, LeavesAfter}
+use Rattle.text_io.specs.Limits.{most_ahead}
+use Rattle.text_io.specs.declared.ending.Done.{Done}
+use Rattle.text_io.specs.declared.ending.Done.TheVariants.{Whole, Ended}
+use Rattle.cmd_programs.specs.CodeFaults.{verify_fault}
+use Rattle.cmd_programs.specs.Check.{most_source_octets}
+use Rattle.cmd_programs.specs.SourceFaults.{asm_fault}
+use Rattle.text_words.specs.FaultLines.{line, too_long}
+
+some-rest : (code : List Instr) (numbers : List ℕ) (fault : Fault) → FailsFirst code fault → (text : List ℕ) × IsRest code numbers fault text
+some-rest code numbers fault.Empty fails = (line [], refl)
+some-rest code numbers fault.TooLong fails = (line [], refl)
+some-rest code numbers (fault.BadScratch at) fails = (line [], refl)
+some-rest code numbers (fault.ZeroDivisor at) fails = (line [], refl)
+some-rest code numbers (fault.BadShift at) fails = (line [], refl)
+some-rest code numbers (fault.JumpOutside at) fails = (line [], refl)
+some-rest code numbers fault.NoReturn fails = (line [], refl)
+some-rest code numbers (fault.Unwritten at word) fails =
+    let witness = fails.4.1 in
+    (line (numbers_text numbers (reverse witness.0 ++ at ∷ [])), (witness.0, (witness.1, witness.2), refl))
+
+some-code_answer : (source : List ℕ) (code : List Instr) → (text : List ℕ) × (done : Done) × ExplainsCode source code text done
+some-code_answer source code =
+    elim (accepted-or_fault code) [
+      | inl accepted ↦ (line (codes "accepted " ++ decimal (length code)) ++ hints_of (source_lines source) code, Whole, inl (accepted, refl, refl))
+      | inr found ↦
+          let lines = source_lines source in
+          let rest = some-rest code (instruction_lines 1 lines) found.0 found.1 in
+          let more = code_start lines (length code) found.0 ++ (code_sentence found.0 ++ rest.0) in
+          (verify_fault found.0 ++ more, Ended, inr (found.0, found.1, (more, (rest.0, rest.1, refl), refl), refl))
+    ]
+
+some-source_answer : (source : List ℕ) → (text : List ℕ) × (done : Done) × ExplainsSource source text done
+some-source_answer source =
+    elim (meaning-or_fault source) [
+      | inl meant ↦ let answered = some-code_answer source meant.0 in (answered.0, answered.1, inl (meant.0, meant.1, answered.2))
+      | inr found ↦ (asm_fault found.0 ++ source_explanation (source_lines source) found.0, Ended, inr (found.0, found.1, refl, refl))
+    ]
+
+-- A code that isn't accepted has a fault.
+faulty-code : (source : List ℕ) (code : List Instr) → (IsAccepted code → ⊥) → (text : List ℕ) × ExplainsCode source code text Ended
+faulty-code source code never =
+    elim (accepted-or_fault code) [
+      | inl accepted ↦ absurd (never accepted)
+      | inr found ↦
+          let lines = source_lines source in
+          let rest = some-rest code (instruction_lines 1 lines) found.0 found.1 in
+          let more = code_start lines (length code) found.0 ++ (code_sentence found.0 ++ rest.0) in
+          (verify_fault found.0 ++ more, inr (found.0, found.1, (more, (rest.0, rest.1, refl), refl), refl))
+    ]
+
+-- A source without a line means no code that is accepted.
+no_code : (lines : List SourceLine) (code : List Instr) → AreLines (source_lines []) lines → MeanFrom lines 0 (statements_of lines) code → code ≡ []
+unfolding source_lines statements_of
+no_code [] code content meant = meant
+no_code (line ∷ lines) code content meant = let no = content in cc
+
+never-accepted : (code : List Instr) → IsMeaning [] code → IsAccepted code → ⊥
+never-accepted code means accepted =
+    let none : length code ≡ 0 = ap length (no_code means.lines code means.spelled means.mean.meant) in
+    let some : 0 < length code = accepted.sized.least in
+    omega (arith, none, some)
+
+-- The source without a line has a fault.
+pub empty-source_answer : (text : List ℕ) × ExplainsSource [] text Ended
+empty-source_answer =
+    elim (meaning-or_fault []) [
+      | inl meant ↦ let answered = faulty-code [] meant.0 (never-accepted meant.0 meant.1) in (answered.0, inl (meant.0, meant.1, answered.1))
+      | inr found ↦ (asm_fault found.0 ++ source_explanation (source_lines []) found.0, inr (found.0, found.1, refl, refl))
+    ]
+
+some-within_answer : (found : Option (List ℕ)) → (text : List ℕ) × (done : Done) × ExplainsWithin found text done
+some-within_answer None = (too_long, Ended, (refl, refl))
+some-within_answer (Some source) = some-source_answer source
+
+-- Every source has an answer.
+pub some-source_text : (source : List ℕ) → (text : List ℕ) × (done : Done) × IsSourceText source text done
+some-source_text source = some-within_answer (gathered most_source_octets source)
+
+-- Every text of fault lines has an answer, and one without lines has an empty one.
+some-faults_answer : (found : Option (List ℕ)) → (text : List ℕ) × (done : Done) × AnswersGathered too_long PrintsFaults found text done
+some-faults_answer None = (too_long, Ended, (refl, refl))
+some-faults_answer (Some octets) = faults-answered octets
+
+pub no-faults_answer : IsFaultsText [] [] Ended
+unfolding source_lines
+no-faults_answer = (refl, refl)
+
+some-last_answer : (octets : List ℕ) (found : Option (List ℕ))
+    → (text : List ℕ) × (done : Done) × MatchOption found (IsScriptExplained octets text done) (λ lines. IsFaultsText lines text done)
+some-last_answer octets None = some-script_text octets
+some-last_answer octets (Some lines) = some-faults_answer (gathered most_fault_octets lines)
+
+some-other_answer : (octets : List ℕ) (found : Option (List ℕ))
+    → (text : List ℕ) × (done : Done) × MatchOption found (IsFaultsOrScript octets text done) (λ rules. MayBeRulesExplained rules text done)
+some-other_answer octets None = some-last_answer octets (faults_after octets)
+some-other_answer octets (Some rules) = let ended = ended-rules_explained rules in (ended.0, Ended, ended.1)
+
+some-input_answer : (octets : List ℕ) (found : Option (List ℕ))
+    → (text : List ℕ) × (done : Done)
+    × MatchOption found (MatchOption (rules_after octets) (IsFaultsOrScript octets text done) (λ rules. MayBeRulesExplained rules text done))
+    (λ source. IsSourceText source text done)
+some-input_answer octets None = some-other_answer octets (rules_after octets)
+some-input_answer octets (Some source) = some-source_text source
+
+pub some-explain_text : (octets : List ℕ) → (text : List ℕ) × (done : Done) × IsExplainText octets text done
+some-explain_text octets = some-input_answer octets (source_after octets)
+
+-- One octet more than the limit is over the limit.
+gathered-none : (octets : List ℕ) → length octets ≡ most_source_octets + 1 → gathered most_source_octets octets ≡ None
+gathered-none octets sized = ap (λ n. if nat_lt most_source_octets n then None else Some octets) sized
+
+-- The octets read are enough for the answer, whatever is printed for an input within the limit.
+pub enough : (Prints : List ℕ → List ℕ → Done → Type 0) (octets left : List ℕ) (found : Option (List ℕ)) (text : List ℕ) (done : Done)
+    → found ≡ gathered most_source_octets octets → LeavesAfter most_source_octets found octets left → AnswersGathered too_long Prints found text done
+    → TakesEnough (λ needed. (answered : List ℕ) × AnswersGathered too_long Prints (gathered most_source_octets needed) answered done) most_ahead octets left
+enough Prints octets left None text done is later prints =
+    let P : Option (List ℕ) → Type 0 = λ found. AnswersGathered too_long Prints found text done in
+    let none : length {A = ℕ} [] ≤ most_ahead = omega arith in
+    (later.0, [], later.1, none, (text, subst P (sym (gathered-none later.0 later.2)) prints))
+enough Prints octets left (Some source) text done is later prints =
+    let P : Option (List ℕ) → Type 0 = λ found. AnswersGathered too_long Prints found text done in
+    let none : length {A = ℕ} [] ≤ most_ahead = omega arith in
+    (octets, [], sym (append-nil octets) ∙ ap (λ xs. octets ++ xs) (sym later), none, (text, subst P is prints))

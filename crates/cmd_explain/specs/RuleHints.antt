@@ -1,0 +1,74 @@
+-- The hints about rules that decide no cell.
+use Rattle.std.specs.Prelude.{◌≡◌, ◌⊎◌, ℕ, ◌-◌, ◌==◌, if◌then◌else◌, List, [], ◌∷◌, ◌++◌, length, codes, decimal, Some}
+use Rattle.rules_diagrams.specs.UnusedRules.{AreUnused}
+use Rattle.rules_diagrams.specs.declared.unused.Unused.{Unused}
+use Rattle.rules_cells.specs.declared.rules.Rules.{Rules}
+use Rattle.cmd_rules.specs.CountText.{decider_text}
+use Rattle.cmd_rules.specs.RuleBegins.{begin_at}
+use Rattle.cmd_explain_script.specs.Places.{place_words}
+use Rattle.rules_text.specs.RulesRead.{rules_read}
+use Rattle.rules_text.specs.TextOfRules.{NumberedRead}
+use Rattle.rules_text.specs.declared.place.RulePlace.{RulePlace}
+use Rattle.text_words.specs.FaultLines.{line}
+
+-- Where the rule at a place begins, in words.
+abbrev pub rule_line_words : List RulePlace → ℕ → List ℕ
+rule_line_words begins place = decider_text begins (Some place)
+
+-- What comes before a rule that these follow.
+abbrev pub separator : List ℕ → List ℕ
+separator [] = codes " and "
+separator (place ∷ more) = codes ", "
+
+-- How many rules aren't named.
+abbrev pub left_out : ℕ → List ℕ
+left_out count = codes " and " ++ (decimal count ++ codes " more")
+
+-- Where the rules after the first begin. This many of them are named.
+abbrev pub more_takers : List RulePlace → ℕ → List ℕ → List ℕ
+more_takers begins room [] = []
+more_takers begins room (place ∷ more) =
+    if room == 0 then left_out (length (place ∷ more)) else separator more ++ (rule_line_words begins place ++ more_takers begins (room - 1) more)
+
+-- That one rule takes the cells, or that these others do too.
+abbrev pub take_words : List ℕ → List ℕ
+take_words [] = codes " takes its cells"
+take_words (place ∷ more) = codes " take its cells"
+
+-- The rules that take the cells of a rule, at most eight by name: the first, and the others.
+abbrev pub all_takers : List RulePlace → ℕ → List ℕ → List ℕ
+all_takers begins first more = rule_line_words begins first ++ more_takers begins 7 more
+
+-- That they take the cells of a rule.
+abbrev pub taken_words : List RulePlace → ℕ → List ℕ → List ℕ
+taken_words begins first more = codes "this rule decides no cell; " ++ (all_takers begins first more ++ take_words more)
+
+-- The sentence about a rule that decides no cell, by the rules that take its cells.
+abbrev pub hint_sentence : List RulePlace → List ℕ → List ℕ
+hint_sentence begins [] = codes "this rule holds of no cell"
+hint_sentence begins (first ∷ more) = taken_words begins first more
+
+-- The hint about a rule that decides no cell.
+abbrev pub rule_hint : List RulePlace → ℕ → List ℕ → List ℕ
+rule_hint begins place takers = codes "hint " ++ (place_words (begin_at begins place).line (begin_at begins place).column ++ line (hint_sentence begins takers))
+
+-- The hints about these rules, each after these octets.
+abbrev pub rule_hints : List ℕ → List RulePlace → List Unused → List ℕ
+rule_hints front begins [] = []
+rule_hints front begins (one ∷ more) = front ++ (rule_hint begins one.place one.takers.items ++ rule_hints front begins more)
+
+-- The hints about all rules that decide no cell, each after these octets. The rules in memory are those that were read.
+pub record AreAllHints (front : List ℕ) (numbered : NumberedRead) (text : List ℕ) : Type 0 where
+  pub rules : Rules
+  pub read : numbered.rules ≡ rules_read rules
+  pub unused : List Unused
+  pub are_unused : AreUnused rules unused
+  pub hints : text ≡ rule_hints front numbered.begins unused
+
+-- That nothing is claimed, since too much would have to be looked at.
+abbrev pub undecided_hint : List ℕ
+undecided_hint = codes "hint: not decided: too many cases\n"
+
+-- The hints about rules, each after these octets, or that nothing is claimed.
+abbrev pub AreRuleHints : List ℕ → NumberedRead → List ℕ → Type 0
+AreRuleHints front numbered text = AreAllHints front numbered text ⊎ (text ≡ front ++ undecided_hint)

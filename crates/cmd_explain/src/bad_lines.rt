@@ -1,0 +1,162 @@
+//! What is wrong in a line by itself.
+
+ghost use Rattle.std.specs.Prelude.{◌≡◌, ◌++◌, OnOk, option_map, slice_get};
+ghost use Rattle.bpf_asm.specs.Numbers.{number_of_word};
+ghost use Rattle.cmd_explain_script.specs.Meant.{perhaps_text};
+ghost use Rattle.cmd_explain.specs.BadLines.{bad_line_sentence, column_of, first_no_number, first_number, first_word_sentence, is_no_number, no_mnemonic_sentence, no_number_sentence, octets_of, operands_sentence, wrong_operand, wrong_token};
+ghost use Rattle.cmd_explain.specs.Forms.{known_mnemonics, near_among};
+ghost use Rattle.cmd_explain.specs.FoundTokens.{token_octets};
+
+use crate::forms::{Form, form_of, most_fitting, near, operands_text};
+use crate::tokens::{FoundToken, digit, is_name, token_octets};
+use bpf_asm::number;
+use cmd_explain_script::{add_perhaps, add_quoted};
+use std::alloc::AllocError;
+use text_words::add_text;
+
+/// Returns the column of a token, if there is one.
+pub(crate) fn column_of(token: Option<FoundToken>) -> Option<usize>
+    ensures { result ≡ column_of token }
+{
+    match token {
+        Some(token) => Some(token.column),
+        None => None,
+    }
+}
+
+/// Returns the octets of a token, if there is one.
+pub(crate) fn octets_of(text: &[u8], token: Option<FoundToken>) -> &[u8]
+    ensures { result.now ≡ octets_of text.now token }
+{
+    match token {
+        Some(token) => token_octets(text, token),
+        None => &[],
+    }
+}
+
+/// Returns whether octets begin with a digit and spell no number.
+fn is_no_number(octets: &[u8]) -> bool
+    ensures { result ≡ is_no_number octets.now }
+{
+    match octets {
+        [] => false,
+        [octet, ..] => digit(*octet) && number(octets).is_none(),
+    }
+}
+
+/// Returns the first of these tokens that is no number.
+pub(crate) fn first_no_number(text: &[u8], tokens: &[FoundToken]) -> Option<FoundToken>
+    ensures { result ≡ first_no_number text.now tokens.now }
+{
+    let mut left = tokens;
+    while let [token, rest @ ..] = left {
+        if is_no_number(token_octets(text, *token)) {
+            return Some(*token);
+        }
+        left = rest;
+    }
+    None
+}
+
+/// Returns the first of these tokens that is a number.
+pub(crate) fn first_number(text: &[u8], tokens: &[FoundToken]) -> Option<FoundToken>
+    ensures { result ≡ first_number text.now tokens.now }
+{
+    let mut left = tokens;
+    while let [token, rest @ ..] = left {
+        if number(token_octets(text, *token)).is_some() {
+            return Some(*token);
+        }
+        left = rest;
+    }
+    None
+}
+
+/// Appends the sentence about a word that is no number.
+#[tactic(auto, using(std::proofs::lemmas::List::append_assoc))]
+pub(crate) fn add_no_number(answers: &mut Vec<u8>, word: &[u8]) -> Result<(), AllocError>
+    ensures { OnOk result (answers.new.items ≡ answers.old.items ++ no_number_sentence word.now) }
+{
+    add_quoted(answers, word)?;
+    add_text(
+        answers,
+        b" is no number; a number is of decimal digits, or of hexadecimal digits after 0x, and at most 4294967295",
+    )
+}
+
+/// Appends the mnemonic that was perhaps meant by a word.
+fn add_meant(answers: &mut Vec<u8>, word: &[u8]) -> Result<(), AllocError>
+    ensures { OnOk result (answers.new.items ≡ answers.old.items ++ perhaps_text (near_among word.now known_mnemonics)) }
+{
+    add_perhaps(answers, near(word))
+}
+
+/// Appends the sentence about a word that isn't a mnemonic.
+#[tactic(auto, using(std::proofs::lemmas::List::append_assoc), unfolding(crate::specs::BadLines::no_mnemonic_sentence))]
+fn add_no_mnemonic(answers: &mut Vec<u8>, word: &[u8]) -> Result<(), AllocError>
+    ensures { OnOk result (answers.new.items ≡ answers.old.items ++ no_mnemonic_sentence word.now) }
+{
+    add_quoted(answers, word)?;
+    if is_name(word) {
+        add_text(answers, b" is no mnemonic")?;
+        add_meant(answers, word)
+    } else {
+        add_text(
+            answers,
+            b" begins no instruction and no label; a comment begins with `;`",
+        )
+    }
+}
+
+/// Appends the sentence about the operands of a mnemonic.
+#[tactic(auto, using(std::proofs::lemmas::List::append_assoc))]
+fn add_operands(answers: &mut Vec<u8>, mnemonic: &[u8], form: Form) -> Result<(), AllocError>
+    ensures { OnOk result (answers.new.items ≡ answers.old.items ++ operands_sentence mnemonic.now form) }
+{
+    add_quoted(answers, mnemonic)?;
+    add_text(answers, b" takes ")?;
+    add_text(answers, operands_text(form))
+}
+
+/// Appends the sentence about a line outside the grammar, by the tokens after its label.
+pub(crate) fn add_bad_line(
+    answers: &mut Vec<u8>,
+    text: &[u8],
+    tokens: &[FoundToken],
+) -> Result<(), AllocError>
+    ensures { OnOk result (answers.new.items ≡ answers.old.items ++ bad_line_sentence text.now tokens.now) }
+{
+    match tokens {
+        [] => add_text(
+            answers,
+            b"a line has a label, an instruction, both or nothing",
+        ),
+        [first, ..] => {
+            let word = token_octets(text, *first);
+            match form_of(word) {
+                None => add_no_mnemonic(answers, word),
+                Some(form) => add_operands(answers, word, form),
+            }
+        }
+    }
+}
+
+/// Returns the token that is wrong in a line outside the grammar, if one is, by the tokens after its label.
+pub(crate) fn wrong_token(text: &[u8], tokens: &[FoundToken]) -> Option<FoundToken>
+    ensures { result ≡ wrong_token text.now tokens.now }
+{
+    match tokens {
+        [] => None,
+        [first, operands @ ..] => match form_of(token_octets(text, *first)) {
+            None => Some(*first),
+            Some(form) => token_at(operands, most_fitting(text, form, operands)),
+        },
+    }
+}
+
+/// Returns the token at this place, if there is one.
+pub(crate) fn token_at(tokens: &[FoundToken], place: usize) -> Option<FoundToken>
+    ensures { result ≡ slice_get tokens.now place }
+{
+    tokens.get(place).copied()
+}

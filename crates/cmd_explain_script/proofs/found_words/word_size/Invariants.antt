@@ -1,0 +1,13 @@
+-- Loop invariant: what was counted, and what is left to count, are all.
+use Rattle.std.proofs.Common.{◌≡◌, ◌≤◌, ◌+◌, length}
+use Rattle.cmd_explain_script.specs.FoundWords.{word_size}
+use Rattle.cmd_explain_script.proofs.found_words.word_size.Given as goal
+
+abbrev pub invariant-loop-left : goal.invariant-loop-left
+invariant-loop-left l = record {
+  within : l.size + length l.left ≤ length l.text;
+  rest : l.size + word_size l.left ≡ word_size l.text;
+}
+
+abbrev pub decreases-loop-left : goal.decreases-loop-left
+decreases-loop-left l = length l.left

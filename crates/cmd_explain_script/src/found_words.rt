@@ -1,0 +1,107 @@
+//! The words of a line, with their columns.
+
+ghost use Rattle.std.specs.Prelude.{◌≡◌, ◌++◌, take, drop, not, IfOk, OnOk};
+ghost use Rattle.text_io.specs.Words.{is_blank};
+ghost use Rattle.cmd_explain_script.specs.FoundWords.{begins_word, found_words, word_here, word_octets, word_size};
+
+use std::alloc::{AllocError, Global};
+
+/// A word of a line.
+#[derive(Clone, Copy)]
+pub struct FoundWord {
+    /// The column of its first octet, counted from 1.
+    pub column: usize,
+    /// How many octets it has.
+    pub size: usize,
+}
+
+/// Returns whether an octet is a space or a tab.
+fn blank(octet: u8) -> bool
+    ensures { result ≡ is_blank octet }
+{
+    octet == b' ' || octet == b'\t'
+}
+
+/// Returns how many octets the word has that a text begins with.
+fn word_size(text: &[u8]) -> usize
+    ensures { result ≡ word_size text.now }
+{
+    let mut left = text;
+    let mut size = 0;
+    while let [octet, rest @ ..] = left {
+        if blank(*octet) {
+            return size;
+        }
+        size += 1;
+        left = rest;
+    }
+    size
+}
+
+/// Adds the word that begins with the first octet of a text, if one does.
+fn add_word(
+    words: &mut Vec<FoundWord>,
+    column: usize,
+    inside: bool,
+    text: &[u8],
+) -> Result<(), AllocError>
+    ensures { OnOk result (words.new.items ≡ words.old.items ++ word_here column inside text.now) }
+{
+    match text {
+        [] => Ok(()),
+        [octet, ..] => {
+            if !inside && !blank(*octet) {
+                let size = word_size(text);
+                words.push(FoundWord { column, size })?;
+            }
+            Ok(())
+        }
+    }
+}
+
+/// Returns the words of a line.
+#[tactic(auto, unfolding(crate::specs::FoundWords::found_words))]
+pub(crate) fn words_of(alloc: Global, line: &[u8]) -> Result<Vec<FoundWord>, AllocError>
+    ensures { IfOk result (λ words. words.items ≡ found_words line.now) }
+{
+    let mut words = Vec::new(alloc);
+    let mut inside = false;
+    let mut at = 0;
+    let mut left = line;
+    while let [octet, rest @ ..] = left {
+        add_word(&mut words, at + 1, inside, left)?;
+        inside = !blank(*octet);
+        at += 1;
+        left = rest;
+    }
+    Ok(words)
+}
+
+/// Returns the first octets of a text, at most this many.
+pub(crate) fn front(text: &[u8], size: usize) -> &[u8]
+    ensures { result.now ≡ take size text.now }
+{
+    if size < text.len() {
+        &text[..size]
+    } else {
+        text
+    }
+}
+
+/// Returns what follows this many octets of a text.
+fn after(text: &[u8], size: usize) -> &[u8]
+    ensures { result.now ≡ drop size text.now }
+{
+    if size < text.len() {
+        &text[size..]
+    } else {
+        &text[text.len()..]
+    }
+}
+
+/// Returns the octets of a word of a line.
+pub(crate) fn word_octets(line: &[u8], word: FoundWord) -> &[u8]
+    ensures { result.now ≡ word_octets line.now word }
+{
+    front(after(line, word.column.saturating_sub(1)), word.size)
+}

@@ -1,0 +1,93 @@
+-- The links of a capture, from its records.
+use Rattle.std.specs.Prelude.{◌+◌, ◌-◌, ◌^◌, min, nat_lt, if◌then◌else◌, ℕ, List, [], ◌∷◌, length, Option, Some, None, Result, Ok, Err}
+use Rattle.captures.specs.Links.{same_link}
+use Rattle.captures.specs.declared.content.NoCell.{NoCell}
+use Rattle.captures.specs.declared.link.Link.{Link}
+use Rattle.captures.specs.declared.reader.Passage.{Passage}
+use Rattle.captures.specs.declared.reader.Record.{Record}
+use Rattle.captures_text.specs.PassedRecords.{none_passed, with_marked, with_passage, without_cell}
+use Rattle.captures_text.specs.Tallies.{no_tally, one_more_record}
+use Rattle.captures_text.specs.declared.passed.PassedOver.{PassedOver}
+use Rattle.captures_text.specs.declared.tally.PassedTally.{PassedTally}
+use Rattle.cmd_fit.specs.declared.link_tally.LinkTally.{LinkTally}
+
+-- How many links have a row.
+abbrev pub most_links : ℕ
+most_links = 4096
+
+-- A link that has the cell of this record alone.
+abbrev pub opening_tally : Record → LinkTally
+opening_tally record_read = record {
+  cells = 1;
+  first = record_read.time;
+  last = record_read.time;
+  losses = min record_read.marks.losses (2 ^ 64 - 1);
+}
+
+-- The cell of this record more. The last cell is that of the last record, whatever its time is.
+abbrev pub one_more_cell : LinkTally → Record → LinkTally
+one_more_cell tally record_read = record tally {
+  cells = min (tally.cells + 1) (2 ^ 64 - 1);
+  last = record_read.time;
+  losses = min (tally.losses + record_read.marks.losses) (2 ^ 64 - 1);
+}
+
+-- What the records so far give: a row for each link, in order of its first cell; the cells of links for which there was no room any more; and
+-- what was passed over.
+pub record LinksState : Type 0 where
+  pub rows : List (Link × LinkTally)
+  pub left_out : PassedTally
+  pub passed : PassedOver
+
+-- Before the first record.
+abbrev pub no_links : LinksState
+no_links = record { rows = []; left_out = no_tally; passed = none_passed }
+
+-- What is known of this link, if it has a row.
+abbrev pub link_tally_of : Link → List (Link × LinkTally) → Option LinkTally
+link_tally_of link [] = None
+link_tally_of link (row ∷ rows) = if same_link link row.0 then Some row.1 else link_tally_of link rows
+
+-- The rows with this one: in the place of the link's earlier one, or at the end.
+abbrev pub with_row : Link → LinkTally → List (Link × LinkTally) → List (Link × LinkTally)
+with_row link tally [] = (link, tally) ∷ []
+with_row link tally (row ∷ rows) = if same_link link row.0 then (row.0, tally) ∷ rows else row ∷ with_row link tally rows
+
+-- What is known of a record's link after its cell, where this was known of it. None: the link has no row, and there is no room for one more.
+abbrev pub tally_after : List (Link × LinkTally) → Record → Option LinkTally → Option LinkTally
+tally_after rows record_read (Some tally) = Some (one_more_cell tally record_read)
+tally_after rows record_read None = if nat_lt (length rows) most_links then Some (opening_tally record_read) else None
+
+-- A cell, after which this is known of its link.
+abbrev pub links_cell_with : LinksState → Record → Option LinkTally → LinksState
+links_cell_with state record_read (Some tally) = record state { rows = with_row record_read.link tally state.rows }
+links_cell_with state record_read None = record state { left_out = one_more_record state.left_out record_read.number }
+
+-- A cell.
+abbrev pub links_cell : LinksState → Record → LinksState
+links_cell state record_read =
+    links_cell_with state record_read (tally_after state.rows record_read (link_tally_of record_read.link state.rows))
+
+-- A record, by what it holds.
+abbrev pub links_content : LinksState → Record → Result (List ℕ) NoCell → LinksState
+links_content state record_read (Ok cell) = links_cell state record_read
+links_content state record_read (Err why) = record state { passed = without_cell state.passed why record_read.number }
+
+-- A record. Its marks are counted, whatever it holds.
+abbrev pub links_record : LinksState → Record → LinksState
+links_record state record_read =
+    links_content (record state { passed = with_marked state.passed record_read.marks record_read.number }) record_read record_read.content
+
+-- A block or a packet without a record.
+abbrev pub links_passage : LinksState → Passage → LinksState
+links_passage state passage = record state { passed = with_passage state.passed passage }
+
+-- What is given of a frame.
+abbrev pub links_given : LinksState → Result Record Passage → LinksState
+links_given state (Ok record_read) = links_record state record_read
+links_given state (Err passage) = links_passage state passage
+
+-- What is given of frames, in order.
+abbrev pub links_after : LinksState → List (Result Record Passage) → LinksState
+links_after state [] = state
+links_after state (given ∷ frames) = links_after (links_given state given) frames

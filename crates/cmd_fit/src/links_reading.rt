@@ -1,0 +1,52 @@
+//! The records of a capture, one after the other, and their links.
+
+ghost use Rattle.std.specs.Prelude.{IfOk};
+ghost use Rattle.cmd_fit.specs.inner.LinksSteps.{StepsLinks};
+
+use crate::link_table::LinkTable;
+use captures::{Fault, Next, Reader};
+use captures_text::WINDOW_ROOM;
+use std::alloc::AllocError;
+use text_io::Window;
+
+/// How a reading goes on.
+#[derive(Clone, Copy, PartialEq, Eq, Debug)]
+pub(crate) enum Going {
+    /// A frame was read, and there may be more among the octets that wait.
+    On,
+    /// More octets are wanted.
+    Wants,
+    /// The octets begin with no frame.
+    Broken(Fault),
+}
+
+/// What reads the records of a capture.
+#[derive(Drop)]
+pub(crate) struct LinksReading {
+    /// The octets that wait.
+    pub(crate) window: Window<WINDOW_ROOM>,
+    pub(crate) reader: Reader,
+    pub(crate) table: LinkTable,
+}
+
+impl LinksReading {
+    /// Reads the next frame among the octets that wait.
+    pub(crate) fn step(&mut self) -> Result<Going, AllocError>
+        ensures { IfOk result (λ going. StepsLinks self.old going self.new) }
+    {
+        match self.reader.next(self.window.octets()) {
+            Next::Unfinished => Ok(Going::Wants),
+            Next::Broken(fault) => Ok(Going::Broken(fault)),
+            Next::Passed(passage, own) => {
+                self.table.pass(passage);
+                self.window.skip(own);
+                Ok(Going::On)
+            }
+            Next::Taken(record_read, own) => {
+                self.table.take(&record_read)?;
+                self.window.skip(own);
+                Ok(Going::On)
+            }
+        }
+    }
+}

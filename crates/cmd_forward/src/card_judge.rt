@@ -1,0 +1,51 @@
+//! The card of a setup script says which cells go on.
+
+ghost use Rattle.std.specs.Prelude.{◌≡◌};
+ghost use Rattle.cmd_forward.specs.ForwardText.{onward_by as by_verdict};
+
+use crate::judge::CellJudge;
+use crate::onward::Onward;
+use captures::Fault;
+use captures_text::{CountedCell, PassedOver};
+use cmd_police::PolicedCard;
+use leaky::Verdict;
+use std::alloc::AllocError;
+
+/// Returns how a cell with this verdict goes on.
+fn onward_by(verdict: Option<Verdict>) -> Onward
+    ensures { result ≡ by_verdict verdict }
+{
+    match verdict {
+        Some(Verdict::Pass) => Onward::Unchanged,
+        Some(Verdict::Tag) => Onward::Tagged,
+        Some(Verdict::Discard | Verdict::Refuse) | None => Onward::Stays,
+    }
+}
+
+impl CellJudge for PolicedCard {
+    ghost use Rattle.cmd_police.specs.PolicedCards.{PolicedWorld, ShowsPoliced};
+    ghost use Rattle.cmd_forward.specs.ForwardText.{forward_rules};
+    ghost use Rattle.cmd_forward.specs.inner.ForwardTotal.{forward-total};
+
+    ghost World = { PolicedWorld };
+
+    ghost shows = { ShowsPoliced };
+
+    ghost rules = { forward_rules };
+
+    fn judge_cell(&mut self, counted: &CountedCell) -> Result<Onward, AllocError> {
+        let verdict = self.judge(counted)?;
+        Ok(onward_by(verdict))
+    }
+
+    fn close(
+        &self,
+        passed: &PassedOver,
+        ending: Option<Fault>,
+        report: &mut Vec<u8>,
+    ) -> Result<(), AllocError> {
+        self.add_report(report, passed, ending)
+    }
+
+    ghost is_total = { forward-total };
+}

@@ -1,0 +1,41 @@
+//! Programs that say which cells go on.
+
+ghost use Rattle.std.specs.Prelude.{IfOk, OnOk};
+ghost use Rattle.cmd_forward.specs.JudgeRules.{ClosesReport, JudgeRules, JudgesCell, JudgesEachCell};
+
+use crate::onward::Onward;
+use captures::Fault;
+use captures_text::{CountedCell, PassedOver};
+use std::alloc::AllocError;
+
+/// A program that gets one cell that counts after another and says of each how it goes on.
+///
+/// Its rules say which answers are allowed, as steps from world to world. It doesn't have to store its world: it shows worlds, and its answer
+/// must be allowed from each of them.
+pub trait CellJudge {
+    ghost World: { Type 0 };
+
+    ghost shows: { Self → World → Type 0 };
+
+    ghost rules: { JudgeRules World };
+
+    /// Returns how a cell goes on.
+    fn judge_cell(&mut self, counted: &CountedCell) -> Result<Onward, AllocError>
+        ensures { IfOk result (λ onward. JudgesCell rules (shows self.old) counted.now onward (shows self.new)) };
+
+    /// Appends the report about the run at the end of the capture, or at its fault. These records were passed over.
+    fn close(
+        &self,
+        passed: &PassedOver,
+        ending: Option<Fault>,
+        report: &mut Vec<u8>,
+    ) -> Result<(), AllocError>
+        ensures { OnOk result (ClosesReport rules (shows self.now) passed.now ending report.old.items report.new.items) };
+
+    ghost is_total: { JudgesEachCell rules };
+}
+
+/// Does nothing at run time. Its contract repeats a fact of the trait.
+pub(crate) fn judges_each_cell<J: CellJudge>(_: &J)
+    ensures { JudgesEachCell J.rules }
+{}

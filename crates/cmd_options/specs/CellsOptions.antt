@@ -1,0 +1,60 @@
+-- The options of `upc-lab cells`.
+use Rattle.std.specs.Prelude.{ℕ, Bool, List, [], ◌∷◌, Option, Some, None, codes, false, option_and_then, option_map, true}
+use Rattle.captures.specs.declared.link.Link.{Link}
+use Rattle.clap.specs.Simple.{App}
+use Rattle.clap.specs.Walk.{Rule, Text}
+use Rattle.text_command_line.specs.Arguments.{app_with_rules, argument_rule, flag_rule}
+use Rattle.text_command_line.specs.CommandLines.{argument_value}
+use Rattle.text_command_line.specs.declared.stop.Stop.{Stop}
+use Rattle.cmd_options.specs.OptionAnswers.{Asks, IsOptionStop}
+use Rattle.cmd_options.specs.LinkOption.{link_of}
+use Rattle.cmd_options.specs.OptionValues.{is_given, tick_of}
+use Rattle.cmd_options.specs.declared.cells.CellsOptions.{CellsOptions}
+
+-- The option `--tick TIME`, whose value is 100ns if it isn't given.
+abbrev pub tick_rule : Rule
+tick_rule = argument_rule (codes "tick") true (Some (codes "100ns")) false
+
+-- The option `--link LINK`.
+abbrev pub link_rule : Rule
+link_rule = argument_rule (codes "link") true None false
+
+-- The option `--record`.
+abbrev pub record_rule : Rule
+record_rule = flag_rule (codes "record")
+
+-- The command `upc-lab cells`: these options, and that for help, which every command has.
+unfoldable pub cells_app : App
+cells_app = app_with_rules (codes "upc-lab cells") (tick_rule ∷ link_rule ∷ record_rule ∷ [])
+
+-- What is asked for: the nanoseconds of a tick, the link, if any, and whether each cell comes after the number of its record.
+pub record CellsAsked : Type 0 where
+  pub nanoseconds : ℕ
+  pub link : Option Link
+  pub numbered : Bool
+
+-- What options of `cells` ask for.
+abbrev pub cells_asked_by : CellsOptions → CellsAsked
+cells_asked_by options = record { nanoseconds = options.tick.nanoseconds; link = options.link; numbered = options.numbered }
+
+-- What these values spell, if each spells something.
+abbrev pub cells_values : Option Text → Option Text → Option Text → Option CellsAsked
+cells_values tick link numbered =
+    option_and_then (λ nanoseconds. option_map (λ asked. record {
+      nanoseconds = nanoseconds;
+      link = asked;
+      numbered = is_given numbered;
+    }) (link_of link)) (tick_of tick)
+
+-- What the values of the options in the words spell.
+abbrev pub cells_asked : List Text → Option CellsAsked
+cells_asked words = cells_values (argument_value cells_app words (codes "tick")) (argument_value cells_app words (codes "link"))
+    (argument_value cells_app words (codes "record"))
+
+-- The words have no error for clap, and ask for this.
+abbrev pub AsksCells : List Text → CellsAsked → Type 0
+AsksCells = Asks cells_app cells_asked
+
+-- The Stops that words may give. NoMemory is always allowed.
+abbrev pub IsCellsStop : List Text → Stop → Type 0
+IsCellsStop = IsOptionStop cells_app cells_asked

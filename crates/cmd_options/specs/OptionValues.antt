@@ -1,0 +1,111 @@
+-- What the value of an option spells.
+use Rattle.std.specs.Prelude.{◌==◌, ◌^◌, if◌then◌else◌, ℕ, Bool, false, true, Option, Some, None, codes, length, option_and_then, option_map}
+use Rattle.std.specs.Str.{bytes_eq}
+use Rattle.clap.specs.Walk.{Text}
+use Rattle.captures_text.specs.declared.cell_lines.CellLines.{CellLines}
+use Rattle.captures_text.specs.declared.cell_lines.CellLines.TheVariants as lines
+use Rattle.cmd_size.specs.SizeWords.{duration_of}
+use Rattle.upc_cell.specs.declared.side.Side.{Side}
+use Rattle.upc_cell.specs.declared.side.Side.TheVariants.{Uni, Nni, UniPaths, NniPaths}
+use Rattle.text_script.specs.ScriptWords.{number_up_to}
+
+-- A number above 0.
+abbrev pub positive : ℕ → Option ℕ
+positive number = if number == 0 then None else Some number
+
+-- The nanoseconds of a tick: a time of `upc-lab size` that isn't 0.
+abbrev pub tick_of : Option Text → Option ℕ
+tick_of text = option_and_then (λ word. option_and_then positive (duration_of word)) text
+
+-- The nanoseconds of the tick that is asked for, if one is.
+abbrev pub asked_tick_of : Option Text → Option (Option ℕ)
+asked_tick_of None = Some None
+asked_tick_of (Some word) = option_map Some (tick_of (Some word))
+
+-- The nanoseconds of a span that is asked for, if one is: a time of `upc-lab size` that isn't 0.
+abbrev pub every_of : Option Text → Option (Option ℕ)
+every_of None = Some None
+every_of (Some word) = option_map Some (option_and_then positive (duration_of word))
+
+-- An increment that a bucket can have: 1 to 2^48 ticks.
+abbrev pub fit_increment_of : Option Text → Option ℕ
+fit_increment_of text = option_and_then (λ word. option_and_then positive (number_up_to (2 ^ 48) word)) text
+
+-- The side that a word names. `paths` says whether connections are virtual paths.
+abbrev pub side_named : Bool → Text → Option Side
+side_named paths word =
+    if bytes_eq word (codes "uni") then Some (if paths then UniPaths else Uni)
+    else if bytes_eq word (codes "nni") then Some (if paths then NniPaths else Nni)
+    else None
+
+-- Whether an option without a value is given. clap's text of it is `true` then.
+abbrev pub is_given : Option Text → Bool
+is_given None = false
+is_given (Some text) = bytes_eq text (codes "true")
+
+-- The side at which headers are read, and whether connections are virtual paths there.
+abbrev pub fit_side_of : Option Text → Option Text → Option Side
+fit_side_of text paths = option_and_then (side_named (is_given paths)) text
+
+-- The cell loss priority (CLP) that a word names.
+abbrev pub clp_named : Text → Option ℕ
+clp_named word =
+    if bytes_eq word (codes "0") then Some 0
+    else if bytes_eq word (codes "1") then Some 1
+    else None
+
+-- The cell loss priority that is asked for, if one is.
+abbrev pub asked_clp_of : Option Text → Option (Option ℕ)
+asked_clp_of None = Some None
+asked_clp_of (Some word) = option_map Some (clp_named word)
+
+-- The name of a file that a word is, unless it is empty.
+abbrev pub file_named : Text → Option Text
+file_named word = if length word == 0 then None else Some word
+
+-- The name of a file.
+abbrev pub file_name_of : Option Text → Option Text
+file_name_of text = option_and_then file_named text
+
+-- The name of a file that is asked for, if one is.
+abbrev pub asked_file_of : Option Text → Option (Option Text)
+asked_file_of None = Some None
+asked_file_of (Some word) = option_map Some (file_named word)
+
+-- Which cells a word gives lines.
+abbrev pub cell_lines_named : Text → Option CellLines
+cell_lines_named word =
+    if bytes_eq word (codes "all") then Some lines.All
+    else if bytes_eq word (codes "refused") then Some lines.Refused
+    else if bytes_eq word (codes "none") then Some lines.Nothing
+    else None
+
+-- Which cells have lines.
+abbrev pub cell_lines_of : Option Text → Option CellLines
+cell_lines_of text = option_and_then cell_lines_named text
+
+-- Whether a word asks for all pairs of lines.
+abbrev pub pairs_named : Text → Option Bool
+pairs_named word =
+    if bytes_eq word (codes "changed") then Some false
+    else if bytes_eq word (codes "all") then Some true
+    else None
+
+-- Whether all pairs of lines are asked for.
+abbrev pub pairs_of : Option Text → Option Bool
+pairs_of text = option_and_then pairs_named text
+
+-- The number of threads: 1 to 64.
+abbrev pub threads_of : Option Text → Option ℕ
+threads_of text = option_and_then (λ word. option_and_then positive (number_up_to 64 word)) text
+
+-- Whether a word says that records without a judged cell go on.
+abbrev pub others_named : Text → Option Bool
+others_named word =
+    if bytes_eq word (codes "pass") then Some true
+    else if bytes_eq word (codes "drop") then Some false
+    else None
+
+-- The same of the option.
+abbrev pub others_of : Option Text → Option Bool
+others_of text = option_and_then others_named text

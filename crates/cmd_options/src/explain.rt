@@ -1,0 +1,71 @@
+//! The option of `upc-lab explain`.
+
+ghost use Rattle.std.specs.Prelude.{◌≡◌, Err, IfErr, IfOk, map};
+ghost use Rattle.std.specs.String.{string_bytes};
+ghost use Rattle.text_command_line.specs.Arguments.{texts_of};
+ghost use Rattle.cmd_options.specs.ExplainOptions.{AsksExplain, ExplainAsked, IsExplainStop, explain_asked_by};
+ghost use Rattle.cmd_options.specs.inner.Answered.{AnswersValues, explain_spelled};
+
+use crate::values::{explained_name_of, owned, wrong_value};
+use std::alloc::Global;
+use text_command_line::{Argument, Form, Options, Stop, Value, values_of_words};
+
+/// What `upc-lab explain` should do.
+#[derive(Debug, PartialEq, Eq, Drop)]
+pub struct ExplainOptions {
+    /// The name of the file with a setup script, which is explained in place of the input, if one is given.
+    pub setup: Option<String>,
+}
+
+const EXPLAINED_SETUP: Argument = Argument {
+    name: "setup",
+    form: Form::Valued("SETUP"),
+    default: None,
+    required: false,
+    help: "Explain the setup script of police in this file, with its files of rules, and read no input",
+};
+
+const EXPLAIN: Options = Options {
+    name: "upc-lab explain",
+    about: "Explain the faults of a script, or after a line `source` or `rules` that of a source or of rules",
+    after_help: "Example: upc-lab explain < examples/desk-refusals.run",
+    arguments: &[EXPLAINED_SETUP],
+};
+
+/// Reads the words after `upc-lab explain`: `--setup SETUP` or none. The forms of help that `clap` has request help. Any other word is an
+/// error, and so is an empty name.
+pub fn explain_options(alloc: Global, words: Vec<String>) -> Result<ExplainOptions, Stop>
+    ensures asked { IfOk result (λ options. AsksExplain (map string_bytes words.items) (explain_asked_by options)) }
+    ensures stopped { IfErr result (IsExplainStop (map string_bytes words.items)) }
+    ensures granted { (asked : ExplainAsked) → AsksExplain (map string_bytes words.items) asked
+        → IfErr result (λ stop. stop ≡ Stop.NoMemory) }
+{
+    let found = values_of_words(alloc, &EXPLAIN, words);
+    answer_to(alloc, found)
+}
+
+/// Returns the options that these values spell.
+fn read(alloc: Global, values: &[Value]) -> Result<ExplainOptions, Stop>
+    ensures { AnswersValues explain_asked_by (explain_spelled (texts_of values.now)) result }
+{
+    let Some(setup) = explained_name_of(values) else {
+        return Err(wrong_value(
+            alloc,
+            "error: the value of '--setup' is the name of a file\n",
+        ));
+    };
+    let Ok(setup) = owned(alloc, setup) else {
+        return Err(Stop::NoMemory);
+    };
+    Ok(ExplainOptions { setup })
+}
+
+fn answer_to(alloc: Global, found: Result<Vec<Value>, Stop>) -> Result<ExplainOptions, Stop>
+    ensures values { IfOk found (λ values. AnswersValues explain_asked_by (explain_spelled (texts_of values.items)) result) }
+    ensures stopped { IfErr found (λ stop. result ≡ Err stop) }
+{
+    match found {
+        Ok(values) => read(alloc, &values),
+        Err(stop) => Err(stop),
+    }
+}

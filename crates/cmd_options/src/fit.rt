@@ -1,0 +1,145 @@
+//! The options of `upc-lab fit`.
+
+ghost use Rattle.std.specs.Prelude.{◌≡◌, Err, IfErr, IfOk, map, option_map};
+ghost use Rattle.std.specs.String.{string_bytes};
+ghost use Rattle.text_command_line.specs.Arguments.{texts_of};
+ghost use Rattle.cmd_options.specs.FitOptions.{AsksFit, FitAsked, IsFitStop, asked_by};
+ghost use Rattle.cmd_options.specs.inner.Answered.{AnswersValues, fit_spelled};
+
+use crate::link::link_of;
+use crate::values::{
+    LINK, TICK, WRONG_LINK, WRONG_TICK, asked_clp_of, fit_increment_of, fit_side_of, owned,
+    rules_name_of, tick_of, wrong_value,
+};
+use captures::{Link, Tick};
+use std::alloc::Global;
+use text_command_line::{Argument, Form, Options, Stop, Value, values_of_words};
+use upc_cell::Side;
+
+/// What `upc-lab fit` should do.
+#[derive(Debug, PartialEq, Eq, Drop)]
+pub struct FitOptions {
+    /// The increment of the bucket, in ticks: 1 to 2^48.
+    pub increment: u64,
+    /// How long a tick is.
+    pub tick: Tick,
+    /// The link whose cells are read. Without one the cells of a capture may be of one link only.
+    pub link: Option<Link>,
+    /// The side at which headers are read, and whether connections are virtual paths.
+    pub side: Side,
+    /// The cell loss priority (CLP) of the cells that are read, 0 or 1. Without one all cells are read.
+    pub clp: Option<u8>,
+    /// The name of the file with the rules by whose values lines are told apart, if one is given.
+    pub rules: Option<String>,
+}
+
+const INCREMENT: Argument = Argument {
+    name: "increment",
+    form: Form::Valued("T"),
+    default: None,
+    required: true,
+    help: "The increment of the bucket: the ticks from cell to cell at the agreed rate",
+};
+
+const SIDE: Argument = Argument {
+    name: "side",
+    form: Form::Valued("SIDE"),
+    default: Some("uni"),
+    required: false,
+    help: "Where headers are read: uni, or nni between nodes",
+};
+
+const CLP: Argument = Argument {
+    name: "clp",
+    form: Form::Valued("CLP"),
+    default: None,
+    required: false,
+    help: "Only the cells of this cell loss priority, 0 or 1",
+};
+
+const PATHS: Argument = Argument {
+    name: "paths",
+    form: Form::Flag,
+    default: None,
+    required: false,
+    help: "Connections are virtual paths: all cells of a path have one line",
+};
+
+const RULES: Argument = Argument {
+    name: "rules",
+    form: Form::Valued("FILE"),
+    default: None,
+    required: false,
+    help: "A file with rules: the cells of a connection have a line for each value that the rules give them",
+};
+
+const FIT: Options = Options {
+    name: "upc-lab fit",
+    about: "Print the least limit under which all cells of each connection of a capture conform",
+    after_help: "Standard input is an ERF file, or pcap or pcapng with ERF records.\nExample: examples/make-capture | upc-lab fit --increment 10 --tick 1us",
+    arguments: &[INCREMENT, TICK, LINK, SIDE, PATHS, CLP, RULES],
+};
+
+/// Reads the words after `upc-lab fit`: `--increment T`, `--tick TIME`, which is 100ns if it isn't given, `--link LINK`, and
+/// `--side SIDE`, which is uni if it isn't given, `--paths`, `--clp CLP`, and `--rules FILE`. The forms of help that `clap` has request help. Any other
+/// word is an error, and so are a wrong value, an empty name and words without an increment.
+pub fn fit_options(alloc: Global, words: Vec<String>) -> Result<FitOptions, Stop>
+    ensures asked { IfOk result (λ options. AsksFit (map string_bytes words.items) (asked_by options)) }
+    ensures stopped { IfErr result (IsFitStop (map string_bytes words.items)) }
+    ensures granted { (asked : FitAsked) → AsksFit (map string_bytes words.items) asked
+        → IfErr result (λ stop. stop ≡ Stop.NoMemory) }
+{
+    let found = values_of_words(alloc, &FIT, words);
+    answer_to(alloc, found)
+}
+
+/// Returns the options that these values spell.
+fn read(alloc: Global, values: &[Value]) -> Result<FitOptions, Stop>
+    ensures { AnswersValues asked_by (fit_spelled (texts_of values.now)) result }
+{
+    let Some(increment) = fit_increment_of(values) else {
+        return Err(wrong_value(
+            alloc,
+            "error: the value of '--increment' is a number of ticks from 1 to 281474976710656\n",
+        ));
+    };
+    let Some(tick) = tick_of(values) else {
+        return Err(wrong_value(alloc, WRONG_TICK));
+    };
+    let Some(link) = link_of(values) else {
+        return Err(wrong_value(alloc, WRONG_LINK));
+    };
+    let Some(side) = fit_side_of(values) else {
+        return Err(wrong_value(alloc, "error: the value of '--side' is uni or nni\n"));
+    };
+    let Some(clp) = asked_clp_of(values) else {
+        return Err(wrong_value(alloc, "error: the value of '--clp' is 0 or 1\n"));
+    };
+    let Some(rules) = rules_name_of(values) else {
+        return Err(wrong_value(
+            alloc,
+            "error: the value of '--rules' is the name of a file\n",
+        ));
+    };
+    let Ok(rules) = owned(alloc, rules) else {
+        return Err(Stop::NoMemory);
+    };
+    Ok(FitOptions {
+        increment,
+        tick,
+        link,
+        side,
+        clp,
+        rules,
+    })
+}
+
+fn answer_to(alloc: Global, found: Result<Vec<Value>, Stop>) -> Result<FitOptions, Stop>
+    ensures values { IfOk found (λ values. AnswersValues asked_by (fit_spelled (texts_of values.items)) result) }
+    ensures stopped { IfErr found (λ stop. result ≡ Err stop) }
+{
+    match found {
+        Ok(values) => read(alloc, &values),
+        Err(stop) => Err(stop),
+    }
+}

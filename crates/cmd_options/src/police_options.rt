@@ -1,0 +1,132 @@
+//! The argument and the options of `upc-lab police`.
+
+ghost use Rattle.std.specs.Prelude.{◌≡◌, Err, IfErr, IfOk, map};
+ghost use Rattle.std.specs.String.{string_bytes};
+ghost use Rattle.text_command_line.specs.Arguments.{texts_of};
+ghost use Rattle.cmd_options.specs.PoliceOptions.{AsksPolice, IsPoliceStop, PoliceAsked, police_asked_by};
+ghost use Rattle.cmd_options.specs.inner.Answered.{AnswersValues, police_spelled};
+
+use crate::link::link_of;
+use crate::values::{
+    ASKED_TICK, LINK, SETUP, WRONG_LINK, WRONG_TICK, asked_tick_of, cell_lines_of, every_of,
+    setup_name_of, threads_of, wrong_value,
+};
+use captures::{Link, Tick};
+use captures_text::CellLines;
+use std::alloc::Global;
+use text_command_line::{Argument, Form, Options, Stop, Value, values_of_words};
+
+/// What `upc-lab police` should do.
+#[derive(Debug, PartialEq, Eq, Drop)]
+pub struct PoliceOptions {
+    /// The name of the file with the setup script.
+    pub setup: String,
+    /// How long a tick is. Without one it is the tick that the setup script names.
+    pub tick: Option<Tick>,
+    /// The link whose cells are read. Without one the cells of a capture may be of one link only.
+    pub link: Option<Link>,
+    /// Which cells have lines.
+    pub lines: CellLines,
+    /// How many nanoseconds a span has, above 0, if the counts of each span of time are written.
+    pub every: Option<u64>,
+    /// How many threads may work at once, 1 to 64.
+    pub threads: u8,
+}
+
+const LINES: Argument = Argument {
+    name: "lines",
+    form: Form::Valued("LINES"),
+    default: Some("all"),
+    required: false,
+    help: "The cells that have lines: all, refused or none",
+};
+
+const EVERY: Argument = Argument {
+    name: "every",
+    form: Form::Valued("TIME"),
+    default: None,
+    required: false,
+    help: "Write the counts of each connection after each span of this length: a number with ns, us, ms or s",
+};
+
+const THREADS: Argument = Argument {
+    name: "threads",
+    form: Form::Valued("N"),
+    default: Some("2"),
+    required: false,
+    help: "1 reads and judges in turn, 2 or more at the same time",
+};
+
+const POLICE: Options = Options {
+    name: "upc-lab police",
+    about: "Police the ATM cells of a capture by the contracts of a setup script",
+    after_help: "Standard input is an ERF file, or pcap or pcapng with ERF records.\nExample: examples/make-capture | upc-lab police examples/police.setup",
+    arguments: &[SETUP, ASKED_TICK, LINK, LINES, EVERY, THREADS],
+};
+
+/// Reads the words after `upc-lab police`: the name of a file, `--tick TIME`, `--link LINK`,
+/// `--lines LINES`, which is all if it isn't given, `--every TIME`, and `--threads N`, which is 2 if it isn't given. The forms of help that `clap` has
+/// request help. Any other word is an error, and so are a wrong value, an empty name and words without a name.
+pub fn police_options(alloc: Global, words: Vec<String>) -> Result<PoliceOptions, Stop>
+    ensures asked { IfOk result (λ options. AsksPolice (map string_bytes words.items) (police_asked_by options)) }
+    ensures stopped { IfErr result (IsPoliceStop (map string_bytes words.items)) }
+    ensures granted { (asked : PoliceAsked) → AsksPolice (map string_bytes words.items) asked
+        → IfErr result (λ stop. stop ≡ Stop.NoMemory) }
+{
+    let found = values_of_words(alloc, &POLICE, words);
+    answer_to(alloc, found)
+}
+
+/// Returns the options that these values spell.
+fn read(alloc: Global, values: &[Value]) -> Result<PoliceOptions, Stop>
+    ensures { AnswersValues police_asked_by (police_spelled (texts_of values.now)) result }
+{
+    let Some(setup) = setup_name_of(values) else {
+        return Err(wrong_value(alloc, "error: SETUP is the name of a file\n"));
+    };
+    let Some(tick) = asked_tick_of(values) else {
+        return Err(wrong_value(alloc, WRONG_TICK));
+    };
+    let Some(link) = link_of(values) else {
+        return Err(wrong_value(alloc, WRONG_LINK));
+    };
+    let Some(lines) = cell_lines_of(values) else {
+        return Err(wrong_value(
+            alloc,
+            "error: the value of '--lines' is all, refused or none\n",
+        ));
+    };
+    let Some(every) = every_of(values) else {
+        return Err(wrong_value(
+            alloc,
+            "error: the value of '--every' is a number above 0 with ns, us, ms or s, as 1s\n",
+        ));
+    };
+    let Some(threads) = threads_of(values) else {
+        return Err(wrong_value(
+            alloc,
+            "error: the value of '--threads' is a number from 1 to 64\n",
+        ));
+    };
+    let Ok(setup) = String::from_str(alloc, setup) else {
+        return Err(Stop::NoMemory);
+    };
+    Ok(PoliceOptions {
+        setup,
+        tick,
+        link,
+        lines,
+        every,
+        threads,
+    })
+}
+
+fn answer_to(alloc: Global, found: Result<Vec<Value>, Stop>) -> Result<PoliceOptions, Stop>
+    ensures values { IfOk found (λ values. AnswersValues police_asked_by (police_spelled (texts_of values.items)) result) }
+    ensures stopped { IfErr found (λ stop. result ≡ Err stop) }
+{
+    match found {
+        Ok(values) => read(alloc, &values),
+        Err(stop) => Err(stop),
+    }
+}

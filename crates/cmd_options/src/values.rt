@@ -1,0 +1,271 @@
+//! The values of options.
+
+ghost use Rattle.std.specs.Prelude.{◌≡◌, IfOk, codes, option_map};
+ghost use Rattle.std.specs.String.{string_bytes};
+ghost use Rattle.text_command_line.specs.Arguments.{text_named, texts_of};
+ghost use Rattle.cmd_options.specs.OptionValues.{asked_clp_of, asked_file_of, asked_tick_of, cell_lines_of, clp_named, every_of, fit_increment_of, fit_side_of, file_name_of, file_named, is_given, others_of, pairs_of, side_named, threads_of, tick_of};
+ghost use Rattle.cmd_options.specs.inner.Answered.{IsWrongValue};
+
+use captures::Tick;
+use captures_text::CellLines;
+use cmd_size::duration;
+use std::alloc::{AllocError, Global};
+use text_command_line::{Argument, Form, Stop, Value, text_of};
+use text_script::number;
+use upc_cell::Side;
+
+/// The option `--tick`.
+pub(crate) const TICK: Argument = Argument {
+    name: "tick",
+    form: Form::Valued("TIME"),
+    default: Some("100ns"),
+    required: false,
+    help: "The length of a tick: a number with ns, us, ms or s",
+};
+
+/// The option `--tick` beside a setup script, which may name a tick.
+pub(crate) const ASKED_TICK: Argument = Argument {
+    name: "tick",
+    form: Form::Valued("TIME"),
+    default: None,
+    required: false,
+    help: "The length of a tick: a number with ns, us, ms or s. Without it that of the line `tick TIME` in SETUP, or 100ns",
+};
+
+/// The argument SETUP.
+pub(crate) const SETUP: Argument = Argument {
+    name: "SETUP",
+    form: Form::Word,
+    default: None,
+    required: true,
+    help: "A file with a script that opens a card and sets up connections",
+};
+
+/// The option `--link`.
+pub(crate) const LINK: Argument = Argument {
+    name: "link",
+    form: Form::Valued("LINK"),
+    default: None,
+    required: false,
+    help: "Only the cells of this link, as 0, 0/2/5, 1:0 or 1:0/2/5",
+};
+
+/// The message about a wrong value of `--tick`.
+pub(crate) const WRONG_TICK: &str =
+    "error: the value of '--tick' is a number above 0 with ns, us, ms or s, as 100ns\n";
+
+/// The message about a wrong value of `--link`.
+pub(crate) const WRONG_LINK: &str =
+    "error: the value of '--link' is an interface from 0 to 7, with /PORT/CONNECTION after it for MC_ATM, and with N: before it in a pcapng file, as 0, 0/2/5, 1:0 or 1:0/2/5\n";
+
+/// Returns the tick that the value of `--tick` spells, if it has one.
+pub(crate) fn tick_of(values: &[Value]) -> Option<Tick>
+    ensures { option_map (λ tick. tick.nanoseconds) result ≡ tick_of (text_named (texts_of values.now) (codes "tick")) }
+{
+    let nanoseconds = duration(text_of(values, "tick")?.as_bytes())?;
+    Tick::new(nanoseconds)
+}
+
+/// Returns the tick that the value of `--tick` spells, if it is given and has one. None if it is no tick.
+pub(crate) fn asked_tick_of(values: &[Value]) -> Option<Option<Tick>>
+    ensures { option_map (λ tick. option_map (λ it. it.nanoseconds) tick) result ≡ asked_tick_of (text_named (texts_of values.now) (codes "tick")) }
+{
+    match text_of(values, "tick") {
+        None => Some(None),
+        Some(_) => Some(Some(tick_of(values)?)),
+    }
+}
+
+/// Returns the nanoseconds of a span that the value of `--every` spells, if it is given and has some. None if it is no time, or 0.
+pub(crate) fn every_of(values: &[Value]) -> Option<Option<u64>>
+    ensures { result ≡ every_of (text_named (texts_of values.now) (codes "every")) }
+{
+    let Some(text) = text_of(values, "every") else {
+        return Some(None);
+    };
+    match duration(text.as_bytes()) {
+        Some(nanoseconds) if 0 < nanoseconds => Some(Some(nanoseconds)),
+        _ => None,
+    }
+}
+
+/// Returns the increment that the value of `--increment` spells, in ticks.
+pub(crate) fn fit_increment_of(values: &[Value]) -> Option<u64>
+    ensures { result ≡ fit_increment_of (text_named (texts_of values.now) (codes "increment")) }
+{
+    match number(text_of(values, "increment")?.as_bytes()) {
+        Some(increment) if 0 < increment && increment <= 1 << 48 => Some(increment),
+        _ => None,
+    }
+}
+
+/// Returns the side that a word names.
+fn side_named(word: &str, paths: bool) -> Option<Side>
+    ensures { result ≡ side_named paths word.now }
+{
+    match word {
+        "uni" => Some(if paths { Side::UniPaths } else { Side::Uni }),
+        "nni" => Some(if paths { Side::NniPaths } else { Side::Nni }),
+        _ => None,
+    }
+}
+
+/// Returns whether this flag is given.
+fn is_given(values: &[Value], name: &str) -> bool
+    ensures { result ≡ is_given (text_named (texts_of values.now) name.now) }
+{
+    match text_of(values, name) {
+        Some(text) => text == "true",
+        None => false,
+    }
+}
+
+/// Returns the side that the value of `--side` names, where connections are virtual paths if `--paths` is given.
+pub(crate) fn fit_side_of(values: &[Value]) -> Option<Side>
+    ensures { result ≡ fit_side_of (text_named (texts_of values.now) (codes "side")) (text_named (texts_of values.now) (codes "paths")) }
+{
+    side_named(text_of(values, "side")?, is_given(values, "paths"))
+}
+
+/// Returns the cell loss priority that a word names.
+fn clp_named(word: &str) -> Option<u8>
+    ensures { result ≡ clp_named word.now }
+{
+    match word {
+        "0" => Some(0),
+        "1" => Some(1),
+        _ => None,
+    }
+}
+
+/// Returns the cell loss priority that the value of `--clp` names, if it is given. None if it names none.
+pub(crate) fn asked_clp_of(values: &[Value]) -> Option<Option<u8>>
+    ensures { result ≡ asked_clp_of (text_named (texts_of values.now) (codes "clp")) }
+{
+    let Some(word) = text_of(values, "clp") else {
+        return Some(None);
+    };
+    Some(Some(clp_named(word)?))
+}
+
+/// Returns the name of a file that a word is, unless it is empty.
+fn file_named(word: &str) -> Option<&str>
+    ensures { option_map (λ name. name.now) result ≡ file_named word.now }
+{
+    if word.is_empty() { None } else { Some(word) }
+}
+
+/// Returns the name of the setup file, unless it is empty.
+pub(crate) fn setup_name_of(values: &[Value]) -> Option<&str>
+    ensures { option_map (λ name. name.now) result ≡ file_name_of (text_named (texts_of values.now) (codes "SETUP")) }
+{
+    file_named(text_of(values, "SETUP")?)
+}
+
+/// Returns the name of the file with the old rules, unless it is empty.
+pub(crate) fn old_name_of(values: &[Value]) -> Option<&str>
+    ensures { option_map (λ name. name.now) result ≡ file_name_of (text_named (texts_of values.now) (codes "OLD")) }
+{
+    file_named(text_of(values, "OLD")?)
+}
+
+/// Returns the name of the file with rules, if one is given. None if it is empty.
+pub(crate) fn rules_name_of(values: &[Value]) -> Option<Option<&str>>
+    ensures { option_map (λ name. option_map (λ it. it.now) name) result ≡ asked_file_of (text_named (texts_of values.now) (codes "rules")) }
+{
+    let Some(word) = text_of(values, "rules") else {
+        return Some(None);
+    };
+    Some(Some(file_named(word)?))
+}
+
+/// Returns the name of the file with a setup script to explain, if one is given. None if it is empty.
+pub(crate) fn explained_name_of(values: &[Value]) -> Option<Option<&str>>
+    ensures { option_map (λ name. option_map (λ it. it.now) name) result ≡ asked_file_of (text_named (texts_of values.now) (codes "setup")) }
+{
+    let Some(word) = text_of(values, "setup") else {
+        return Some(None);
+    };
+    Some(Some(file_named(word)?))
+}
+
+/// Returns a text of its own, if there is one.
+pub(crate) fn owned(alloc: Global, text: Option<&str>) -> Result<Option<String>, AllocError>
+    ensures { IfOk result (λ owned. option_map (λ it. string_bytes it) owned ≡ option_map (λ it. it.now) text.entry) }
+{
+    match text {
+        None => Ok(None),
+        Some(text) => match String::from_str(alloc, text) {
+            Ok(text) => Ok(Some(text)),
+            Err(_) => Err(AllocError),
+        },
+    }
+}
+
+/// Returns whether the value of `--lines` asks for all pairs of lines.
+pub(crate) fn pairs_of(values: &[Value]) -> Option<bool>
+    ensures { result ≡ pairs_of (text_named (texts_of values.now) (codes "lines")) }
+{
+    match text_of(values, "lines")? {
+        "changed" => Some(false),
+        "all" => Some(true),
+        _ => None,
+    }
+}
+
+/// Returns which cells the value of `--lines` gives lines.
+pub(crate) fn cell_lines_of(values: &[Value]) -> Option<CellLines>
+    ensures { result ≡ cell_lines_of (text_named (texts_of values.now) (codes "lines")) }
+{
+    match text_of(values, "lines")? {
+        "all" => Some(CellLines::All),
+        "refused" => Some(CellLines::Refused),
+        "none" => Some(CellLines::Nothing),
+        _ => None,
+    }
+}
+
+/// Returns the number of threads that the value of `--threads` spells.
+pub(crate) fn threads_of(values: &[Value]) -> Option<u8>
+    ensures { result ≡ threads_of (text_named (texts_of values.now) (codes "threads")) }
+{
+    match number(text_of(values, "threads")?.as_bytes()) {
+        Some(threads) if 0 < threads && threads <= 64 => Some(threads as u8),
+        _ => None,
+    }
+}
+
+/// Returns whether records without a judged cell go on, as the value of `--others` says it.
+pub(crate) fn others_of(values: &[Value]) -> Option<bool>
+    ensures { result ≡ others_of (text_named (texts_of values.now) (codes "others")) }
+{
+    match text_of(values, "others")? {
+        "pass" => Some(true),
+        "drop" => Some(false),
+        _ => None,
+    }
+}
+
+/// Returns whether `--count` is given.
+pub(crate) fn is_count_given(values: &[Value]) -> bool
+    ensures { result ≡ is_given (text_named (texts_of values.now) (codes "count")) }
+{
+    is_given(values, "count")
+}
+
+/// Returns whether `--record` is given.
+pub(crate) fn is_record_given(values: &[Value]) -> bool
+    ensures { result ≡ is_given (text_named (texts_of values.now) (codes "record")) }
+{
+    is_given(values, "record")
+}
+
+/// Returns why the words give no options: a value is wrong, and this message says which and what is right.
+pub(crate) fn wrong_value(alloc: Global, message: &str) -> Stop
+    ensures { IsWrongValue result }
+{
+    match String::from_str(alloc, message) {
+        Ok(text) => Stop::Words(text),
+        Err(_) => Stop::NoMemory,
+    }
+}

@@ -1,0 +1,138 @@
+-- Every setup script, texts and capture have a text.
+use Rattle.std.proofs.Common.{◌≡◌, ◌⊎◌, inl, inr, ℕ, ◌+◌, Bool, true, false, if◌then◌else◌, nat_lt, List, [], ◌∷◌, ◌++◌, length, Option, Some, None, Result, Ok, Err, refl, sym, subst, ◌∙◌}
+use Rattle.rules_text.specs.RulesRead.{RulesRead}
+use Rattle.rules_text.specs.TextOfRules.{placed_fault, rules_in}
+use Rattle.rules_text.specs.declared.fault.RuleFault.{RuleFault}
+use Rattle.rules_text.specs.declared.fault.RuleKind.TheVariants.{TooLong}
+use Rattle.text_io.specs.Gathered.{gathered}
+use Rattle.text_io.specs.Lines.{Line, lines_of}
+use Rattle.text_io.specs.declared.ending.Done.{Done}
+use Rattle.text_io.specs.declared.ending.Done.TheVariants.{Ended}
+use Rattle.cmd_police.specs.declared.scope.PoliceScope.{PoliceScope}
+use Rattle.cmd_police.proofs.EachCapture.{some_police_text}
+use Rattle.cmd_rules.specs.RuleFaults.{rule_fault}
+use Rattle.cmd_rules.specs.RulesAnswers.{AnswersBy, most_rules_octets}
+use Rattle.cmd_rules.specs.RulesText.{PrintsRules}
+use Rattle.text_words.specs.FaultLines.{too_long}
+use Rattle.cmd_rules.specs.AsmText.{whole_line}
+use Rattle.cmd_police.specs.FaultyRules.{HasFaultIn, rules_place}
+use Rattle.cmd_police.specs.RulesFiles.{IsFaultOfRules, MayBeFaultOfRules, later_texts, next_text}
+use Rattle.cmd_police.specs.RulesLines.{named_rules}
+use Rattle.cmd_police.specs.SetupLaws.{PolicesEachSetup}
+use Rattle.cmd_police.specs.SetupPrograms.{HasProgramsIn}
+use Rattle.cmd_police.specs.SetupText.{AsAgreed, IsSetupPoliced, IsTimedPolicedBy, MayBePolicedAsAgreed, MayBeSetupPoliced}
+use Rattle.cmd_police.specs.TimedLines.{falling_line, falling_text, line_times, without_times}
+use Rattle.std.specs.Option.{MatchOption}
+use Rattle.cmd_police.specs.SetupTick.{agreed_tick, ticks_differ}
+use Rattle.cmd_police.proofs.Completing.{FailsAt, ReplacesAt}
+
+-- ---- a text of rules may have a fault
+
+read_faulty : (text : List ℕ) (read : Result RulesRead RuleFault) → gathered most_rules_octets text ≡ Some text → rules_in text ≡ read
+    → (fault : List ℕ) × MayBeFaultOfRules text fault
+read_faulty text (Ok rules) found same = (rule_fault (placed_fault 0 0 TooLong), inr ((text, rules, found, same), (refl, refl)))
+read_faulty text (Err fault) found same =
+    (rule_fault fault, inl (subst (λ (found : Option (List ℕ)). AnswersBy PrintsRules found (rule_fault fault) Ended) (sym found) (inr (inl (fault, same, refl, refl)))))
+
+found_faulty : (text : List ℕ) (found : Option (List ℕ)) → gathered most_rules_octets text ≡ found → (found ≡ None) ⊎ (found ≡ Some text)
+    → (fault : List ℕ) × MayBeFaultOfRules text fault
+found_faulty text found same (inl none) =
+    (too_long, inl (subst (λ (found : Option (List ℕ)). AnswersBy PrintsRules found too_long Ended) (sym (same ∙ none)) (refl, refl)))
+found_faulty text found same (inr some) = read_faulty text (rules_in text) (same ∙ some) refl
+
+gathered_or : (text : List ℕ) (over : Bool) → ((if over then None else Some text) ≡ None) ⊎ ((if over then None else Some text) ≡ Some text)
+gathered_or text true = inl refl
+gathered_or text false = inr refl
+
+pub may_be_faulty : (text : List ℕ) → (fault : List ℕ) × MayBeFaultOfRules text fault
+may_be_faulty text = found_faulty text (gathered most_rules_octets text) refl (gathered_or text (nat_lt most_rules_octets (length text)))
+
+-- ---- a script has a fault, or it has programs
+
+abbrev LeadsOn : ℕ → List Line → List (List ℕ) → Type 0
+LeadsOn met lines texts =
+    ((text : List ℕ) × HasFaultIn MayBeFaultOfRules met lines texts text) ⊎ ((expanded : List ℕ) × HasProgramsIn lines texts expanded)
+
+line_leads : (name : Option (List ℕ)) (met : ℕ) (line : Line) (lines : List Line) (texts : List (List ℕ)) → named_rules line ≡ name
+    → LeadsOn (met + 1) lines texts → LeadsOn met (line ∷ lines) texts
+line_leads None met line lines texts named (inl on) =
+    inl (on.0, subst (λ (n : Option (List ℕ)). FailsAt MayBeFaultOfRules n met lines texts on.0) (sym named) on.1)
+line_leads None met line lines texts named (inr on) =
+    inr (whole_line line ++ on.0, subst (λ (n : Option (List ℕ)). ReplacesAt n line lines texts (whole_line line ++ on.0)) (sym named) (on.0, on.1, refl))
+line_leads (Some name) met line lines texts named on =
+    let fault = may_be_faulty (next_text texts) in
+    let text = fault.0 ++ rules_place (met + 1) name in
+    inl (text, subst (λ (n : Option (List ℕ)). FailsAt MayBeFaultOfRules n met lines texts text) (sym named) (inl (fault.0, fault.1, refl)))
+
+leads_on : (lines : List Line) (met : ℕ) (texts : List (List ℕ)) → LeadsOn met lines texts
+leads_on [] met texts = inr ([], refl)
+leads_on (line ∷ lines) met texts = line_leads (named_rules line) met line lines texts refl (leads_on lines (met + 1) texts)
+
+polices : (scope : PoliceScope) (tick : ℕ) (setup : List ℕ) (times : List (Option ℕ)) (texts : List (List ℕ)) (octets : List ℕ)
+    → LeadsOn 0 (lines_of setup) texts
+    → (text : List ℕ) × (done : Done) × IsTimedPolicedBy MayBeFaultOfRules scope tick setup times texts octets text done
+polices scope tick setup times texts octets (inl faulty) = (faulty.0, Ended, inl (faulty.1, refl))
+polices scope tick setup times texts octets (inr made) =
+    let printed = some_police_text scope tick made.0 times octets in
+    (printed.0, printed.1, inr (made.0, made.1, printed.2))
+
+pub polices_timed : (scope : PoliceScope) (tick : ℕ) (setup : List ℕ) (times : List (Option ℕ)) (texts : List (List ℕ)) (octets : List ℕ)
+    → (text : List ℕ) × (done : Done) × IsTimedPolicedBy MayBeFaultOfRules scope tick setup times texts octets text done
+polices_timed scope tick setup times texts octets = polices scope tick setup times texts octets (leads_on (lines_of setup) 0 texts)
+
+polices_unless : (falls : Option ℕ) (scope : PoliceScope) (tick : ℕ) (setup : List ℕ) (texts : List (List ℕ)) (octets : List ℕ)
+    → (text : List ℕ) × (done : Done) × MatchOption falls
+    (IsTimedPolicedBy MayBeFaultOfRules scope tick (without_times setup) (line_times setup) texts octets text done)
+    (λ number. (text ≡ falling_text number) × (done ≡ Ended))
+polices_unless None scope tick setup texts octets = polices_timed scope tick (without_times setup) (line_times setup) texts octets
+polices_unless (Some number) scope tick setup texts octets = (falling_text number, Ended, (refl, refl))
+
+pub polices_each : PolicesEachSetup
+polices_each scope tick setup texts octets = polices_unless (falling_line setup) scope tick setup texts octets
+
+-- ---- a fault of rules that is reported is one that may be reported
+
+pub may_be_fault : (text fault : List ℕ) → IsFaultOfRules text fault → MayBeFaultOfRules text fault
+may_be_fault text fault is = inl is
+
+fault_at_may : (name : Option (List ℕ)) (met : ℕ) (lines : List Line) (texts : List (List ℕ)) (text : List ℕ)
+    → ((texts : List (List ℕ)) → HasFaultIn IsFaultOfRules (met + 1) lines texts text → HasFaultIn MayBeFaultOfRules (met + 1) lines texts text)
+    → FailsAt IsFaultOfRules name met lines texts text → FailsAt MayBeFaultOfRules name met lines texts text
+fault_at_may None met lines texts text on is = on texts is
+fault_at_may (Some name) met lines texts text on (inl (fault, is, printed)) = inl (fault, may_be_fault (next_text texts) fault is, printed)
+fault_at_may (Some name) met lines texts text on (inr (code, program, is)) = inr (code, program, on (later_texts texts) is)
+
+pub fault_may : (lines : List Line) (met : ℕ) (texts : List (List ℕ)) (text : List ℕ) → HasFaultIn IsFaultOfRules met lines texts text → HasFaultIn MayBeFaultOfRules met lines texts text
+fault_may [] met texts text is = is
+fault_may (line ∷ lines) met texts text is =
+    fault_at_may (named_rules line) met lines texts text (λ texts is. fault_may lines (met + 1) texts text is) is
+
+pub may_be_timed : (scope : PoliceScope) (tick : ℕ) (setup : List ℕ) (times : List (Option ℕ)) (texts : List (List ℕ)) (octets text : List ℕ) (done : Done)
+    → IsTimedPolicedBy IsFaultOfRules scope tick setup times texts octets text done
+    → IsTimedPolicedBy MayBeFaultOfRules scope tick setup times texts octets text done
+may_be_timed scope tick setup times texts octets text done (inl (faulty, ends)) = inl (fault_may (lines_of setup) 0 texts text faulty, ends)
+may_be_timed scope tick setup times texts octets text done (inr made) = inr made
+
+may_be_unless : (falls : Option ℕ) (scope : PoliceScope) (tick : ℕ) (setup : List ℕ) (texts : List (List ℕ)) (octets text : List ℕ) (done : Done)
+    → MatchOption falls (IsTimedPolicedBy IsFaultOfRules scope tick (without_times setup) (line_times setup) texts octets text done)
+    (λ number. (text ≡ falling_text number) × (done ≡ Ended))
+    → MatchOption falls (IsTimedPolicedBy MayBeFaultOfRules scope tick (without_times setup) (line_times setup) texts octets text done)
+    (λ number. (text ≡ falling_text number) × (done ≡ Ended))
+may_be_unless None scope tick setup texts octets text done is = may_be_timed scope tick (without_times setup) (line_times setup) texts octets text done is
+may_be_unless (Some number) scope tick setup texts octets text done is = is
+
+pub may_be_policed : (scope : PoliceScope) (tick : ℕ) (setup : List ℕ) (texts : List (List ℕ)) (octets text : List ℕ) (done : Done)
+    → IsSetupPoliced scope tick setup texts octets text done → MayBeSetupPoliced scope tick setup texts octets text done
+may_be_policed scope tick setup texts octets text done is = may_be_unless (falling_line setup) scope tick setup texts octets text done is
+
+-- ---- at the tick that is agreed
+
+at_tick : (IsTextAt : ℕ → List ℕ → List ℕ → Done → Type 0) (agreed : Result ℕ (ℕ × ℕ)) (octets : List ℕ)
+    → ((tick : ℕ) → (text : List ℕ) × (done : Done) × IsTextAt tick octets text done) → (text : List ℕ) × (done : Done) × AsAgreed IsTextAt agreed octets text done
+at_tick IsTextAt (Ok tick) octets each = each tick
+at_tick IsTextAt (Err (named, asked)) octets each = (ticks_differ named asked, Ended, (refl, refl))
+
+pub polices_as_agreed : (scope : PoliceScope) (named asked : Option ℕ) (setup : List ℕ) (texts : List (List ℕ)) (octets : List ℕ)
+    → (text : List ℕ) × (done : Done) × MayBePolicedAsAgreed scope named asked setup texts octets text done
+polices_as_agreed scope named asked setup texts octets =
+    at_tick (λ tick. MayBeSetupPoliced scope tick setup texts) (agreed_tick named asked) octets (λ tick. polices_each scope tick setup texts octets)

@@ -1,0 +1,12 @@
+-- A command that is taken is answered as in `run`.
+use Rattle.std.proofs.Common.{Bool, sym, subst}
+use Rattle.std.specs.Bool.{MatchBool}
+use Rattle.captures_text.proofs.Public.{on_done}
+use Rattle.cmd_police.proofs.CommandLemmas.{taken_moves}
+use Rattle.cmd_police.proofs.timed_card.answer_plain.Goals as goal
+
+pub returns-then-is_taken_under_traffic : goal.returns-then-is_taken_under_traffic
+returns-then-is_taken_under_traffic c =
+    on_done c.answer.result _ _ c.answer.ensures
+    (λ moves. taken_moves c.args.line.now c.args.card.now c.answer.new.self c.args.answers.now.items c.answer.new.answers.items
+    (sym c.if-is_taken_under_traffic.ensures) moves)

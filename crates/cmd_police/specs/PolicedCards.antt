@@ -1,0 +1,90 @@
+-- The card of a setup script, for programs that ask it cell by cell how each goes on.
+use Rattle.std.specs.Prelude.{◌≡◌, ◌⊎◌, ℕ, List, [], ◌++◌, Option, Some, None, MatchOption}
+use Rattle.captures.specs.declared.fault.Fault.{Fault}
+use Rattle.card_core.specs.declared.answer.Answer.{Answer}
+use Rattle.captures_text.specs.RunLines.{closing_lines}
+use Rattle.captures_text.specs.declared.counted.CountedCell.{CountedCell}
+use Rattle.captures_text.specs.declared.passed.PassedOver.{PassedOver}
+use Rattle.leaky.specs.declared.verdict.Verdict.{Verdict}
+use Rattle.text_io.specs.Lines.{lines_of}
+use Rattle.text_io.specs.Words.{is_filled}
+use Rattle.cmd_run.specs.RunText.{Card, IsLed}
+use Rattle.cmd_police.specs.CommandsUnderTraffic.{CarriesOutWaiting, waiting_comment}
+use Rattle.cmd_police.specs.ConnectionCounts.{counts_heading, counts_lines}
+use Rattle.cmd_police.specs.FaultyRules.{HasFaultyRules}
+use Rattle.cmd_police.specs.NotJudgedCells.{all_judged, not_judged_after, not_judged_lines}
+use Rattle.cmd_police.specs.PoliceLines.{verdict_given}
+use Rattle.cmd_police.specs.PoliceText.{IsFaultAtTimes, IsSetUpAtTimes, TakesCellWithRoom, police_gap}
+use Rattle.cmd_police.specs.RulesFiles.{IsFaultOfRules}
+use Rattle.cmd_police.specs.RunComments.{run_comments}
+use Rattle.cmd_police.specs.SetupPrograms.{HasPrograms}
+use Rattle.cmd_police.specs.TimedLines.{WaitingCommand, falling_line, falling_text, line_times, waiting_at, without_times}
+use Rattle.cmd_police.specs.declared.not_judged.NotJudged.{NotJudged}
+use Rattle.cmd_police.specs.declared.policed_card.OpenedCard.{OpenedCard}
+use Rattle.cmd_police.specs.declared.policed_card.OpenedCard.TheVariants.{Faulty, Ready}
+use Rattle.cmd_police.specs.declared.policed_card.PolicedCard.{PolicedCard}
+use Rattle.cmd_police.specs.StoredCommands.{ShowsTimed}
+
+-- The state: the card, the commands that wait, the lines of those that were carried out, the nanoseconds of a tick, and the cells that were not
+-- judged.
+pub record PolicedWorld : Type 0 where
+  pub card : Card
+  pub waiting : List WaitingCommand
+  pub answers : List ℕ
+  pub tick : ℕ
+  pub not_judged : NotJudged
+
+-- The state at first, where these commands wait.
+abbrev pub policed_start : ℕ → Card → List WaitingCommand → PolicedWorld
+policed_start tick card waiting = record { card = card; waiting = waiting; answers = []; tick = tick; not_judged = all_judged }
+
+-- The commands whose moment has come are carried out, and a cell arrives at the card, as in `police`, with this verdict.
+pub record PolicesOneCell (before : PolicedWorld) (counted : CountedCell) (verdict : Option Verdict) (after : PolicedWorld) : Type 0 where
+  pub lines : List ℕ
+  pub ready : Card
+  pub carried : CarriesOutWaiting before.waiting counted.moment before.card lines ready after.waiting
+  pub answered : after.answers ≡ before.answers ++ lines
+  pub given : Answer
+  pub taken : TakesCellWithRoom ready counted.cell counted.moment given after.card
+  pub verdict_is : verdict ≡ verdict_given given
+  pub counts : after.not_judged ≡ not_judged_after before.not_judged counted.number given
+  pub same : after.tick ≡ before.tick
+
+-- The report at the end: the lines of commands, and what `police` prints after its lines about cells.
+abbrev pub policed_report : PolicedWorld → PassedOver → Option Fault → List ℕ
+policed_report world passed ending =
+    world.answers ++ (police_gap (is_filled world.answers) ++ (counts_heading ++ (counts_lines world.card.world ++ (not_judged_lines world.not_judged
+    ++ (waiting_comment world.waiting ++ (run_comments world.tick passed ++ closing_lines passed ending))))))
+
+-- The stored card agrees with the state. Only laws and contracts know the state.
+pub record ShowsPoliced (policed : PolicedCard) (world : PolicedWorld) : Type 0 where
+  pub timed : ShowsTimed policed.timed world.card world.waiting
+  pub answers : policed.answers.items ≡ world.answers
+  pub tick : policed.tick.nanoseconds ≡ world.tick
+  pub not_judged : policed.not_judged ≡ world.not_judged
+
+-- The stored card is that of a state to which a script without a fault leads, whose lines have these times, with a tick of this many nanoseconds.
+pub record IsOpenedBy (tick : ℕ) (script : List ℕ) (times : List (Option ℕ)) (policed : PolicedCard) : Type 0 where
+  pub card : Card
+  pub reached : IsSetUpAtTimes script times card
+  pub led : IsLed card
+  pub shown : ShowsPoliced policed (policed_start tick card (waiting_at tick times (lines_of script)))
+
+-- What a script leads to.
+abbrev pub OpensPolicedCard : ℕ → List ℕ → List (Option ℕ) → OpenedCard → Type 0
+OpensPolicedCard tick script times (Faulty text) = IsFaultAtTimes script times text.items
+OpensPolicedCard tick script times (Ready policed) = IsOpenedBy tick script times policed
+
+-- What a script with files of rules leads to.
+abbrev pub OpensTimed : ℕ → List ℕ → List (Option ℕ) → List (List ℕ) → OpenedCard → Type 0
+OpensTimed tick setup times texts (Faulty text) =
+    HasFaultyRules IsFaultOfRules setup texts text.items ⊎ ((script : List ℕ) × HasPrograms setup texts script × IsFaultAtTimes script times text.items)
+OpensTimed tick setup times texts (Ready policed) = (script : List ℕ) × HasPrograms setup texts script × IsOpenedBy tick script times policed
+
+-- What a script with files of rules and times leads to. If a time falls, the text names its line.
+abbrev pub OpensSetup : ℕ → List ℕ → List (List ℕ) → OpenedCard → Type 0
+OpensSetup tick setup texts (Faulty text) = MatchOption (falling_line setup)
+    (OpensTimed tick (without_times setup) (line_times setup) texts (Faulty text))
+    (λ number. text.items ≡ falling_text number)
+OpensSetup tick setup texts (Ready policed) =
+    (falling_line setup ≡ None) × OpensTimed tick (without_times setup) (line_times setup) texts (Ready policed)

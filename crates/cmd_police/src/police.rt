@@ -1,0 +1,318 @@
+//! The cells of a capture, policed.
+
+ghost use Rattle.std.specs.Prelude.{◌≡◌, ◌≢◌, ◌≤◌, ◌++◌, ◌||◌, List, ℕ, Err, IfOk, OnErr, OnOk, option_map};
+ghost use Rattle.card_core.specs.Sections.{answer_to};
+ghost use Rattle.text_io.specs.Lines.{lines_of};
+ghost use Rattle.card_core.specs.Agreement.{CoreAgrees};
+ghost use Rattle.card_core.specs.World.{Connection, World};
+ghost use Rattle.line_record.specs.History.{numbered};
+ghost use Rattle.text_io.specs.Devices.{IsPart};
+ghost use Rattle.text_io.specs.Failures.{write_failures};
+ghost use Rattle.text_io.specs.Serving.{IsServed};
+ghost use Rattle.cmd_police.specs.PoliceLines.{excess_of_answer};
+ghost use Rattle.cmd_police.specs.PoliceText.{IsPoliceText, police_gap};
+ghost use Rattle.cmd_police.specs.inner.ExcessLeft.{IsKeptOnLine, LeavesConnection, excess_left, first_met};
+ghost use Rattle.cmd_police.specs.SpanCounts.{spans_start, ticks_of_span};
+ghost use Rattle.cmd_police.specs.inner.PoliceShown.{AddsCell};
+ghost use Rattle.cmd_police.specs.inner.SpansShown.{ShowsSpans, own_begun_after};
+
+use crate::cell_lines::{add_line, has_line};
+use crate::connection_counts::add_counts;
+use crate::not_judged::{NotJudged, add_not_judged};
+use crate::run_comments::add_run_comments;
+use crate::scope::PoliceScope;
+use crate::setting_up::{SetUp, set_up};
+use crate::span_length::SpanLength;
+use crate::spans::Spans;
+use crate::stored_commands::add_waiting;
+use crate::timed_card::TimedCard;
+use captures::{Fault, Tick};
+use captures_text::{CellFollower, CellLines, CountedCell, PassedOver, add_closing, follow_cells};
+use card_core::{Core, Judgement, Unjudged};
+use leaky::{Excess, Levels, Verdict, excess_at};
+use line_record::Line;
+use std::alloc::{AllocError, Global};
+use std::thread::Threads;
+use text_io::{Done, Input, Output, RunFault, Turn, give_last};
+use upc_cell::{Cell, Side, Vc};
+
+/// Returns the item with this number, counted from 1, if there is one.
+fn numbered<T: Copy>(items: &[T], number: u32) -> Option<T>
+    ensures { result ≡ numbered items.now number }
+{
+    if number == 0 {
+        return None;
+    }
+    items.get(number as usize - 1).copied()
+}
+
+/// Returns the levels of a contract after a cell with this verdict, as far as its excess depends on them: a tagged cell conformed to bucket 1,
+/// and filled it.
+fn met_after(verdict: Verdict, levels: Levels) -> Levels
+    ensures first { result.first ≡ first_met verdict levels.first }
+    ensures second { result.second ≡ levels.second }
+{
+    match verdict {
+        Verdict::Tag => Levels {
+            first: 0,
+            second: levels.second,
+        },
+        Verdict::Pass | Verdict::Discard | Verdict::Refuse => levels,
+    }
+}
+
+/// Returns by how much a cell came too early that was judged so on this line, and didn't pass. The line is as the cell left it.
+fn excess_left(line: &Line, judged: &Judgement, clp: bool) -> Option<Excess>
+    ensures { (connection : Connection) → IsKeptOnLine connection line.now → line.now.state.last ≤ judged.now.moment
+        → result ≡ excess_left connection judged.now.value judged.now.verdict clp judged.now.moment }
+{
+    let contract = numbered(line.contracts(), judged.value)?;
+    let levels = numbered(line.state().levels.as_slice(), judged.value)?;
+    let met = met_after(judged.verdict, levels);
+    excess_at(&contract, &met, clp, judged.moment)
+}
+
+/// Returns by how much a cell came too early that arrived with this answer. Only the line of a cell that didn't pass is read, and only
+/// after the cell: what a cell doesn't conform to it doesn't change.
+fn excess_of(
+    core: &Core,
+    vc: Vc,
+    clp: bool,
+    decision: &Result<Judgement, Unjudged>,
+) -> Option<Excess>
+    ensures { (before after : World) (cell : List ℕ) → CoreAgrees core.now after
+        → LeavesConnection before.connections after.connections vc clp (answer_to cell decision.now)
+        → result ≡ excess_of_answer before vc clp (answer_to cell decision.now) }
+{
+    let Ok(judged) = decision else {
+        return None;
+    };
+    if judged.verdict == Verdict::Pass {
+        return None;
+    }
+    let line = core.line_of(vc)?;
+    excess_left(line, judged, clp)
+}
+
+/// Appends the text for a cell that arrived with this answer. Returns whether the heading is written then. The core is as the cell left it.
+#[inline(always)]
+fn add_cell(
+    answers: &mut Vec<u8>,
+    side: Side,
+    lines: CellLines,
+    begun: bool,
+    number: u64,
+    moment: u64,
+    vc: Vc,
+    clp: bool,
+    decision: &Result<Judgement, Unjudged>,
+    core: &Core,
+) -> Result<bool, AllocError>
+    ensures { (cell : List ℕ) → IfOk result (AddsCell side lines begun number moment vc clp (answer_to cell decision.now) core.now
+        answers.old.items answers.new.items) }
+{
+    if !has_line(lines, decision) {
+        return Ok(begun);
+    }
+    let excess = excess_of(core, vc, clp, decision);
+    add_line(
+        answers, side, begun, number, moment, vc, clp, decision, excess,
+    )?;
+    Ok(true)
+}
+
+/// Appends an empty line if there are lines before it.
+pub(crate) fn add_gap(answers: &mut Vec<u8>, begun: bool) -> Result<(), AllocError>
+    ensures { OnOk result (answers.new.items ≡ answers.old.items ++ police_gap begun) }
+{
+    if !begun {
+        return Ok(());
+    }
+    answers.push(b'\n')?;
+    Ok(())
+}
+
+/// Returns whether one of both is true.
+fn either(one: bool, other: bool) -> bool
+    ensures { result ≡ (one || other) }
+{
+    one || other
+}
+
+/// Returns whether lines are written before the table.
+fn has_lines_before(begun: bool, spans: &Spans, commanded: bool) -> bool
+    ensures { result ≡ ((begun || own_begun_after spans.now) || commanded) }
+{
+    begun || spans.is_begun_after() || commanded
+}
+
+/// What is chosen for a run of `police`.
+#[derive(Clone, Copy, Debug)]
+pub struct PoliceChoice {
+    /// How many threads may work at once.
+    pub threads: usize,
+    /// Which cells are policed, and what is written about them.
+    pub scope: PoliceScope,
+}
+
+/// A run of `police`.
+#[derive(Drop)]
+pub(crate) struct PoliceRun {
+    /// Which cells have lines.
+    lines: CellLines,
+    /// How long a tick is.
+    tick: Tick,
+    timed: TimedCard,
+    /// Whether commands were carried out.
+    commanded: bool,
+    /// Whether the heading was written.
+    begun: bool,
+    spans: Spans,
+    not_judged: NotJudged,
+}
+
+impl CellFollower for PoliceRun {
+    ghost use Rattle.cmd_police.specs.PoliceText.{PoliceWorld, police_rules};
+    ghost use Rattle.cmd_police.specs.inner.PoliceShown.{ShowsPolice};
+    ghost use Rattle.cmd_police.specs.inner.PoliceTotal.{police-total};
+
+    ghost World = { PoliceWorld };
+
+    ghost shows = { ShowsPolice };
+
+    ghost rules = { police_rules };
+
+    #[inline(always)]
+    fn follow_cell(
+        &mut self,
+        counted: &CountedCell,
+        answers: &mut Vec<u8>,
+    ) -> Result<Turn, AllocError> {
+        let cell = &counted.cell;
+        let moment = counted.moment;
+        let carried = self.timed.carry_out(moment, answers)?;
+        self.commanded = either(self.commanded, carried);
+        let side = self.timed.core().shape().side;
+        let vc = cell.vc_at(side);
+        self.spans.go_on(moment, answers)?;
+        let Some(decision) = self.timed.arrive(cell, moment) else {
+            return Ok(Turn::GoesOn);
+        };
+        self.begun = add_cell(
+            answers,
+            side,
+            self.lines,
+            self.begun,
+            counted.number,
+            moment,
+            vc,
+            cell.clp(),
+            &decision,
+            self.timed.core(),
+        )?;
+        self.spans.count(vc, &decision)?;
+        self.not_judged.count(counted.number, &decision);
+        Ok(Turn::GoesOn)
+    }
+
+    fn close(
+        &self,
+        passed: &PassedOver,
+        ending: Option<Fault>,
+        answers: &mut Vec<u8>,
+    ) -> Result<(), AllocError> {
+        self.spans.add_present(answers)?;
+        add_gap(
+            answers,
+            has_lines_before(self.begun, &self.spans, self.commanded),
+        )?;
+        add_counts(answers, self.timed.core())?;
+        add_not_judged(answers, &self.not_judged)?;
+        add_waiting(answers, &self.timed.commands)?;
+        add_run_comments(answers, self.tick, passed)?;
+        add_closing(answers, passed, ending)
+    }
+
+    ghost is_total = { police-total };
+}
+
+/// Returns the spans of a run at first.
+fn spans_of(alloc: Global, side: Side, scope: PoliceScope, tick: Tick) -> Spans
+    ensures { ShowsSpans result (spans_start side (option_map (λ nanoseconds. ticks_of_span nanoseconds tick.nanoseconds) scope.every)) }
+{
+    let length = match scope.every {
+        Some(nanoseconds) => Some(SpanLength::new(nanoseconds, tick)),
+        None => None,
+    };
+    Spans::new(alloc, side, length)
+}
+
+/// Writes a text about faults in place of a policed capture.
+///
+/// # Errors
+///
+/// `WriteFailed` if the device failed. The output is then a prefix of the text.
+pub fn write_faults<O: Output>(output: &mut O, mut text: Vec<u8>) -> Result<Done, RunFault>
+    ensures done { IfOk result (λ done. done ≡ Done.Ended) }
+    ensures given { O.is_known → OnOk result (O.held output.new ≡ O.held output.old ++ text.items) }
+    ensures front { O.is_known → OnErr result (IsPart (O.held output.old) (O.held output.new) text.items) }
+    ensures fault { result ≢ Err RunFault.ReadFailed }
+    ensures writing { O.failures output.new ≡ write_failures result (O.failures output.old) }
+{
+    give_last(output, &mut text, Done::Ended)
+}
+
+/// Polices the cells of a capture by a card that a setup script opens, whose lines have these times, one for each. Lines with a time are
+/// carried out before the first cell at or after it. A script with a fault is explained, and nothing is policed. Cells
+/// count, and have their moments, as in `upc-lab cells`. Long journals are dropped, so that any number of cells is judged.
+/// A table has the counts of each connection. If spans are asked for, so have lines for each span of time, after the last of its cells.
+/// docs/LAB.md has the format.
+///
+/// With more than one thread, records are read on one thread while the cells of earlier ones are judged on another, as in
+/// [`follow_cells`]. The output is the same.
+///
+/// Memory is bounded: that of the card, of the counts of each connection in one span, and that of [`follow_cells`].
+///
+/// # Errors
+///
+/// `ReadFailed` or `WriteFailed` if that device failed; the run ends at the first failure. `NoMemory` if an
+/// allocation fails. The output is then a prefix of the text.
+pub fn police_capture<R: Threads, I: Input + Send, O: Output>(
+    rt: &R,
+    alloc: Global,
+    setup: &[u8],
+    times: &[Option<u64>],
+    choice: PoliceChoice,
+    tick: Tick,
+    input: &mut I,
+    output: &mut O,
+) -> Result<Done, RunFault>
+    ensures { IsServed (IsPoliceText choice.scope tick.nanoseconds setup.now times.now) I.Input input.old input.new O.Output output.old output.new result }
+{
+    match set_up(alloc, setup, times, tick) {
+        Err(_) => Err(RunFault::NoMemory),
+        Ok(SetUp::Faulty(text)) => write_faults(output, text),
+        Ok(SetUp::Ready(timed)) => {
+            let spans = spans_of(alloc, timed.core().shape().side, choice.scope, tick);
+            let mut run = PoliceRun {
+                lines: choice.scope.lines,
+                tick,
+                timed,
+                commanded: false,
+                begun: false,
+                spans,
+                not_judged: NotJudged::none(),
+            };
+            follow_cells(
+                rt,
+                choice.threads,
+                alloc,
+                tick,
+                choice.scope.link,
+                input,
+                output,
+                &mut run,
+            )
+        }
+    }
+}

@@ -1,0 +1,157 @@
+//! The card of a setup script, for programs that ask it cell by cell.
+
+ghost use Rattle.std.specs.Prelude.{◌≡◌, ◌++◌, IfOk, OnOk};
+ghost use Rattle.text_io.specs.Words.{is_filled};
+ghost use Rattle.cmd_run.specs.RunText.{IsLed};
+ghost use Rattle.cmd_police.specs.PolicedCards.{OpensPolicedCard, OpensSetup, OpensTimed, PolicedWorld, PolicesOneCell, ShowsPoliced, policed_report};
+ghost use Rattle.cmd_police.specs.RulesFiles.{octets_of_texts};
+
+use crate::cell_lines::verdict_in;
+use crate::connection_counts::add_counts;
+use crate::expanding::{Expanded, expand_setup};
+use crate::not_judged::{NotJudged, add_not_judged};
+use crate::police::add_gap;
+use crate::run_comments::add_run_comments;
+use crate::setting_up::{SetUp, set_up};
+use crate::shared_text::SharedText;
+use crate::stored_commands::add_waiting;
+use crate::timed_card::TimedCard;
+use crate::timed_lines::{TimedScript, take_times};
+use captures::{Fault, Tick};
+use captures_text::{CountedCell, PassedOver, add_closing};
+use leaky::Verdict;
+use std::alloc::{AllocError, Global};
+use text_words::add_text;
+
+/// The card that a setup script opens, the commands that wait, and the cells that it didn't judge.
+#[derive(Drop)]
+pub struct PolicedCard {
+    timed: TimedCard,
+    /// How long a tick is.
+    tick: Tick,
+    not_judged: NotJudged,
+    /// The lines of the commands that were carried out.
+    answers: Vec<u8>,
+}
+
+/// What a setup script leads to.
+#[derive(Drop)]
+pub enum OpenedCard {
+    /// It has a fault, which this text explains.
+    Faulty(Vec<u8>),
+    /// A card.
+    Ready(PolicedCard),
+}
+
+/// Returns whether a text has octets.
+fn is_filled(text: &[u8]) -> bool
+    ensures { result ≡ is_filled text.now }
+{
+    match text {
+        [] => false,
+        [_, ..] => true,
+    }
+}
+
+impl PolicedCard {
+    /// Carries out the commands whose moment has come, takes all steps of a cell at port 0, and returns its verdict, or None if it isn't
+    /// judged. Long journals are dropped, so that any number of cells is judged.
+    ///
+    /// # Errors
+    ///
+    /// An allocation failed, for a command or its line.
+    pub fn judge(&mut self, counted: &CountedCell) -> Result<Option<Verdict>, AllocError>
+        ensures { IfOk result (λ verdict. (before : PolicedWorld) → IsLed before.card → ShowsPoliced self.old before
+            → (after : PolicedWorld) × ShowsPoliced self.new after × PolicesOneCell before counted.now verdict after) }
+    {
+        self.timed.carry_out(counted.moment, &mut self.answers)?;
+        let Some(decision) = self.timed.arrive(&counted.cell, counted.moment) else {
+            return Ok(None);
+        };
+        self.not_judged.count(counted.number, &decision);
+        Ok(verdict_in(&decision))
+    }
+
+    /// Appends the lines of commands, and what `police` prints after its lines about cells: the table of the connections, the comments about
+    /// cells that were not judged, commands that were not carried out, the tick and records that were passed over, and the fault at which the
+    /// reading ended.
+    #[tactic(auto, using(std::proofs::lemmas::List::append_assoc))]
+    pub fn add_report(
+        &self,
+        report: &mut Vec<u8>,
+        passed: &PassedOver,
+        ending: Option<Fault>,
+    ) -> Result<(), AllocError>
+        ensures { (world : PolicedWorld) → ShowsPoliced self.now world
+            → OnOk result (report.new.items ≡ report.old.items ++ policed_report world passed.now ending) }
+    {
+        add_text(report, &self.answers)?;
+        add_gap(report, is_filled(&self.answers))?;
+        add_counts(report, self.timed.core())?;
+        add_not_judged(report, &self.not_judged)?;
+        add_waiting(report, &self.timed.commands)?;
+        add_run_comments(report, self.tick, passed)?;
+        add_closing(report, passed, ending)
+    }
+}
+
+/// Carries out a setup script whose lines have these times, one for each, up to the first time. It opens a card. The report names the tick.
+///
+/// # Errors
+///
+/// An allocation failed.
+pub fn open_card(
+    alloc: Global,
+    script: &[u8],
+    times: &[Option<u64>],
+    tick: Tick,
+) -> Result<OpenedCard, AllocError>
+    ensures { IfOk result (OpensPolicedCard tick.nanoseconds script.now times.now) }
+{
+    match set_up(alloc, script, times, tick)? {
+        SetUp::Faulty(text) => Ok(OpenedCard::Faulty(text)),
+        SetUp::Ready(timed) => Ok(OpenedCard::Ready(PolicedCard {
+            timed,
+            tick,
+            not_judged: NotJudged::none(),
+            answers: Vec::new(alloc),
+        })),
+    }
+}
+
+/// The same of a script that may name files of rules, of which `texts` are the octets.
+fn open_timed(
+    alloc: Global,
+    setup: &[u8],
+    times: &[Option<u64>],
+    texts: &[SharedText],
+    tick: Tick,
+) -> Result<OpenedCard, AllocError>
+    ensures { IfOk result (OpensTimed tick.nanoseconds setup.now times.now (octets_of_texts texts.now)) }
+{
+    match expand_setup(alloc, setup, texts)? {
+        Expanded::Faulty(text) => Ok(OpenedCard::Faulty(text)),
+        Expanded::Itself => open_card(alloc, setup, times, tick),
+        Expanded::Replaced(script) => open_card(alloc, &script, times, tick),
+    }
+}
+
+/// The same of a script that may name files of rules, of which `texts` are the octets, in the order of [`files_read`](crate::files_read),
+/// and times: a line `at TIME COMMAND` is carried out before the first cell at or after that time, and so are the lines after it.
+///
+/// # Errors
+///
+/// An allocation failed.
+pub fn open_setup(
+    alloc: Global,
+    setup: &[u8],
+    texts: &[SharedText],
+    tick: Tick,
+) -> Result<OpenedCard, AllocError>
+    ensures { IfOk result (OpensSetup tick.nanoseconds setup.now (octets_of_texts texts.now)) }
+{
+    match take_times(alloc, setup)? {
+        TimedScript::Ready(script, times) => open_timed(alloc, &script, &times, texts, tick),
+        TimedScript::Falls(text) => Ok(OpenedCard::Faulty(text)),
+    }
+}

@@ -1,0 +1,115 @@
+//! The card that a setup script leads to.
+
+ghost use Rattle.std.specs.Prelude.{IfOk, IfSome, IfNone};
+ghost use Rattle.cmd_explain_script.specs.ScriptText.{IsScriptExplained};
+ghost use Rattle.cmd_police.specs.PoliceText.{IsFaultOfEither};
+ghost use Rattle.cmd_police.specs.inner.SetUpCard.{IsSetUpAs, LeadsScriptTo, RunsWhole};
+
+use crate::stored_commands::{before_times, commands_at};
+use crate::timed_card::TimedCard;
+use captures::Tick;
+use cmd_explain_script::explain_script;
+use cmd_run::{Policing, ScriptCard};
+use std::alloc::{AllocError, Global};
+use text_io::{Done, ReaderInput, WriterOutput, answer_lines};
+
+/// What a setup script leads to.
+#[derive(Drop)]
+pub(crate) enum SetUp {
+    /// It has faults, which this text explains.
+    Faulty(Vec<u8>),
+    /// A card, and the commands that wait.
+    Ready(TimedCard),
+}
+
+/// The explanation of a script.
+#[derive(Drop)]
+pub(crate) struct Explanation {
+    /// Its text.
+    pub text: Vec<u8>,
+    /// Ended if the script has a fault, Whole if it has none.
+    pub done: Done,
+}
+
+/// Returns the explanation of a script.
+pub(crate) fn explanation_of(alloc: Global, script: &[u8]) -> Result<Explanation, AllocError>
+    ensures { IfOk result (λ explanation. IsScriptExplained script.now explanation.text.items explanation.done) }
+{
+    let mut input = ReaderInput::new(script);
+    let mut output = WriterOutput::new(Vec::new(alloc));
+    match explain_script(alloc, &mut input, &mut output) {
+        Ok(done) => Ok(Explanation {
+            text: output.writer,
+            done,
+        }),
+        Err(_) => Err(AllocError),
+    }
+}
+
+/// Returns the explanation of the faults of a script, if it has any.
+fn faults_of(alloc: Global, script: &[u8]) -> Result<Option<Vec<u8>>, AllocError>
+    ensures faulty { IfOk result (λ found. IfSome found (λ text. IsScriptExplained script.now text.items Done.Ended)) }
+    ensures faultless { IfOk result (λ found. IfNone found (RunsWhole script.now)) }
+{
+    let explanation = explanation_of(alloc, script)?;
+    match explanation.done {
+        Done::Ended => Ok(Some(explanation.text)),
+        Done::Whole => Ok(None),
+    }
+}
+
+/// Returns the explanation of the faults of a script whose lines have these times, of which `before` are those before the first time.
+fn faults_at_times(
+    alloc: Global,
+    script: &[u8],
+    before: &[u8],
+) -> Result<Option<Vec<u8>>, AllocError>
+    ensures faulty { IfOk result (λ found. IfSome found (λ text. IsFaultOfEither script.now before.now text.items)) }
+    ensures faultless { IfOk result (λ found. IfNone found (RunsWhole script.now)) }
+    ensures faultless_before { IfOk result (λ found. IfNone found (RunsWhole before.now)) }
+{
+    if let Some(text) = faults_of(alloc, script)? {
+        return Ok(Some(text));
+    }
+    faults_of(alloc, before)
+}
+
+/// Returns the card that a script without a fault leads to.
+fn card_of(alloc: Global, script: &[u8]) -> Result<ScriptCard, AllocError>
+    requires { RunsWhole script.now }
+    ensures { IfOk result (λ card. IsSetUpAs script.now card) }
+{
+    let mut input = ReaderInput::new(script);
+    let mut output = WriterOutput::new(Vec::new(alloc));
+    let mut policing = Policing::new(alloc);
+    match answer_lines(alloc, &mut input, &mut output, &mut policing) {
+        Ok(Done::Whole) => match policing.into_card() {
+            Some(card) => Ok(card),
+            None => unreachable!(),
+        },
+        Ok(Done::Ended) => unreachable!(),
+        Err(_) => Err(AllocError),
+    }
+}
+
+/// Carries out a setup script up to its first time. The commands after it wait.
+pub(crate) fn set_up(
+    alloc: Global,
+    script: &[u8],
+    times: &[Option<u64>],
+    tick: Tick,
+) -> Result<SetUp, AllocError>
+    ensures { IfOk result (LeadsScriptTo tick.nanoseconds script.now times.now) }
+{
+    let before = before_times(script, times);
+    if let Some(text) = faults_at_times(alloc, script, before)? {
+        return Ok(SetUp::Faulty(text));
+    }
+    let card = card_of(alloc, before)?;
+    let commands = commands_at(alloc, tick, times, script)?;
+    Ok(SetUp::Ready(TimedCard {
+        alloc,
+        card,
+        commands,
+    }))
+}

@@ -1,0 +1,127 @@
+//! The cells of a capture, policed by a setup script with files of rules.
+
+ghost use Rattle.std.specs.Prelude.{IfOk, option_map};
+ghost use Rattle.text_io.specs.Devices.{Adds};
+ghost use Rattle.text_io.specs.Serving.{IsServed};
+ghost use Rattle.cmd_police.specs.RulesFiles.{octets_of_texts};
+ghost use Rattle.cmd_police.specs.FaultyRules.{HasFaultyRules};
+ghost use Rattle.cmd_police.specs.RulesFiles.{IsFaultOfRules, MayBeFaultOfRules};
+ghost use Rattle.cmd_police.specs.SetupText.{IsPolicedAsAgreed, IsSetupPoliced, IsTimedPolicedBy, MayBePolicedAsAgreed, MayBeSetupPoliced};
+
+use crate::expanding::{Expanded, expand_setup};
+use crate::police::{PoliceChoice, police_capture, write_faults};
+use crate::setup_tick::{add_ticks_differ, agreed_tick};
+use crate::shared_text::SharedText;
+use crate::timed_lines::{TimedScript, take_times};
+use captures::Tick;
+use std::alloc::Global;
+use std::thread::Threads;
+use text_io::{Done, Input, Output, RunFault};
+
+/// Polices the cells of a capture, as [`police_setup`] does, by a setup script whose lines have these times, which are not in the script any
+/// more.
+fn police_timed<R: Threads, I: Input + Send, O: Output>(
+    rt: &R,
+    alloc: Global,
+    setup: &[u8],
+    times: &[Option<u64>],
+    texts: &[SharedText],
+    choice: PoliceChoice,
+    tick: Tick,
+    input: &mut I,
+    output: &mut O,
+) -> Result<Done, RunFault>
+    ensures served { IsServed (IsTimedPolicedBy MayBeFaultOfRules choice.scope tick.nanoseconds setup.now times.now (octets_of_texts texts.now))
+        I.Input input.old input.new O.Output output.old output.new result }
+    ensures policed { I.is_known → O.is_known → IfOk result (λ done.
+        Adds (λ text. IsTimedPolicedBy IsFaultOfRules choice.scope tick.nanoseconds setup.now times.now (octets_of_texts texts.now) (I.rest input.old) text done)
+        (O.held output.old) (O.held output.new)) }
+{
+    match expand_setup(alloc, setup, texts) {
+        Err(_) => Err(RunFault::NoMemory),
+        Ok(Expanded::Faulty(text)) => write_faults(output, text),
+        Ok(Expanded::Itself) => {
+            police_capture(rt, alloc, setup, times, choice, tick, input, output)
+        }
+        Ok(Expanded::Replaced(script)) => {
+            police_capture(rt, alloc, &script, times, choice, tick, input, output)
+        }
+    }
+}
+
+/// Polices the cells of a capture, as [`police_capture`] does, by a setup script that may name files of rules and times. `texts` are the
+/// octets of these files, in the order of [`files_read`](crate::files_read). Each line `rules NAME` loads the program of its text, as the
+/// next program of the script. If a text has a fault, the output is its fault line, and the line of the script that names it; no cell is
+/// policed then. A line `at TIME COMMAND` is carried out before the first cell at or after that time, and so are the lines after it.
+/// docs/LAB.md has the format.
+///
+/// Memory is that of [`police_capture`], the script with the programs of its rules in hexadecimal digits, its lines that wait, and what one
+/// text of rules is compiled in.
+///
+/// # Errors
+///
+/// `ReadFailed` or `WriteFailed` if that device failed; the run ends at the first failure. `NoMemory` if an
+/// allocation fails. The output is then a prefix of the text.
+pub fn police_setup<R: Threads, I: Input + Send, O: Output>(
+    rt: &R,
+    alloc: Global,
+    setup: &[u8],
+    texts: &[SharedText],
+    choice: PoliceChoice,
+    tick: Tick,
+    input: &mut I,
+    output: &mut O,
+) -> Result<Done, RunFault>
+    ensures served { IsServed (MayBeSetupPoliced choice.scope tick.nanoseconds setup.now (octets_of_texts texts.now))
+        I.Input input.old input.new O.Output output.old output.new result }
+    ensures policed { I.is_known → O.is_known → IfOk result (λ done.
+        Adds (λ text. IsSetupPoliced choice.scope tick.nanoseconds setup.now (octets_of_texts texts.now) (I.rest input.old) text done)
+        (O.held output.old) (O.held output.new)) }
+{
+    match take_times(alloc, setup) {
+        Err(_) => Err(RunFault::NoMemory),
+        Ok(TimedScript::Ready(script, times)) => {
+            police_timed(
+                rt, alloc, &script, &times, texts, choice, tick, input, output,
+            )
+        }
+        Ok(TimedScript::Falls(text)) => write_faults(output, text),
+    }
+}
+
+/// Polices the cells of a capture, as [`police_setup`] does, with the tick that the setup script names or the one that was asked for. If they
+/// differ, the output is the fault line about them, and no cell is policed. `setup` is the script without its tick
+/// ([`take_tick`](crate::take_tick)).
+///
+/// # Errors
+///
+/// Those of [`police_setup`].
+pub fn police_as_agreed<R: Threads, I: Input + Send, O: Output>(
+    rt: &R,
+    alloc: Global,
+    setup: &[u8],
+    texts: &[SharedText],
+    choice: PoliceChoice,
+    named: Option<Tick>,
+    asked: Option<Tick>,
+    input: &mut I,
+    output: &mut O,
+) -> Result<Done, RunFault>
+    ensures served { IsServed (MayBePolicedAsAgreed choice.scope (option_map (λ tick. tick.nanoseconds) named) (option_map (λ tick. tick.nanoseconds) asked)
+        setup.now (octets_of_texts texts.now)) I.Input input.old input.new O.Output output.old output.new result }
+    ensures policed { I.is_known → O.is_known → IfOk result (λ done.
+        Adds (λ text. IsPolicedAsAgreed choice.scope (option_map (λ tick. tick.nanoseconds) named) (option_map (λ tick. tick.nanoseconds) asked)
+        setup.now (octets_of_texts texts.now) (I.rest input.old) text done)
+        (O.held output.old) (O.held output.new)) }
+{
+    match agreed_tick(named, asked) {
+        Ok(tick) => police_setup(rt, alloc, setup, texts, choice, tick, input, output),
+        Err(ticks) => {
+            let mut text = Vec::new(alloc);
+            match add_ticks_differ(&mut text, ticks) {
+                Ok(()) => write_faults(output, text),
+                Err(_) => Err(RunFault::NoMemory),
+            }
+        }
+    }
+}

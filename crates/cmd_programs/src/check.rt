@@ -1,0 +1,92 @@
+//! `upc check`: assembles and checks a source.
+
+ghost use Rattle.std.specs.Prelude.{IfOk};
+ghost use Rattle.cmd_programs.specs.Check.{IsCheckText, PrintsCode};
+ghost use Rattle.text_io.specs.Devices.{Adds};
+ghost use Rattle.text_io.specs.Serving.{IsServed};
+
+use crate::answer_texts::{add_asm_fault, add_program};
+use crate::program_reading::check_code;
+use bpf_asm::{AsmFault, AsmKind, assemble};
+use bpf_code::Instr;
+use std::alloc::{AllocError, Global};
+use text_io::{Answerer, Done, Input, Output, RunFault, answer_whole};
+use text_words::add_too_long;
+
+/// The maximum number of octets of a source.
+const MOST_SOURCE_OCTETS: u32 = 1048576;
+
+/// Answers a code: its octets, or its first error.
+fn answer_code(alloc: Global, code: Vec<Instr>, answers: &mut Vec<u8>) -> Result<Done, AllocError>
+    ensures { IfOk result (λ done.
+        Adds (λ text. PrintsCode code.items text done) answers.old.items answers.new.items) }
+{
+    match check_code(code, answers)? {
+        Some(code) => {
+            add_program(alloc, answers, &code)?;
+            Ok(Done::Whole)
+        }
+        None => Ok(Done::Ended),
+    }
+}
+
+/// Answers a source: its code, or its error.
+struct Checking;
+
+impl Answerer for Checking {
+    ghost use Rattle.cmd_programs.specs.Check.{PrintsSource};
+    ghost use Rattle.cmd_programs.specs.inner.CheckLaws.{source-printed};
+    ghost use Rattle.text_words.specs.FaultLines.{too_long};
+
+    ghost prints = { λ checking. PrintsSource };
+
+    ghost allows = { λ checking. PrintsSource };
+
+    ghost too_long = { too_long };
+
+    fn answer(
+        &self,
+        alloc: Global,
+        octets: &[u8],
+        answers: &mut Vec<u8>,
+    ) -> Result<Done, AllocError> {
+        match assemble(alloc, octets) {
+            Ok(code) => answer_code(alloc, code, answers),
+            Err(
+                AsmFault {
+                    kind: AsmKind::NoMemory,
+                    ..
+                },
+            ) => Err(AllocError),
+            Err(fault) => {
+                add_asm_fault(answers, fault)?;
+                Ok(Done::Ended)
+            }
+        }
+    }
+
+    fn refuse(&self, answers: &mut Vec<u8>) -> Result<(), AllocError> {
+        add_too_long(answers)
+    }
+
+    ghost is_wider = { λ checking octets text done prints. prints };
+
+    ghost is_total = { λ checking. source-printed };
+}
+
+/// Answers a source of assembly: the number of instructions of its program and their octets in lower case hexadecimal
+/// digits, or its first error.
+///
+/// # Errors
+///
+/// `ReadFailed` or `WriteFailed` if that device failed; the run ends at the first failure. `NoMemory` if an
+/// allocation fails. The output is then a prefix of the text.
+pub fn check_source<I: Input, O: Output>(
+    alloc: Global,
+    input: &mut I,
+    output: &mut O,
+) -> Result<Done, RunFault>
+    ensures { IsServed IsCheckText I.Input input.old input.new O.Output output.old output.new result }
+{
+    answer_whole(alloc, input, output, MOST_SOURCE_OCTETS, &Checking)
+}

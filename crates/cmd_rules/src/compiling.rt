@@ -1,0 +1,59 @@
+//! `upc-lab rules`: compiles a text of rules.
+
+ghost use Rattle.std.specs.Prelude.{IfOk};
+ghost use Rattle.text_io.specs.Devices.{Adds};
+ghost use Rattle.text_io.specs.Serving.{IsServed};
+ghost use Rattle.cmd_rules.specs.RulesText.{IsRulesText, MayBeRulesText, PrintsRules};
+
+use crate::fault_lines::add_rule_fault;
+use crate::whole_text::{Printed, answer_rules};
+use cmd_programs::add_program;
+use rules_text::{RuleFault, RuleKind, compile_text};
+use std::alloc::{AllocError, Global};
+use text_io::{Done, Input, Output, RunFault};
+
+/// Answers a text: the octets of the program of its rules, or its fault.
+pub(crate) fn answer_by_octets(
+    alloc: Global,
+    text: &[u8],
+    answers: &mut Vec<u8>,
+) -> Result<Done, AllocError>
+    ensures { IfOk result (λ done.
+        Adds (λ answer. PrintsRules text.now answer done) answers.old.items answers.new.items) }
+{
+    match compile_text(alloc, text) {
+        Ok(code) => {
+            add_program(alloc, answers, &code)?;
+            Ok(Done::Whole)
+        }
+        Err(
+            RuleFault {
+                kind: RuleKind::NoMemory,
+                ..
+            },
+        ) => Err(AllocError),
+        Err(fault) => {
+            add_rule_fault(answers, fault)?;
+            Ok(Done::Ended)
+        }
+    }
+}
+
+/// Answers a text of rules: the number of instructions of the program that they are compiled to and its octets in lower case
+/// hexadecimal digits, or the fault of the text with its line and column. docs/RULES.md has the rules.
+///
+/// # Errors
+///
+/// `ReadFailed` or `WriteFailed` if that device failed; the run ends at the first failure. `NoMemory` if an
+/// allocation fails. The output is then a prefix of the answer.
+pub fn compile_rules<I: Input, O: Output>(
+    alloc: Global,
+    input: &mut I,
+    output: &mut O,
+) -> Result<Done, RunFault>
+    ensures served { IsServed MayBeRulesText I.Input input.old input.new O.Output output.old output.new result }
+    ensures printed { I.is_known → O.is_known → IfOk result (λ done.
+        Adds (λ answer. IsRulesText (I.rest input.old) answer done) (O.held output.old) (O.held output.new)) }
+{
+    answer_rules(alloc, Printed::Octets, input, output)
+}

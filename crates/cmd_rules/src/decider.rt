@@ -1,0 +1,188 @@
+//! Which line of rules decides a cell. Most rules are compiled for that, with their places as their values, so the time of a cell doesn't
+//! grow with rules that can't hold.
+
+ghost use Rattle.std.specs.Prelude.{◌≡◌, ◌<◌, ◌^◌, ℕ, suc, length, Ok, IfOk, IfErr, IfSome, OnOk, slice_get};
+ghost use Rattle.bpf_interp.specs.Value.{Value};
+ghost use Rattle.rules_cells.specs.Decisions.{decision_of};
+ghost use Rattle.rules_cells.specs.Fields.{IsCell};
+ghost use Rattle.rules_text.specs.DecisionsRead.{rules_decide};
+ghost use Rattle.rules_text.specs.NumberedText.{numbered_read};
+ghost use Rattle.rules_text.specs.RulesRead.{RulesRead, rules_read};
+ghost use Rattle.rules_text.specs.TextFaults.{IsCompilingFault};
+ghost use Rattle.rules_text.specs.TextOfRules.{numbered_in, rules_in};
+ghost use Rattle.std.proofs.Props.{props};
+ghost use Rattle.cmd_rules.specs.WhyText.{HasCode};
+ghost use Rattle.cmd_rules.specs.inner.Places.{GivesPlaces, decision_by_place, line_by_place, lines_by_place, place_value, value_of_line};
+
+use bpf_interp::run;
+use bpf_verify::Program;
+use rules_cells::{CodeFault, Decision, RuleLine, Rules, compile, decide};
+use rules_text::{NumberedRules, RuleFault, RuleKind, compile_text, read_numbered, read_rules};
+use std::alloc::{AllocError, Global};
+use upc_cell::Cell;
+
+/// The fault that an allocation failed.
+const NO_MEMORY: RuleFault = RuleFault {
+    line: 0,
+    column: 0,
+    kind: RuleKind::NoMemory,
+};
+
+/// The line, with this number as its value if it is a rule.
+fn line_by_place(line: RuleLine, number: u32) -> RuleLine
+    ensures { (place : ℕ) → number ≡ suc place → result ≡ line_by_place place line }
+{
+    match line {
+        RuleLine::Rule { test, .. } => RuleLine::Rule {
+            test,
+            value: number,
+        },
+        RuleLine::Block { test } => RuleLine::Block { test },
+        RuleLine::End => RuleLine::End,
+    }
+}
+
+/// The rules with the places of lines, counted from 1, as their values.
+fn rules_by_place(alloc: Global, rules: Rules) -> Result<Rules, AllocError>
+    requires { length rules.lines.items < 2 ^ 32 }
+    ensures side { IfOk result (λ made. made.side ≡ rules.side) }
+    ensures lines { IfOk result (λ made. made.lines.items ≡ lines_by_place 0 rules.lines.items) }
+    ensures otherwise { IfOk result (λ made. made.otherwise ≡ 0) }
+{
+    let side = rules.side;
+    let mut left = rules.lines;
+    let mut reversed = Vec::new(alloc);
+    while let Some(line) = left.pop() {
+        let number = left.len() as u32 + 1;
+        reversed.push(line_by_place(line, number))?;
+    }
+    reversed.reverse();
+    Ok(Rules {
+        side,
+        lines: reversed,
+        otherwise: 0,
+    })
+}
+
+/// Compiles rules with places as their values. Returns none if that code is too long.
+#[tactic(auto, using(crate::proofs::Places::gives_places))]
+fn places_program(alloc: Global, rules: Rules) -> Result<Option<Program>, AllocError>
+    requires { length rules.lines.items < 2 ^ 32 }
+    ensures { IfOk result (λ found. IfSome found (GivesPlaces (rules_read rules))) }
+{
+    let by_place = rules_by_place(alloc, rules)?;
+    match compile(alloc, &by_place) {
+        Ok(code) => Ok(Some(Program::of_accepted(code))),
+        Err(CodeFault::TooLong) => Ok(None),
+        Err(CodeFault::NoMemory) => Err(AllocError),
+    }
+}
+
+/// Compiles the rules of a text so. Returns none if that can't be done.
+fn places_of_text(alloc: Global, text: &[u8]) -> Result<Option<Program>, AllocError>
+    ensures { IfOk result (λ found. IfSome found (λ program. (rules : RulesRead) × (rules_in text.now ≡ Ok rules) × GivesPlaces rules program)) }
+{
+    match read_rules(alloc, text) {
+        Ok(rules) => {
+            if rules.lines.len() > u32::MAX as usize {
+                return Ok(None);
+            }
+            places_program(alloc, rules)
+        }
+        Err(
+            RuleFault {
+                kind: RuleKind::NoMemory,
+                ..
+            },
+        ) => Err(AllocError),
+        Err(_) => Ok(None),
+    }
+}
+
+/// The value of the rule at a place.
+fn value_at(lines: &[RuleLine], place: usize) -> u32
+    ensures { result ≡ value_of_line (slice_get lines.now place) }
+{
+    match lines.get(place) {
+        Some(RuleLine::Rule { value, .. }) => *value,
+        Some(RuleLine::Block { .. }) => 0,
+        Some(RuleLine::End) => 0,
+        None => 0,
+    }
+}
+
+/// The decision of the line at a place, counted from 1; 0 is no line.
+fn decision_by_place(rules: &Rules, number: u32) -> Decision
+    ensures { result ≡ decision_by_place rules.now number }
+{
+    if number == 0 {
+        return Decision {
+            line: None,
+            value: rules.otherwise,
+        };
+    }
+    let place = (number - 1) as usize;
+    Decision {
+        line: Some(place),
+        value: value_at(&rules.lines, place),
+    }
+}
+
+/// Octets of this number are a cell, by the type of octets.
+fn is_cell(octets: &[u8])
+    requires { length octets.now ≡ 52 }
+    ensures { IsCell octets.now }
+{
+    let _ = octets;
+}
+
+/// Runs a program on a cell.
+fn value_on(program: &Program, cell: &Cell) -> u32
+    ensures cell { IsCell cell.now }
+    ensures value { (steps : ℕ) × Value program.now cell.now result steps }
+{
+    is_cell(cell.bytes());
+    run(program, cell).value
+}
+
+/// Decides cells by the rules of a text.
+#[derive(Drop)]
+pub(crate) struct Decider {
+    /// The rules, and the source lines that they are written in.
+    pub numbered: NumberedRules,
+    /// A program that gives the place of the line that decides a cell, counted from 1. There is none if it would be too long.
+    pub places: Option<Program>,
+    ghost gives: { IfSome places (GivesPlaces (rules_read numbered.rules)) } by { Prim.hlevel props },
+}
+
+impl Decider {
+    /// Reads a text of rules.
+    ///
+    /// # Errors
+    ///
+    /// As `compile_text` has them, since a text of rules is one that can be compiled.
+    #[tactic(auto, using(crate::proofs::Places::has_code, crate::proofs::Places::places_kept))]
+    pub fn new(alloc: Global, text: &[u8]) -> Result<Decider, RuleFault>
+        ensures rules { IfOk result (λ decider. numbered_in text.now ≡ Ok (numbered_read decider.numbered)) }
+        ensures code { OnOk result (HasCode text.now) }
+        ensures fault { IfErr result (IsCompilingFault text.now) }
+    {
+        compile_text(alloc, text)?;
+        let numbered = read_numbered(alloc, text)?;
+        match places_of_text(alloc, text) {
+            Ok(places) => Ok(Decider { numbered, places }),
+            Err(_) => Err(NO_MEMORY),
+        }
+    }
+
+    /// Decides a cell: returns the line that decides it, and its value.
+    #[tactic(auto, using(crate::proofs::Places::decided_as_read))]
+    pub fn decide(&self, cell: &Cell) -> Decision
+        ensures { result ≡ rules_decide (rules_read self.now.numbered.rules) cell.now }
+    {
+        match &self.places {
+            Some(places) => decision_by_place(&self.numbered.rules, value_on(places, cell)),
+            None => decide(&self.numbered.rules, cell),
+        }
+    }
+}

@@ -1,0 +1,51 @@
+//! The fault line of a text of rules.
+
+ghost use Rattle.std.specs.Prelude.{◌≡◌, ◌++◌, OnOk};
+ghost use Rattle.cmd_rules.specs.RuleFaults.{place_text, rule_fault, rule_name};
+
+use rules_text::{RuleFault, RuleKind};
+use std::alloc::AllocError;
+use text_words::add_number;
+
+/// The number and the name of a fault.
+fn name_of(kind: RuleKind) -> &'static [u8]
+    ensures { result.now ≡ rule_name kind }
+{
+    match kind {
+        RuleKind::BadLine => b"1 BadLine",
+        RuleKind::BadNumber => b"2 BadNumber",
+        RuleKind::TooLarge => b"3 TooLarge",
+        RuleKind::OutsideCell => b"4 OutsideCell",
+        RuleKind::AfterOtherwise => b"5 AfterOtherwise",
+        RuleKind::Unbalanced => b"6 Unbalanced",
+        RuleKind::TooDeep => b"7 TooDeep",
+        RuleKind::TooLong => b"8 TooLong",
+        RuleKind::NoMemory => b"9 NoMemory",
+        RuleKind::UnknownName => b"10 UnknownName",
+        RuleKind::NameTaken => b"11 NameTaken",
+    }
+}
+
+/// Appends a blank, a line and a column, and ends the answer's line.
+#[tactic(auto, using(std::proofs::lemmas::List::append_assoc))]
+fn add_place(answers: &mut Vec<u8>, line: usize, column: usize) -> Result<(), AllocError>
+    ensures { OnOk result (answers.new.items ≡ answers.old.items ++ place_text line column) }
+{
+    answers.push(b' ')?;
+    add_number(answers, line as u64)?;
+    answers.push(b' ')?;
+    add_number(answers, column as u64)?;
+    answers.push(b'\n')?;
+    Ok(())
+}
+
+/// Appends the answer to a text with a fault.
+#[tactic(auto, using(std::proofs::lemmas::List::append_assoc))]
+pub fn add_rule_fault(answers: &mut Vec<u8>, fault: RuleFault) -> Result<(), AllocError>
+    ensures { OnOk result (answers.new.items ≡ answers.old.items ++ rule_fault fault) }
+{
+    answers.extend_from_slice(b"fault rules ")?;
+    answers.extend_from_slice(name_of(fault.kind))?;
+    add_place(answers, fault.line, fault.column)?;
+    Ok(())
+}

@@ -1,0 +1,20 @@
+//! The subcommands of `upc-lab`: `rules` compiles a text of rules, and `why` says which of them decides each cell.
+#![tactic(auto)]
+
+mod annotating;
+mod assembling;
+mod before_cells;
+mod begins;
+mod compiling;
+mod counting;
+mod decider;
+mod deciding;
+mod fault_lines;
+pub mod laws;
+mod whole_text;
+
+pub use assembling::assemble_rules;
+pub use begins::{add_begin, add_decider, begin_at};
+pub use compiling::compile_rules;
+pub use deciding::decide_cells;
+pub use fault_lines::add_rule_fault;

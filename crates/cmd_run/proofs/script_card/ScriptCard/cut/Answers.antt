@@ -1,0 +1,33 @@
+-- The connection's journal is returned, or the desk refuses.
+use Rattle.std.proofs.Common.{◌≡◌, ap, sym, refl}
+use Rattle.card_core.specs.declared.reply.Reply.TheVariants.{Refused, Cut as CutOff}
+use Rattle.card_core.specs.declared.step.Step.TheVariants.{Cut}
+use Rattle.cmd_run.specs.RunText.{Obeys, TakesCommand}
+use Rattle.text_script.specs.ScriptCommands.{cut}
+use Rattle.text_card.proofs.Public.{adds-some}
+use Rattle.cmd_run.specs.ShownCard.{Held}
+use Rattle.cmd_run.proofs.MovesLemmas.{moves-at, moves-taken, no-name, on-ok, on-tie}
+use Rattle.cmd_run.proofs.script_card.ScriptCard.cut.Goals.{in-Ok, in-Err}
+use Rattle.cmd_run.proofs.script_card.ScriptCard.cut.Goals as goal
+
+pub returns : goal.returns
+returns c =
+    let vc = c.args.vc in
+    let old : Held = record { core = c.self.inside.core; names = c.self.inside.names } in
+    let new : Held = record { core = c.cut.new.self; names = c.self.inside.names } in
+    let is : old.core.shape.side ≡ c.shape-side.result.side = ap (λ shape. shape.side) (sym c.shape-side.ensures) in
+    elim c.match-cut.branch [
+      | in-Ok w ↦
+          on-tie (λ before. Obeys before (cut vc)) _ new _ _ _ _ _ w.result-is (ap (λ v. v.items) w.answers-is)
+          (on-ok w.add_cut.result w.add_cut.ensures (λ added.
+          moves-at (λ before. TakesCommand before (cut vc) (Cut vc)) old _ new _ _ c.self.view_is
+          (moves-taken old new c.shape-side.result.side (cut vc) (Cut vc) (CutOff w.in-Ok.piece) _ _ _ is w.in-Ok.ensures.follows (no-name old.names) added
+          (λ before after stepped. refl))))
+      | in-Err w ↦
+          on-tie (λ before. Obeys before (cut vc)) _ new _ _ _ _ _ w.result-is (ap (λ v. v.items) w.answers-is)
+          (on-ok w.add_desk_fault.result w.add_desk_fault.ensures (λ added.
+          let printed = adds-some _ _ _ added in
+          moves-at (λ before. TakesCommand before (cut vc) (Cut vc)) old _ new _ _ c.self.view_is
+          (moves-taken old new c.shape-side.result.side (cut vc) (Cut vc) (Refused w.in-Err.fault) printed.0 _ _ is w.in-Err.ensures.follows (no-name old.names) printed.1
+          (λ before after stepped. printed.2))))
+    ]

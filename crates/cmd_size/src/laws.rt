@@ -1,0 +1,20 @@
+//! Laws of the definitions that this crate's contracts cite. Each function does nothing; its contract is the law.
+
+ghost use Rattle.cmd_size.specs.SetupReading.{SetupTakesContracts};
+ghost use Rattle.cmd_size.specs.Senders.{BurstsOnTimeLoseNothing, SendersOnTimeLoseNothing};
+
+/// A sender at exactly a rate, each of whose cells comes up to the cell delay variation tolerance late, loses no cell in a
+/// bucket of that rate.
+pub fn senders_on_time_lose_nothing()
+    ensures { SendersOnTimeLoseNothing }
+{}
+
+/// Nor does such a sender at the peak rate, for a burst of up to `mbs` cells, in the bucket of the sustained rate.
+pub fn bursts_on_time_lose_nothing()
+    ensures { BurstsOnTimeLoseNothing }
+{}
+
+/// In what is printed of a contract `setup` of `upc run` reads the same kind and buckets, and finds no fault in their numbers.
+pub fn setup_takes_contracts()
+    ensures { SetupTakesContracts }
+{}

@@ -1,5 +1,0 @@
-use Rattle.lab_differ.proofs.LineOfCell.{line_of_cell}
-use Rattle.lab_differ.proofs.laws.each_cell_that_differs_has_its_line.Goals as goal
-
-pub returns : goal.returns
-returns c = line_of_cell

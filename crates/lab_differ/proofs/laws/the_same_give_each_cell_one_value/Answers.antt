@@ -1,5 +1,0 @@
-use Rattle.lab_differ.proofs.LineOfCell.{the_same_give_one}
-use Rattle.lab_differ.proofs.laws.the_same_give_each_cell_one_value.Goals as goal
-
-pub returns : goal.returns
-returns c = the_same_give_one

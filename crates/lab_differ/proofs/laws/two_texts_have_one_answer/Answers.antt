@@ -1,5 +1,0 @@
-use Rattle.lab_differ.proofs.OneAnswer.{differ_same}
-use Rattle.lab_differ.proofs.laws.two_texts_have_one_answer.Goals as goal
-
-pub returns : goal.returns
-returns c = differ_same

@@ -1,9 +1,0 @@
--- Lemmas for other crates.
-use Rattle.std.proofs.Common.{ℕ, List}
-use Rattle.text_io.specs.declared.ending.Done.{Done}
-use Rattle.lab_faults.specs.Explained.{IsExplainText}
-use Rattle.lab_faults.proofs.Answered as explaining
-
--- Every input has an answer.
-pub some-explain_text : (octets : List ℕ) → (text : List ℕ) × (done : Done) × IsExplainText octets text done
-some-explain_text = explaining.some-explain_text

@@ -1,8 +1,0 @@
-use Rattle.std.proofs.Common.{◌≡◌, ◌++◌, ℕ, List, Option, OnOk, subst}
-use Rattle.lab_scripts.specs.Meant.{perhaps_text}
-use Rattle.lab_faults.proofs.bad_lines.add_meant.Goals as goal
-
-pub returns : goal.returns
-returns c =
-    subst (λ (meant : Option (List ℕ)). OnOk c.add_perhaps.result (c.add_perhaps.new.answers.items ≡ c.args.answers.now.items ++ perhaps_text meant))
-    c.near.ensures c.add_perhaps.ensures

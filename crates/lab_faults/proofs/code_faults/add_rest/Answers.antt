@@ -1,4 +1,0 @@
-use Rattle.lab_faults.proofs.code_faults.add_rest.Goals as goal
-
-pub returns-in-Unwritten : goal.returns-in-Unwritten
-returns-in-Unwritten c = rw c.in-Unwritten.is c.add_path.ensures

@@ -1,5 +1,0 @@
-use Rattle.lab_faults.proofs.Outside.{outside_ends_program}
-use Rattle.lab_faults.proofs.laws.a_load_from_outside_ends_the_program.Goals as goal
-
-pub returns : goal.returns
-returns c = outside_ends_program

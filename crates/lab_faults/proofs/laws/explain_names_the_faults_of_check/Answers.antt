@@ -1,5 +1,0 @@
-use Rattle.lab_faults.proofs.SameFaults.{names_faults}
-use Rattle.lab_faults.proofs.laws.explain_names_the_faults_of_check.Goals as goal
-
-pub returns : goal.returns
-returns c = names_faults

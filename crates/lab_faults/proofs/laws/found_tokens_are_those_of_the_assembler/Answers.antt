@@ -1,5 +1,0 @@
-use Rattle.lab_faults.proofs.TokensFound.{finds_tokens}
-use Rattle.lab_faults.proofs.laws.found_tokens_are_those_of_the_assembler.Goals as goal
-
-pub returns : goal.returns
-returns c = finds_tokens

@@ -1,5 +1,0 @@
-use Rattle.lab_fit.proofs.AskedTexts.{one_text}
-use Rattle.lab_fit.proofs.laws.captures_have_one_text.Goals as goal
-
-pub returns : goal.returns
-returns c = one_text

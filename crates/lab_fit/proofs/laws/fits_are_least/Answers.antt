@@ -1,5 +1,0 @@
-use Rattle.lab_fit.proofs.RunLemmas.{fits-are-least}
-use Rattle.lab_fit.proofs.laws.fits_are_least.Goals as goal
-
-pub returns : goal.returns
-returns c = fits-are-least

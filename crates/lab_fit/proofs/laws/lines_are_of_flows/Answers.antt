@@ -1,5 +1,0 @@
-use Rattle.lab_fit.proofs.OrderLemmas.{lines-of-flows}
-use Rattle.lab_fit.proofs.laws.lines_are_of_flows.Goals as goal
-
-pub returns : goal.returns
-returns c = lines-of-flows

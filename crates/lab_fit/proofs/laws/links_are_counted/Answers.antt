@@ -1,5 +1,0 @@
-use Rattle.lab_fit.proofs.LinkLemmas.{links-counted}
-use Rattle.lab_fit.proofs.laws.links_are_counted.Goals as goal
-
-pub returns : goal.returns
-returns c = links-counted

@@ -1,5 +1,0 @@
-use Rattle.lab_fit.proofs.LinkLemmas.{rows-few}
-use Rattle.lab_fit.proofs.laws.rows_are_few.Goals as goal
-
-pub returns : goal.returns
-returns c = rows-few

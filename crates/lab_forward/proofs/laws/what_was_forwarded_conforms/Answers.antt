@@ -1,5 +1,0 @@
-use Rattle.lab_forward.proofs.Conforming.{forwarded_conforms}
-use Rattle.lab_forward.proofs.laws.what_was_forwarded_conforms.Goals as goal
-
-pub returns : goal.returns
-returns c = forwarded_conforms

@@ -1,5 +1,0 @@
-use Rattle.lab_options.proofs.LinkLemmas.{links-spelled}
-use Rattle.lab_options.proofs.laws.links_are_spelled.Goals as goal
-
-pub returns : goal.returns
-returns c = links-spelled

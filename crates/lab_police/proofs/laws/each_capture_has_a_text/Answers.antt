@@ -1,5 +1,0 @@
-use Rattle.lab_police.proofs.EachCapture.{some_police_text}
-use Rattle.lab_police.proofs.laws.each_capture_has_a_text.Goals as goal
-
-pub returns : goal.returns
-returns c = some_police_text

@@ -1,5 +1,0 @@
-use Rattle.lab_police.proofs.LinesKept.{keep_lines}
-use Rattle.lab_police.proofs.laws.programs_keep_lines.Goals as goal
-
-pub returns : goal.returns
-returns c = keep_lines

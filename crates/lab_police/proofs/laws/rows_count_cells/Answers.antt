@@ -1,6 +1,0 @@
--- The law is a lemma.
-use Rattle.lab_police.proofs.SpanRows.{rows_count_cells}
-use Rattle.lab_police.proofs.laws.rows_count_cells.Goals as goal
-
-pub returns : goal.returns
-returns c = rows_count_cells

@@ -1,5 +1,0 @@
-use Rattle.lab_police.proofs.WholeLines.{without_rules}
-use Rattle.lab_police.proofs.laws.scripts_without_rules_stay.Goals as goal
-
-pub returns : goal.returns
-returns c = without_rules

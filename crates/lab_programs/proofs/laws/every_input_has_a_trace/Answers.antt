@@ -1,5 +1,0 @@
-use Rattle.lab_programs.proofs.Public.{some-trace_text}
-use Rattle.lab_programs.proofs.laws.every_input_has_a_trace.Goals as goal
-
-pub returns : goal.returns
-returns c = some-trace_text

@@ -1,5 +1,0 @@
-use Rattle.lab_programs.proofs.LongestSteps.{value_within}
-use Rattle.lab_programs.proofs.laws.no_cell_takes_more_than_the_longest_run.Goals as goal
-
-pub returns : goal.returns
-returns c = value_within

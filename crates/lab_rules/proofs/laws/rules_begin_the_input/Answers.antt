@@ -1,5 +1,0 @@
-use Rattle.lab_rules.proofs.OneText.{rules_begin}
-use Rattle.lab_rules.proofs.laws.rules_begin_the_input.Goals as goal
-
-pub returns : goal.returns
-returns c = rules_begin

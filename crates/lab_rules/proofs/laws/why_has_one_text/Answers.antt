@@ -1,5 +1,0 @@
-use Rattle.lab_rules.proofs.OneText.{why_one_text}
-use Rattle.lab_rules.proofs.laws.why_has_one_text.Goals as goal
-
-pub returns : goal.returns
-returns c = why_one_text

@@ -1,5 +1,0 @@
-use Rattle.lab_scripts.proofs.RefusedCells.{refuses_each_cell}
-use Rattle.lab_scripts.proofs.laws.a_connection_with_a_hint_refuses_each_cell.Goals as goal
-
-pub returns : goal.returns
-returns c = refuses_each_cell

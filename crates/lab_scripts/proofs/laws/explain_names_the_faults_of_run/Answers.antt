@@ -1,5 +1,0 @@
-use Rattle.lab_scripts.proofs.Naming.{names_faults_of_run}
-use Rattle.lab_scripts.proofs.laws.explain_names_the_faults_of_run.Goals as goal
-
-pub returns : goal.returns
-returns c = names_faults_of_run

@@ -1,5 +1,0 @@
-use Rattle.lab_scripts.proofs.WordsFound.{finds_words}
-use Rattle.lab_scripts.proofs.laws.found_words_are_those_of_the_line.Goals as goal
-
-pub returns : goal.returns
-returns c = finds_words

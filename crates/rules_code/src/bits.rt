@@ -1,0 +1,69 @@
+//! Comparisons that ask whether some bits are set.
+
+ghost use Rattle.std.specs.Prelude.{◌≡◌};
+ghost use Rattle.rules_code.specs.BitTests.{above_unit, bits_from, bits_in, bits_of};
+
+use crate::packet_part::Span;
+
+/// A test of bits of a number, which definitions of the generated code name.
+#[derive(Clone, Copy)]
+pub struct BitTest {
+    /// The bits.
+    pub bits: u32,
+    /// Whether the test is that one of them is set, and not that none is.
+    pub set: bool,
+}
+
+/// What the lowest bit of a mask counts.
+pub(crate) fn above_unit(mask: u32) -> u32
+    ensures { result ≡ above_unit mask }
+{
+    1u32 << (mask.trailing_zeros() % 32)
+}
+
+/// The test of bits that a comparison of masked bits with a span is, where the lowest bit of the mask counts this.
+fn bits_in(mask: u32, unit: u32, span: Span) -> Option<BitTest>
+    ensures { result ≡ bits_in mask unit span }
+{
+    if span.low == 0 && span.high < unit {
+        Some(BitTest {
+            bits: mask,
+            set: false,
+        })
+    } else if 0 < span.low && span.low <= unit && mask <= span.high {
+        Some(BitTest {
+            bits: mask,
+            set: true,
+        })
+    } else {
+        None
+    }
+}
+
+/// The test of bits that a comparison of masked bits with a span is, if it is one.
+fn bits_from(mask: u32, span: Span) -> Option<BitTest>
+    ensures { result ≡ bits_from mask (above_unit mask) span }
+{
+    let unit = above_unit(mask);
+    if mask % unit == 0 {
+        bits_in(mask, unit, span)
+    } else {
+        None
+    }
+}
+
+/// The test of bits that a comparison is, if it is one.
+pub(crate) fn bits_of(mask: Option<u32>, first: Span, others: &[Span]) -> Option<BitTest>
+    ensures { result ≡ bits_of mask first others.now }
+{
+    match mask {
+        None => None,
+        Some(mask) => {
+            if others.is_empty() {
+                bits_from(mask, first)
+            } else {
+                None
+            }
+        }
+    }
+}

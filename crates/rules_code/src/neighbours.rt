@@ -1,0 +1,139 @@
+//! Two comparisons of neighbouring bits as one, and the test that each of several holds.
+
+ghost use Rattle.std.specs.Prelude.{◌≡◌, [], ◌∷◌, ◌++◌, IfOk};
+ghost use Rattle.rules_code.specs.Neighbours.{AreParts, IsAllOf, IsSingle, are_neighbours, joined_by, joined_single, single_of};
+
+use crate::bits::above_unit;
+use crate::leaves::is_same_load;
+use crate::packet_part::{Part, Single, Span};
+use crate::plain_test::PlainTest;
+use std::alloc::{AllocError, Global};
+use std::mem;
+
+/// The comparison of masked bits with one span that a test is, if it is one.
+fn single_of(test: &PlainTest) -> Option<Single>
+    ensures { result ≡ single_of test.now }
+{
+    match test {
+        PlainTest::Among {
+            part,
+            first,
+            others,
+        } => match part.mask {
+            None => None,
+            Some(mask) => {
+                if others.is_empty() {
+                    Some(Single {
+                        part: *part,
+                        mask,
+                        span: *first,
+                    })
+                } else {
+                    None
+                }
+            }
+        },
+        _ => None,
+    }
+}
+
+/// Whether the first has one number, and its bits are above those of the second in the same octets.
+fn are_neighbours(high: Single, low: Single) -> bool
+    ensures { result ≡ are_neighbours high low }
+{
+    let unit = above_unit(high.mask);
+    is_same_load(high.part, low.part)
+        && high.span.low == high.span.high
+        && high.mask % unit == 0
+        && high.span.low % unit == 0
+        && low.mask < unit
+        && low.span.low < unit
+        && low.span.high < unit
+}
+
+/// The comparison that the comparisons of neighbours are together.
+fn joined_by(high: Single, low: Single) -> Single
+    ensures { result ≡ joined_by high low }
+{
+    Single {
+        part: high.part,
+        mask: high.mask | low.mask,
+        span: Span {
+            low: high.span.low | low.span.low,
+            high: high.span.low | low.span.high,
+        },
+    }
+}
+
+/// The one comparison that two tests are together, if they are neighbours.
+fn joined_single(one: &PlainTest, other: &PlainTest) -> Option<Single>
+    ensures { result ≡ joined_single one.now other.now }
+{
+    match (single_of(one), single_of(other)) {
+        (Some(one), Some(other)) => {
+            if are_neighbours(one, other) {
+                Some(joined_by(one, other))
+            } else if are_neighbours(other, one) {
+                Some(joined_by(other, one))
+            } else {
+                None
+            }
+        }
+        _ => None,
+    }
+}
+
+/// A comparison of masked bits with one span, as a test.
+fn compared(alloc: Global, single: Single) -> PlainTest
+    ensures { IsSingle single result }
+{
+    PlainTest::Among {
+        part: Part {
+            size: single.part.size,
+            at: single.part.at,
+            mask: Some(single.mask),
+        },
+        first: single.span,
+        others: Vec::new(alloc),
+    }
+}
+
+/// The parts that a test and those after it make, each joined to the one before it if they are neighbours: those before
+/// the last, and the last.
+fn parts_of(
+    alloc: Global,
+    first: PlainTest,
+    others: Vec<PlainTest>,
+) -> Result<(Vec<PlainTest>, PlainTest), AllocError>
+    ensures { IfOk result (λ parts. AreParts first others.items (parts.0.items ++ parts.1 ∷ [])) }
+{
+    let mut parts = Vec::new(alloc);
+    let mut last = first;
+    for test in others {
+        match joined_single(&last, &test) {
+            Some(single) => last = compared(alloc, single),
+            None => parts.push(mem::replace(&mut last, test))?,
+        }
+    }
+    Ok((parts, last))
+}
+
+/// The test that each of these tests holds. Comparisons of neighbouring bits, as those of a path and of a channel, become
+/// one. A test that is left alone is itself. If there is none, the test always holds. It isn't inlined: callers call themselves for tests
+/// in tests, and each of their frames would have room for this.
+#[inline(never)]
+pub fn all_of(alloc: Global, tests: Vec<PlainTest>) -> Result<PlainTest, AllocError>
+    ensures { IfOk result (IsAllOf tests.items) }
+{
+    let mut tests = tests;
+    if tests.is_empty() {
+        return Ok(PlainTest::Always);
+    }
+    let first = tests.remove(0);
+    let (mut parts, last) = parts_of(alloc, first, tests)?;
+    if parts.is_empty() {
+        return Ok(last);
+    }
+    parts.push(last)?;
+    Ok(PlainTest::AllOf(parts))
+}

@@ -1,0 +1,155 @@
+//! The comparison of rules or programs.
+
+ghost use Rattle.std.specs.Prelude.{◌≡◌, ◌==◌, ◌↔◌, ℕ, List, map, IfOk, IsTrue};
+ghost use Rattle.rules_diagrams.specs.Cases.{AreCases, AreCasesOf, GiveOneValue, GiveSame};
+ghost use Rattle.rules_diagrams.specs.ComparedCases.{AreComparedCases};
+ghost use Rattle.rules_diagrams.specs.inner.CaseLists.{IsShown, case_of, have_one_value};
+ghost use Rattle.rules_diagrams.specs.inner.Values.{IsWithin};
+ghost use Rattle.rules_cells.specs.declared.deciding.Decision.{Decision as Decided};
+ghost use Rattle.rules_cells.specs.declared.rules.Rules.{Rules as Written};
+
+use crate::case::Case;
+use crate::compared::{Compared, decision_with, shown};
+use crate::diagram::Diagram;
+use crate::fault::{Uncompared, Undecided, Unfollowed};
+use crate::lines::deciding_lines;
+use crate::meeting::{Both, Meeting};
+use crate::store::Diagrams;
+use crate::walk::meetings;
+use rules_cells::{Rules, laws};
+use std::alloc::{AllocError, Global};
+
+/// The case of a meeting.
+fn case_of(old: Compared<'_>, new: Compared<'_>, meeting: &Meeting) -> Case
+    ensures { result ≡ case_of old.entry new.entry meeting.now }
+{
+    Case {
+        old: decision_with(old, &meeting.cell, meeting.one),
+        new: decision_with(new, &meeting.cell, meeting.other),
+        cell: meeting.cell,
+    }
+}
+
+/// The cases of meetings.
+fn cases_of(
+    alloc: Global,
+    old: Compared<'_>,
+    new: Compared<'_>,
+    meetings: &[Meeting],
+) -> Result<Vec<Case>, AllocError>
+    ensures { IfOk result (λ cases. cases.items ≡ map (case_of old.entry new.entry) meetings.now) }
+{
+    let mut cases = Vec::new(alloc);
+    for meeting in meetings {
+        cases.push(case_of(old, new, meeting))?;
+    }
+    Ok(cases)
+}
+
+/// The cases of old and new rules: what they decide for cells. Each two decisions that a cell gets are a case, once, with the least
+/// cell that gets them; the cases are in the order of these cells.
+///
+/// # Errors
+///
+/// `TooLarge` if there are too many cases to decide: more than [`MOST_NODES`](crate::MOST_NODES) nodes for either rules, more than
+/// [`MOST_STEPS`](crate::MOST_STEPS) steps, or more than [`MOST_MEETINGS`](crate::MOST_MEETINGS) cases. `NoMemory` if an allocation failed.
+pub fn compare(alloc: Global, old: &Rules, new: &Rules) -> Result<Vec<Case>, Undecided>
+    ensures { IfOk result (λ cases. AreCases old.now new.now cases.items) }
+{
+    laws::the_first_rule_decides();
+    let mut one = Diagrams::new(alloc)?;
+    let mut other = Diagrams::new(alloc)?;
+    let both = Both {
+        one: deciding_lines(alloc, &mut one, old)?,
+        other: deciding_lines(alloc, &mut other, new)?,
+    };
+    let met = meetings(alloc, &one, &other, both)?;
+    let cases = cases_of(alloc, Compared::Rules(old), Compared::Rules(new), &met)?;
+    Ok(cases)
+}
+
+/// The diagram of what is old.
+fn old_shown(
+    alloc: Global,
+    diagrams: &mut Diagrams,
+    old: Compared<'_>,
+) -> Result<Diagram, Uncompared>
+    ensures within { IfOk result (IsWithin diagrams.new) }
+    ensures shown { IfOk result (IsShown diagrams.new old.entry) }
+{
+    match shown(alloc, diagrams, old) {
+        Ok(diagram) => Ok(diagram),
+        Err(Unfollowed::At(place)) => Err(Uncompared::Old(place)),
+        Err(Unfollowed::Undecided(why)) => Err(Uncompared::Undecided(why)),
+    }
+}
+
+/// The diagram of what is new.
+fn new_shown(
+    alloc: Global,
+    diagrams: &mut Diagrams,
+    new: Compared<'_>,
+) -> Result<Diagram, Uncompared>
+    ensures within { IfOk result (IsWithin diagrams.new) }
+    ensures shown { IfOk result (IsShown diagrams.new new.entry) }
+{
+    match shown(alloc, diagrams, new) {
+        Ok(diagram) => Ok(diagram),
+        Err(Unfollowed::At(place)) => Err(Uncompared::New(place)),
+        Err(Unfollowed::Undecided(why)) => Err(Uncompared::Undecided(why)),
+    }
+}
+
+/// The cases of what old and new rules or programs decide for cells, as [`compare`] lists them. No line of a program decides: the
+/// decision has its value and no line.
+///
+/// # Errors
+///
+/// `Old` or `New` if a program isn't followed, with the place of the first instruction that some path meets with operands that aren't
+/// followed. `TooLarge` and `NoMemory` as for [`compare`], and `TooLarge` if too much would have to be remembered of a program.
+pub fn compare_sides(
+    alloc: Global,
+    old: Compared<'_>,
+    new: Compared<'_>,
+) -> Result<Vec<Case>, Uncompared>
+    ensures { IfOk result (λ cases. AreComparedCases old.entry new.entry cases.items) }
+{
+    laws::the_first_rule_decides();
+    let mut one = Diagrams::new(alloc)?;
+    let mut other = Diagrams::new(alloc)?;
+    let both = Both {
+        one: old_shown(alloc, &mut one, old)?,
+        other: new_shown(alloc, &mut other, new)?,
+    };
+    let met = meetings(alloc, &one, &other, both)?;
+    let cases = cases_of(alloc, old, new, &met)?;
+    Ok(cases)
+}
+
+/// Whether old and new give each cell the same value, by their cases.
+pub fn give_same(cases: &[Case]) -> bool
+    ensures rules { (old new : Written) → AreCases old new cases.now → (IsTrue result ↔ GiveSame old new) }
+    ensures decisions { (was is : List ℕ → Decided) → AreCasesOf was is cases.now → (IsTrue result ↔ GiveOneValue was is) }
+{
+    laws::the_first_rule_decides();
+    have_one_value(cases)
+}
+
+/// Whether a case has one value.
+fn has_one_value(case: &Case) -> bool
+    ensures { result ≡ (case.now.old.value == case.now.new.value) }
+{
+    case.old.value == case.new.value
+}
+
+/// Whether each case has one value.
+fn have_one_value(cases: &[Case]) -> bool
+    ensures { result ≡ have_one_value cases.now }
+{
+    for case in cases {
+        if !has_one_value(case) {
+            return false;
+        }
+    }
+    true
+}

@@ -1,0 +1,313 @@
+//! What one instruction makes of what is known of a machine.
+
+ghost use Rattle.std.specs.Prelude.{◌≡◌, ◌≤◌, ◌<◌, ◌+◌, ◌^◌, ℕ, List, ◌∷◌, Some, slice_get, option_map, IfOk, IfSome};
+ghost use Rattle.bpf_code.specs.declared.instr.Instr.{Instr as Written};
+ghost use Rattle.bpf_interp.specs.Arithmetic.{negated as minus};
+ghost use Rattle.bpf_interp.specs.Packet.{octets_loaded};
+ghost use Rattle.bpf_interp.specs.State.{At};
+ghost use Rattle.bpf_interp.specs.Step.{Does};
+ghost use Rattle.rules_diagrams.specs.CellNumbers.{octets_number};
+ghost use Rattle.rules_diagrams.specs.inner.Following.{AreLoaded, IsFollowed, LoadsAt, MakesA, MakesX, OnEach};
+ghost use Rattle.rules_diagrams.specs.inner.Words.{word_number};
+
+use crate::contents::{Contents, Followed};
+use crate::operations::{operand_constant, operated};
+use crate::word::{Bit, constant, constant_of, shifted_left, spelled};
+use bpf_code::{By, Instr, Size, Test};
+use std::alloc::{AllocError, Global};
+use upc_cell::CELL_OCTETS;
+
+/// The same bits, if there are 32.
+fn word_of(bits: &[Bit]) -> Option<[Bit; 32]>
+    ensures { IfSome result (λ word. word ≡ bits.now) }
+{
+    if bits.len() != 32 {
+        return None;
+    }
+    let mut word = [Bit::Zero; 32];
+    word.copy_from_slice(bits);
+    Some(word)
+}
+
+/// Continues at the next place with another A.
+pub(crate) fn with_a(place: usize, contents: &Contents, bits: &[Bit]) -> Followed
+    requires { place + 1 < 2 ^ 64 }
+    ensures { (i : Written) → MakesA i place contents.now bits.now → IsFollowed i place contents.now result }
+{
+    match word_of(bits) {
+        None => Followed::Stops,
+        Some(a) => Followed::Continues {
+            place: place + 1,
+            contents: Contents { a, ..*contents },
+        },
+    }
+}
+
+/// Continues at the next place with another X.
+fn with_x(place: usize, contents: &Contents, bits: &[Bit]) -> Followed
+    requires { place + 1 < 2 ^ 64 }
+    ensures { (i : Written) → MakesX i place contents.now bits.now → IsFollowed i place contents.now result }
+{
+    match word_of(bits) {
+        None => Followed::Stops,
+        Some(x) => Followed::Continues {
+            place: place + 1,
+            contents: Contents { x, ..*contents },
+        },
+    }
+}
+
+/// Continues at the next place with another scratch word.
+fn stored(place: usize, contents: &Contents, k: u32, word: [Bit; 32]) -> Followed
+    requires { place + 1 < 2 ^ 64 }
+    ensures { (i : Written)
+        → (k < 16 → OnEach contents.now (λ cell a x m. Does cell i place a x m (At (place + 1) a x ((k, word_number word (octets_number cell)) ∷ m))))
+        → IsFollowed i place contents.now result }
+{
+    if k >= 16 {
+        return Followed::Stops;
+    }
+    let mut scratch = contents.scratch;
+    scratch[k as usize] = Some(word);
+    Followed::Continues {
+        place: place + 1,
+        contents: Contents {
+            scratch,
+            ..*contents
+        },
+    }
+}
+
+/// A scratch word, if it is known.
+fn recalled(contents: &Contents, k: u32) -> Option<[Bit; 32]>
+    ensures { IfSome result (λ word. (k < 16) × (slice_get contents.now.scratch k ≡ Some (Some word))) }
+{
+    if k >= 16 {
+        return None;
+    }
+    contents.scratch[k as usize]
+}
+
+/// How many octets are loaded.
+fn octets_of(size: Size) -> u16
+    ensures many { result ≡ octets_loaded size }
+    ensures most { result ≤ 4 }
+{
+    match size {
+        Size::Word => 4,
+        Size::Half => 2,
+        Size::Octet => 1,
+    }
+}
+
+/// The bits of some octets of the cell, if it has all of them.
+fn loaded(alloc: Global, at: u64, size: Size) -> Result<Option<Vec<Bit>>, AllocError>
+    ensures { IfOk result (λ found. AreLoaded at (octets_loaded size) (option_map (λ bits. bits.items) found)) }
+{
+    let many = octets_of(size);
+    if at.saturating_add(u64::from(many)) > CELL_OCTETS as u64 {
+        return Ok(None);
+    }
+    let bits = spelled(alloc, at as u16 * 8, many * 8, 32 - u32::from(many) * 8)?;
+    Ok(Some(bits))
+}
+
+/// A load of octets of the cell into A.
+fn load(
+    alloc: Global,
+    instr: &Instr,
+    at: u64,
+    size: Size,
+    place: usize,
+    contents: &Contents,
+) -> Result<Followed, AllocError>
+    requires place { place + 1 < 2 ^ 64 }
+    requires loads { LoadsAt instr.now at (octets_loaded size) contents.now }
+    ensures { IfOk result (IsFollowed instr.now place contents.now) }
+{
+    match loaded(alloc, at, size)? {
+        None => Ok(Followed::Ends(0)),
+        Some(bits) => Ok(with_a(place, contents, &bits)),
+    }
+}
+
+/// A load of four times the low four bits of an octet into X.
+fn quarter_loaded(
+    alloc: Global,
+    k: u32,
+    place: usize,
+    contents: &Contents,
+) -> Result<Followed, AllocError>
+    requires place { place + 1 < 2 ^ 64 }
+    ensures { IfOk result (IsFollowed (Written.LdxMsh k) place contents.now) }
+{
+    match loaded(alloc, u64::from(k), Size::Octet)? {
+        None => Ok(Followed::Ends(0)),
+        Some(octet) => {
+            let low = shifted_left(alloc, &octet, 0, 4)?;
+            let bits = shifted_left(alloc, &low, 2, 32)?;
+            Ok(with_x(place, contents, &bits))
+        }
+    }
+}
+
+/// A load of octets from X on.
+fn indirect(
+    alloc: Global,
+    size: Size,
+    k: u32,
+    place: usize,
+    contents: &Contents,
+) -> Result<Followed, AllocError>
+    requires place { place + 1 < 2 ^ 64 }
+    ensures { IfOk result (IsFollowed (Written.LoadInd size k) place contents.now) }
+{
+    match constant_of(&contents.x) {
+        None => Ok(Followed::Stops),
+        Some(x) => load(
+            alloc,
+            &Instr::LoadInd { size, k },
+            u64::from(x) + u64::from(k),
+            size,
+            place,
+            contents,
+        ),
+    }
+}
+
+/// A load of a scratch word into A.
+fn recalled_a(k: u32, place: usize, contents: &Contents) -> Followed
+    requires { place + 1 < 2 ^ 64 }
+    ensures { IsFollowed (Written.LoadMem k) place contents.now result }
+{
+    match recalled(contents, k) {
+        None => Followed::Stops,
+        Some(word) => with_a(place, contents, &word),
+    }
+}
+
+/// A load of a scratch word into X.
+fn recalled_x(k: u32, place: usize, contents: &Contents) -> Followed
+    requires { place + 1 < 2 ^ 64 }
+    ensures { IsFollowed (Written.LdxMem k) place contents.now result }
+{
+    match recalled(contents, k) {
+        None => Followed::Stops,
+        Some(word) => with_x(place, contents, &word),
+    }
+}
+
+/// The number whose sum with another is 0.
+fn negative(a: u32) -> u32
+    ensures { result ≡ minus a }
+{
+    0u32.wrapping_sub(a)
+}
+
+/// The negative of A, if it is a constant.
+fn negated(alloc: Global, place: usize, contents: &Contents) -> Result<Followed, AllocError>
+    requires { place + 1 < 2 ^ 64 }
+    ensures { IfOk result (IsFollowed Written.Neg place contents.now) }
+{
+    match constant_of(&contents.a) {
+        None => Ok(Followed::Stops),
+        Some(a) => {
+            let bits = constant(alloc, negative(a), 32)?;
+            Ok(with_a(place, contents, &bits))
+        }
+    }
+}
+
+/// A branch by a comparison with a constant.
+fn branched(test: Test, by: By, jt: u8, jf: u8, place: usize, contents: &Contents) -> Followed
+    requires { place < 2 ^ 32 }
+    ensures { IsFollowed (Written.Branch test by jt jf) place contents.now result }
+{
+    match operand_constant(by, contents) {
+        None => Followed::Stops,
+        Some(k) => Followed::Branches {
+            test,
+            k,
+            one: place + 1 + usize::from(jt),
+            other: place + 1 + usize::from(jf),
+        },
+    }
+}
+
+/// The end of the program with A, if it is a constant.
+fn returned(place: usize, contents: &Contents) -> Followed
+    ensures { IsFollowed Written.RetA place contents.now result }
+{
+    match constant_of(&contents.a) {
+        None => Followed::Stops,
+        Some(a) => Followed::Ends(a),
+    }
+}
+
+/// A load of a constant into A.
+fn constant_a(
+    alloc: Global,
+    instr: &Instr,
+    k: u32,
+    place: usize,
+    contents: &Contents,
+) -> Result<Followed, AllocError>
+    requires place { place + 1 < 2 ^ 64 }
+    requires loads { (cell : List ℕ) (a x : ℕ) (m : List (ℕ × ℕ)) → Does cell instr.now place a x m (At (place + 1) k x m) }
+    ensures { IfOk result (IsFollowed instr.now place contents.now) }
+{
+    let bits = constant(alloc, k, 32)?;
+    Ok(with_a(place, contents, &bits))
+}
+
+/// A load of a constant into X.
+fn constant_x(
+    alloc: Global,
+    instr: &Instr,
+    k: u32,
+    place: usize,
+    contents: &Contents,
+) -> Result<Followed, AllocError>
+    requires place { place + 1 < 2 ^ 64 }
+    requires loads { (cell : List ℕ) (a x : ℕ) (m : List (ℕ × ℕ)) → Does cell instr.now place a x m (At (place + 1) a k m) }
+    ensures { IfOk result (IsFollowed instr.now place contents.now) }
+{
+    let bits = constant(alloc, k, 32)?;
+    Ok(with_x(place, contents, &bits))
+}
+
+/// What an instruction makes of what is known of a machine at this place.
+pub(crate) fn follow(
+    alloc: Global,
+    instr: &Instr,
+    place: usize,
+    contents: &Contents,
+) -> Result<Followed, AllocError>
+    requires { place < 2 ^ 32 }
+    ensures { IfOk result (IsFollowed instr.now place contents.now) }
+{
+    match *instr {
+        Instr::LoadAbs { size, k } => load(alloc, instr, k.into(), size, place, contents),
+        Instr::LoadInd { size, k } => indirect(alloc, size, k, place, contents),
+        Instr::LoadImm(k) => constant_a(alloc, instr, k, place, contents),
+        Instr::LoadMem(k) => Ok(recalled_a(k, place, contents)),
+        Instr::LoadLen => constant_a(alloc, instr, CELL_OCTETS as u32, place, contents),
+        Instr::LdxImm(k) => constant_x(alloc, instr, k, place, contents),
+        Instr::LdxMem(k) => Ok(recalled_x(k, place, contents)),
+        Instr::LdxLen => constant_x(alloc, instr, CELL_OCTETS as u32, place, contents),
+        Instr::LdxMsh(k) => quarter_loaded(alloc, k, place, contents),
+        Instr::Store(k) => Ok(stored(place, contents, k, contents.a)),
+        Instr::StoreX(k) => Ok(stored(place, contents, k, contents.x)),
+        Instr::Alu { op, by } => operated(alloc, op, by, place, contents),
+        Instr::Neg => negated(alloc, place, contents),
+        Instr::Jump(k) => Ok(Followed::Continues {
+            place: place + 1 + k as usize,
+            contents: *contents,
+        }),
+        Instr::Branch { test, by, jt, jf } => Ok(branched(test, by, jt, jf, place, contents)),
+        Instr::RetK(k) => Ok(Followed::Ends(k)),
+        Instr::RetA => Ok(returned(place, contents)),
+        Instr::Tax => Ok(with_x(place, contents, &contents.a)),
+        Instr::Txa => Ok(with_a(place, contents, &contents.x)),
+    }
+}

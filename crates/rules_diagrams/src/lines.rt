@@ -1,0 +1,132 @@
+//! Diagrams of the lines that decide.
+
+ghost use Rattle.std.specs.Prelude.{◌≡◌, ◌+◌, ◌-◌, ◌<◌, ◌^◌, ℕ, [], ◌∷◌, List, length, IfOk, OnOk};
+ghost use Rattle.rules_diagrams.specs.inner.Values.{Keeps};
+ghost use Rattle.rules_diagrams.specs.inner.Tells.{GivesNumber};
+ghost use Rattle.rules_diagrams.specs.inner.Lines.{deciding_line};
+ghost use Rattle.rules_diagrams.specs.inner.Lined.{AreAllWithin, AreLined, first_outer, later_outer};
+ghost use Rattle.rules_cells.specs.declared.rules.RuleLine.{RuleLine as Written};
+
+use crate::diagram::Diagram;
+use crate::fault::Undecided;
+use crate::met_tests::met;
+use crate::store::Diagrams;
+use rules_cells::{RuleLine, Rules};
+use std::alloc::{AllocError, Global};
+use std::marker::Model;
+use upc_cell::Side;
+
+/// The diagrams of what comes after the ends of blocks. Contracts see the list of them, that of the first end first.
+#[derive(Drop)]
+struct Outer {
+    /// The diagrams, that of the last end first.
+    reversed: Vec<Diagram>,
+}
+
+impl Model for Outer {
+    ghost use Rattle.std.specs.Prelude.{List, reverse};
+    ghost use Rattle.rules_diagrams.specs.declared.diagram.Diagram.{Diagram};
+
+    ghost Value = { List Diagram };
+
+    ghost view = { λ o. reverse o.reversed.items };
+}
+
+impl Outer {
+    /// The diagrams of no ends.
+    fn new(alloc: Global) -> Outer
+        ensures { result ≡ [] }
+    {
+        Outer {
+            reversed: Vec::new(alloc),
+        }
+    }
+
+    /// Puts the diagram of what comes after an end before the others.
+    fn put(&mut self, diagram: Diagram) -> Result<(), AllocError>
+        ensures { OnOk result (self.new ≡ diagram ∷ self.old) }
+    {
+        self.reversed.push(diagram)?;
+        Ok(())
+    }
+
+    /// Takes the first diagram, or that of no line if there is none.
+    fn take(&mut self) -> Diagram
+        ensures first { result ≡ first_outer self.old }
+        ensures left { self.new ≡ later_outer self.old }
+    {
+        match self.reversed.pop() {
+            None => Diagram::Leaf(0),
+            Some(diagram) => diagram,
+        }
+    }
+}
+
+/// The diagram with one line more, which comes before those so far.
+#[tactic(auto, using(crate::proofs::Nodes::keeps_both, crate::proofs::Nodes::keeps_itself))]
+fn with_line(
+    diagrams: &mut Diagrams,
+    side: Side,
+    line: &RuleLine,
+    place: u32,
+    so_far: Diagram,
+    outer: &mut Outer,
+) -> Result<Diagram, Undecided>
+    requires within { AreAllWithin diagrams.old so_far outer.old }
+    requires place { place + 1 < 2 ^ 32 }
+    ensures keeps { Keeps diagrams.old diagrams.new }
+    ensures lined { IfOk result (λ made. (rest : List Written) (otherwise : ℕ) → AreLined diagrams.old side rest (place + 1) otherwise so_far outer.old
+        → AreLined diagrams.new side (line.now ∷ rest) place otherwise made outer.new) }
+{
+    match line {
+        RuleLine::Rule { test, value: _ } => {
+            let test = met(diagrams, side, test)?;
+            diagrams.choose(test, Diagram::Leaf(place + 1), so_far)
+        }
+        RuleLine::Block { test } => {
+            let test = met(diagrams, side, test)?;
+            let after = outer.take();
+            diagrams.choose(test, so_far, after)
+        }
+        RuleLine::End => {
+            outer.put(so_far)?;
+            Ok(so_far)
+        }
+    }
+}
+
+/// The diagram that gives each cell the number of the line that decides it: 0 if none does, else one more than the place of the rule
+/// among the lines.
+///
+/// # Errors
+///
+/// As [`Diagrams::choose`] has them; also `TooLarge` for 4,294,967,295 lines or more.
+pub(crate) fn deciding_lines(
+    alloc: Global,
+    diagrams: &mut Diagrams,
+    rules: &Rules,
+) -> Result<Diagram, Undecided>
+    ensures keeps { Keeps diagrams.old diagrams.new }
+    ensures gives { IfOk result (GivesNumber diagrams.new (deciding_line rules.now)) }
+    ensures few { IfOk result (λ _. length rules.now.lines.items < 2 ^ 32 - 1) }
+{
+    let lines = rules.lines.as_slice();
+    if lines.len() >= u32::MAX as usize {
+        return Err(Undecided::TooLarge);
+    }
+    let mut outer = Outer::new(alloc);
+    let mut so_far = Diagram::Leaf(0);
+    let mut left = lines.len();
+    while left > 0 {
+        left -= 1;
+        so_far = with_line(
+            diagrams,
+            rules.side,
+            &lines[left],
+            left as u32,
+            so_far,
+            &mut outer,
+        )?;
+    }
+    Ok(so_far)
+}

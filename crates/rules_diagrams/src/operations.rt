@@ -1,0 +1,206 @@
+//! What an operation makes of what is known of a machine.
+
+ghost use Rattle.std.specs.Prelude.{◌<◌, ◌≤◌, ◌+◌, ◌^◌, ℕ, List, IfOk, IfSome};
+ghost use Rattle.bpf_code.specs.declared.instr.Instr.{Instr as Written};
+ghost use Rattle.rules_diagrams.specs.inner.Following.{AreOperand, IsComputed, IsFollowed, IsOperand, MakesA};
+ghost use Rattle.rules_diagrams.specs.inner.Words.{AreNumber, IsBitwise};
+ghost use Rattle.rules_diagrams.specs.declared.word.Bit.{Bit as Kind};
+ghost use Rattle.rules_diagrams.specs.declared.contents.Contents.{Contents as Known};
+
+use crate::contents::{Contents, Followed};
+use crate::following::with_a;
+use crate::word::{Bit, constant, constant_of, shifted_left, shifted_right};
+use crate::word_results::bitwise;
+use bpf_code::{By, Op};
+use std::alloc::{AllocError, Global};
+
+/// The operand, if it is a constant.
+pub(crate) fn operand_constant(by: By, contents: &Contents) -> Option<u32>
+    ensures { IfSome result (IsOperand by contents.now) }
+{
+    match by {
+        By::Imm(k) => Some(k),
+        By::X => constant_of(&contents.x),
+    }
+}
+
+/// The bits of the operand.
+fn operand(alloc: Global, by: By, contents: &Contents) -> Result<Vec<Bit>, AllocError>
+    ensures { IfOk result (λ bits. AreOperand by contents.now bits.items) }
+{
+    match by {
+        By::Imm(k) => constant(alloc, k, 32),
+        By::X => contents.x.to_vec(alloc),
+    }
+}
+
+/// A bitwise operation.
+fn bits_operated(
+    alloc: Global,
+    op: Op,
+    by: By,
+    place: usize,
+    contents: &Contents,
+) -> Result<Followed, AllocError>
+    requires place { place + 1 < 2 ^ 64 }
+    requires bitwise { IsBitwise op }
+    ensures { IfOk result (IsFollowed (Written.Alu op by) place contents.now) }
+{
+    let other = operand(alloc, by, contents)?;
+    match bitwise(alloc, op, &contents.a, &other)? {
+        None => Ok(Followed::Stops),
+        Some(bits) => Ok(with_a(place, contents, &bits)),
+    }
+}
+
+/// A shift that leaves no bit.
+fn nothing_left(
+    alloc: Global,
+    op: Op,
+    by: By,
+    place: usize,
+    contents: &Contents,
+) -> Result<Followed, AllocError>
+    requires place { place + 1 < 2 ^ 64 }
+    requires none { (bits : List Kind) → AreNumber (λ _. 0) bits → MakesA (Written.Alu op by) place contents.now bits }
+    ensures { IfOk result (IsFollowed (Written.Alu op by) place contents.now) }
+{
+    let bits = constant(alloc, 0, 32)?;
+    Ok(with_a(place, contents, &bits))
+}
+
+/// A shift by 32 or more, which only X can be.
+fn shifted_out(
+    alloc: Global,
+    op: Op,
+    by: By,
+    k: u32,
+    place: usize,
+    contents: &Contents,
+) -> Result<Followed, AllocError>
+    requires place { place + 1 < 2 ^ 64 }
+    requires far { 32 ≤ k }
+    requires operand { IsOperand by contents.now k }
+    ensures { IfOk result (IsFollowed (Written.Alu op by) place contents.now) }
+{
+    match by {
+        By::Imm(_) => Ok(Followed::Stops),
+        By::X => match op {
+            Op::Lsh => nothing_left(alloc, op, by, place, contents),
+            Op::Rsh => nothing_left(alloc, op, by, place, contents),
+            Op::Add | Op::Sub | Op::Mul | Op::Div | Op::Or | Op::And | Op::Mod | Op::Xor => {
+                Ok(Followed::Stops)
+            }
+        },
+    }
+}
+
+/// A shift by a constant.
+fn shifted(
+    alloc: Global,
+    op: Op,
+    by: By,
+    place: usize,
+    contents: &Contents,
+) -> Result<Followed, AllocError>
+    requires place { place + 1 < 2 ^ 64 }
+    ensures { IfOk result (IsFollowed (Written.Alu op by) place contents.now) }
+{
+    let Some(k) = operand_constant(by, contents) else {
+        return Ok(Followed::Stops);
+    };
+    if k >= 32 {
+        return shifted_out(alloc, op, by, k, place, contents);
+    }
+    match op {
+        Op::Lsh => {
+            let bits = shifted_left(alloc, &contents.a, k, 32)?;
+            Ok(with_a(place, contents, &bits))
+        }
+        Op::Rsh => {
+            let bits = shifted_right(alloc, &contents.a, k, k)?;
+            Ok(with_a(place, contents, &bits))
+        }
+        Op::Add | Op::Sub | Op::Mul | Op::Div | Op::Or | Op::And | Op::Mod | Op::Xor => {
+            Ok(Followed::Stops)
+        }
+    }
+}
+
+/// The result of an operation on two constants. A division by 0 has none.
+fn computed(op: Op, a: u32, k: u32) -> Option<u32>
+    ensures { IfSome result (λ number. IsComputed op a k number) }
+{
+    match op {
+        Op::Add => Some(a.wrapping_add(k)),
+        Op::Sub => Some(a.wrapping_sub(k)),
+        Op::Mul => Some(a.wrapping_mul(k)),
+        Op::Div => a.checked_div(k),
+        Op::Mod => a.checked_rem(k),
+        Op::Or | Op::And | Op::Lsh | Op::Rsh | Op::Xor => None,
+    }
+}
+
+/// A division by an X of 0 ends the program with 0.
+fn divided_by_none(op: Op, by: By, k: u32) -> Followed
+    ensures { (place : ℕ) (contents : Known) → IsOperand by contents k → IsFollowed (Written.Alu op by) place contents result }
+{
+    if k > 0 {
+        return Followed::Stops;
+    }
+    match by {
+        By::Imm(_) => Followed::Stops,
+        By::X => match op {
+            Op::Div | Op::Mod => Followed::Ends(0),
+            Op::Add | Op::Sub | Op::Mul | Op::Or | Op::And | Op::Lsh | Op::Rsh | Op::Xor => {
+                Followed::Stops
+            }
+        },
+    }
+}
+
+/// An operation on two constants.
+fn calculated(
+    alloc: Global,
+    op: Op,
+    by: By,
+    place: usize,
+    contents: &Contents,
+) -> Result<Followed, AllocError>
+    requires { place + 1 < 2 ^ 64 }
+    ensures { IfOk result (IsFollowed (Written.Alu op by) place contents.now) }
+{
+    let Some(a) = constant_of(&contents.a) else {
+        return Ok(Followed::Stops);
+    };
+    let Some(k) = operand_constant(by, contents) else {
+        return Ok(Followed::Stops);
+    };
+    match computed(op, a, k) {
+        None => Ok(divided_by_none(op, by, k)),
+        Some(number) => {
+            let bits = constant(alloc, number, 32)?;
+            Ok(with_a(place, contents, &bits))
+        }
+    }
+}
+
+/// What an operation makes of A.
+pub(crate) fn operated(
+    alloc: Global,
+    op: Op,
+    by: By,
+    place: usize,
+    contents: &Contents,
+) -> Result<Followed, AllocError>
+    requires { place + 1 < 2 ^ 64 }
+    ensures { IfOk result (IsFollowed (Written.Alu op by) place contents.now) }
+{
+    match op {
+        Op::And | Op::Or | Op::Xor => bits_operated(alloc, op, by, place, contents),
+        Op::Lsh | Op::Rsh => shifted(alloc, op, by, place, contents),
+        Op::Add | Op::Sub | Op::Mul | Op::Div | Op::Mod => {
+            calculated(alloc, op, by, place, contents)
+        }
+    }
+}

@@ -1,6 +1,0 @@
--- The requested contracts so far are made.
-use Rattle.upc_script.proofs.RateLemmas.{MadeOf}
-use Rattle.upc_script.proofs.rates.contracts_of.Given as goal
-
-abbrev pub invariant-loop-ask : goal.invariant-loop-ask
-invariant-loop-ask l = MadeOf l.ask-items l.contracts.items l.ask-index
