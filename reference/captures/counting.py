@@ -28,9 +28,9 @@ MARKS = {
 
 
 class Capture:
-    """The cells of a capture that count, for a tick in nanoseconds and the word of a link or None."""
+    """The cells of a capture that count, for a tick in nanoseconds and the word of a link or None, by the times of records or of their packets."""
 
-    def __init__(self, octets, tick, link):
+    def __init__(self, octets, tick, link, by_packet=False):
         self.tick = tick
         self.asked = link
         # The numbers of the records that were passed over, by the type that holds no cell, and by reason.
@@ -47,7 +47,7 @@ class Capture:
         self.several = None
         self.cells = []
         try:
-            self.read(records_of(octets))
+            self.read(records_of(octets, by_packet))
         except Refused as fault:
             self.refused = f"fault file {fault}\n"
         except Broken as fault:

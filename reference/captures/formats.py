@@ -7,6 +7,10 @@ MOST_FRAME = 65535
 MOST_BLOCK = 131072
 SECTION = 0x0A0D0D0A
 PCAP_ORDERS = {0xA1B2C3D4: ">", 0xA1B23C4D: ">", 0xD4C3B2A1: "<", 0x4D3CB2A1: "<"}
+# The files with times of packets in nanoseconds.
+PCAP_NANOSECONDS = (0xA1B23C4D, 0x4D3CB2A1)
+# The codes of the options of an interface that say in which unit its packets count time.
+IF_TSRESOL, IF_TSOFFSET = 9, 14
 
 
 # A block or a packet that has no record: what it is, and its place. Types that have no packet and no number are none.
@@ -65,21 +69,55 @@ def record_in(packet, place):
     return packet[:length]
 
 
+def time_of(stamp, units, ahead):
+    """Returns the time of a packet, in units of 2^-32 seconds, of which this many seconds have 32 bits."""
+    return ((stamp // units + ahead) % 2**32 << 32) + (stamp % units << 32) // units
+
+
+def options_of(octets, order):
+    """Returns the value of the first option of each code."""
+    found, place = {}, 0
+    while len(octets) - place >= 4:
+        code, size = number(octets, place, order, "H"), number(octets, place + 2, order, "H")
+        if code == 0 or len(octets) - place < 4 + size:
+            break
+        found.setdefault(code, octets[place + 4:place + 4 + size])
+        place += 4 + (size + 3) // 4 * 4
+    return found
+
+
+def unit_of(block, order, place):
+    """Returns the resolution of the times of an interface's packets, and the seconds that are added to each."""
+    options = options_of(block[16:-4], order)
+    resolution = options.get(IF_TSRESOL, b"")[:1] or b"\x06"
+    offset = options.get(IF_TSOFFSET, b"")
+    resolution = resolution[0]
+    if 20 <= resolution < 128 or resolution >= 192:
+        raise Broken(f"15 OtherResolution {resolution}", place)
+    return resolution, number(offset, 0, order, "Q") if len(offset) >= 8 else 0
+
+
+def units_in(resolution):
+    return 10**resolution if resolution < 128 else 2 ** (resolution - 128)
+
+
 def erf_records(octets):
     place = 0
     while place < len(octets):
         head = frame_at(octets, place, 16)
         size = sized(number(head, 10, ">", "H"), 16, MOST_FRAME, place)
-        yield None, frame_at(octets, place, size)
+        yield None, frame_at(octets, place, size), None
         place += size
 
 
-def pcap_records(octets, order):
+def pcap_records(octets, order, by_packet):
+    units = 10**9 if number(octets, 0, ">") in PCAP_NANOSECONDS else 10**6
     place = 24
     while place < len(octets):
         head = frame_at(octets, place, 16)
         size = 16 + sized(number(head, 8, order), 16, MOST_FRAME, place)
-        yield None, record_in(frame_at(octets, place, size)[16:], place)
+        stamp = number(head, 0, order) * units + number(head, 4, order)
+        yield None, record_in(frame_at(octets, place, size)[16:], place), time_of(stamp, units, 0) if by_packet else None
         place += size
 
 
@@ -107,9 +145,9 @@ def packet_of(block, order, interfaces, place):
     return interface, block[28:28 + length]
 
 
-def pcapng_records(octets):
-    # How many interfaces the sections so far have, and the link types of those of the present section.
-    place, order, before, interfaces = 0, "<", 0, []
+def pcapng_records(octets, by_packet):
+    # How many interfaces the sections so far have, the link types of those of the present section, and the unit of its times.
+    place, order, before, interfaces, unit = 0, "<", 0, [], None
     while place < len(octets):
         head = frame_at(octets, place, 12)
         own = block_order(head, order, place)
@@ -127,18 +165,24 @@ def pcapng_records(octets):
             version = number(block, 12, own, "H")
             if version != 1:
                 raise Broken(f"9 OtherVersion {version}", place)
-            order, before, interfaces = own, before + len(interfaces), []
+            order, before, interfaces, unit = own, before + len(interfaces), [], None
         elif kind == 1:
             if size < 20:
                 raise Broken(f"10 ShortBlock {size}", place)
             link = number(block, 8, own, "H")
             if link != LINK and len(interfaces) >= 64:
                 raise Broken(f"11 OtherLink {link}", place)
+            if link == LINK and by_packet:
+                other = unit_of(block, order, place)
+                if unit not in (None, other):
+                    raise Broken(f"16 OtherUnit {other[0]}", place)
+                unit = other
             interfaces.append(link)
         elif kind == 6:
             interface, packet = packet_of(block, own, interfaces, place)
             if interfaces[interface] == LINK:
-                yield before + interface, record_in(packet, place)
+                stamp = number(block, 12, own) << 32 | number(block, 16, own)
+                yield before + interface, record_in(packet, place), time_of(stamp, units_in(unit[0]), unit[1]) if by_packet else None
             else:
                 yield Block("other link", place)
         elif kind not in NO_PACKET:
@@ -146,9 +190,9 @@ def pcapng_records(octets):
         place += size
 
 
-def records_of(octets):
-    """Returns an iterator of the records in a file: the interface of the packet of each in a pcapng file, or None, and its octets. Between them
-    are the kinds and places of blocks that are passed over, as `Block`."""
+def records_of(octets, by_packet=False):
+    """Returns an iterator of the records in a file: the interface of the packet of each in a pcapng file, or None, its octets, and the time of its
+    packet, if such times are asked for and there is one. Between them are the kinds and places of blocks that are passed over, as `Block`."""
     if not octets:
         raise Refused("7 Empty")
     if len(octets) < 16:
@@ -160,9 +204,9 @@ def records_of(octets):
         link = number(octets, 20, PCAP_ORDERS[magic]) % 65536
         if link != LINK:
             raise Refused(f"2 OtherLink {link}")
-        return pcap_records(octets, PCAP_ORDERS[magic])
+        return pcap_records(octets, PCAP_ORDERS[magic], by_packet)
     if magic == SECTION:
-        return pcapng_records(octets)
+        return pcapng_records(octets, by_packet)
     for why, beginnings in COMPRESSED.items():
         if octets.startswith(beginnings):
             raise Refused(why)

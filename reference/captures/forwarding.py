@@ -39,7 +39,7 @@ def records_in(octets):
                 number += it.what in formats.NUMBERED
                 continue
             number += 1
-            yield number, it
+            yield number, it[:2]
     except (formats.Broken, formats.Refused):
         pass
 

@@ -46,7 +46,10 @@ def records(draw):
 def in_pcap(draw, made):
     order = draw.choice("<>")
     magic = draw.choice([0xA1B2C3D4, 0xA1B23C4D])
-    packets = [struct.pack(order + "IIII", 7, 7, len(it), len(it)) + it for it in made]
+    packets, time = [], draw.choice([7, 2**32 - 2])
+    for it in made:
+        packets.append(struct.pack(order + "IIII", time % 2**32, draw.choice([0, 7, 999999, 999999999, 2**32 - 1]), len(it), len(it)) + it)
+        time += draw.choice([0, 0, 1, 1, -1])
     link = draw.choice([197] * 20 + [1])
     return struct.pack(order + "IHHIIII", magic, 2, 4, 0, 0, 65535, link) + b"".join(packets)
 
@@ -57,20 +60,40 @@ def block(order, kind, body):
     return struct.pack(order + "II", kind, size) + body + struct.pack(order + "I", size)
 
 
+def option(order, code, value):
+    return struct.pack(order + "HH", code, len(value)) + value + bytes(-len(value) % 4)
+
+
+def options(draw, order):
+    """Returns options of an interface, most of them without a fault."""
+    made = b""
+    for _ in range(draw.choice([0, 0, 0, 1, 2, 3])):
+        resolution = bytes([draw.choice([6, 6, 9, 9, 0, 3, 12, 19, 20, 127, 128, 160, 191, 192, 255])])
+        ahead = struct.pack(order + "q", draw.choice([0, 1, -1, 2**33, -(2**63)]))
+        made += draw.choice([
+            option(order, 9, resolution), option(order, 9, resolution), option(order, 14, ahead), option(order, 2, draw.randbytes(draw.randrange(6))),
+            option(order, 9, b""), option(order, 14, ahead[:7]), option(order, 0, b""), struct.pack(order + "HH", 9, 40),
+        ])
+    return made
+
+
 def in_pcapng(draw, made):
-    blocks, interfaces = [], None
+    blocks, interfaces, time = [], None, draw.choice([1, 2**63])
     for it in made + [None]:
         if interfaces is None or draw.random() < 0.03:
             order, interfaces = draw.choice("<>"), draw.choice([1, 1, 2])
             usual = draw.randrange(interfaces)
             blocks.append(block(order, SECTION_TYPE, struct.pack(order + "IHHq", 0x1A2B3C4D, 1, 0, -1)))
             links = [draw.choice([197] * 15 + [1]) for _ in range(interfaces)]
-            blocks += [block(order, 1, struct.pack(order + "HHI", link_type, 0, 0)) for link_type in links]
+            shared = options(draw, order)
+            described = [struct.pack(order + "HHI", link_type, 0, 0) + (shared if draw.random() < 0.9 else options(draw, order)) for link_type in links]
+            blocks += [block(order, 1, it) for it in described]
         if draw.random() < 0.1:
             blocks.append(block(order, draw.choice([2, 3, 4, 5, 9, 0xBAD, 0x40000BAD, 0x80000001]), draw.randbytes(8)))
         if it is not None:
             interface = usual if draw.random() < 0.9 else draw.randrange(interfaces)
-            blocks.append(block(order, 6, struct.pack(order + "IIIII", interface, 1, 2, len(it), len(it)) + it))
+            time += draw.choice([0, 1, 999999, 10**9, 2**33, -1])
+            blocks.append(block(order, 6, struct.pack(order + "IIIII", interface, time >> 32 & 0xFFFFFFFF, time & 0xFFFFFFFF, len(it), len(it)) + it))
     return b"".join(blocks)
 
 

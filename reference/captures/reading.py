@@ -61,18 +61,18 @@ def marks_of(octets, channel):
     return marks | {name for bit, name in enumerate(CHANNEL_MARKS) if channel and channel[0] >> bit & 1}
 
 
-def record_of(number, packet, octets):
-    """Returns the record that these octets encode."""
+def record_of(number, packet, octets, stamped=None):
+    """Returns the record that these octets encode. It has the time of its packet, if there is one."""
     cell, reason, channel = content_of(octets)
-    time = struct.unpack_from("<Q", octets)[0]
+    time = struct.unpack_from("<Q", octets)[0] if stamped is None else stamped
     losses = struct.unpack_from(">H", octets, 12)[0]
     return Record(number, link_of(packet, octets[9], channel), time, cell, reason, marks_of(octets, channel), losses)
 
 
-def records_of(octets):
+def records_of(octets, by_packet=False):
     """Yields the records of a capture, and the blocks between them that are passed over. Raises what formats.py raises where it is no capture."""
     number = 0
-    for it in formats.records_of(octets):
+    for it in formats.records_of(octets, by_packet):
         if isinstance(it, formats.Block):
             number += it.what in formats.NUMBERED
             yield it

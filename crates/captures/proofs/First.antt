@@ -82,7 +82,7 @@ is_frame format at octets size after held headed is within whole near =
 
 pub head_some : (format : Format) → 0 < head_length format
 head_some Erf = omega arith
-head_some (Pcap order) = omega arith
+head_some (Pcap order times) = omega arith
 head_some (PcapNg section) = omega arith
 
 -- A reader goes on by a whole frame.

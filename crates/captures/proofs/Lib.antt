@@ -1,5 +1,6 @@
 pub mod First
 pub mod Stays
+pub mod OptionsRead
 pub mod Readings
 pub mod OneReading
 pub mod SomeReading

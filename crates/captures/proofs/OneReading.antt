@@ -122,7 +122,7 @@ one_fault format at octets a b (inr one) (inr other) = let same : Some (Err a) �
 -- No octets begin with no frame.
 nothing_first : (format : Format) (at : ℕ) → first_frame format at [] ≡ None
 nothing_first Erf at = refl
-nothing_first (Pcap order) at = refl
+nothing_first (Pcap order times) at = refl
 nothing_first (PcapNg section) at = refl
 
 -- A fault is of octets.

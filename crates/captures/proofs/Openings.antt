@@ -4,8 +4,10 @@ use Rattle.std.specs.List.{list_all}
 use Rattle.std.proofs.lemmas.Bool.{cases_lt}
 use Rattle.std.proofs.lemmas.List.{take-append-le}
 use Rattle.captures.specs.Blocks.{section_begun}
+use Rattle.captures.specs.PacketTimes.{times_begun, times_in}
 use Rattle.captures.specs.Frames.{format_start}
-use Rattle.captures.specs.Opening.{OpeningsStay, begins_as_text, fault_by, file_magic, file_number, file_opening, is_pcap_magic, is_pcapng_magic, is_text_octet, opening_by, opening_of, pcap_link, pcap_opening, refused_or}
+use Rattle.captures.specs.Opening.{OpeningsStay, begins_as_text, fault_by, file_magic, file_number, file_opening, is_pcap_magic, is_pcapng_magic, is_text_octet, opening_by, opening_of, pcap_link, pcap_opening, pcap_resolution, refused_or}
+use Rattle.captures.specs.declared.block.Section.{Section}
 use Rattle.captures.specs.declared.format.Format.{Format}
 use Rattle.captures.specs.declared.format.Format.TheVariants.{Erf, Pcap, PcapNg}
 use Rattle.captures.specs.declared.format.Order.{Order}
@@ -17,18 +19,22 @@ use Rattle.captures.specs.declared.opening.Opening.TheVariants.{Opened, Undecide
 use Rattle.captures.proofs.First.{when_above, when_below}
 use Rattle.captures.proofs.Stays.{number_at-append, number-append}
 
+-- The section before the first.
+unread_section : Section
+unread_section = section_begun LowestFirst 0 (times_begun (times_in 6))
+
 -- The cases of a file, by its tests.
 by_tests : Bool → Bool → Bool → Option FileFault → Bool → Opening → Opening → Opening
 by_tests high low blocks fault text p q =
     if high then p
     else if low then q
-    else if blocks then Opened (PcapNg (section_begun LowestFirst 0))
+    else if blocks then Opened (PcapNg unread_section)
     else refused_or fault (if text then Refused Text else Opened Erf)
 
 is_by_tests : (magic : ℕ) (xs : List ℕ) → opening_by magic xs
     ≡ by_tests (is_pcap_magic HighestFirst magic) (is_pcap_magic LowestFirst magic) (is_pcapng_magic magic) (fault_by magic (file_number xs)) (begins_as_text xs)
-    (pcap_opening HighestFirst xs) (pcap_opening LowestFirst xs)
-unfolding by_tests
+    (pcap_opening HighestFirst (pcap_resolution magic) xs) (pcap_opening LowestFirst (pcap_resolution magic) xs)
+unfolding by_tests unread_section
 is_by_tests magic xs = refl
 
 tests_stay : (high low blocks : Bool) (fault : Option FileFault) (text : Bool) (p p' q q' : Opening) → (p ≢ Undecided → p' ≡ p) → (q ≢ Undecided → q' ≡ q)
@@ -41,40 +47,41 @@ tests_stay false false false (Some fault) text p p' q q' first second decided = 
 tests_stay false false false None true p p' q q' first second decided = refl
 tests_stay false false false None false p p' q q' first second decided = refl
 
-pcap_opening_by : Order → ℕ → Opening
-pcap_opening_by order link = if link == 197 then Opened (Pcap order) else Refused (OtherLink link)
+pcap_opening_by : Order → ℕ → ℕ → Opening
+pcap_opening_by order unit link = if link == 197 then Opened (Pcap order (times_in unit)) else Refused (OtherLink link)
 
-has_pcap_header : (order : Order) (xs : List ℕ) → 24 ≤ length xs → pcap_opening order xs ≡ pcap_opening_by order (pcap_link order xs)
+has_pcap_header : (order : Order) (unit : ℕ) (xs : List ℕ) → 24 ≤ length xs → pcap_opening order unit xs ≡ pcap_opening_by order unit (pcap_link order xs)
 unfolding pcap_opening_by
-has_pcap_header order xs long = when_above (length xs) 24 _ _ long
+has_pcap_header order unit xs long = when_above (length xs) 24 _ _ long
 
-lacks_pcap_header : (order : Order) (xs : List ℕ) → length xs < 24 → pcap_opening order xs ≡ Undecided
-lacks_pcap_header order xs short = when_below (length xs) 24 _ _ short
+lacks_pcap_header : (order : Order) (unit : ℕ) (xs : List ℕ) → length xs < 24 → pcap_opening order unit xs ≡ Undecided
+lacks_pcap_header order unit xs short = when_below (length xs) 24 _ _ short
 
-pcap_stays : (order : Order) (xs ys : List ℕ) → pcap_opening order xs ≢ Undecided → pcap_opening order (xs ++ ys) ≡ pcap_opening order xs
-pcap_stays order xs ys decided =
+pcap_stays : (order : Order) (unit : ℕ) (xs ys : List ℕ) → pcap_opening order unit xs ≢ Undecided → pcap_opening order unit (xs ++ ys) ≡ pcap_opening order unit xs
+pcap_stays order unit xs ys decided =
     elim (cases_lt (length xs) 24) [
-      | inl short ↦ absurd (decided (lacks_pcap_header order xs short))
+      | inl short ↦ absurd (decided (lacks_pcap_header order unit xs short))
       | inr long ↦
-          has_pcap_header order (xs ++ ys) (omega (arith, length-append xs ys))
-          ∙ ap (λ n. pcap_opening_by order (n % 65536)) (number_at-append order 20 xs ys (omega arith))
-          ∙ sym (has_pcap_header order xs long)
+          has_pcap_header order unit (xs ++ ys) (omega (arith, length-append xs ys))
+          ∙ ap (λ n. pcap_opening_by order unit (n % 65536)) (number_at-append order 20 xs ys (omega arith))
+          ∙ sym (has_pcap_header order unit xs long)
     ]
 
 by_magic_stays : (magic : ℕ) (xs ys : List ℕ) → 16 ≤ length xs → opening_by magic xs ≢ Undecided → opening_by magic (xs ++ ys) ≡ opening_by magic xs
 by_magic_stays magic xs ys long decided =
     let text : begins_as_text (xs ++ ys) ≡ begins_as_text xs = ap (list_all is_text_octet) (take-append-le 16 xs ys long) in
+    let unit = pcap_resolution magic in
     let high = is_pcap_magic HighestFirst magic in
     let low = is_pcap_magic LowestFirst magic in
     let blocks = is_pcapng_magic magic in
     let number : file_number (xs ++ ys) ≡ file_number xs = number_at-append HighestFirst 4 xs ys (omega (arith, long)) in
     let fault = fault_by magic (file_number xs) in
     is_by_tests magic (xs ++ ys)
-    ∙ ap (λ n. by_tests high low blocks (fault_by magic n) (begins_as_text (xs ++ ys)) (pcap_opening HighestFirst (xs ++ ys)) (pcap_opening LowestFirst (xs ++ ys))) number
-    ∙ ap (λ t. by_tests high low blocks fault t (pcap_opening HighestFirst (xs ++ ys)) (pcap_opening LowestFirst (xs ++ ys))) text
-    ∙ tests_stay high low blocks fault (begins_as_text xs) (pcap_opening HighestFirst xs) (pcap_opening HighestFirst (xs ++ ys))
-    (pcap_opening LowestFirst xs) (pcap_opening LowestFirst (xs ++ ys))
-    (pcap_stays HighestFirst xs ys) (pcap_stays LowestFirst xs ys)
+    ∙ ap (λ n. by_tests high low blocks (fault_by magic n) (begins_as_text (xs ++ ys)) (pcap_opening HighestFirst unit (xs ++ ys)) (pcap_opening LowestFirst unit (xs ++ ys))) number
+    ∙ ap (λ t. by_tests high low blocks fault t (pcap_opening HighestFirst unit (xs ++ ys)) (pcap_opening LowestFirst unit (xs ++ ys))) text
+    ∙ tests_stay high low blocks fault (begins_as_text xs) (pcap_opening HighestFirst unit xs) (pcap_opening HighestFirst unit (xs ++ ys))
+    (pcap_opening LowestFirst unit xs) (pcap_opening LowestFirst unit (xs ++ ys))
+    (pcap_stays HighestFirst unit xs ys) (pcap_stays LowestFirst unit xs ys)
     (λ none. decided (is_by_tests magic xs ∙ none))
     ∙ sym (is_by_tests magic xs)
 
@@ -93,12 +100,13 @@ by_test : (P : Opening → Type 0) (test : Bool) (x y : Opening) → P x → P y
 by_test P true x y at_x at_y = at_x
 by_test P false x y at_x at_y = at_y
 
-by_link : (P : Opening → Type 0) (order : Order) (link : ℕ) → P (Opened (Pcap order)) → P (Refused (OtherLink link)) → P (pcap_opening_by order link)
+by_link : (P : Opening → Type 0) (order : Order) (unit link : ℕ) → P (Opened (Pcap order (times_in unit))) → P (Refused (OtherLink link))
+    → P (pcap_opening_by order unit link)
 unfolding pcap_opening_by
-by_link P order link opened refused = by_test P (link == 197) (Opened (Pcap order)) (Refused (OtherLink link)) opened refused
+by_link P order unit link opened refused = by_test P (link == 197) (Opened (Pcap order (times_in unit))) (Refused (OtherLink link)) opened refused
 
 -- What holds of each case holds of a file.
-tests_all : (P : Opening → Type 0) (high low blocks : Bool) (fault : Option FileFault) (text : Bool) (p q : Opening) → P p → P q → P (Opened (PcapNg (section_begun LowestFirst 0)))
+tests_all : (P : Opening → Type 0) (high low blocks : Bool) (fault : Option FileFault) (text : Bool) (p q : Opening) → P p → P q → P (Opened (PcapNg unread_section))
     → ((why : FileFault) → P (Refused why)) → P (Opened Erf) → P (by_tests high low blocks fault text p q)
 unfolding by_tests
 tests_all P true low blocks fault text p q at_p at_q ng refused erf = at_p
@@ -108,16 +116,16 @@ tests_all P false false false (Some fault) text p q at_p at_q ng refused erf = r
 tests_all P false false false None true p q at_p at_q ng refused erf = refused Text
 tests_all P false false false None false p q at_p at_q ng refused erf = erf
 
-pcap_all : (P : Opening → Type 0) (order : Order) (xs : List ℕ) → (length xs < 24 → P Undecided)
-    → (24 ≤ length xs → P (Opened (Pcap order))) → ((link : ℕ) → P (Refused (OtherLink link))) → P (pcap_opening order xs)
-pcap_all P order xs none opened refused =
+pcap_all : (P : Opening → Type 0) (order : Order) (unit : ℕ) (xs : List ℕ) → (length xs < 24 → P Undecided)
+    → (24 ≤ length xs → P (Opened (Pcap order (times_in unit)))) → ((link : ℕ) → P (Refused (OtherLink link))) → P (pcap_opening order unit xs)
+pcap_all P order unit xs none opened refused =
     elim (cases_lt (length xs) 24) [
-      | inl short ↦ subst P (sym (lacks_pcap_header order xs short)) (none short)
-      | inr long ↦ subst P (sym (has_pcap_header order xs long)) (by_link P order (pcap_link order xs) (opened long) (refused (pcap_link order xs)))
+      | inl short ↦ subst P (sym (lacks_pcap_header order unit xs short)) (none short)
+      | inr long ↦ subst P (sym (has_pcap_header order unit xs long)) (by_link P order unit (pcap_link order xs) (opened long) (refused (pcap_link order xs)))
     ]
 
 opening_all : (P : Opening → Type 0) (xs : List ℕ) → (length xs < 24 → P Undecided)
-    → (24 ≤ length xs → (order : Order) → P (Opened (Pcap order))) → P (Opened (PcapNg (section_begun LowestFirst 0)))
+    → (24 ≤ length xs → (order : Order) (unit : ℕ) → P (Opened (Pcap order (times_in unit)))) → P (Opened (PcapNg unread_section))
     → ((why : FileFault) → P (Refused why)) → P (Opened Erf) → P (opening_of xs)
 opening_all P xs none pcap ng refused erf =
     elim (cases_lt (length xs) 16) [
@@ -125,24 +133,24 @@ opening_all P xs none pcap ng refused erf =
       | inr long ↦
           subst P (sym (when_above (length xs) 16 Undecided (opening_by (file_magic xs) xs) long ∙ is_by_tests (file_magic xs) xs))
           (tests_all P (is_pcap_magic HighestFirst (file_magic xs)) (is_pcap_magic LowestFirst (file_magic xs)) (is_pcapng_magic (file_magic xs)) (fault_by (file_magic xs) (file_number xs)) (begins_as_text xs)
-          (pcap_opening HighestFirst xs) (pcap_opening LowestFirst xs)
-          (pcap_all P HighestFirst xs none (λ long. pcap long HighestFirst) (λ link. refused (OtherLink link)))
-          (pcap_all P LowestFirst xs none (λ long. pcap long LowestFirst) (λ link. refused (OtherLink link)))
+          (pcap_opening HighestFirst (pcap_resolution (file_magic xs)) xs) (pcap_opening LowestFirst (pcap_resolution (file_magic xs)) xs)
+          (pcap_all P HighestFirst (pcap_resolution (file_magic xs)) xs none (λ long. pcap long HighestFirst (pcap_resolution (file_magic xs))) (λ link. refused (OtherLink link)))
+          (pcap_all P LowestFirst (pcap_resolution (file_magic xs)) xs none (λ long. pcap long LowestFirst (pcap_resolution (file_magic xs))) (λ link. refused (OtherLink link)))
           ng refused erf)
     ]
 
 -- 24 octets decide.
 pub undecided_short : (xs : List ℕ) → opening_of xs ≡ Undecided → length xs < 24
 undecided_short xs is =
-    opening_all (λ o. o ≡ Undecided → length xs < 24) xs (λ short same. short) (λ long order same. cc) (λ same. cc) (λ why same. cc) (λ same. cc) is
+    opening_all (λ o. o ≡ Undecided → length xs < 24) xs (λ short same. short) (λ long order unit same. cc) (λ same. cc) (λ why same. cc) (λ same. cc) is
 
 -- The header of a file that was opened is among its octets.
 pub header_within : (xs : List ℕ) (format : Format) → opening_of xs ≡ Opened format → format_start format ≤ length xs
 header_within xs format is =
     opening_all (λ o. o ≡ Opened format → format_start format ≤ length xs) xs
     (λ short same. cc)
-    (λ long order same. let equal : Pcap order ≡ format = cc in subst (λ (f : Format). format_start f ≤ length xs) equal long)
-    (λ same. let equal : PcapNg (section_begun LowestFirst 0) ≡ format = cc in subst (λ (f : Format). format_start f ≤ length xs) equal (omega arith))
+    (λ long order unit same. let equal : Pcap order (times_in unit) ≡ format = cc in subst (λ (f : Format). format_start f ≤ length xs) equal long)
+    (λ same. let equal : PcapNg unread_section ≡ format = cc in subst (λ (f : Format). format_start f ≤ length xs) equal (omega arith))
     (λ why same. cc)
     (λ same. let equal : Erf ≡ format = cc in subst (λ (f : Format). format_start f ≤ length xs) equal (omega arith))
     is

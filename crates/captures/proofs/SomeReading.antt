@@ -8,10 +8,10 @@ use Rattle.captures.specs.Frames.{Frame, first_frame, frame_held, frame_of_size,
 use Rattle.captures.specs.Framing.{Framed, number_in_order, or_fault, sized}
 use Rattle.captures.specs.Marks.{AreMarksOf, header_marks, marks_before}
 use Rattle.captures.specs.Reading.{HasSomeReading, IsReading, IsGiven, count_after}
-use Rattle.captures.specs.Record.{HasExtensions, record_flags, record_interface, record_length, record_time, record_type}
+use Rattle.captures.specs.Record.{HasExtensions, record_flags, record_interface, record_length, record_type}
 use Rattle.captures.specs.Links.{IsChannelOf, channel_before}
 use Rattle.captures.specs.RecordContent.{IsContent, IsErrored, IsOfCell, cell_place, octets_of_cell}
-use Rattle.captures.specs.RecordReading.{IsRecordOf}
+use Rattle.captures.specs.RecordReading.{IsRecordOf, time_in}
 use Rattle.captures.specs.declared.block.Unread.{Unread}
 use Rattle.captures.specs.declared.content.NoCell.{NoCell}
 use Rattle.captures.specs.declared.content.NoCell.TheVariants.{OtherType, Errored, CutShort}
@@ -97,7 +97,7 @@ some_record_of number framed =
         number = number;
         link = record { packet = framed.packet; interface = record_interface framed.octets; channel = channel.0 };
         marks = marks.0;
-        time = record_time framed.octets;
+        time = time_in framed;
         content = content.0;
       },
       record { numbered = refl; packet = refl; interface = refl; channel = channel.1; marks = marks.1; time = refl; content = content.1 },
@@ -149,7 +149,7 @@ size_of_held at size (Ok held) frame is =
 size_some : (format : Format) (octets : List ℕ) (size : ℕ) → frame_size format octets ≡ Ok size → 0 < size
 unfolding frame_size
 size_some Erf octets size is = sized_some 0 16 65535 (record_length octets) size (omega arith) is
-size_some (Pcap order) octets size is = sized_some 16 16 65535 (number_in_order order (drop 8 octets)) size (omega arith) is
+size_some (Pcap order times) octets size is = sized_some 16 16 65535 (number_in_order order (drop 8 octets)) size (omega arith) is
 size_some (PcapNg section) octets size is = block_some (block_order section octets) octets size is
 
 of_size_some : (format : Format) (at : ℕ) (octets : List ℕ) (size : Result ℕ RecordFault) (frame : Frame)

@@ -59,7 +59,7 @@ pub frame_size-append : (format : Format) (xs ys : List ℕ) → head_length for
     → frame_size format (xs ++ ys) ≡ frame_size format xs
 unfolding frame_size
 frame_size-append Erf xs ys long = ap (sized 0 16 65535) (record_length-append xs ys long)
-frame_size-append (Pcap order) xs ys long = ap (sized 16 16 65535) (number_at-append order 8 xs ys (omega arith))
+frame_size-append (Pcap order times) xs ys long = ap (sized 16 16 65535) (number_at-append order 8 xs ys (omega arith))
 frame_size-append (PcapNg section) xs ys long =
     ap (λ r. or_fault r (λ order. or_fault (sized 0 12 most_block (number_in_order order (drop 4 (xs ++ ys)))) even_block))
     (block_order-append section xs ys long)

@@ -1,14 +1,18 @@
 -- The blocks of a pcapng file. Each begins with its type and its length, of four octets each, and ends with its length.
-use Rattle.std.specs.Prelude.{◌+◌, ◌-◌, ◌/◌, ◌%◌, ◌^◌, ◌==◌, ◌&&◌, ◌||◌, bit_or, nat_lt, nat_le, min, if◌then◌else◌, Bool, true, false, ℕ, List, length, take, drop, Some, Result, Ok, Err}
+use Rattle.std.specs.Prelude.{◌+◌, ◌-◌, ◌*◌, ◌/◌, ◌%◌, ◌^◌, ◌==◌, ◌&&◌, ◌||◌, bit_or, nat_lt, nat_le, min, if◌then◌else◌, Bool, true, false, ℕ, List, length, take, drop, Option, Some, None, Result, Ok, Err}
 use Rattle.byteorder.specs.Endian.{big_number}
 use Rattle.captures.specs.Framing.{Framed, half_in_order, number_in_order, or_fault, record_in_packet, sized}
+use Rattle.captures.specs.InterfaceOptions.{unit_of_options}
+use Rattle.captures.specs.PacketTimes.{packet_time, same_unit, times_begun}
 use Rattle.captures.specs.declared.block.Section.{Section}
 use Rattle.captures.specs.declared.block.Unread.{Unread}
 use Rattle.captures.specs.declared.block.Unread.TheVariants.{NoPacket, Entry, SimplePacket, OldPacket, OtherBlock, OtherLinkPacket}
 use Rattle.captures.specs.declared.fault.RecordFault.{RecordFault}
-use Rattle.captures.specs.declared.fault.RecordFault.TheVariants.{OddLength, LengthsDiffer, OtherMagic, OtherVersion, ShortBlock, OtherLink, NoInterface, LongPacket}
+use Rattle.captures.specs.declared.fault.RecordFault.TheVariants.{OddLength, LengthsDiffer, OtherMagic, OtherVersion, ShortBlock, OtherLink, NoInterface, LongPacket, OtherUnit}
 use Rattle.captures.specs.declared.format.Order.{Order}
 use Rattle.captures.specs.declared.format.Order.TheVariants.{HighestFirst, LowestFirst}
+use Rattle.captures.specs.declared.packet_time.PacketTimes.{PacketTimes}
+use Rattle.captures.specs.declared.packet_time.TimeUnit.{TimeUnit}
 
 -- The most octets of a block.
 abbrev pub most_block : ℕ
@@ -41,9 +45,9 @@ block_size section octets =
     or_fault (sized 0 12 most_block (number_in_order order (drop 4 octets))) even_block)
 
 -- The state at the beginning of a section with numbers in this order, after this number of interfaces in earlier sections. It has no
--- interface of its own.
-abbrev pub section_begun : Order → ℕ → Section
-section_begun order before = record { order = order; before = before; interfaces = 0; others = 0 }
+-- interface of its own, and this is known of the times of its packets.
+abbrev pub section_begun : Order → ℕ → PacketTimes → Section
+section_begun order before times = record { order = order; before = before; interfaces = 0; others = 0; times = times }
 
 -- The number among the interfaces of the whole file of an interface that has this one in its section, both from 0.
 abbrev pub interface_in_file : Section → ℕ → ℕ
@@ -66,19 +70,35 @@ is_other_interface section interface = nat_lt interface 64 && (section.others / 
 abbrev pub section_of_header : Section → Order → List ℕ → Result Section RecordFault
 section_of_header section order block =
     if nat_lt (length block) 28 then Err (ShortBlock (length block))
-    else if half_in_order order (drop 12 block) == 1 then Ok (section_begun order (interface_in_file section section.interfaces))
+    else if half_in_order order (drop 12 block) == 1 then Ok (section_begun order (interface_in_file section section.interfaces) (times_begun section.times))
     else Err (OtherVersion (half_in_order order (drop 12 block)))
+
+-- A section has one interface of records more, whose times are in this unit. The first such interface decides the unit of all.
+abbrev pub timed_in_unit : Section → Option TimeUnit → TimeUnit → Result Section RecordFault
+timed_in_unit section None unit = Ok (with_interface (record section { times = record section.times { unit = Some unit } }))
+timed_in_unit section (Some known) unit = if same_unit known unit then Ok (with_interface section) else Err (OtherUnit unit.resolution)
+
+-- The same, where this block describes the interface. Its options, from octet 16 on, matter if the times of packets are read.
+abbrev pub with_record_interface : Section → List ℕ → Result Section RecordFault
+with_record_interface section block =
+    if section.times.are_read
+    then or_fault (unit_of_options section.order (take (length block - 20) (drop 16 block))) (timed_in_unit section section.times.unit)
+    else Ok (with_interface section)
 
 -- The section after the description of an interface. Its packets are records if its link type, in octets 8 and 9, is 197.
 abbrev pub section_of_interface : Section → List ℕ → Result Section RecordFault
 section_of_interface section block =
     if nat_lt (length block) 20 then Err (ShortBlock (length block))
-    else if half_in_order section.order (drop 8 block) == 197 then Ok (with_interface section)
+    else if half_in_order section.order (drop 8 block) == 197 then with_record_interface section block
     else if nat_lt section.interfaces 64 then Ok (with_other_interface section)
     else Err (OtherLink (half_in_order section.order (drop 8 block)))
 
+-- How many units of time an enhanced packet block counts: the number in octets 12 to 15 is the upper half, that in octets 16 to 19 the lower.
+abbrev pub stamp_in_block : Order → List ℕ → ℕ
+stamp_in_block order block = number_in_order order (drop 12 block) * 2 ^ 32 + number_in_order order (drop 16 block)
+
 -- The record in an enhanced packet block, or that its interface has no records: in octets 8 to 11 is the number of an interface, from 0, in octets 20 to 23 the length
--- of the packet, and the packet begins with octet 28. What comes after it is not read, nor are the block's own times.
+-- of the packet, and the packet begins with octet 28. What comes after it is not read.
 abbrev pub record_of_packet : Section → List ℕ → Result (Result Framed Unread) RecordFault
 record_of_packet section block =
     if nat_lt (length block) 32 then Err (ShortBlock (length block))
@@ -88,7 +108,11 @@ record_of_packet section block =
     then Err (LongPacket (number_in_order section.order (drop 20 block)))
     else if is_other_interface section (number_in_order section.order (drop 8 block)) then Ok (Err OtherLinkPacket)
     else or_fault (record_in_packet (take (number_in_order section.order (drop 20 block)) (drop 28 block))) (λ octets.
-    Ok (Ok (record { packet = Some (interface_in_file section (number_in_order section.order (drop 8 block))); octets = octets })))
+    Ok (Ok (record {
+      packet = Some (interface_in_file section (number_in_order section.order (drop 8 block)));
+      stamped = packet_time section.times (stamp_in_block section.order block);
+      octets = octets;
+    })))
 
 -- A block of this type has no packet: names (4), statistics (5), or secrets (10).
 abbrev pub lacks_packet : ℕ → Bool

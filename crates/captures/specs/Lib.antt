@@ -4,6 +4,8 @@ pub mod Links
 pub mod Marks
 pub mod RecordReading
 pub mod Framing
+pub mod PacketTimes
+pub mod InterfaceOptions
 pub mod Blocks
 pub mod Frames
 pub mod Reading

@@ -4,6 +4,7 @@ use Rattle.std.specs.List.{list_all}
 use Rattle.byteorder.specs.Endian.{big_number}
 use Rattle.captures.specs.Blocks.{section_begun}
 use Rattle.captures.specs.Framing.{number_in_order}
+use Rattle.captures.specs.PacketTimes.{times_begun, times_in}
 use Rattle.captures.specs.declared.format.Format.TheVariants.{Erf, Pcap, PcapNg}
 use Rattle.captures.specs.declared.format.Order.{Order}
 use Rattle.captures.specs.declared.format.Order.TheVariants.{HighestFirst, LowestFirst}
@@ -20,6 +21,10 @@ file_magic octets = big_number 4 octets
 abbrev pub is_pcap_magic : Order → ℕ → Bool
 is_pcap_magic HighestFirst magic = magic == 0xa1b2c3d4 || magic == 0xa1b23c4d
 is_pcap_magic LowestFirst magic = magic == 0xd4c3b2a1 || magic == 0x4d3cb2a1
+
+-- The resolution of the times of packets of a pcap file that begins with this number: nanoseconds (9) or microseconds (6).
+abbrev pub pcap_resolution : ℕ → ℕ
+pcap_resolution magic = if magic == 0xa1b23c4d || magic == 0x4d3cb2a1 then 9 else 6
 
 -- A pcapng file begins so.
 abbrev pub is_pcapng_magic : ℕ → Bool
@@ -83,20 +88,20 @@ is_text = list_all is_text_octet
 abbrev pub begins_as_text : List ℕ → Bool
 begins_as_text octets = is_text (take 16 octets)
 
--- What a pcap file with numbers in this order is: its header has 24 octets.
-abbrev pub pcap_opening : Order → List ℕ → Opening
-pcap_opening order octets =
+-- What a pcap file with numbers in this order and times of this resolution is: its header has 24 octets.
+abbrev pub pcap_opening : Order → ℕ → List ℕ → Opening
+pcap_opening order resolution octets =
     if nat_lt (length octets) 24 then Undecided
-    else if pcap_link order octets == 197 then Opened (Pcap order)
+    else if pcap_link order octets == 197 then Opened (Pcap order (times_in resolution))
     else Refused (OtherLink (pcap_link order octets))
 
 -- What a file is that begins with this number of four octets. The first block of a pcapng file is a section header, which has the
 -- order of the numbers, so that the order here is not read.
 abbrev pub opening_by : ℕ → List ℕ → Opening
 opening_by magic octets =
-    if is_pcap_magic HighestFirst magic then pcap_opening HighestFirst octets
-    else if is_pcap_magic LowestFirst magic then pcap_opening LowestFirst octets
-    else if is_pcapng_magic magic then Opened (PcapNg (section_begun LowestFirst 0))
+    if is_pcap_magic HighestFirst magic then pcap_opening HighestFirst (pcap_resolution magic) octets
+    else if is_pcap_magic LowestFirst magic then pcap_opening LowestFirst (pcap_resolution magic) octets
+    else if is_pcapng_magic magic then Opened (PcapNg (section_begun LowestFirst 0 (times_begun (times_in 6))))
     else refused_or (fault_by magic (file_number octets)) (if begins_as_text octets then Refused Text else Opened Erf)
 
 -- What a file is that begins with these octets. The first 16 octets decide, or the first 24 of a pcap file.

@@ -1,13 +1,15 @@
 //! The blocks of a pcapng file.
 
 ghost use Rattle.std.specs.Prelude.{◌≡◌, ◌≤◌, ◌<◌, ◌+◌, ◌-◌, ◌^◌, length, IfErr, IfOk, Ok, Err};
-ghost use Rattle.captures.specs.Blocks.{block_order, block_size, block_held, count_past as numbers_past, even_block, has_number as is_numbered, held_of_type, interface_in_file, is_entry as is_entry_type, is_other_interface, lacks_packet, is_section_header as begins_section, order_of_magic, record_of_packet, section_of_header, section_of_interface, unread_of_type, whole_block_order};
+ghost use Rattle.captures.specs.Blocks.{block_order, block_size, block_held, count_past as numbers_past, even_block, has_number as is_numbered, held_of_type, interface_in_file, is_entry as is_entry_type, is_other_interface, lacks_packet, is_section_header as begins_section, order_of_magic, record_of_packet, section_of_header, section_of_interface, stamp_in_block, unread_of_type, whole_block_order, with_interface as with_one_interface, with_record_interface as with_interface_of_records, timed_in_unit as with_one_unit};
 ghost use Rattle.captures.specs.inner.Lent.{held_of};
 ghost use Rattle.captures.specs.Framing.{record_in_packet as record_of, sized as size_stated};
 
 use crate::fault::RecordFault;
 use crate::format::{LentRecord, Order};
+use crate::interface_options::unit_in;
 use crate::packet::{from_place, record_in_packet, sized};
+use crate::packet_time::{PacketTimes, TimeUnit};
 use byteorder::{BigEndian, ByteOrder};
 
 /// The type of a section header.
@@ -32,6 +34,8 @@ const SECTION_HEADER_OCTETS: usize = 28;
 const INTERFACE_OCTETS: usize = 20;
 /// The octets of an enhanced packet block without its packet and options.
 const ENHANCED_PACKET_OCTETS: usize = 32;
+/// Where the options begin in the description of an interface.
+const OPTIONS_PLACE: usize = 16;
 /// Where the packet begins in its block.
 const PACKET_PLACE: usize = 28;
 
@@ -46,6 +50,8 @@ pub struct Section {
     pub interfaces: u64,
     /// Which of its first 64 interfaces have packets that are no records: bit N is set for interface N.
     pub others: u64,
+    /// What is known of the times of its packets.
+    pub times: PacketTimes,
 }
 
 /// A block or a packet that has no record for this reader.
@@ -164,6 +170,7 @@ fn begun_by(section: Section, order: Order, block: &[u8]) -> Result<Section, Rec
             before: section.in_file(section.interfaces),
             interfaces: 0,
             others: 0,
+            times: section.times.begun(),
         }),
         version => Err(RecordFault::OtherVersion(version)),
     }
@@ -200,6 +207,46 @@ impl Section {
         even(size)
     }
 
+    /// Returns the section with one interface more.
+    fn with_one_more(self) -> Section
+        ensures { result ≡ with_one_interface self }
+    {
+        Section {
+            interfaces: self.interfaces.saturating_add(1),
+            ..self
+        }
+    }
+
+    /// Returns the section with one interface of records more, whose times are in this unit.
+    fn timed_in_unit(self, unit: TimeUnit) -> Result<Section, RecordFault>
+        ensures { result ≡ with_one_unit self self.times.unit unit }
+    {
+        match self.times.unit {
+            None => {
+                let times = PacketTimes {
+                    unit: Some(unit),
+                    ..self.times
+                };
+                Ok(Section { times, ..self }.with_one_more())
+            }
+            Some(known) if known.is_same(unit) => Ok(self.with_one_more()),
+            Some(_) => Err(RecordFault::OtherUnit(unit.resolution)),
+        }
+    }
+
+    /// Returns the section with the interface of records that this block describes.
+    fn with_record_interface(self, block: &[u8]) -> Result<Section, RecordFault>
+        requires { 20 ≤ length block.now }
+        ensures { result ≡ with_interface_of_records self block.now }
+    {
+        if !self.times.are_read {
+            return Ok(self.with_one_more());
+        }
+        let options = &from_place(block, OPTIONS_PLACE)[..block.len() - INTERFACE_OCTETS];
+        let unit = unit_in(self.order, options)?;
+        self.timed_in_unit(unit)
+    }
+
     /// Returns the section after the description of an interface.
     fn with_interface(self, block: &[u8]) -> Result<Section, RecordFault>
         requires { length block.now ≤ 131072 }
@@ -208,11 +255,10 @@ impl Section {
         if block.len() < INTERFACE_OCTETS {
             return Err(RecordFault::ShortBlock(block.len() as u32));
         }
-        let interfaces = self.interfaces.saturating_add(1);
         match self.order.half_in(from_place(block, 8)) {
-            LINK_ERF => Ok(Section { interfaces, ..self }),
+            LINK_ERF => self.with_record_interface(block),
             _ if self.interfaces < 64 => Ok(Section {
-                interfaces,
+                interfaces: self.interfaces.saturating_add(1),
                 others: self.others | (1 << self.interfaces),
                 ..self
             }),
@@ -225,6 +271,15 @@ impl Section {
         ensures { result ≡ is_other_interface self interface }
     {
         interface < 64 && (self.others >> interface) % 2 == 1
+    }
+
+    /// Returns how many units of time an enhanced packet block counts.
+    fn stamp_in(self, block: &[u8]) -> u64
+        requires { 20 ≤ length block.now }
+        ensures { result ≡ stamp_in_block self.order block.now }
+    {
+        let upper = u64::from(self.order.number_in(from_place(block, 12)));
+        upper * 0x1_0000_0000 + u64::from(self.order.number_in(from_place(block, 16)))
     }
 
     /// Returns the record in an enhanced packet block, or that its interface has none.
@@ -251,6 +306,7 @@ impl Section {
         let packet = &from_place(block, PACKET_PLACE)[..captured as usize];
         Ok(Ok(LentRecord {
             packet: Some(self.in_file(u64::from(interface))),
+            stamped: self.times.time_of(u128::from(self.stamp_in(block))),
             octets: record_in_packet(packet)?,
         }))
     }

@@ -47,6 +47,13 @@ pub enum RecordFault {
     /// They are a text of fewer than 16 octets.
     #[error("14 ShortText")]
     ShortText,
+    /// The resolution of an interface, by its option `if_tsresol`, whose units of time are too short to be read.
+    #[error("15 OtherResolution {0}")]
+    OtherResolution(u8),
+    /// The resolution of an interface of records whose times have another unit, or other seconds to add, than those of the first such interface of
+    /// its section.
+    #[error("16 OtherUnit {0}")]
+    OtherUnit(u8),
 }
 
 /// The first place where a file is no capture.

@@ -1,10 +1,12 @@
 //! How records follow one another in a file.
 
 ghost use Rattle.std.specs.Prelude.{◌≡◌, ◌≤◌, ◌+◌, length, IfErr, IfOk, Ok, Err};
+ghost use Rattle.captures.specs.Frames.{pcap_time};
 
 use crate::block::{LEAST_BLOCK, Section, Unread};
 use crate::fault::RecordFault;
 use crate::packet::{HEADER_OCTETS, from_place, length_of, record_in_packet, sized};
+use crate::packet_time::{PacketTimes, TimeSource};
 use byteorder::{BigEndian, ByteOrder, LittleEndian};
 
 /// The octets before a packet in a pcap file.
@@ -28,8 +30,9 @@ pub enum Order {
 pub enum Format {
     /// Records, one after the other.
     Erf,
-    /// A file header of 24 octets, and then packets, each with a record. Numbers outside of the records are in this order.
-    Pcap(Order),
+    /// A file header of 24 octets, and then packets, each with a record. Numbers outside of the records are in this order, and this is known of
+    /// the times of packets.
+    Pcap(Order, PacketTimes),
     /// Blocks, some with a record, and the section that the blocks so far are in.
     PcapNg(Section),
 }
@@ -39,6 +42,8 @@ pub enum Format {
 pub(crate) struct LentRecord<'a> {
     /// The interface of its packet among those of a pcapng file.
     pub(crate) packet: Option<u64>,
+    /// The time of its packet, in units of 2^-32 seconds, if such times are read.
+    pub(crate) stamped: Option<u64>,
     /// Its octets.
     pub(crate) octets: &'a [u8],
 }
@@ -52,8 +57,31 @@ pub(crate) struct Held<'a> {
     pub(crate) framed: Result<LentRecord<'a>, Unread>,
 }
 
+/// Returns the time of a packet of a pcap file, if such times are read.
+fn pcap_time_of(order: Order, times: PacketTimes, frame: &[u8]) -> Option<u64>
+    requires { 16 ≤ length frame.now }
+    ensures { result ≡ pcap_time order times frame.now }
+{
+    let unit = times.unit?;
+    let seconds = u128::from(order.number_in(frame));
+    let part = u128::from(order.number_in(from_place(frame, 4)));
+    times.time_of(seconds * unit.units() + part)
+}
+
 impl Order {
     ghost use Rattle.captures.specs.Framing.{half_in_order, number_in_order};
+    ghost use Rattle.captures.specs.InterfaceOptions.{long_in_order};
+
+    /// Returns the number in the first eight octets.
+    pub(crate) fn long_in(self, octets: &[u8]) -> u64
+        requires { 8 ≤ length octets.now }
+        ensures { result ≡ long_in_order self octets.now }
+    {
+        match self {
+            Order::HighestFirst => BigEndian::read_u64(octets),
+            Order::LowestFirst => LittleEndian::read_u64(octets),
+        }
+    }
 
     /// Returns the number in the first four octets.
     pub(crate) fn number_in(self, octets: &[u8]) -> u32
@@ -80,7 +108,26 @@ impl Order {
 
 impl Format {
     ghost use Rattle.captures.specs.inner.Lent.{format_after, held_of};
-    ghost use Rattle.captures.specs.Frames.{format_start, frame_held, frame_size, head_length};
+    ghost use Rattle.captures.specs.Frames.{format_start, format_timed, frame_held, frame_size, head_length};
+
+    /// Returns the same format, where this time of each record counts: its own, or that of its packet.
+    pub fn timed_by(self, source: TimeSource) -> Format
+        ensures format { result ≡ format_timed source self }
+        ensures start { format_start result ≡ format_start self }
+    {
+        let are_read = source == TimeSource::Packet;
+        match self {
+            Format::Erf => Format::Erf,
+            Format::Pcap(order, times) => Format::Pcap(order, PacketTimes { are_read, ..times }),
+            Format::PcapNg(section) => Format::PcapNg(Section {
+                times: PacketTimes {
+                    are_read,
+                    ..section.times
+                },
+                ..section
+            }),
+        }
+    }
 
     /// Returns how many octets of the file come before its first record, packet or block.
     pub fn start(self) -> usize
@@ -88,7 +135,7 @@ impl Format {
     {
         match self {
             Format::Erf | Format::PcapNg(_) => 0,
-            Format::Pcap(_) => FILE_HEADER_OCTETS,
+            Format::Pcap(_, _) => FILE_HEADER_OCTETS,
         }
     }
 
@@ -108,7 +155,7 @@ impl Format {
         ensures { result ≡ head_length self }
     {
         match self {
-            Format::Erf | Format::Pcap(_) => HEADER_OCTETS,
+            Format::Erf | Format::Pcap(_, _) => HEADER_OCTETS,
             Format::PcapNg(_) => LEAST_BLOCK as usize,
         }
     }
@@ -125,7 +172,7 @@ impl Format {
         let least = HEADER_OCTETS as u32;
         match self {
             Format::Erf => sized(0, least, MOST_OCTETS, u32::from(length_of(octets))),
-            Format::Pcap(order) => sized(
+            Format::Pcap(order, _) => sized(
                 PACKET_HEADER_OCTETS,
                 least,
                 MOST_OCTETS,
@@ -151,13 +198,15 @@ impl Format {
                 after: None,
                 framed: Ok(LentRecord {
                     packet: None,
+                    stamped: None,
                     octets: frame,
                 }),
             }),
-            Format::Pcap(_) => Ok(Held {
+            Format::Pcap(order, times) => Ok(Held {
                 after: None,
                 framed: Ok(LentRecord {
                     packet: None,
+                    stamped: pcap_time_of(order, times, frame),
                     octets: record_in_packet(from_place(frame, PACKET_HEADER_OCTETS))?,
                 }),
             }),

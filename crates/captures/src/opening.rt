@@ -6,6 +6,7 @@ ghost use Rattle.captures.specs.Opening.{begins_as_text as begins_text, fault_by
 use crate::block::Section;
 use crate::format::{FILE_HEADER_OCTETS, Format, Order};
 use crate::packet::{HEADER_OCTETS, from_place};
+use crate::packet_time::PacketTimes;
 use byteorder::{BigEndian, ByteOrder};
 use thiserror::Error;
 
@@ -49,15 +50,20 @@ pub enum Opening {
 /// The link type of packets that are records.
 const LINK_ERF: u32 = 197;
 
-/// Returns what a pcap file is that begins with these octets and has numbers in this order.
-fn open_pcap(order: Order, octets: &[u8]) -> Opening
-    ensures { result ≡ pcap_opening order octets.now }
+/// The resolution of times in microseconds.
+const MICROSECONDS: u8 = 6;
+/// The resolution of times in nanoseconds.
+const NANOSECONDS: u8 = 9;
+
+/// Returns what a pcap file is that begins with these octets and has numbers in this order and times of this resolution.
+fn open_pcap(order: Order, resolution: u8, octets: &[u8]) -> Opening
+    ensures { result ≡ pcap_opening order resolution octets.now }
 {
     if octets.len() < FILE_HEADER_OCTETS {
         return Opening::Undecided;
     }
     match order.number_in(from_place(octets, 20)) % 0x1_0000 {
-        LINK_ERF => Opening::Opened(Format::Pcap(order)),
+        LINK_ERF => Opening::Opened(Format::Pcap(order, PacketTimes::in_units(resolution))),
         link => Opening::Refused(FileFault::OtherLink(link)),
     }
 }
@@ -118,13 +124,16 @@ fn open_by(magic: u32, octets: &[u8]) -> Opening
     ensures { result ≡ opening_by magic octets.now }
 {
     match magic {
-        0xa1b2_c3d4 | 0xa1b2_3c4d => open_pcap(Order::HighestFirst, octets),
-        0xd4c3_b2a1 | 0x4d3c_b2a1 => open_pcap(Order::LowestFirst, octets),
+        0xa1b2_c3d4 => open_pcap(Order::HighestFirst, MICROSECONDS, octets),
+        0xa1b2_3c4d => open_pcap(Order::HighestFirst, NANOSECONDS, octets),
+        0xd4c3_b2a1 => open_pcap(Order::LowestFirst, MICROSECONDS, octets),
+        0x4d3c_b2a1 => open_pcap(Order::LowestFirst, NANOSECONDS, octets),
         0x0a0d_0d0a => Opening::Opened(Format::PcapNg(Section {
             order: Order::LowestFirst,
             before: 0,
             interfaces: 0,
             others: 0,
+            times: PacketTimes::in_units(MICROSECONDS).begun(),
         })),
         _ => match fault_by(magic, BigEndian::read_u32(from_place(octets, 4))) {
             Some(fault) => Opening::Refused(fault),

@@ -26,7 +26,7 @@ pub struct Record<'a> {
     pub link: Link,
     /// What it says of losses before it, and of doubts about its cell.
     pub marks: Marks,
-    /// When it was received, in units of 2^-32 seconds since 1970.
+    /// When it was received, in units of 2^-32 seconds since 1970: by its own header, or by that of its packet (`Format::timed_by`).
     pub time: u64,
     /// Its cell, which the octets lend, or why it holds none.
     pub content: Result<LentCell<'a>, NoCell>,
@@ -90,7 +90,10 @@ fn record_of<'a>(
             channel,
         },
         marks,
-        time: LittleEndian::read_u64(framed.octets),
+        time: match framed.stamped {
+            Some(time) => time,
+            None => LittleEndian::read_u64(framed.octets),
+        },
         content,
     }
 }
@@ -188,7 +191,7 @@ impl Reader {
                     && octets[12] == 0
                     && octets[13] == 0
             }
-            Format::Pcap(_) | Format::PcapNg(_) => false,
+            Format::Pcap(_, _) | Format::PcapNg(_) => false,
         }
     }
 

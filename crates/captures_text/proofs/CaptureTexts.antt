@@ -2,7 +2,7 @@
 use Rattle.std.proofs.Common.{◌≡◌, ◌≢◌, ◌≤◌, ℕ, List, [], ◌++◌, Option, Some, Result, Ok, Err, length, drop, refl, ◌∙◌, sym, ap, ap₂, subst, arith, append_assoc, append-nil}
 use Rattle.std.proofs.lemmas.List.{drop-append-le}
 use Rattle.captures.proofs.Public.{file_decided, file_opened, header_within}
-use Rattle.captures.specs.Frames.{format_start}
+use Rattle.captures.specs.Frames.{format_start, format_timed}
 use Rattle.captures.specs.Opening.{file_opening, opening_of}
 use Rattle.captures.specs.declared.fault.Fault.{Fault}
 use Rattle.captures.specs.declared.format.Format.{Format}
@@ -45,7 +45,7 @@ opened_some : {World : Type 0} (rules : CellRules World) → AnswersEachCell rul
     → (filter : FilterState) (world : World) (octets : List ℕ) (opening : Opening) → rules.is_sound world
     → (text : List ℕ) × (done : Done) × IsOpenedText rules filter world octets opening text done
 opened_some rules total filter world octets (Opened format) sound =
-    let has = some_cells filter format 0 (format_start format) (drop (format_start format) octets) in
+    let has = some_cells filter (format_timed filter.timing format) 0 (format_start format) (drop (format_start format) octets) in
     let printed = cells_some rules total has.0 has.1 world sound in
     (printed.0, printed.1, (has.0, has.1, has.2, printed.2))
 opened_some rules total filter world octets Undecided sound =
@@ -84,7 +84,7 @@ short_text rules filter world octets is =
 
 -- A capture: the text of its cells that count.
 pub opened_text : {World : Type 0} (rules : CellRules World) (world : World) (reading : ReadingAhead) (format : Format) (window : List ℕ)
-    → file_opening window ≡ Opened format → reading.reader.format ≡ format → reading.reader.count ≡ 0 → reading.reader.at ≡ format_start format
+    → file_opening window ≡ Opened format → reading.reader.format ≡ format_timed (filter_state reading.filter).timing format → reading.reader.count ≡ 0 → reading.reader.at ≡ format_start format
     → reading.window ≡ drop (format_start format) window → (more text : List ℕ) (done : Done)
     → IsQueuedText rules reading [] world (reading.window ++ more) text done → IsCaptureText rules (filter_state reading.filter) world (window ++ more) text done
 opened_text rules world reading format window is formats counts places dropped more text done printed =
@@ -97,14 +97,14 @@ opened_text rules world reading format window is formats counts places dropped m
     ap (λ xs. xs ++ more) dropped ∙ sym (drop-append-le (format_start format) window more within)
     in
     by_opening rules filter world (window ++ more) text (Opened format) done (file_decided window more (Opened format) is decided)
-    (subst (λ (xs : List ℕ). IsRecordsText rules filter format 0 (format_start format) world xs text done) octets
-    (subst (λ (n : ℕ). IsRecordsText rules filter format 0 n world (later ++ more) text done) places
-    (subst (λ (n : ℕ). IsRecordsText rules filter format n reading.reader.at world (later ++ more) text done) counts
+    (subst (λ (xs : List ℕ). IsRecordsText rules filter (format_timed filter.timing format) 0 (format_start format) world xs text done) octets
+    (subst (λ (n : ℕ). IsRecordsText rules filter (format_timed filter.timing format) 0 n world (later ++ more) text done) places
+    (subst (λ (n : ℕ). IsRecordsText rules filter (format_timed filter.timing format) n reading.reader.at world (later ++ more) text done) counts
     (subst (λ (f : Format). IsRecordsText rules filter f reading.reader.count reading.reader.at world (later ++ more) text done) formats printed))))
 
 -- What was read has a text with the same end, with the header.
 pub opened_enough : {World : Type 0} (rules : CellRules World) (world : World) (reading : ReadingAhead) (format : Format) (whole window rest0 rest : List ℕ) (done : Done)
-    → file_opening window ≡ Opened format → reading.reader.format ≡ format → reading.reader.count ≡ 0 → reading.reader.at ≡ format_start format
+    → file_opening window ≡ Opened format → reading.reader.format ≡ format_timed (filter_state reading.filter).timing format → reading.reader.count ≡ 0 → reading.reader.at ≡ format_start format
     → reading.window ≡ drop (format_start format) window → whole ≡ window ++ rest0 → HasRead (IsQueuedText rules reading [] world) reading.window rest0 rest done
     → TakesEnough (λ octets. (text : List ℕ) × IsCaptureText rules (filter_state reading.filter) world octets text done) most_ahead whole rest
 opened_enough rules world reading format whole window rest0 rest done is formats counts places dropped all read =
@@ -135,7 +135,7 @@ opened_one : {World : Type 0} (steps : World → CountedCell → List ℕ × Opt
     → IsOpenedText (fixed_rules steps closes) filter world octets opening one ends
     → IsOpenedText (fixed_rules steps closes) filter world octets opening other other_ends → (one ≡ other) × (ends ≡ other_ends)
 opened_one steps closes filter world octets (Opened format) one other ends other_ends first second =
-    let same = one_cells filter format 0 (format_start format) (drop (format_start format) octets) first.0 second.0 first.1 second.1 first.2 second.2 in
+    let same = one_cells filter (format_timed filter.timing format) 0 (format_start format) (drop (format_start format) octets) first.0 second.0 first.1 second.1 first.2 second.2 in
     let printed : (one, ends) ≡ (other, other_ends) =
     sym (fixed_is steps closes first.0 first.1 world one ends first.3) ∙ ap₂ (fixed_text steps closes world) same.0 same.1
     ∙ fixed_is steps closes second.0 second.1 world other other_ends second.3

@@ -2,7 +2,7 @@
 use Rattle.std.specs.Prelude.{ℕ, List, ◌++◌, codes, decimal}
 use Rattle.captures.specs.declared.fault.Fault.{Fault}
 use Rattle.captures.specs.declared.fault.RecordFault.{RecordFault}
-use Rattle.captures.specs.declared.fault.RecordFault.TheVariants.{CutOff, ShortLength, LongLength, ShortRecord, TooFar, OddLength, LengthsDiffer, OtherMagic, OtherVersion, ShortBlock, OtherLink, NoInterface, LongPacket, ShortText}
+use Rattle.captures.specs.declared.fault.RecordFault.TheVariants.{CutOff, ShortLength, LongLength, ShortRecord, TooFar, OddLength, LengthsDiffer, OtherMagic, OtherVersion, ShortBlock, OtherLink, NoInterface, LongPacket, ShortText, OtherResolution, OtherUnit}
 use Rattle.captures.specs.declared.opening.FileFault.{FileFault}
 use Rattle.captures.specs.declared.opening.FileFault.TheVariants as file
 use Rattle.text_words.specs.FaultLines.{line}
@@ -33,6 +33,8 @@ record_fault_text (OtherLink n) = codes "11 OtherLink " ++ decimal n
 record_fault_text (NoInterface n) = codes "12 NoInterface " ++ decimal n
 record_fault_text (LongPacket n) = codes "13 LongPacket " ++ decimal n
 record_fault_text ShortText = codes "14 ShortText"
+record_fault_text (OtherResolution n) = codes "15 OtherResolution " ++ decimal n
+record_fault_text (OtherUnit n) = codes "16 OtherUnit " ++ decimal n
 
 -- The answer to a place at which a file is no capture.
 abbrev pub capture_fault_line : Fault → List ℕ

@@ -1,6 +1,6 @@
 -- The text that answers a capture: the answers to its cells that count, in order, and then to their end.
 use Rattle.std.specs.Prelude.{◌≡◌, if◌then◌else◌, ℕ, List, [], ◌∷◌, ◌++◌, drop, Option, Some, None, MatchOption}
-use Rattle.captures.specs.Frames.{format_start}
+use Rattle.captures.specs.Frames.{format_start, format_timed}
 use Rattle.captures.specs.Opening.{file_opening, is_text}
 use Rattle.captures.specs.declared.fault.Fault.{Fault}
 use Rattle.captures.specs.declared.fault.RecordFault.TheVariants.{CutOff, ShortText}
@@ -56,7 +56,7 @@ short_fault octets = record { at = 0; reason = if is_text octets then ShortText 
 -- From this state of the filter and this world, the text may answer a file with these octets that is this.
 abbrev pub IsOpenedText : {World : Type 0} → CellRules World → FilterState → World → List ℕ → Opening → List ℕ → Done → Type 0
 IsOpenedText rules filter world octets (Opened format) text done =
-    IsRecordsText rules filter format 0 (format_start format) world (drop (format_start format) octets) text done
+    IsRecordsText rules filter (format_timed filter.timing format) 0 (format_start format) world (drop (format_start format) octets) text done
 IsOpenedText rules filter world octets Undecided text done =
     (text ≡ rules.closes world filter.passed (Some (short_fault octets))) × (done ≡ Ended)
 IsOpenedText rules filter world octets (Refused fault) text done = (text ≡ file_fault_line fault) × (done ≡ Ended)

@@ -7,6 +7,7 @@ use Rattle.captures.specs.declared.content.NoCell.{NoCell}
 use Rattle.captures.specs.declared.fault.Fault.{Fault}
 use Rattle.captures.specs.declared.format.Format.{Format}
 use Rattle.captures.specs.declared.link.Link.{Link}
+use Rattle.captures.specs.declared.packet_time.TimeSource.{TimeSource}
 use Rattle.captures.specs.declared.reader.Passage.{Passage}
 use Rattle.captures.specs.declared.reader.Record.{Record}
 use Rattle.captures_text.specs.PassedRecords.{none_passed, with_marked, with_passage, without_cell}
@@ -17,10 +18,11 @@ use Rattle.captures_text.specs.declared.filter.Filtered.{Filtered}
 use Rattle.captures_text.specs.declared.filter.Filtered.TheVariants.{Counts, Passed, Several}
 use Rattle.captures_text.specs.declared.passed.PassedOver.{PassedOver}
 
--- The state of a filter: the nanoseconds of a tick, whether a link was asked for, the link that was, or that of the first cell, the time of
+-- The state of a filter: the nanoseconds of a tick, which time of a record counts, whether a link was asked for, the link that was, or that of the first cell, the time of
 -- the first cell of any link and the latest time of a cell that counts, and the records passed over.
 pub record FilterState : Type 0 where
   pub tick : ℕ
+  pub timing : TimeSource
   pub asked : Bool
   pub link : Option Link
   pub clock : Option (ℕ × ℕ)
@@ -30,16 +32,17 @@ pub record FilterState : Type 0 where
 abbrev pub filter_state : CellFilter → FilterState
 filter_state filter = record {
   tick = filter.tick.nanoseconds;
+  timing = filter.timing;
   asked = filter.asked;
   link = filter.link;
   clock = option_map (λ clock. (clock.first, clock.latest)) filter.clock;
   passed = filter.passed;
 }
 
--- The state at first, with a tick of this many nanoseconds and the link that was asked for.
-abbrev pub filter_start : ℕ → Option Link → FilterState
-filter_start tick link =
-    record { tick = tick; asked = is_some link; link = link; clock = None; passed = none_passed }
+-- The state at first, with a tick of this many nanoseconds, the link that was asked for and the time of a record that counts.
+abbrev pub filter_start : ℕ → Option Link → TimeSource → FilterState
+filter_start tick link timing =
+    record { tick = tick; timing = timing; asked = is_some link; link = link; clock = None; passed = none_passed }
 
 -- A cell of the right link, where the first cell came at the one time and the latest cell at the other.
 abbrev pub filter_at_time : FilterState → ℕ → ℕ → Record → List ℕ → Filtered × FilterState

@@ -3,6 +3,7 @@ use Rattle.std.specs.Prelude.{◌≡◌, ◌↔◌, ℕ, Bool, if◌then◌else�
 use Rattle.hex.specs.Hex.{encode_lower}
 use Rattle.captures.specs.declared.fault.Fault.{Fault}
 use Rattle.captures.specs.declared.link.Link.{Link}
+use Rattle.captures.specs.declared.packet_time.TimeSource.{TimeSource}
 use Rattle.captures_text.specs.CaptureText.{IsCaptureText, IsTextOfCells, end_done, text_at_end}
 use Rattle.captures_text.specs.CellFilter.{CellsEnd, filter_start}
 use Rattle.captures_text.specs.CellRules.{CellRules, fixed_rules}
@@ -44,10 +45,10 @@ cells_rules = fixed_rules cells_steps cells_closes
 abbrev pub cells_start : Bool → CellsWorld
 cells_start numbered = record { numbered = numbered }
 
--- The output for a whole file, and how the run ends, with a tick of this many nanoseconds and the link that was asked for. `numbered` says
--- whether the numbers of records are.
-abbrev pub IsCellsText : ℕ → Option Link → Bool → List ℕ → List ℕ → Done → Type 0
-IsCellsText tick link numbered = IsCaptureText cells_rules (filter_start tick link) (cells_start numbered)
+-- The output for a whole file, and how the run ends, with a tick of this many nanoseconds, the link that was asked for and the time of a record
+-- that counts. `numbered` says whether the numbers of records are asked for.
+abbrev pub IsCellsText : ℕ → Option Link → TimeSource → Bool → List ℕ → List ℕ → Done → Type 0
+IsCellsText tick link timing numbered = IsCaptureText cells_rules (filter_start tick link timing) (cells_start numbered)
 
 -- The lines of these cells.
 abbrev pub counted_lines : Bool → List CountedCell → List ℕ
@@ -61,7 +62,7 @@ CellsAreWritten = (numbered : Bool) (cells : List CountedCell) (end : CellsEnd) 
 
 -- A file has exactly one output.
 abbrev pub CapturesHaveOneCellsText : Type 0
-CapturesHaveOneCellsText = (tick : ℕ) (link : Option Link) (numbered : Bool) (octets : List ℕ)
-    → ((text : List ℕ) × (done : Done) × IsCellsText tick link numbered octets text done)
-    × ((one other : List ℕ) (ends other_ends : Done) → IsCellsText tick link numbered octets one ends
-    → IsCellsText tick link numbered octets other other_ends → (one ≡ other) × (ends ≡ other_ends))
+CapturesHaveOneCellsText = (tick : ℕ) (link : Option Link) (timing : TimeSource) (numbered : Bool) (octets : List ℕ)
+    → ((text : List ℕ) × (done : Done) × IsCellsText tick link timing numbered octets text done)
+    × ((one other : List ℕ) (ends other_ends : Done) → IsCellsText tick link timing numbered octets one ends
+    → IsCellsText tick link timing numbered octets other other_ends → (one ≡ other) × (ends ≡ other_ends))

@@ -17,7 +17,8 @@ use crate::follower::{CellFollower, answers_each_cell};
 use crate::passed::PassedOver;
 use crate::reading_ahead::{ReadingAhead, WINDOW_ROOM};
 use captures::{
-    Fault, FileFault, Link, Opening, Reader, RecordFault, Tick, is_text, open, open_whole,
+    Fault, FileFault, Link, Opening, Reader, RecordFault, Tick, TimeSource, is_text, open,
+    open_whole,
 };
 use std::alloc::Global;
 use std::thread::Threads;
@@ -114,16 +115,17 @@ pub fn follow_cells<R: Threads, I: Input + Send, O: Output, F: CellFollower + Se
     alloc: Global,
     tick: Tick,
     link: Option<Link>,
+    timing: TimeSource,
     input: &mut I,
     output: &mut O,
     follower: &mut F,
 ) -> Result<Done, RunFault>
     ensures { OfEachWorld F.rules (F.shows follower.old) (λ world.
-        IsServed (IsCaptureText F.rules (filter_start tick.nanoseconds link) world)
+        IsServed (IsCaptureText F.rules (filter_start tick.nanoseconds link timing) world)
         I.Input input.old input.new O.Output output.old output.new result) }
 {
     answers_each_cell(follower);
-    let filter = CellFilter::new(tick, link);
+    let filter = CellFilter::new(tick, link, timing);
     let Ok(mut window) = Window::<WINDOW_ROOM>::new(alloc) else {
         return Err(RunFault::NoMemory);
     };
@@ -137,7 +139,7 @@ pub fn follow_cells<R: Threads, I: Input + Send, O: Output, F: CellFollower + Se
             window.skip(format.start());
             let reading = ReadingAhead {
                 window,
-                reader: Reader::new(format),
+                reader: Reader::new(format.timed_by(timing)),
                 filter,
             };
             follow_on(rt, 1 < threads, alloc, input, output, follower, reading)

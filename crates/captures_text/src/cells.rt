@@ -10,7 +10,7 @@ use crate::counted::CountedCell;
 use crate::follower::CellFollower;
 use crate::passed::PassedOver;
 use crate::run_lines::add_closing;
-use captures::{Fault, Link, Tick};
+use captures::{Fault, Link, Tick, TimeSource};
 use std::alloc::{AllocError, Global};
 use std::thread::Threads;
 use text_io::{Done, Input, Output, RunFault, Turn};
@@ -105,8 +105,9 @@ impl CellFollower for Cells {
     ghost is_total = { fixed_total cells_steps cells_closes };
 }
 
-/// Answers a capture by its cells, each as a line of a script for `upc run` or `upc ports`. Moments are ticks since the first cell. With
-/// `numbered` a comment with the number of its record comes before each. If no link is asked for, a cell of a second link ends the run. Comments say how many records were passed over and why.
+/// Answers a capture by its cells, each as a line of a script for `upc run` or `upc ports`. Moments are ticks since the first cell, by the times of
+/// records or of their packets. With `numbered` a comment with the number of its record comes before each. If no link is asked for, a cell of a
+/// second link ends the run. Comments say how many records were passed over and why.
 ///
 /// With `threads` above 1, records are read on one thread while the cells of earlier ones are written on another, as in [`follow_cells`]. The
 /// output is the same.
@@ -121,12 +122,15 @@ pub fn cells_of_capture<R: Threads, I: Input + Send, O: Output>(
     alloc: Global,
     tick: Tick,
     link: Option<Link>,
+    timing: TimeSource,
     numbered: bool,
     input: &mut I,
     output: &mut O,
 ) -> Result<Done, RunFault>
-    ensures { IsServed (IsCellsText tick.nanoseconds link numbered) I.Input input.old input.new O.Output output.old output.new result }
+    ensures { IsServed (IsCellsText tick.nanoseconds link timing numbered) I.Input input.old input.new O.Output output.old output.new result }
 {
     let mut cells = Cells { numbered };
-    follow_cells(rt, threads, alloc, tick, link, input, output, &mut cells)
+    follow_cells(
+        rt, threads, alloc, tick, link, timing, input, output, &mut cells,
+    )
 }

@@ -58,6 +58,10 @@ fn add_record_fault(answers: &mut Vec<u8>, fault: RecordFault) -> Result<(), All
         RecordFault::NoInterface(n) => add_with_number(answers, b"12 NoInterface ", n),
         RecordFault::LongPacket(n) => add_with_number(answers, b"13 LongPacket ", n),
         RecordFault::ShortText => add_text(answers, b"14 ShortText"),
+        RecordFault::OtherResolution(n) => {
+            add_with_number(answers, b"15 OtherResolution ", u32::from(n))
+        }
+        RecordFault::OtherUnit(n) => add_with_number(answers, b"16 OtherUnit ", u32::from(n)),
     }
 }
 

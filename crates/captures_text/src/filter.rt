@@ -4,7 +4,7 @@ ghost use Rattle.std.specs.Prelude.{◌≡◌};
 ghost use Rattle.captures_text.specs.CellFilter.{filter_at_link, filter_at_time, filter_content, filter_passage, filter_record, filter_start, filter_state};
 
 use crate::passed::PassedOver;
-use captures::{Clock, LentCell, Link, Passage, Record, Tick};
+use captures::{Clock, LentCell, Link, Passage, Record, Tick, TimeSource};
 
 /// What a record is to a run that reads the cells of one link.
 #[derive(PartialEq, Eq, Drop, Debug)]
@@ -22,6 +22,7 @@ pub enum Filtered<'a> {
 #[derive(Clone, Copy, Drop, Debug)]
 pub struct CellFilter {
     tick: Tick,
+    timing: TimeSource,
     /// Whether a link was asked for.
     asked: bool,
     /// The link that was asked for, or that of the first cell.
@@ -32,12 +33,13 @@ pub struct CellFilter {
 }
 
 impl CellFilter {
-    /// Starts with this tick, for the link that was asked for.
-    pub fn new(tick: Tick, link: Option<Link>) -> CellFilter
-        ensures { filter_state result ≡ filter_start tick.nanoseconds link }
+    /// Starts with this tick, for the link that was asked for, where `Reader` gives records with this time (`Format::timed_by`).
+    pub fn new(tick: Tick, link: Option<Link>, timing: TimeSource) -> CellFilter
+        ensures { filter_state result ≡ filter_start tick.nanoseconds link timing }
     {
         CellFilter {
             tick,
+            timing,
             asked: link.is_some(),
             link,
             clock: None,

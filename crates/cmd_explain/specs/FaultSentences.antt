@@ -34,6 +34,8 @@ fault_sentences =
     ∷ (codes "capture 12 NoInterface", codes "the packet at octet @ names interface %, which its section lacks")
     ∷ (codes "capture 13 LongPacket", codes "the packet at octet @ has length %, and its block is shorter")
     ∷ (codes "capture 14 ShortText", codes "the file has fewer than 16 octets, and they are text")
+    ∷ (codes "capture 15 OtherResolution", codes "the interface described at octet @ has times of resolution %, in units too short for 64 bits: leave --time packet out")
+    ∷ (codes "capture 16 OtherUnit", codes "the interface described at octet @ has times of resolution %, or with other seconds to add than interfaces before it: editcap -F nsecpcap gives all one unit")
     ∷ (codes "fit 1 TooManyConnections", codes "the cell of record % is of a 65,536th connection, and there is room for 65,535")
     ∷ (codes "fit 2 TooLarge", codes "after the cell of record % a number has more than 64 bits: the increment is far too large")
     ∷ (codes "tick 1 Differs", codes "the setup says that a tick has % ns, and --tick says @: leave one out")

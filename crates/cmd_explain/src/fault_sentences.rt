@@ -17,7 +17,7 @@ const MOST_FAULT_OCTETS: u32 = 1048576;
 
 /// The family, the number and the name of each fault, and its sentence. In it `%` stands for the first number of the fault line, and `@` for
 /// the second.
-const FAULT_SENTENCES: [(&[u8], &[u8]); 32] = [
+const FAULT_SENTENCES: [(&[u8], &[u8]); 34] = [
     (
         b"file 1 Gzip",
         b"gzip compressed this file: pass it through gunzip first",
@@ -102,6 +102,14 @@ const FAULT_SENTENCES: [(&[u8], &[u8]); 32] = [
     (
         b"capture 14 ShortText",
         b"the file has fewer than 16 octets, and they are text",
+    ),
+    (
+        b"capture 15 OtherResolution",
+        b"the interface described at octet @ has times of resolution %, in units too short for 64 bits: leave --time packet out",
+    ),
+    (
+        b"capture 16 OtherUnit",
+        b"the interface described at octet @ has times of resolution %, or with other seconds to add than interfaces before it: editcap -F nsecpcap gives all one unit",
     ),
     (
         b"fit 1 TooManyConnections",

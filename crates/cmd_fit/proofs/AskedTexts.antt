@@ -13,7 +13,7 @@ use Rattle.cmd_fit.specs.declared.fit_choice.FitChoice.{FitChoice}
 
 some_by : (choice : FitChoice) (read : Result (Option RulesRead) (List ℕ)) (octets : List ℕ) → (text : List ℕ) × (done : Done) × IsFitBy choice read octets text done
 some_by choice (Ok rules) octets =
-    some_capture_text fit_rules (fixed_total fit_steps fit_closes) (filter_start choice.tick.nanoseconds choice.link)
+    some_capture_text fit_rules (fixed_total fit_steps fit_closes) (filter_start choice.tick.nanoseconds choice.link choice.timing)
     (fit_start (scope_of choice rules)) octets tt
 some_by choice (Err answer) octets = (answer, Ended, (refl, refl))
 
@@ -23,7 +23,7 @@ some_asked choice rules octets = some_by choice (rules_given rules) octets
 one_by : (choice : FitChoice) (read : Result (Option RulesRead) (List ℕ)) (octets one other : List ℕ) (ends other_ends : Done)
     → IsFitBy choice read octets one ends → IsFitBy choice read octets other other_ends → (one ≡ other) × (ends ≡ other_ends)
 one_by choice (Ok rules) octets one other ends other_ends first second =
-    one_fixed_text fit_steps fit_closes (filter_start choice.tick.nanoseconds choice.link) (fit_start (scope_of choice rules)) octets one other ends other_ends
+    one_fixed_text fit_steps fit_closes (filter_start choice.tick.nanoseconds choice.link choice.timing) (fit_start (scope_of choice rules)) octets one other ends other_ends
     first second
 one_by choice (Err answer) octets one other ends other_ends first second = (first.0 ∙ sym second.0, first.1 ∙ sym second.1)
 

@@ -134,7 +134,7 @@ GoesOn-filter test earliest (cell ∷ cells) goes =
     choice (test cell)
 
 pub moments-go-on : MomentsGoOn
-moments-go-on tick link scope frames flow some =
-    let cells = counted_cells (filter_start tick link) frames in
+moments-go-on tick link timing scope frames flow some =
+    let cells = counted_cells (filter_start tick link timing) frames in
     GoesOn-filter (λ counted. is_same_flow flow (flow_of scope.side scope.rules counted.cell)) 0 (cells_of_class scope.clp cells)
-    (GoesOn-filter (λ counted. is_of_class scope.clp counted.cell) 0 cells (cells-go-on (filter_start tick link) frames 0 some refl))
+    (GoesOn-filter (λ counted. is_of_class scope.clp counted.cell) 0 cells (cells-go-on (filter_start tick link timing) frames 0 some refl))

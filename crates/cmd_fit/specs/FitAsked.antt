@@ -13,7 +13,7 @@ scope_of choice rules = record { increment = choice.increment; side = choice.sid
 
 -- The output for a whole file by the rules that were read, if any are given, or the answer to their fault; and how the run ends.
 abbrev pub IsFitBy : FitChoice → Result (Option RulesRead) (List ℕ) → List ℕ → List ℕ → Done → Type 0
-IsFitBy choice (Ok rules) octets text done = IsFitText (scope_of choice rules) choice.tick.nanoseconds choice.link octets text done
+IsFitBy choice (Ok rules) octets text done = IsFitText (scope_of choice rules) choice.tick.nanoseconds choice.link choice.timing octets text done
 IsFitBy choice (Err answer) octets text done = (text ≡ answer) × (done ≡ Ended)
 
 -- The output for a whole file, with the octets of a file of rules, if one is given; and how the run ends.

@@ -4,6 +4,7 @@ use Rattle.std.specs.BTreeMap.{is_at}
 use Rattle.std.specs.Map.{lookup}
 use Rattle.std.specs.Ordering.{nat_cmp}
 use Rattle.captures.specs.declared.link.Link.{Link}
+use Rattle.captures.specs.declared.packet_time.TimeSource.{TimeSource}
 use Rattle.captures.specs.declared.reader.Passage.{Passage}
 use Rattle.captures.specs.declared.reader.Record.{Record}
 use Rattle.captures_text.specs.CaptureText.{IsTextOfCells, RunsThrough, end_done, text_at_end}
@@ -71,8 +72,8 @@ ClassesAreAlone = (scope : FitScope) (cells : List CountedCell) (last : FitWorld
 
 -- The moments of a flow's cells of a class never go back. A tick has at least one nanosecond.
 abbrev pub MomentsGoOn : Type 0
-MomentsGoOn = (tick : ℕ) (link : Option Link) (scope : FitScope) (frames : List (Result Record Passage)) (flow : Flow) → 0 < tick
-    → GoesOn 0 (moments_counted (cells_fitted scope flow (counted_cells (filter_start tick link) frames)))
+MomentsGoOn = (tick : ℕ) (link : Option Link) (timing : TimeSource) (scope : FitScope) (frames : List (Result Record Passage)) (flow : Flow) → 0 < tick
+    → GoesOn 0 (moments_counted (cells_fitted scope flow (counted_cells (filter_start tick link timing) frames)))
 
 -- The text of such a run is the answer to the end of the cells, with the table of these states, and the run has no other text.
 abbrev pub FitsAreWritten : Type 0

@@ -6,6 +6,7 @@ use Rattle.std.specs.Map.{values_of}
 use Rattle.std.specs.Ordering.{nat_cmp}
 use Rattle.captures.specs.declared.fault.Fault.{Fault}
 use Rattle.captures.specs.declared.link.Link.{Link}
+use Rattle.captures.specs.declared.packet_time.TimeSource.{TimeSource}
 use Rattle.captures_text.specs.CaptureText.{IsCaptureText}
 use Rattle.captures_text.specs.CellFilter.{filter_start}
 use Rattle.captures_text.specs.CellRules.{CellRules, fixed_rules}
@@ -110,6 +111,7 @@ fit_closes world passed ending =
 abbrev pub fit_rules : CellRules FitWorld
 fit_rules = fixed_rules fit_steps fit_closes
 
--- The output for a whole file, and how the run ends, of a run about this, with a tick of this many nanoseconds and the link that was asked for.
-abbrev pub IsFitText : FitScope → ℕ → Option Link → List ℕ → List ℕ → Done → Type 0
-IsFitText scope tick link = IsCaptureText fit_rules (filter_start tick link) (fit_start scope)
+-- The output for a whole file, and how the run ends, of a run about this, with a tick of this many nanoseconds, the link that was asked for and
+-- the time of a record that counts.
+abbrev pub IsFitText : FitScope → ℕ → Option Link → TimeSource → List ℕ → List ℕ → Done → Type 0
+IsFitText scope tick link timing = IsCaptureText fit_rules (filter_start tick link timing) (fit_start scope)

@@ -162,7 +162,7 @@ fn fit_cells<R: Threads, I: Input + Send, O: Output>(
     input: &mut I,
     output: &mut O,
 ) -> Result<Done, RunFault>
-    ensures { IsServed (IsFitText (scope_of choice (rules_held values)) choice.tick.nanoseconds choice.link)
+    ensures { IsServed (IsFitText (scope_of choice (rules_held values)) choice.tick.nanoseconds choice.link choice.timing)
         I.Input input.old input.new O.Output output.old output.new result }
 {
     let mut run = FitRun::new(alloc, choice, values);
@@ -172,6 +172,7 @@ fn fit_cells<R: Threads, I: Input + Send, O: Output>(
         alloc,
         choice.tick,
         choice.link,
+        choice.timing,
         input,
         output,
         &mut run,

@@ -1,6 +1,6 @@
 //! What a run of `fit` is asked for.
 
-use captures::{Link, Tick};
+use captures::{Link, Tick, TimeSource};
 use upc_cell::Side;
 
 /// What a run of `fit` is asked for, beside rules.
@@ -12,6 +12,8 @@ pub struct FitChoice {
     pub tick: Tick,
     /// The link whose cells are read. Without one the cells of a capture may be of one link only.
     pub link: Option<Link>,
+    /// Which time of a record counts.
+    pub timing: TimeSource,
     /// The side at which headers are read, and what a connection is there.
     pub side: Side,
     /// The cell loss priority of the cells that are read, if not all are.

@@ -11,6 +11,7 @@ use Rattle.captures.specs.declared.reader.Record.{Record}
 use Rattle.captures_text.specs.CaptureFaults.{file_fault_line}
 use Rattle.captures_text.specs.CaptureText.{done_at, short_fault}
 use Rattle.captures.specs.declared.link.Link.{Link}
+use Rattle.captures.specs.declared.packet_time.TimeSource.TheVariants as source
 use Rattle.captures_text.specs.CellFilter.{FilterState, filter_passage, filter_record, filter_start}
 use Rattle.captures_text.specs.RunLines.{several_line}
 use Rattle.captures_text.specs.declared.filter.Filtered.{Filtered}
@@ -75,6 +76,6 @@ ForwardsOpened rules others state octets (Refused fault) text report done = (tex
 abbrev pub ForwardsCapture : {World : Type 0} → JudgeRules World → Others → ForwardState World → List ℕ → List ℕ → List ℕ → Done → Type 0
 ForwardsCapture rules others state octets text report done = ForwardsOpened rules others state octets (file_opening octets) text report done
 
--- The state at first, with a tick of this many nanoseconds and the link that was asked for.
+-- The state at first, with a tick of this many nanoseconds and the link that was asked for. The times of records count: what goes on has no others.
 abbrev pub forward_start : {World : Type 0} → ℕ → Option Link → World → ForwardState World
-forward_start tick link world = record { filter = filter_start tick link; world = world }
+forward_start tick link world = record { filter = filter_start tick link source.Record; world = world }

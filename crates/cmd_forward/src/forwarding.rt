@@ -8,7 +8,7 @@ use crate::driver::forward_on;
 use crate::judge::{CellJudge, judges_each_cell};
 use crate::others::Others;
 use crate::stepping::ForwardReading;
-use captures::{Link, Opening, Reader, Tick};
+use captures::{Link, Opening, Reader, Tick, TimeSource};
 use captures_text::{CellFilter, WINDOW_ROOM, add_file_fault, find_opening, short_fault};
 use std::alloc::Global;
 use text_io::{Done, Input, Output, RunFault, Window};
@@ -38,7 +38,7 @@ pub fn forward_cells<I: Input, O: Output, J: CellJudge>(
         I.Input input.old input.new O.Output output.old output.new report.old.items report.new.items result) }
 {
     judges_each_cell(judge);
-    let filter = CellFilter::new(tick, link);
+    let filter = CellFilter::new(tick, link, TimeSource::Record);
     let Ok(mut window) = Window::<WINDOW_ROOM>::new(alloc) else {
         return Err(RunFault::NoMemory);
     };

@@ -2,6 +2,8 @@
 use Rattle.std.specs.Prelude.{◌==◌, ◌^◌, if◌then◌else◌, ℕ, Bool, false, true, Option, Some, None, codes, length, option_and_then, option_map}
 use Rattle.std.specs.Str.{bytes_eq}
 use Rattle.clap.specs.Walk.{Text}
+use Rattle.captures.specs.declared.packet_time.TimeSource.{TimeSource}
+use Rattle.captures.specs.declared.packet_time.TimeSource.TheVariants as source
 use Rattle.captures_text.specs.declared.cell_lines.CellLines.{CellLines}
 use Rattle.captures_text.specs.declared.cell_lines.CellLines.TheVariants as lines
 use Rattle.cmd_size.specs.SizeWords.{duration_of}
@@ -95,9 +97,20 @@ pairs_named word =
 abbrev pub pairs_of : Option Text → Option Bool
 pairs_of text = option_and_then pairs_named text
 
--- The number of threads: 1 to 64.
+-- The number of threads: 1 or 2.
 abbrev pub threads_of : Option Text → Option ℕ
-threads_of text = option_and_then (λ word. option_and_then positive (number_up_to 64 word)) text
+threads_of text = option_and_then (λ word. option_and_then positive (number_up_to 2 word)) text
+
+-- Which time of a record a word names.
+abbrev pub timing_named : Text → Option TimeSource
+timing_named word =
+    if bytes_eq word (codes "record") then Some source.Record
+    else if bytes_eq word (codes "packet") then Some source.Packet
+    else None
+
+-- Which time of a record counts.
+abbrev pub timing_of : Option Text → Option TimeSource
+timing_of text = option_and_then timing_named text
 
 -- Whether a word says that records without a judged cell go on.
 abbrev pub others_named : Text → Option Bool

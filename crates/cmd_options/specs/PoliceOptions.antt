@@ -2,16 +2,17 @@
 use Rattle.std.specs.Prelude.{ℕ, List, [], ◌∷◌, Option, Some, None, codes, false, option_and_then, option_map, true}
 use Rattle.std.specs.String.{string_bytes}
 use Rattle.captures.specs.declared.link.Link.{Link}
+use Rattle.captures.specs.declared.packet_time.TimeSource.{TimeSource}
 use Rattle.clap.specs.Simple.{App}
 use Rattle.clap.specs.Walk.{Rule, Text}
 use Rattle.text_command_line.specs.Arguments.{app_with_rules, argument_rule}
 use Rattle.text_command_line.specs.CommandLines.{argument_value}
 use Rattle.text_command_line.specs.declared.stop.Stop.{Stop}
 use Rattle.captures_text.specs.declared.cell_lines.CellLines.{CellLines}
-use Rattle.cmd_options.specs.CellsOptions.{link_rule}
+use Rattle.cmd_options.specs.CellsOptions.{link_rule, time_rule}
 use Rattle.cmd_options.specs.OptionAnswers.{Asks, IsOptionStop}
 use Rattle.cmd_options.specs.LinkOption.{link_of}
-use Rattle.cmd_options.specs.OptionValues.{asked_tick_of, cell_lines_of, every_of, file_name_of, threads_of}
+use Rattle.cmd_options.specs.OptionValues.{asked_tick_of, cell_lines_of, every_of, file_name_of, threads_of, timing_of}
 use Rattle.cmd_options.specs.declared.police_options.PoliceOptions.{PoliceOptions}
 
 -- The argument SETUP, which must be given.
@@ -34,16 +35,17 @@ every_rule = argument_rule (codes "every") true None false
 abbrev pub threads_rule : Rule
 threads_rule = argument_rule (codes "threads") true (Some (codes "2")) false
 
--- The command `upc-lab police`: this argument and these options, the option `--link` of `cells`, and that for help, which every command has.
+-- The command `upc-lab police`: this argument and these options, the options `--link` and `--time` of `cells`, and that for help, which every command has.
 unfoldable pub police_app : App
-police_app = app_with_rules (codes "upc-lab police") (setup_rule ∷ asked_tick_rule ∷ link_rule ∷ lines_rule ∷ every_rule ∷ threads_rule ∷ [])
+police_app = app_with_rules (codes "upc-lab police") (setup_rule ∷ asked_tick_rule ∷ link_rule ∷ time_rule ∷ lines_rule ∷ every_rule ∷ threads_rule ∷ [])
 
--- What is asked for: the name of the file with the setup script, the nanoseconds of a tick, if any, the link, if any, which cells have lines,
--- the nanoseconds of a span, if any, and the number of threads.
+-- What is asked for: the name of the file with the setup script, the nanoseconds of a tick, if any, the link, if any, which time of a record
+-- counts, which cells have lines, the nanoseconds of a span, if any, and the number of threads.
 pub record PoliceAsked : Type 0 where
   pub setup : Text
   pub nanoseconds : Option ℕ
   pub link : Option Link
+  pub timing : TimeSource
   pub lines : CellLines
   pub every : Option ℕ
   pub threads : ℕ
@@ -54,27 +56,29 @@ police_asked_by options = record {
   setup = string_bytes options.setup;
   nanoseconds = option_map (λ tick. tick.nanoseconds) options.tick;
   link = options.link;
+  timing = options.timing;
   lines = options.lines;
   every = options.every;
   threads = options.threads;
 }
 
 -- What these values spell, if each spells something.
-abbrev pub police_values : Option Text → Option Text → Option Text → Option Text → Option Text → Option Text → Option PoliceAsked
-police_values setup tick link lines every threads =
-    option_and_then (λ name. option_and_then (λ nanoseconds. option_and_then (λ asked. option_and_then (λ which. option_and_then (λ span. option_map (λ number. record {
+abbrev pub police_values : Option Text → Option Text → Option Text → Option Text → Option Text → Option Text → Option Text → Option PoliceAsked
+police_values setup tick link timing lines every threads =
+    option_and_then (λ name. option_and_then (λ nanoseconds. option_and_then (λ asked. option_and_then (λ source. option_and_then (λ which. option_and_then (λ span. option_map (λ number. record {
       setup = name;
       nanoseconds = nanoseconds;
       link = asked;
+      timing = source;
       lines = which;
       every = span;
       threads = number;
-    }) (threads_of threads)) (every_of every)) (cell_lines_of lines)) (link_of link)) (asked_tick_of tick)) (file_name_of setup)
+    }) (threads_of threads)) (every_of every)) (cell_lines_of lines)) (timing_of timing)) (link_of link)) (asked_tick_of tick)) (file_name_of setup)
 
 -- What the values of the argument and the options in the words spell.
 abbrev pub police_asked : List Text → Option PoliceAsked
 police_asked words = police_values (argument_value police_app words (codes "SETUP")) (argument_value police_app words (codes "tick"))
-    (argument_value police_app words (codes "link")) (argument_value police_app words (codes "lines")) (argument_value police_app words (codes "every"))
+    (argument_value police_app words (codes "link")) (argument_value police_app words (codes "time")) (argument_value police_app words (codes "lines")) (argument_value police_app words (codes "every"))
     (argument_value police_app words (codes "threads"))
 
 -- The words have no error for clap, and ask for this.

@@ -7,8 +7,11 @@ ghost use Rattle.cmd_options.specs.CellsOptions.{AsksCells, CellsAsked, IsCellsS
 ghost use Rattle.cmd_options.specs.inner.Answered.{AnswersValues, cells_spelled};
 
 use crate::link::link_of;
-use crate::values::{LINK, TICK, WRONG_LINK, WRONG_TICK, is_record_given, tick_of, wrong_value};
-use captures::{Link, Tick};
+use crate::values::{
+    LINK, TICK, TIME, WRONG_LINK, WRONG_TICK, WRONG_TIME, is_record_given, tick_of, timing_of,
+    wrong_value,
+};
+use captures::{Link, Tick, TimeSource};
 use std::alloc::Global;
 use text_command_line::{Argument, Form, Options, Stop, Value, values_of_words};
 
@@ -19,6 +22,8 @@ pub struct CellsOptions {
     pub tick: Tick,
     /// The link whose cells are read. Without one the cells of a capture may be of one link only.
     pub link: Option<Link>,
+    /// Which time of a record counts.
+    pub timing: TimeSource,
     /// Whether each cell comes after a comment with the number of its record.
     pub numbered: bool,
 }
@@ -35,11 +40,11 @@ const CELLS: Options = Options {
     name: "upc-lab cells",
     about: "Print the ATM cells of a capture of a link as lines of a script",
     after_help: "Standard input is an ERF file, or pcap or pcapng with ERF records.\nExample: examples/make-capture | upc-lab cells --tick 1us",
-    arguments: &[TICK, LINK, RECORD],
+    arguments: &[TICK, LINK, TIME, RECORD],
 };
 
-/// Reads the words after `upc-lab cells`: `--tick TIME`, which is 100ns if it isn't given, `--link LINK` and `--record`. The forms of
-/// help that `clap` has request help. Any other word is an error, and so is a wrong value.
+/// Reads the words after `upc-lab cells`: `--tick TIME`, which is 100ns if it isn't given, `--link LINK`, `--time record|packet`,
+/// which is record if it isn't given, and `--record`. The forms of help that `clap` has request help. Any other word is an error, and so is a wrong value.
 pub fn cells_options(alloc: Global, words: Vec<String>) -> Result<CellsOptions, Stop>
     ensures asked { IfOk result (λ options. AsksCells (map string_bytes words.items) (cells_asked_by options)) }
     ensures stopped { IfErr result (IsCellsStop (map string_bytes words.items)) }
@@ -60,9 +65,13 @@ fn read(alloc: Global, values: &[Value]) -> Result<CellsOptions, Stop>
     let Some(link) = link_of(values) else {
         return Err(wrong_value(alloc, WRONG_LINK));
     };
+    let Some(timing) = timing_of(values) else {
+        return Err(wrong_value(alloc, WRONG_TIME));
+    };
     Ok(CellsOptions {
         tick,
         link,
+        timing,
         numbered: is_record_given(values),
     })
 }

@@ -8,10 +8,10 @@ ghost use Rattle.cmd_options.specs.inner.Answered.{AnswersValues, fit_spelled};
 
 use crate::link::link_of;
 use crate::values::{
-    LINK, TICK, WRONG_LINK, WRONG_TICK, asked_clp_of, fit_increment_of, fit_side_of, owned,
-    rules_name_of, tick_of, wrong_value,
+    LINK, TICK, TIME, WRONG_LINK, WRONG_TICK, WRONG_TIME, asked_clp_of, fit_increment_of,
+    fit_side_of, owned, rules_name_of, tick_of, timing_of, wrong_value,
 };
-use captures::{Link, Tick};
+use captures::{Link, Tick, TimeSource};
 use std::alloc::Global;
 use text_command_line::{Argument, Form, Options, Stop, Value, values_of_words};
 use upc_cell::Side;
@@ -25,6 +25,8 @@ pub struct FitOptions {
     pub tick: Tick,
     /// The link whose cells are read. Without one the cells of a capture may be of one link only.
     pub link: Option<Link>,
+    /// Which time of a record counts.
+    pub timing: TimeSource,
     /// The side at which headers are read, and whether connections are virtual paths.
     pub side: Side,
     /// The cell loss priority (CLP) of the cells that are read, 0 or 1. Without one all cells are read.
@@ -77,11 +79,11 @@ const FIT: Options = Options {
     name: "upc-lab fit",
     about: "Print the least limit under which all cells of each connection of a capture conform",
     after_help: "Standard input is an ERF file, or pcap or pcapng with ERF records.\nExample: examples/make-capture | upc-lab fit --increment 10 --tick 1us",
-    arguments: &[INCREMENT, TICK, LINK, SIDE, PATHS, CLP, RULES],
+    arguments: &[INCREMENT, TICK, LINK, TIME, SIDE, PATHS, CLP, RULES],
 };
 
-/// Reads the words after `upc-lab fit`: `--increment T`, `--tick TIME`, which is 100ns if it isn't given, `--link LINK`, and
-/// `--side SIDE`, which is uni if it isn't given, `--paths`, `--clp CLP`, and `--rules FILE`. The forms of help that `clap` has request help. Any other
+/// Reads the words after `upc-lab fit`: `--increment T`, `--tick TIME`, which is 100ns if it isn't given, `--link LINK`,
+/// `--time record|packet`, which is record if it isn't given, `--side SIDE`, which is uni if it isn't given, `--paths`, `--clp CLP`, and `--rules FILE`. The forms of help that `clap` has request help. Any other
 /// word is an error, and so are a wrong value, an empty name and words without an increment.
 pub fn fit_options(alloc: Global, words: Vec<String>) -> Result<FitOptions, Stop>
     ensures asked { IfOk result (λ options. AsksFit (map string_bytes words.items) (asked_by options)) }
@@ -109,6 +111,9 @@ fn read(alloc: Global, values: &[Value]) -> Result<FitOptions, Stop>
     let Some(link) = link_of(values) else {
         return Err(wrong_value(alloc, WRONG_LINK));
     };
+    let Some(timing) = timing_of(values) else {
+        return Err(wrong_value(alloc, WRONG_TIME));
+    };
     let Some(side) = fit_side_of(values) else {
         return Err(wrong_value(alloc, "error: the value of '--side' is uni or nni\n"));
     };
@@ -128,6 +133,7 @@ fn read(alloc: Global, values: &[Value]) -> Result<FitOptions, Stop>
         increment,
         tick,
         link,
+        timing,
         side,
         clp,
         rules,

@@ -8,10 +8,10 @@ ghost use Rattle.cmd_options.specs.inner.Answered.{AnswersValues, police_spelled
 
 use crate::link::link_of;
 use crate::values::{
-    ASKED_TICK, LINK, SETUP, WRONG_LINK, WRONG_TICK, asked_tick_of, cell_lines_of, every_of,
-    setup_name_of, threads_of, wrong_value,
+    ASKED_TICK, LINK, SETUP, TIME, WRONG_LINK, WRONG_TICK, WRONG_TIME, asked_tick_of,
+    cell_lines_of, every_of, setup_name_of, threads_of, timing_of, wrong_value,
 };
-use captures::{Link, Tick};
+use captures::{Link, Tick, TimeSource};
 use captures_text::CellLines;
 use std::alloc::Global;
 use text_command_line::{Argument, Form, Options, Stop, Value, values_of_words};
@@ -25,11 +25,13 @@ pub struct PoliceOptions {
     pub tick: Option<Tick>,
     /// The link whose cells are read. Without one the cells of a capture may be of one link only.
     pub link: Option<Link>,
+    /// Which time of a record counts.
+    pub timing: TimeSource,
     /// Which cells have lines.
     pub lines: CellLines,
     /// How many nanoseconds a span has, above 0, if the counts of each span of time are written.
     pub every: Option<u64>,
-    /// How many threads may work at once, 1 to 64.
+    /// How many threads may work at once, 1 or 2.
     pub threads: u8,
 }
 
@@ -54,19 +56,19 @@ const THREADS: Argument = Argument {
     form: Form::Valued("N"),
     default: Some("2"),
     required: false,
-    help: "1 reads and judges in turn, 2 or more at the same time",
+    help: "1 reads and judges in turn, 2 at the same time",
 };
 
 const POLICE: Options = Options {
     name: "upc-lab police",
     about: "Police the ATM cells of a capture by the contracts of a setup script",
     after_help: "Standard input is an ERF file, or pcap or pcapng with ERF records.\nExample: examples/make-capture | upc-lab police examples/police.setup",
-    arguments: &[SETUP, ASKED_TICK, LINK, LINES, EVERY, THREADS],
+    arguments: &[SETUP, ASKED_TICK, LINK, TIME, LINES, EVERY, THREADS],
 };
 
 /// Reads the words after `upc-lab police`: the name of a file, `--tick TIME`, `--link LINK`,
-/// `--lines LINES`, which is all if it isn't given, `--every TIME`, and `--threads N`, which is 2 if it isn't given. The forms of help that `clap` has
-/// request help. Any other word is an error, and so are a wrong value, an empty name and words without a name.
+/// `--time record|packet`, which is record if it isn't given, `--lines LINES`, which is all if it isn't given, `--every TIME`, and
+/// `--threads N`, which is 2 if it isn't given. The forms of help that `clap` has request help. Any other word is an error, and so are a wrong value, an empty name and words without a name.
 pub fn police_options(alloc: Global, words: Vec<String>) -> Result<PoliceOptions, Stop>
     ensures asked { IfOk result (λ options. AsksPolice (map string_bytes words.items) (police_asked_by options)) }
     ensures stopped { IfErr result (IsPoliceStop (map string_bytes words.items)) }
@@ -90,6 +92,9 @@ fn read(alloc: Global, values: &[Value]) -> Result<PoliceOptions, Stop>
     let Some(link) = link_of(values) else {
         return Err(wrong_value(alloc, WRONG_LINK));
     };
+    let Some(timing) = timing_of(values) else {
+        return Err(wrong_value(alloc, WRONG_TIME));
+    };
     let Some(lines) = cell_lines_of(values) else {
         return Err(wrong_value(
             alloc,
@@ -103,10 +108,7 @@ fn read(alloc: Global, values: &[Value]) -> Result<PoliceOptions, Stop>
         ));
     };
     let Some(threads) = threads_of(values) else {
-        return Err(wrong_value(
-            alloc,
-            "error: the value of '--threads' is a number from 1 to 64\n",
-        ));
+        return Err(wrong_value(alloc, "error: the value of '--threads' is 1 or 2\n"));
     };
     let Ok(setup) = String::from_str(alloc, setup) else {
         return Err(Stop::NoMemory);
@@ -115,6 +117,7 @@ fn read(alloc: Global, values: &[Value]) -> Result<PoliceOptions, Stop>
         setup,
         tick,
         link,
+        timing,
         lines,
         every,
         threads,

@@ -3,10 +3,10 @@
 ghost use Rattle.std.specs.Prelude.{◌≡◌, IfOk, codes, option_map};
 ghost use Rattle.std.specs.String.{string_bytes};
 ghost use Rattle.text_command_line.specs.Arguments.{text_named, texts_of};
-ghost use Rattle.cmd_options.specs.OptionValues.{asked_clp_of, asked_file_of, asked_tick_of, cell_lines_of, clp_named, every_of, fit_increment_of, fit_side_of, file_name_of, file_named, is_given, others_of, pairs_of, side_named, threads_of, tick_of};
+ghost use Rattle.cmd_options.specs.OptionValues.{asked_clp_of, asked_file_of, asked_tick_of, cell_lines_of, clp_named, every_of, fit_increment_of, fit_side_of, file_name_of, file_named, is_given, others_of, pairs_of, side_named, threads_of, tick_of, timing_of};
 ghost use Rattle.cmd_options.specs.inner.Answered.{IsWrongValue};
 
-use captures::Tick;
+use captures::{Tick, TimeSource};
 use captures_text::CellLines;
 use cmd_size::duration;
 use std::alloc::{AllocError, Global};
@@ -50,6 +50,18 @@ pub(crate) const LINK: Argument = Argument {
     help: "Only the cells of this link, as 0, 0/2/5, 1:0 or 1:0/2/5",
 };
 
+/// The option `--time`. The times of packets are in the unit that their file says: in pcapng by the options `if_tsresol` and `if_tsoffset`.
+pub(crate) const TIME: Argument = Argument {
+    name: "time",
+    form: Form::Valued("TIME"),
+    default: Some("record"),
+    required: false,
+    help: "Which time of a record counts: its own (record), or that of its packet in a pcap or pcapng file (packet)",
+};
+
+/// The message about a wrong value of `--time`.
+pub(crate) const WRONG_TIME: &str = "error: the value of '--time' is record or packet\n";
+
 /// The message about a wrong value of `--tick`.
 pub(crate) const WRONG_TICK: &str =
     "error: the value of '--tick' is a number above 0 with ns, us, ms or s, as 100ns\n";
@@ -73,6 +85,17 @@ pub(crate) fn asked_tick_of(values: &[Value]) -> Option<Option<Tick>>
     match text_of(values, "tick") {
         None => Some(None),
         Some(_) => Some(Some(tick_of(values)?)),
+    }
+}
+
+/// Returns which time of a record the value of `--time` names.
+pub(crate) fn timing_of(values: &[Value]) -> Option<TimeSource>
+    ensures { result ≡ timing_of (text_named (texts_of values.now) (codes "time")) }
+{
+    match text_of(values, "time")? {
+        "record" => Some(TimeSource::Record),
+        "packet" => Some(TimeSource::Packet),
+        _ => None,
     }
 }
 
@@ -230,7 +253,7 @@ pub(crate) fn threads_of(values: &[Value]) -> Option<u8>
     ensures { result ≡ threads_of (text_named (texts_of values.now) (codes "threads")) }
 {
     match number(text_of(values, "threads")?.as_bytes()) {
-        Some(threads) if 0 < threads && threads <= 64 => Some(threads as u8),
+        Some(threads) if 0 < threads && threads <= 2 => Some(threads as u8),
         _ => None,
     }
 }

@@ -16,7 +16,7 @@ police_some : (scope : PoliceScope) (tick : ℕ) (script : List ℕ) (times : Li
 police_some scope tick script times octets (inl faulty) = (faulty.0, Ended, inl (faulty.1, refl))
 police_some scope tick script times octets (inr set) =
     let first = police_start scope tick set.0 (waiting_at tick times (lines_of script)) in
-    let printed = some_capture_text police_rules police-total (filter_start tick scope.link) first octets set.2 in
+    let printed = some_capture_text police_rules police-total (filter_start tick scope.link scope.timing) first octets set.2 in
     (printed.0, printed.1, inr (set.0, set.1, printed.2))
 
 -- A setup script, times of its lines and a capture have a text.

@@ -177,4 +177,4 @@ abbrev pub IsPoliceText : PoliceScope → ℕ → List ℕ → List (Option ℕ)
 IsPoliceText scope tick script times octets text done =
     (IsFaultAtTimes script times text × (done ≡ Ended))
     ⊎ ((card : Card) × IsSetUpAtTimes script times card
-    × IsCaptureText police_rules (filter_start tick scope.link) (police_start scope tick card (waiting_at tick times (lines_of script))) octets text done)
+    × IsCaptureText police_rules (filter_start tick scope.link scope.timing) (police_start scope tick card (waiting_at tick times (lines_of script))) octets text done)

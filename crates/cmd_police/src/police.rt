@@ -309,6 +309,7 @@ pub fn police_capture<R: Threads, I: Input + Send, O: Output>(
                 alloc,
                 tick,
                 choice.scope.link,
+                choice.scope.timing,
                 input,
                 output,
                 &mut run,

@@ -1,6 +1,6 @@
 //! What a run of `police` is about.
 
-use captures::Link;
+use captures::{Link, TimeSource};
 use captures_text::CellLines;
 
 /// Which cells of a capture are policed, and what is written about them.
@@ -8,6 +8,8 @@ use captures_text::CellLines;
 pub struct PoliceScope {
     /// The link whose cells are read. Without one the cells of a capture may be of one link only.
     pub link: Option<Link>,
+    /// Which time of a record counts.
+    pub timing: TimeSource,
     /// Which cells have lines.
     pub lines: CellLines,
     /// How many nanoseconds a span has, if the counts of each span of time are written. A span has whole ticks, at least one.

@@ -29,7 +29,7 @@ pub some-asked_text : (asked : Asked) (setup : List ℕ) (tick : Option ℕ) (ru
     → (answer : List ℕ) × (done : Done) × IsAskedText setup tick rules old asked octets answer done
 some-asked_text (Plain subcommand) setup tick rules old octets = some-lab_text subcommand octets
 some-asked_text (Why options) setup tick rules old octets = some-why_text options.count octets
-some-asked_text (Cells options) setup tick rules old octets = some_cells_text options.tick.nanoseconds options.link options.numbered octets
+some-asked_text (Cells options) setup tick rules old octets = some_cells_text options.tick.nanoseconds options.link options.timing options.numbered octets
 some-asked_text (Police options) setup tick rules old octets =
     some_agreed_text (scope_asked options) tick (option_map (λ it. it.nanoseconds) options.tick) setup rules octets
 some-asked_text (Fit options) setup tick rules old octets = some_fit_text (fit_choice options) (rules_asked options old) octets

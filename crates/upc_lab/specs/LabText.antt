@@ -47,7 +47,7 @@ others_asked others = if others then Pass else Drop
 
 -- The scope that options of `police` ask for.
 abbrev pub scope_asked : PoliceOptions → PoliceScope
-scope_asked options = record { link = options.link; lines = options.lines; every = options.every }
+scope_asked options = record { link = options.link; timing = options.timing; lines = options.lines; every = options.every }
 
 -- What options of `fit` ask for, beside rules.
 abbrev pub fit_choice : FitOptions → FitChoice
@@ -55,6 +55,7 @@ fit_choice options = record {
   increment = options.increment;
   tick = options.tick;
   link = options.link;
+  timing = options.timing;
   side = options.side;
   clp = options.clp;
 }
@@ -81,7 +82,7 @@ kinds_asked which.Both = record { old = Program; new = Program }
 abbrev pub IsAskedText : List ℕ → Option ℕ → List (List ℕ) → List ℕ → Asked → List ℕ → List ℕ → Done → Type 0
 IsAskedText setup tick rules old (Plain subcommand) = IsLabText subcommand
 IsAskedText setup tick rules old (Why options) = MayBeWhyText options.count
-IsAskedText setup tick rules old (Cells options) = IsCellsText options.tick.nanoseconds options.link options.numbered
+IsAskedText setup tick rules old (Cells options) = IsCellsText options.tick.nanoseconds options.link options.timing options.numbered
 IsAskedText setup tick rules old (Police options) = MayBePolicedAsAgreed (scope_asked options) tick (option_map (λ asked. asked.nanoseconds) options.tick) setup rules
 IsAskedText setup tick rules old (Fit options) = IsFitAsked (fit_choice options) (rules_asked options old)
 IsAskedText setup tick rules old (Forward options) = HasReportedText (MayBeForwardedAsAgreed (others_asked options.others) tick

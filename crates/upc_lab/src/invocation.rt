@@ -119,6 +119,7 @@ fn scope_asked(options: &PoliceOptions) -> PoliceScope
 {
     PoliceScope {
         link: options.link,
+        timing: options.timing,
         lines: options.lines,
         every: options.every,
     }
@@ -132,6 +133,7 @@ fn fit_choice(options: &FitOptions) -> FitChoice
         increment: options.increment,
         tick: options.tick,
         link: options.link,
+        timing: options.timing,
         side: options.side,
         clp: options.clp,
     }
@@ -180,6 +182,7 @@ fn run<R: Threads, I: Ahead + Send, O: Output>(
             alloc,
             options.tick,
             options.link,
+            options.timing,
             options.numbered,
             input,
             output,

@@ -8,7 +8,7 @@ use crate::{
     Asked, CellsOptions, LookedAt, Reasoned, SetupFiles, Unreadable, carry_out, choose, read_setup,
     shell_status,
 };
-use captures::{Channel, Link, Tick};
+use captures::{Channel, Link, Tick, TimeSource};
 use std::alloc::{AllocError, Global};
 use std::process::Abort;
 use std::rt::Files;
@@ -291,6 +291,7 @@ fn the_options_of_cells_are_read(rt: HostRuntime) -> Result<(), Fail> {
                 connection: 3,
             }),
         }),
+        timing: TimeSource::Record,
         numbered: false,
     };
     assert!(rt; matches!(answer, Ok(Asked::Cells(found)) if found == options));

@@ -9,7 +9,7 @@ use Rattle.captures.specs.declared.format.LentRecord.{LentRecord}
 
 -- What contracts see of a record that is lent.
 abbrev pub framed_of : LentRecord → Framed
-framed_of lent = record { packet = lent.packet; octets = lent.octets.now }
+framed_of lent = record { packet = lent.packet; stamped = lent.stamped; octets = lent.octets.now }
 
 -- The same of what a frame holds.
 abbrev pub held_of : Result LentRecord Unread → Result Framed Unread

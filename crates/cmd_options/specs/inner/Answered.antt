@@ -26,16 +26,16 @@ AnswersValues asked_by spelled (Err NoMemory) = ⊤
 
 -- What named values of `cells` spell.
 abbrev pub cells_spelled : List (Text × Option Text) → Option CellsAsked
-cells_spelled texts = cells_values (text_named texts (codes "tick")) (text_named texts (codes "link")) (text_named texts (codes "record"))
+cells_spelled texts = cells_values (text_named texts (codes "tick")) (text_named texts (codes "link")) (text_named texts (codes "time")) (text_named texts (codes "record"))
 
 -- What named values of `fit` spell.
 abbrev pub fit_spelled : List (Text × Option Text) → Option FitAsked
-fit_spelled texts = fit_values (text_named texts (codes "increment")) (text_named texts (codes "tick")) (text_named texts (codes "link"))
+fit_spelled texts = fit_values (text_named texts (codes "increment")) (text_named texts (codes "tick")) (text_named texts (codes "link")) (text_named texts (codes "time"))
     (text_named texts (codes "side")) (text_named texts (codes "paths")) (text_named texts (codes "clp")) (text_named texts (codes "rules"))
 
 -- What named values of `police` spell.
 abbrev pub police_spelled : List (Text × Option Text) → Option PoliceAsked
-police_spelled texts = police_values (text_named texts (codes "SETUP")) (text_named texts (codes "tick")) (text_named texts (codes "link"))
+police_spelled texts = police_values (text_named texts (codes "SETUP")) (text_named texts (codes "tick")) (text_named texts (codes "link")) (text_named texts (codes "time"))
     (text_named texts (codes "lines")) (text_named texts (codes "every")) (text_named texts (codes "threads"))
 
 -- What named values of `differ` spell.

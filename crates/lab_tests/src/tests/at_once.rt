@@ -4,7 +4,7 @@
 ghost use Rattle.std.specs.Prelude.{[]};
 
 use super::link::record_of;
-use captures::{Fault, Tick};
+use captures::{Fault, Tick, TimeSource};
 use captures_text::{CellFollower, CountedCell, PassedOver, follow_cells};
 use std::alloc::{AllocError, Global};
 use std::sync::atomic::{AtomicU64, Ordering};
@@ -162,7 +162,17 @@ fn meetings(rt: &impl Threads, alloc: Global, capture: &[u8]) -> Result<[u64; 3]
         met: 0,
     };
     let mut sink = WriterOutput::new(Vec::new(alloc));
-    match follow_cells(rt, 2, alloc, tick, None, &mut gate, &mut sink, &mut waiting) {
+    match follow_cells(
+        rt,
+        2,
+        alloc,
+        tick,
+        None,
+        TimeSource::Record,
+        &mut gate,
+        &mut sink,
+        &mut waiting,
+    ) {
         Ok(Done::Whole) => Ok([gate.met, waiting.met, waiting.cells]),
         _ => Err(Fail::new("no end")),
     }

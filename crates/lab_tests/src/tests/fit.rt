@@ -1,7 +1,7 @@
 //! Least limits by hand, and the texts of faults.
 
 use super::link::{plain, record_of};
-use captures::{Link, Tick};
+use captures::{Link, Tick, TimeSource};
 use cmd_fit::{FitChoice, FitFault, fit_capture};
 use std::alloc::Global;
 use std::test::Fail;
@@ -37,6 +37,7 @@ fn fitted(
         increment,
         tick,
         link,
+        timing: TimeSource::Record,
         side,
         clp: None,
     };

@@ -1,7 +1,7 @@
 //! Tests of the options.
 
 use super::link::plain;
-use captures::{Channel, Link, Tick};
+use captures::{Channel, Link, Tick, TimeSource};
 use captures_text::CellLines;
 use cmd_options::{
     CellsOptions, FitOptions, cells_options, explain_options, fit_options, police_options,
@@ -21,12 +21,30 @@ fn words_of(alloc: Global, line: &str) -> Result<Vec<String>, AllocError> {
 
 #[test]
 fn options_have_their_values_or_their_defaults(rt: HostRuntime) -> Result<(), Fail> {
-    for (line, nanoseconds, link, numbered) in [
-        ("", 100, None, false),
-        ("--tick 1us", 1000, None, false),
-        ("--tick=2ns --record --link=3", 2, Some(plain(3)), true),
-        ("--link 0 --tick 1s", 1000000000, Some(plain(0)), false),
-        ("--link 7 --record", 100, Some(plain(7)), true),
+    for (line, nanoseconds, link, timing, numbered) in [
+        ("", 100, None, TimeSource::Record, false),
+        ("--tick 1us", 1000, None, TimeSource::Record, false),
+        (
+            "--tick=2ns --record --link=3",
+            2,
+            Some(plain(3)),
+            TimeSource::Record,
+            true,
+        ),
+        (
+            "--link 0 --tick 1s --time packet",
+            1000000000,
+            Some(plain(0)),
+            TimeSource::Packet,
+            false,
+        ),
+        (
+            "--time=record --link 7 --record",
+            100,
+            Some(plain(7)),
+            TimeSource::Record,
+            true,
+        ),
         (
             "--link 18446744073709551615:1/15/2047",
             100,
@@ -38,13 +56,14 @@ fn options_have_their_values_or_their_defaults(rt: HostRuntime) -> Result<(), Fa
                     connection: 2047,
                 }),
             }),
+            TimeSource::Record,
             false,
         ),
     ] {
         let answer = cells_options(rt.alloc(), words_of(rt.alloc(), line)?);
         let tick = Tick::new(nanoseconds).expect(&rt, "a tick");
         assert!(rt;
-            matches!(answer, Ok(options) if options == CellsOptions { tick, link, numbered }),
+            matches!(answer, Ok(options) if options == CellsOptions { tick, link, timing, numbered }),
             "{line}"
         );
     }
@@ -125,6 +144,7 @@ fn fit_wants_an_increment(rt: HostRuntime) -> Result<(), Fail> {
             increment,
             tick,
             link,
+            timing: TimeSource::Record,
             side,
             clp,
             rules,
@@ -165,12 +185,12 @@ fn police_wants_a_file(rt: HostRuntime) -> Result<(), Fail> {
             2,
         ),
         (
-            "--lines=none --threads=64 --link=3 -- --tick",
+            "--lines=none --threads=2 --link=3 -- --tick",
             "--tick",
             None,
             Some(plain(3)),
             CellLines::Nothing,
-            64,
+            2,
         ),
         (
             "--threads 1 --lines all /tmp/c",
@@ -196,7 +216,8 @@ fn police_wants_a_file(rt: HostRuntime) -> Result<(), Fail> {
         "a --tick 0s",
         "a --link 8",
         "a --threads 0",
-        "a --threads 65",
+        "a --threads 3",
+        "a --time late",
         "a --threads two",
         "--lines none",
     ] {

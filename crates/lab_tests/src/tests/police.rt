@@ -1,7 +1,7 @@
 //! A capture by hand: excesses, a journal that is full, a cell without a connection, and a faulty setup.
 
 use super::link::record_of;
-use captures::Tick;
+use captures::{Tick, TimeSource};
 use captures_text::CellLines;
 use cmd_police::{PoliceChoice, PoliceScope, police_setup};
 use std::alloc::{AllocError, Global};
@@ -35,6 +35,7 @@ fn policed(
             threads,
             scope: PoliceScope {
                 link: None,
+                timing: TimeSource::Record,
                 lines,
                 every: None,
             },

@@ -5,8 +5,8 @@ mod blocks;
 
 use super::link::plain;
 use captures::{
-    Channel, Clock, Fault, FileFault, Format, Next, NoCell, Opening, Order, Reader, RecordFault,
-    Section, Tick, open, open_whole,
+    Channel, Clock, Fault, FileFault, Format, Next, NoCell, Opening, Order, PacketTimes, Reader,
+    RecordFault, Section, Tick, TimeSource, TimeUnit, open, open_whole,
 };
 use std::test::Fail;
 
@@ -147,6 +147,37 @@ fn pcap_of(order: Order, link: u8, packet: u32, length: u8) -> [u8; 136] {
     octets
 }
 
+/// The format of such a file, in nanoseconds if the highest octets come first, and otherwise in microseconds. The times of its packets aren't read.
+fn pcap_format(order: Order) -> Format {
+    let resolution = match order {
+        Order::HighestFirst => 9,
+        Order::LowestFirst => 6,
+    };
+    let unit = Some(TimeUnit {
+        resolution,
+        ahead: 0,
+    });
+    let are_read = false;
+    Format::Pcap(order, PacketTimes { are_read, unit })
+}
+
+#[test]
+fn packets_have_times_of_their_own(rt: HostRuntime) -> Result<(), Fail> {
+    for (order, stamp) in [
+        (Order::HighestFirst, [0, 0, 0, 2, 0x1d, 0xcd, 0x65, 0]),
+        (Order::LowestFirst, [2, 0, 0, 0, 0x20, 0xa1, 7, 0]),
+    ] {
+        let mut octets = pcap_of(order, 197, 68, 68);
+        octets[24..32].copy_from_slice(&stamp);
+        let mut reader = Reader::new(pcap_format(order).timed_by(TimeSource::Packet));
+        let Next::Taken(record, _) = reader.next(&octets[24..]) else {
+            return Err(Fail::new("no record"));
+        };
+        assert_eq!(rt; record.time, 0x2_8000_0000);
+    }
+    Ok(())
+}
+
 #[test]
 fn records_in_pcap_files(rt: HostRuntime) -> Result<(), Fail> {
     for order in [Order::HighestFirst, Order::LowestFirst] {
@@ -158,8 +189,8 @@ fn records_in_pcap_files(rt: HostRuntime) -> Result<(), Fail> {
             (68, 67, Err(NoCell::CutShort(51))),
         ] {
             let octets = pcap_of(order, 197, packet, length);
-            assert_eq!(rt; open(&octets), Opening::Opened(Format::Pcap(order)));
-            let mut reader = Reader::new(Format::Pcap(order));
+            assert_eq!(rt; open(&octets), Opening::Opened(pcap_format(order)));
+            let mut reader = Reader::new(pcap_format(order));
             let Next::Taken(record, taken) = reader.next(&octets[24..]) else {
                 return Err(Fail::new("no record"));
             };
@@ -215,7 +246,7 @@ fn records_in_pcap_files(rt: HostRuntime) -> Result<(), Fail> {
                 }),
             ),
         ] {
-            let mut reader = Reader::new(Format::Pcap(order));
+            let mut reader = Reader::new(pcap_format(order));
             assert_eq!(rt;
                 reader.next(&pcap_of(order, 197, packet, length)[24..]),
                 next
@@ -246,6 +277,10 @@ fn what_files_are(rt: HostRuntime) -> Result<(), Fail> {
                 before: 0,
                 interfaces: 0,
                 others: 0,
+                times: PacketTimes {
+                    are_read: false,
+                    unit: None,
+                },
             })),
         ),
         (

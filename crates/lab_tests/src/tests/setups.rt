@@ -1,7 +1,7 @@
 //! Setups by hand: two files of rules with a cell that each decides, and a file with a fault.
 
 use super::link::record_of;
-use captures::Tick;
+use captures::{Tick, TimeSource};
 use captures_text::CellLines;
 use cmd_police::{PoliceChoice, PoliceScope, SharedText, files_read, police_setup};
 use std::alloc::{AllocError, Global};
@@ -60,6 +60,7 @@ fn policed(
             threads: 1,
             scope: PoliceScope {
                 link: None,
+                timing: TimeSource::Record,
                 lines: CellLines::All,
                 every: None,
             },

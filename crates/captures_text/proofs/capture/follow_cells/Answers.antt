@@ -2,12 +2,12 @@
 use Rattle.std.proofs.Common.{Err, Some, ◌≡◌, ◌≤◌, ◌++◌, List, ℕ, [], length, drop, refl, ap, sym, ◌∙◌, subst, arith, append-nil}
 use Rattle.std.proofs.lemmas.Result.{IfOk-weaker}
 use Rattle.captures.proofs.Public.{file_opened, file_undecided, header_within}
-use Rattle.captures.specs.Frames.{format_start}
+use Rattle.captures.specs.Frames.{format_start, format_timed}
 use Rattle.captures.specs.Opening.{file_opening, opening_of}
 use Rattle.captures.specs.declared.opening.Opening.TheVariants.{Opened, Undecided, Refused}
 use Rattle.captures_text.specs.CaptureFaults.{file_fault_line}
 use Rattle.captures_text.specs.CaptureText.{IsCaptureText, short_fault}
-use Rattle.captures_text.specs.CellFilter.{filter_start, filter_state}
+use Rattle.captures_text.specs.CellFilter.{FilterState, filter_start, filter_state}
 use Rattle.captures_text.specs.declared.reading_ahead.ReadingAhead.{ReadingAhead}
 use Rattle.captures_text.specs.declared.passed.PassedOver.{PassedOver}
 use Rattle.text_io.specs.Devices.{IsPart}
@@ -23,7 +23,7 @@ pub returns-in_default : goal.returns-in_default
 returns-in_default g c = λ world sound is_shown.
     let rules = g.F.CellFollower.rules in
     let first = filter_state c.new-filter.result in
-    served_from rules first (filter_start c.args.tick.nanoseconds c.args.link) world g.I.Input g.O.Output c.args.input.now c.args.input.now c.args.output.now c.args.output.now
+    served_from rules first (filter_start c.args.tick.nanoseconds c.args.link c.args.timing) world g.I.Input g.O.Output c.args.input.now c.args.input.now c.args.output.now c.args.output.now
     (Err NoMemory) c.new-filter.ensures
     (record {
       text = λ ki ko. tt;
@@ -44,7 +44,7 @@ pub returns-in-Err : goal.returns-in-Err
 returns-in-Err g c = λ world sound is_shown.
     let rules = g.F.CellFollower.rules in
     let first = filter_state c.new-filter.result in
-    served_from rules first (filter_start c.args.tick.nanoseconds c.args.link) world g.I.Input g.O.Output c.args.input.now c.find_opening.new.input c.args.output.now c.args.output.now
+    served_from rules first (filter_start c.args.tick.nanoseconds c.args.link c.args.timing) world g.I.Input g.O.Output c.args.input.now c.find_opening.new.input c.args.output.now c.args.output.now
     (Err ReadFailed) c.new-filter.ensures
     (record {
       text = λ ki ko. tt;
@@ -72,7 +72,7 @@ returns-in-Ok-Refused g c = λ world sound is_shown.
     let here : IsText near line Ended =
     subst (λ (xs : List ℕ). IsText xs line Ended) (append-nil near) (refused_text rules first world near [] fault is (λ none. refl))
     in
-    served_from rules first (filter_start c.args.tick.nanoseconds c.args.link) world g.I.Input g.O.Output c.args.input.now c.find_opening.new.input c.args.output.now c.refuse.new.output
+    served_from rules first (filter_start c.args.tick.nanoseconds c.args.link c.args.timing) world g.I.Input g.O.Output c.args.input.now c.find_opening.new.input c.args.output.now c.refuse.new.output
     c.refuse.result c.new-filter.ensures
     (record {
       text = λ ki ko. if_given c.refuse.result Ended _ _ c.refuse.ensures.done (c.refuse.ensures.given ko) (λ gives. (line, gives, printed ki));
@@ -103,7 +103,7 @@ returns-in-Ok-Undecided g c = λ world sound is_shown.
     in
     let short : IsText octets here Ended = short_text rules first world octets is in
     let printed : g.I.Input.is_known → IsText all here Ended = λ ki. subst (λ (xs : List ℕ). IsText xs here Ended) (sym (whole ki)) short in
-    served_from rules first (filter_start c.args.tick.nanoseconds c.args.link) world g.I.Input g.O.Output c.args.input.now c.find_opening.new.input c.args.output.now c.close_short.new.output
+    served_from rules first (filter_start c.args.tick.nanoseconds c.args.link c.args.timing) world g.I.Input g.O.Output c.args.input.now c.find_opening.new.input c.args.output.now c.close_short.new.output
     c.close_short.result c.new-filter.ensures
     (record {
       text = λ ki ko. if_given c.close_short.result Ended _ _ c.close_short.ensures.done (c.close_short.ensures.given ko)
@@ -134,8 +134,12 @@ returns-in-Ok-Opened g c = λ world sound is_shown.
     let reading : ReadingAhead = record { window = c.skip.new.self; reader = reader; filter = c.new-filter.result } in
     let IsText = IsCaptureText rules first world in
     let is : file_opening near ≡ Opened format = sym c.in-Ok-Opened.ensures.opening ∙ c.in-Ok-Opened.field-0-is in
+    let formats : reader.format ≡ format_timed first.timing format =
+    made.format ∙ c.timed_by.ensures.format ∙ ap (λ (state : FilterState). format_timed state.timing format) (sym c.new-filter.ensures)
+    in
+    let places : reader.at ≡ format_start format = made.at ∙ c.timed_by.ensures.start in
     let dropped : reading.window ≡ drop (format_start format) near = c.skip.ensures.octets ∙ ap (λ n. drop n near) c.start.ensures in
-    served_from rules first (filter_start c.args.tick.nanoseconds c.args.link) world g.I.Input g.O.Output c.args.input.now c.follow_on.new.input c.args.output.now c.follow_on.new.output
+    served_from rules first (filter_start c.args.tick.nanoseconds c.args.link c.args.timing) world g.I.Input g.O.Output c.args.input.now c.follow_on.new.input c.args.output.now c.follow_on.new.output
     c.follow_on.result c.new-filter.ensures
     (record {
       text = λ ki ko.
@@ -145,7 +149,7 @@ returns-in-Ok-Opened g c = λ world sound is_shown.
             adds.0,
             adds.1,
             subst (λ (xs : List ℕ). IsText xs adds.0 done) (sym (c.in-Ok-Opened.ensures.octets ki))
-                (opened_text rules world reading format near is made.format made.count made.at dropped rest adds.0 done adds.2),
+                (opened_text rules world reading format near is formats made.count places dropped rest adds.0 done adds.2),
           ))
           (c.follow_on.ensures.text ki ko);
       front = λ ki ko.
@@ -158,13 +162,13 @@ returns-in-Ok-Opened g c = λ world sound is_shown.
               front.2.0,
               front.2.1,
               subst (λ (xs : List ℕ). IsText xs (front.0 ++ front.2.0) front.2.1) (sym (c.in-Ok-Opened.ensures.octets ki))
-                  (opened_text rules world reading format near is made.format made.count made.at dropped rest (front.0 ++ front.2.0) front.2.1 front.2.2),
+                  (opened_text rules world reading format near is formats made.count places dropped rest (front.0 ++ front.2.0) front.2.1 front.2.2),
             ),
           ));
       left = λ ki.
           IfOk-weaker c.follow_on.result _ _
           (λ done each. opened_enough rules world reading format all near rest (g.I.Input.rest c.follow_on.new.input) done
-          is made.format made.count made.at dropped (c.in-Ok-Opened.ensures.octets ki) (each world sound is_shown))
+          is formats made.count places dropped (c.in-Ok-Opened.ensures.octets ki) (each world sound is_shown))
           (c.follow_on.ensures.left ki);
       whole = c.follow_on.ensures.whole;
       reading = c.follow_on.ensures.read ∙ ap (read_failures c.follow_on.result) c.in-Ok-Opened.ensures.calm;

@@ -57,7 +57,7 @@ returns-in-Ok-Held g c =
     let rules = option_map (λ text. text.now) c.args.rules in
     let read : Ok (rules_held c.in-Ok-Held.values) ≡ rules_given rules =
     subst (λ (given : GivenRules). rules_kept given ≡ rules_given rules) c.in-Ok-Held.field-0-is c.in-Ok-Held.ensures in
-    served-wider (IsFitText (scope_of c.args.choice (rules_held c.in-Ok-Held.values)) c.args.choice.tick.nanoseconds c.args.choice.link)
+    served-wider (IsFitText (scope_of c.args.choice (rules_held c.in-Ok-Held.values)) c.args.choice.tick.nanoseconds c.args.choice.link c.args.choice.timing)
     (IsFitAsked c.args.choice rules)
     (λ octets text done printed. subst (λ (r : Read). IsFitBy c.args.choice r octets text done) read printed)
     g.I.Input c.args.input.now c.fit_cells.new.input g.O.Output c.args.output.now c.fit_cells.new.output c.fit_cells.result c.fit_cells.ensures

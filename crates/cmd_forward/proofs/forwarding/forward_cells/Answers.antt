@@ -6,6 +6,7 @@ use Rattle.captures.specs.Frames.{format_start}
 use Rattle.captures.specs.Opening.{file_opening, opening_of}
 use Rattle.captures.specs.declared.fault.Fault.{Fault}
 use Rattle.captures.specs.declared.opening.Opening.TheVariants.{Opened, Undecided, Refused}
+use Rattle.captures.specs.declared.packet_time.TimeSource.TheVariants as source
 use Rattle.captures_text.specs.CaptureFaults.{file_fault_line}
 use Rattle.captures_text.specs.CaptureText.{short_fault}
 use Rattle.captures_text.specs.CellFilter.{filter_start, filter_state}
@@ -25,7 +26,7 @@ returns-in_default g c = λ world sound is_shown.
     let rules = g.J.CellJudge.rules in
     let first = filter_state c.new-filter.result in
     let state = at_state first world in
-    served_from rules c.args.others first (filter_start c.args.tick.nanoseconds c.args.link) world g.I.Input g.O.Output c.args.input.now c.args.input.now
+    served_from rules c.args.others first (filter_start c.args.tick.nanoseconds c.args.link source.Record) world g.I.Input g.O.Output c.args.input.now c.args.input.now
     c.args.output.now c.args.output.now c.args.report.now.items c.args.report.now.items (Err NoMemory) c.new-filter.ensures
     (served_nothing g.I.Input g.O.Output c.args.input.now c.args.input.now c.args.output.now c.args.report.now.items c.args.report.now.items
     (ForwardsCapture rules c.args.others state) NoMemory
@@ -42,7 +43,7 @@ returns-in-Err g c = λ world sound is_shown.
     let rules = g.J.CellJudge.rules in
     let first = filter_state c.new-filter.result in
     let state = at_state first world in
-    served_from rules c.args.others first (filter_start c.args.tick.nanoseconds c.args.link) world g.I.Input g.O.Output c.args.input.now c.find_opening.new.input
+    served_from rules c.args.others first (filter_start c.args.tick.nanoseconds c.args.link source.Record) world g.I.Input g.O.Output c.args.input.now c.find_opening.new.input
     c.args.output.now c.args.output.now c.args.report.now.items c.args.report.now.items (Err ReadFailed) c.new-filter.ensures
     (served_nothing g.I.Input g.O.Output c.args.input.now c.find_opening.new.input c.args.output.now c.args.report.now.items c.args.report.now.items
     (ForwardsCapture rules c.args.others state) ReadFailed
@@ -54,7 +55,7 @@ returns-in-Err-add_file_fault g c = λ world sound is_shown.
     let first = filter_state c.new-filter.result in
     let state = at_state first world in
     let said' = c.add_file_fault.new.answers.items in
-    served_from rules c.args.others first (filter_start c.args.tick.nanoseconds c.args.link) world g.I.Input g.O.Output c.args.input.now c.find_opening.new.input
+    served_from rules c.args.others first (filter_start c.args.tick.nanoseconds c.args.link source.Record) world g.I.Input g.O.Output c.args.input.now c.find_opening.new.input
     c.args.output.now c.args.output.now c.args.report.now.items said' (Err NoMemory) c.new-filter.ensures
     (served_nothing g.I.Input g.O.Output c.args.input.now c.find_opening.new.input c.args.output.now c.args.report.now.items said'
     (ForwardsCapture rules c.args.others state) NoMemory
@@ -72,7 +73,7 @@ returns-in-Ok-Refused g c = λ world sound is_shown.
     let said' = c.add_file_fault.new.answers.items in
     let IsText = ForwardsCapture rules c.args.others state in
     let is : file_opening near ≡ Refused fault = sym c.in-Ok-Refused.ensures.opening ∙ c.in-Ok-Refused.field-0-is in
-    served_from rules c.args.others first (filter_start c.args.tick.nanoseconds c.args.link) world g.I.Input g.O.Output c.args.input.now c.find_opening.new.input
+    served_from rules c.args.others first (filter_start c.args.tick.nanoseconds c.args.link source.Record) world g.I.Input g.O.Output c.args.input.now c.find_opening.new.input
     c.args.output.now c.args.output.now c.args.report.now.items said' _ c.new-filter.ensures
     (served_report g.I.Input g.O.Output c.args.input.now c.find_opening.new.input c.args.output.now c.args.report.now.items said'
     IsText near line Ended c.in-Ok-Refused.ensures.calm c.in-Ok-Refused.ensures.octets c.in-Ok-add_file_fault.ensures
@@ -86,7 +87,7 @@ returns-in-Err-close g c = λ world sound is_shown.
     let first = filter_state c.new-filter.result in
     let state = at_state first world in
     let said' = c.close.new.report.items in
-    served_from rules c.args.others first (filter_start c.args.tick.nanoseconds c.args.link) world g.I.Input g.O.Output c.args.input.now c.find_opening.new.input
+    served_from rules c.args.others first (filter_start c.args.tick.nanoseconds c.args.link source.Record) world g.I.Input g.O.Output c.args.input.now c.find_opening.new.input
     c.args.output.now c.args.output.now c.args.report.now.items said' (Err NoMemory) c.new-filter.ensures
     (served_nothing g.I.Input g.O.Output c.args.input.now c.find_opening.new.input c.args.output.now c.args.report.now.items said'
     (ForwardsCapture rules c.args.others state) NoMemory
@@ -114,7 +115,7 @@ returns-in-Ok-Undecided g c = λ world sound is_shown.
     c.in-Ok-close.ensures world sound is_shown
     ∙ ap (λ (p : PassedOver). c.args.report.now.items ++ rules.closes world p ending) c.passed.ensures
     ∙ ap (λ e. c.args.report.now.items ++ rules.closes world first.passed e) how in
-    served_from rules c.args.others first (filter_start c.args.tick.nanoseconds c.args.link) world g.I.Input g.O.Output c.args.input.now c.find_opening.new.input
+    served_from rules c.args.others first (filter_start c.args.tick.nanoseconds c.args.link source.Record) world g.I.Input g.O.Output c.args.input.now c.find_opening.new.input
     c.args.output.now c.args.output.now c.args.report.now.items said' _ c.new-filter.ensures
     (served_report g.I.Input g.O.Output c.args.input.now c.find_opening.new.input c.args.output.now c.args.report.now.items said'
     IsText near report Ended c.in-Ok-Undecided.ensures.calm c.in-Ok-Undecided.ensures.octets said
@@ -137,7 +138,7 @@ returns g c = λ world sound is_shown.
     let IsText = ForwardsCapture rules c.args.others state in
     let is : file_opening near ≡ Opened format = sym c.in-Ok-Opened.ensures.opening ∙ c.in-Ok-Opened.field-0-is in
     let dropped : reading.window ≡ drop (format_start format) near = c.skip.ensures.octets ∙ ap (λ n. drop n near) c.start.ensures in
-    served_from rules c.args.others first (filter_start c.args.tick.nanoseconds c.args.link) world g.I.Input g.O.Output c.args.input.now c.forward_on.new.input
+    served_from rules c.args.others first (filter_start c.args.tick.nanoseconds c.args.link source.Record) world g.I.Input g.O.Output c.args.input.now c.forward_on.new.input
     c.args.output.now c.forward_on.new.output c.args.report.now.items c.forward_on.new.report.items c.forward_on.result c.new-filter.ensures
     (record {
       served = record {

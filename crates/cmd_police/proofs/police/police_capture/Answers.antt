@@ -66,6 +66,6 @@ returns-in-Ok-Ready g c =
     subst (λ (side : Side). ShowsSpans c.spans_of-spans.result (spans_start side (option_map (λ nanoseconds. ticks_of_span nanoseconds tick) c.args.choice.scope.every)))
     side c.spans_of-spans.ensures in
     served_as g.I.Input g.O.Output c.args.input.now c.follow_cells.new.input c.args.output.now c.follow_cells.new.output c.follow_cells.result
-    (IsCaptureText police_rules (filter_start c.args.tick.nanoseconds c.args.choice.scope.link) first) (IsPoliceText c.args.choice.scope c.args.tick.nanoseconds c.args.setup.now c.args.times.now)
+    (IsCaptureText police_rules (filter_start c.args.tick.nanoseconds c.args.choice.scope.link c.args.choice.scope.timing) first) (IsPoliceText c.args.choice.scope c.args.tick.nanoseconds c.args.setup.now c.args.times.now)
     (λ octets text done printed. inr (set.card, set.reached, printed))
     (c.follow_cells.ensures first set.led (record { lines = refl; tick = refl; timed = set.shown; commanded = refl; begun = refl; spans = spans; not_judged = c.none.ensures }))

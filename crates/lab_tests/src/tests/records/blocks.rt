@@ -3,7 +3,9 @@
 
 use super::octets_of;
 use crate::tests::link::plain;
-use captures::{Fault, Format, Link, Next, Opening, Order, Reader, RecordFault, Section, open};
+use captures::{
+    Fault, Format, Link, Next, Opening, Order, PacketTimes, Reader, RecordFault, Section, open,
+};
 use std::test::Fail;
 
 /// The octets of a number in this order.
@@ -97,6 +99,10 @@ fn records_in_pcapng_files(rt: HostRuntime) -> Result<(), Fail> {
             before: 4,
             interfaces: 1,
             others: 0,
+            times: PacketTimes {
+                are_read: false,
+                unit: None,
+            },
         }));
         let Next::Taken(record, own) = reader.next(&octets[48..]) else {
             return Err(Fail::new("no record"));
