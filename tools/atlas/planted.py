@@ -19,8 +19,8 @@ Then each line has a key, a colon, a blank and a text, of which every octet coun
     gate: each          each gate tries it; without this line it takes turns
 
 Lines `old:` one below another are one text of several lines, and so are lines `new:`. An empty line ends a bug. The first file
-of a bug is the one that its file is called after: crates/X/bugs/lister.edits has those of src/lister.rt. Those of specs/Grammar.antt
-would be in specs/Grammar.edits of the same folder.
+of a bug is the one that its file is called after: crates/X/bugs/lister.edits has those of src/lister.rt, and crates/X/bugs/Outcome.edits
+those of specs/Outcome.antt. Definitions begin with a capital and modules don't, so no file has both.
 """
 import re
 
@@ -41,7 +41,7 @@ class Bug:
 
 def home_of(file):
     """Returns the file in a crate's folder bugs/ for the bugs that change a file of the crate first."""
-    return re.sub(r"\.\w+$", "", file.removeprefix("src/")) + ".edits"
+    return re.sub(r"\.\w+$", "", file.removeprefix("src/").removeprefix("specs/")) + ".edits"
 
 
 def bugs_in(text, home, path):

@@ -49,7 +49,7 @@ class Reading(unittest.TestCase):
         ])
 
     def test_homes(self):
-        self.assertEqual([home_of(it) for it in ("src/lib.rt", "src/hidden/card.rt", "specs/Labels.antt")], ["lib.edits", "hidden/card.edits", "specs/Labels.edits"])
+        self.assertEqual([home_of(it) for it in ("src/lib.rt", "src/hidden/card.rt", "specs/Labels.antt")], ["lib.edits", "hidden/card.edits", "Labels.edits"])
 
 
 class Refusals(unittest.TestCase):
