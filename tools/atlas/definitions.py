@@ -109,11 +109,17 @@ class Specs:
     """The definitions of all crates."""
 
     def __init__(self):
-        self.modules = {}
+        self.modules, self.citing = {}, {}
         for crate in crates():
             for path in files_below(f"crates/{crate}/specs", ".antt"):
                 module = Module(crate, path)
                 self.modules[module.name] = module
+
+    def cited_in(self, definition):
+        """Returns the definitions that a definition cites."""
+        if definition not in self.citing:
+            self.citing[definition] = list(self.cited(definition.text, definition.module.imports, definition.module))
+        return self.citing[definition]
 
     def find(self, module, name):
         return self.modules[module].named(name) if module in self.modules else None
@@ -242,7 +248,7 @@ def reached(specs, texts):
         it = left.pop()
         if it not in found:
             found.add(it)
-            left.extend(specs.cited(it.text, it.module.imports, it.module))
+            left.extend(specs.cited_in(it))
     return found
 
 

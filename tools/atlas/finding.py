@@ -97,14 +97,19 @@ def name_of(found):
     return f"{found.kind} {getattr(it, 'full', it.name)}  {it.path}:{it.line}"
 
 
-def answer(sources, index, words, whole=False):
+def text_of_answer(sources, found):
+    """Returns the text of an answer: a line with what it is called and where it is, and below it what belongs to it."""
+    return "\n".join(about(sources, found))
+
+
+def answer(index, texts, words, whole=False):
     """Returns the answer to a question by an index: the best whole, and the names of some others."""
     found = index.search(words)
     if not found:
         return f"nothing has one of the words {' '.join(words)}\n"
     shown = found if whole else [it for it in found if it.rank == found[0].rank][:MOST_SHOWN]
-    lines = [line for it in shown for line in [*about(sources, it), ""]]
+    lines = [line for it in shown for line in [*texts.of(it), ""]]
     for title, rank in (("others", 0), ("tests", TESTS), ("bugs", BUGS)):
-        left = [name_of(it) for it in found if it.rank == rank and it not in shown]
-        lines += row(title, listed(left)) if left else []
+        left = [it for it in found if it.rank == rank and it not in shown]
+        lines += row(title, listed([texts.of(it)[0] for it in left[:MOST_NAMES]] + [""] * len(left[MOST_NAMES:]))) if left else []
     return "\n".join(lines).rstrip() + "\n"

@@ -1,4 +1,5 @@
 """The functions of the sources, with their doc comments, clauses and calls."""
+import functools
 import re
 
 from .files import files_below, text_of
@@ -37,8 +38,9 @@ class Function:
         """Returns whether the function does nothing, so that its contract is a law."""
         return bool(self.clauses) and not re.sub(r"//[^\n]*", "", self.body).strip(" \n{}")
 
+    @functools.cached_property
     def calls(self):
-        """Returns what the body calls: for each call the type before `::` or nothing, whether it is a method, and the name."""
+        """What the body calls: for each call the type before `::` or nothing, whether it is a method, and the name."""
         code = re.sub(r"//[^\n]*", "", self.body)
         return {(it[1] or "", bool(it[2]), it[3]) for it in CALL.finditer(code)}
 

@@ -1,9 +1,10 @@
 """An index of all that answers questions: which words each answer has, how rare they are, and how well they fit a question."""
 import math
 import re
+from array import array
 
 from .parts import HEADER, all_parts, all_sections, cases, types_of
-from .words import IDLE, meanings_of, searched_stems, stems_of
+from .words import IDLE, meanings_of, pairs_asked, searched_stems, stems_of
 
 # What a word counts in each field of an answer. REST is the text around the sentence that answers.
 NAME, SENTENCE, HEADING, TEXT, REST, CONTEXT = 3.0, 2.0, 1.5, 1.0, 0.6, 0.5
@@ -37,12 +38,14 @@ RANKS = {"test": TESTS, "case": TESTS, "patch": BUGS, "planted bug": BUGS}
 
 
 class Answer:
-    """What may answer a question: its kind, what it is, how much its kind counts, and its words with their weights."""
+    """What may answer a question: its kind, what it is, how much its kind counts, and its words with their weights. An answer that was
+    kept has neither: its words are in the index, and what it is was written down under its number (keeping.py)."""
+
+    __slots__ = ("kind", "it", "name", "path", "number", "counts", "rank", "title", "length", "words", "pairs", "score")
 
     def __init__(self, kind, it, counts, fields):
-        self.kind, self.it, self.counts, self.rank, self.score = kind, it, counts, RANKS.get(kind, 0), 0
-        # A law is a function without a body.
-        self.is_code = kind == "type" or kind == "function" and not it.is_law
+        self.kind, self.it, self.counts, self.rank, self.number, self.score = kind, it, counts, RANKS.get(kind, 0), 0, 0
+        self.name, self.path = getattr(it, "name", ""), getattr(it, "path", "")
         self.words, self.pairs, self.length = {}, set(), 0
         for weight, text in fields:
             stems = stems_of(text)
@@ -52,48 +55,113 @@ class Answer:
             said = [it for it in stems if it not in IDLE]
             self.pairs.update(zip(stems, stems[1:]))
             self.pairs.update(zip(said, said[1:]))
-        self.title = frozenset(searched_stems(it.name)) if kind == "function" or kind == "page" and not it.heading else frozenset()
+        self.title = searched_stems(it.name) if kind == "function" or kind == "page" and not it.heading else ()
+
+    @property
+    def is_code(self):
+        """Returns whether programs are made of it. A law is a function without a body."""
+        return self.kind == "type" or self.kind == "function" and not self.it.is_law
+
+    @property
+    def kept(self):
+        """Returns what is kept of it."""
+        return self.kind, self.name, self.path, self.number, self.counts, self.rank, self.title, self.length
+
+    @classmethod
+    def of_kept(cls, kept):
+        """Returns an answer that was kept."""
+        self = cls.__new__(cls)
+        self.kind, self.name, self.path, self.number, self.counts, self.rank, self.title, self.length = kept
+        self.it, self.score = None, 0
+        return self
+
+
+class Places:
+    """For each stem the places of the answers that have it, and how much it counts there, in octets."""
+
+    def __init__(self, packed):
+        self.packed = packed
+
+    @classmethod
+    def of(cls, found):
+        """Packs lists of places and weights."""
+        return cls({stem: (array("I", places).tobytes(), array("d", weights).tobytes()) for stem, (places, weights) in found.items()})
+
+    def of_stem(self, stem):
+        """Returns the places and the weights of a stem."""
+        places, weights = array("I"), array("d")
+        for it, packed in zip((places, weights), self.packed.get(stem, ())):
+            it.frombytes(packed)
+        return places, weights
+
+    def number_of(self, stem):
+        """Returns how many places have a stem."""
+        return len(self.packed[stem][0]) // array("I").itemsize if stem in self.packed else 0
 
 
 class Index:
-    """All answers, by their words."""
+    """All answers, by their words, and the places of those that have two words together which a question may have."""
 
-    def __init__(self, sources, found=None):
-        """Makes the index of all answers, or of these."""
-        self.answers, self.having = list(answers(sources)) if found is None else found, {}
-        for it in self.answers:
-            for stem in it.words:
-                self.having.setdefault(stem, []).append(it)
-        self.usual = sum(it.length for it in self.answers) / len(self.answers)
+    def __init__(self, answers, places, together):
+        self.answers, self.places, self.together = answers, places, together
+        self.usual = sum(it.length for it in answers) / len(answers)
+
+    @classmethod
+    def of(cls, answers):
+        """Makes the index of these answers. The sentences of one part have its number."""
+        numbers, having, together, asked = {}, {}, {}, pairs_asked()
+        for place, answer in enumerate(answers):
+            answer.number = numbers.setdefault(id(answer.it), len(numbers))
+            for stem, weight in answer.words.items():
+                places, weights = having.setdefault(stem, ([], []))
+                places.append(place)
+                weights.append(weight)
+            for pair in answer.pairs & asked:
+                together.setdefault(pair, []).append(place)
+        return cls(answers, Places.of(having), together)
 
     def of_code(self):
-        """Returns the index of the functions and types that the programs are made of."""
-        return Index(None, [it for it in self.answers if it.is_code])
+        """Returns the index of the functions and types that the programs are made of. Its answers have the numbers of this one's."""
+        answers = [it for it in self.answers if it.is_code]
+        numbers = [it.number for it in answers]
+        found = Index.of(answers)
+        for it, number in zip(answers, numbers):
+            it.number = number
+        return found
+
+    @property
+    def kept(self):
+        """Returns what is kept of it."""
+        return [it.kept for it in self.answers], self.places.packed, self.together
+
+    @classmethod
+    def of_kept(cls, kept):
+        """Returns an index that was kept."""
+        answers, packed, together = kept
+        return cls([Answer.of_kept(it) for it in answers], Places(packed), together)
 
     def rarity(self, stem):
         """Returns how rare a word is: the fewer answers have it, the greater the number."""
-        return math.log(1 + len(self.answers) / (1 + len(self.having.get(stem, []))))
+        return math.log(1 + len(self.answers) / (1 + self.places.number_of(stem)))
 
-    def fit(self, answer, stems):
-        """Returns how well some words fit an answer: nothing unless it has all of them."""
-        total = 0
+    def fit(self, stems):
+        """Returns how well some words fit each answer that has all of them, by its place."""
+        found = None
         for stem in stems:
-            often = answer.words.get(stem, 0) / (1 - LONG + LONG * answer.length / self.usual)
-            if not often:
-                return 0
-            total += self.rarity(stem) * often * (OFTEN + 1) / (often + OFTEN)
-        is_apart = any(pair not in answer.pairs for pair in zip(stems, stems[1:]))
-        return total / len(stems) ** 0.5 * (APART if is_apart else 1)
+            rarity, before, found = self.rarity(stem), found, {}
+            for place, weight in zip(*self.places.of_stem(stem)):
+                if before is None or place in before:
+                    often = weight / (1 - LONG + LONG * self.answers[place].length / self.usual)
+                    found[place] = (before[place] if before else 0) + rarity * often * (OFTEN + 1) / (often + OFTEN)
+        near = [set(self.together.get(pair, ())) for pair in zip(stems, stems[1:])]
+        return {place: fit / len(stems) ** 0.5 * (1 if all(place in it for it in near) else APART) for place, fit in found.items()}
 
     def fits(self, meanings):
-        """Returns the answers that some of these words fit, each with how well."""
+        """Returns the places of the answers that some of these words fit, each with how well."""
         found = {}
         for k, stems in enumerate(meanings):
-            rarest = min((self.having.get(it, []) for it in stems), key=len)
-            for answer in rarest:
-                fit = self.fit(answer, stems) * (OTHER if k else 1)
-                if fit > found.get(answer, 0):
-                    found[answer] = fit
+            for place, fit in self.fit(stems).items():
+                found[place] = max(found.get(place, 0), fit * (OTHER if k else 1))
         return found
 
     def search(self, words):
@@ -106,22 +174,24 @@ class Index:
         fits, stems = [self.fits(it) for it in meanings], {stem for it in meanings for stem in it[0]}
         titles = {frozenset(it) for it in meanings[0]} if len(meanings) == 1 else {frozenset(stems)}
         best = {}
-        for answer in {answer for it in fits for answer in it}:
-            each = [it.get(answer, 0) for it in fits]
+        for place in {place for it in fits for place in it}:
+            answer, each = self.answers[place], [it.get(place, 0) for it in fits]
             answer.score = sum(each) * sum(it > 0 for it in each) / len(each) * answer.counts
-            if answer.title in titles:
+            title = frozenset(answer.title)
+            if title in titles:
                 answer.score *= WHOLE
-            elif answer.title and answer.title < stems and len(stems) <= 2 * len(answer.title):
+            elif title and title < stems and len(stems) <= 2 * len(title):
                 answer.score *= MOST
-            if getattr(answer.it, "path", None) in favoured:
+            if answer.path in favoured:
                 answer.score *= ASKED
-            if id(answer.it) not in best or best[id(answer.it)].score < answer.score:
-                best[id(answer.it)] = answer
+            if answer.number not in best or best[answer.number].score < answer.score:
+                best[answer.number] = answer
         least = WORTH * max((it.score for it in best.values()), default=0)
         # A name copied from code means what has that name.
-        named = {id(it.it): it for it in self.answers if is_identifier(it.it.name or "", words)}
+        names = {it for it in words if is_identifier(it, words)}
+        named = {it.number: it for it in self.answers if it.name in names}
         found = {at: it for at, it in best.items() if it.score >= least} | {at: best.get(at, it) for at, it in named.items()}
-        return sorted(found.values(), key=lambda it: (it.rank, id(it.it) not in named, -it.score))
+        return sorted(found.values(), key=lambda it: (it.rank, it.number not in named, -it.score, it.number))
 
 
 def is_identifier(name, words):

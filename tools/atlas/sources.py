@@ -17,10 +17,8 @@ class Sources:
         for it in self.functions:
             self.by_name.setdefault(it.name, []).append(it)
         self.test_crates = {it.crate for it in self.functions if it.is_test}
-
-    def make(self):
-        """Makes all that is made when it is first asked for."""
-        self.promisers, self.reached_by_tests, self.owners_of_methods, self.public, self.edits_by_function, self.patches
+        self.below = {crate: below(crate, self.crates) for crate in self.crates}
+        self.called = {}
 
     @functools.cached_property
     def edits(self):
@@ -37,11 +35,13 @@ class Sources:
             found.setdefault(it.function.rpartition("::")[2], []).append(it)
         return found
 
+    @functools.lru_cache(maxsize=None)
     def edits_of(self, function):
         """Returns the edits that turn this function, those of each gate first."""
         ends = lambda it: function.full == it.function or function.full.endswith("::" + it.function)
         return [it for it in self.edits_by_function.get(function.name, []) if it.crate == function.crate and ends(it)]
 
+    @functools.lru_cache(maxsize=None)
     def edits_below(self, function):
         """Returns the edits that turn private functions to which this one hands its work, itself or by others."""
         seen, left, found = {function}, [function], []
@@ -53,6 +53,7 @@ class Sources:
                     found += self.edits_of(it)
         return found
 
+    @functools.lru_cache(maxsize=None)
     def proof_of(self, function):
         """Returns the files with what is written of a function's proof: its own, and those of the lemmas that its attribute names."""
         path = "/".join(it for it in (function.module.replace("::", "/"), function.owner + function.trait, function.name) if it)
@@ -68,12 +69,14 @@ class Sources:
 
     def called_by(self, function):
         """Returns the functions of its own crate that a function calls."""
-        found = []
-        for owner, is_method, name in function.calls():
-            for it in self.by_name.get(name, []):
-                if it.crate == function.crate and it is not function and self.is_called(it, owner, is_method, function):
-                    found.append(it)
-        return sorted(found, key=lambda it: (it.path, it.line))
+        if function not in self.called:
+            found = []
+            for owner, is_method, name in function.calls:
+                for it in self.by_name.get(name, []):
+                    if it.crate == function.crate and it is not function and self.is_called(it, owner, is_method, function):
+                        found.append(it)
+            self.called[function] = sorted(found, key=lambda it: (it.path, it.line))
+        return self.called[function]
 
     def is_called(self, it, owner, is_method, caller):
         """Returns whether a call names this function, as far as its text says."""
@@ -89,19 +92,27 @@ class Sources:
         found = {}
         for crate in self.test_crates:
             ours = [it for it in self.functions if it.crate == crate]
-            calls = {it: it.calls() for it in ours}
             names = {}
             for it in ours:
                 names.setdefault(it.name, []).append(it)
             for test in (it for it in ours if it.is_test):
                 seen, left = {test}, [test]
                 while left:
-                    for _, _, name in calls[left.pop()]:
+                    for _, _, name in left.pop().calls:
                         for it in names.get(name, []):
                             if it not in seen and it.module.startswith(("tests", test.module)):
                                 seen.add(it)
                                 left.append(it)
-                found[test] = {call for it in seen for call in calls[it]}, {it.path for it in seen}
+                found[test] = {call for it in seen for call in it.calls}, {it.path for it in seen}
+        return found
+
+    @functools.cached_property
+    def calls_of_tests(self):
+        """For each name the tests that call what has it: the test, the type before `::`, whether it is a method, and the files that it reaches."""
+        found = {}
+        for test, (called, paths) in self.reached_by_tests.items():
+            for owner, is_method, name in called:
+                found.setdefault(name, []).append((test, owner, is_method, paths))
         return found
 
     @functools.cached_property
@@ -112,17 +123,15 @@ class Sources:
                 found.setdefault(it.name, set()).add(it.owner)
         return found
 
+    @functools.lru_cache(maxsize=None)
     def tests_of(self, function):
         """Returns the tests that call a function."""
-        found = []
-        for test, (called, paths) in self.reached_by_tests.items():
-            if function.crate != test.crate and function.crate not in below(test.crate, self.crates):
-                continue
-            for owner, is_method, name in called:
-                if name == function.name and self.is_test_call(function, owner, is_method, paths):
-                    found.append(test)
-                    break
-        return found
+        found = {}
+        for test, owner, is_method, paths in self.calls_of_tests.get(function.name, []):
+            is_near = function.crate == test.crate or function.crate in self.below[test.crate]
+            if is_near and test not in found and self.is_test_call(function, owner, is_method, paths):
+                found[test] = True
+        return list(found)
 
     def is_test_call(self, function, owner, is_method, paths):
         if owner and owner[0].isupper():
@@ -133,6 +142,7 @@ class Sources:
         others = self.owners_of_methods[function.name] if function.owner else ()
         return bool(function.owner) and (len(others) == 1 or any(re.search(rf"\b{function.owner}\b", text_of(it)) for it in paths))
 
+    @functools.lru_cache(maxsize=None)
     def cited_by(self, function):
         """Returns the definitions that a function's clauses cite, in their order."""
         imported = imports_of(function.path)
@@ -158,6 +168,7 @@ class Sources:
         roots = {crate: next(it for it in (f"crates/{crate}/src/lib.rt", f"crates/{crate}/src/main.rt") if exists(it)) for crate in self.crates}
         return {crate: definitions.names_given(root) for crate, root in roots.items()}
 
+    @functools.lru_cache(maxsize=None)
     def is_open(self, it):
         """Returns whether callers in other crates can call a function."""
         if it.module.split("::")[0] == "tests" or it.is_test:

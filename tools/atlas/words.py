@@ -48,6 +48,11 @@ def others():
     return found
 
 
+def pairs_asked():
+    """Returns the pairs of stems that a part of a question may have."""
+    return {pair for own, ours in others().items() for stems in [own, *ours] for pair in zip(stems, stems[1:])}
+
+
 def searched_stems(text):
     """Returns the stems by which a text is searched: those of its words but the idle ones, or of all if each is idle."""
     words = words_of(text)

@@ -67,7 +67,7 @@ class Functions(unittest.TestCase):
         self.assertEqual(named, [("ensures", "added", ""), ("ensures", "unchanged", "A refusal changes nothing.")])
 
     def test_calls(self):
-        self.assertEqual(self.found["add"].calls(), {("", False, "most"), ("", True, "raise")})
+        self.assertEqual(self.found["add"].calls, {("", False, "most"), ("", True, "raise")})
 
     def test_kinds(self):
         self.assertEqual([it.name for it in self.found.values() if it.is_law], ["counters_count"])

@@ -2,7 +2,7 @@
 import os
 import unittest
 
-from atlas.index import Index
+from atlas.index import Index, answers
 from atlas.sources import Sources
 
 QUESTIONS = os.path.join(os.path.dirname(os.path.realpath(__file__)), "questions")
@@ -39,7 +39,7 @@ class Questions(unittest.TestCase):
     @classmethod
     def setUpClass(cls):
         sources = Sources()
-        cls.index = Index(sources)
+        cls.index = Index.of(list(answers(sources)))
         cls.code = cls.index.of_code()
 
     def test_places_are_there(self):
