@@ -22,14 +22,19 @@ RULING = ("docs/FORMATS.md", "docs/RULES.md", "docs/CONTRACTS.md", "docs/LAB.md"
 DOING = ("docs/CONTRIBUTING.md", "README.md")
 REASONING = ("docs/ARCHITECTURE.md", "docs/DECISIONS.md")
 NAMING = ("docs/GLOSSARY.md",)
-RULES, CALLS, OTHERS, ASKED, SECTION = 1.3, 1.2, 0.75, 1.8, 0.9
-HOW = re.compile(r"how (do|can|should) (i|we|you)\b|how to\b|(add|adding|build|building|install|installing|run|running|change|changing|contribute)\b")
+RULES, CALLS, OTHERS, OF_CRATES, ASKED, SECTION = 1.3, 1.2, 0.75, 0.6, 1.8, 0.9
+HOW = re.compile(r"(how|where|what|which \w+) (do|can|should|must) (i|we|you)\b|how to\b|(add|adding|build|building|install|installing|run|running|change|changing|contribute)\b")
 WHY = re.compile(r"why\b|reasons?\b")
 WHAT = re.compile(r"what (is|are) (a|an|the)? ?\w+$|what does \w+ mean$|(definition|meaning) of\b")
-# How much a section or a function counts whose name is what was asked for, or most of it.
-WHOLE, MOST = 2.0, 1.4
+# How much more a section or a function counts whose name is what was asked for.
+TITLE = 1.0
+# A whole question is about pages first, and then about the header.
+ASKS = re.compile(r"(how|what|where|when|which|why|who|whose|do|does|did|is|are|am|can|could|may|must|should|will|would|if|has|have)\b")
+ASKED_OF = {"page": 1.25, "declaration": 1.1}
+# How much an answer counts for each better one of its section, or of its name.
+REPEATED = 0.8
 # What a question how something is done has besides its subject.
-ANOTHER = frozenset("add adding another extra new one".split())
+ANOTHER = frozenset("add adding another change create extra go goes new one put write".split())
 STRING = re.compile(r'"((?:[^"\\\n]|\\.)*)"')
 COMMENT = re.compile(r"^\s*//+ ?(.*)$", re.M)
 # Tests come after what they test, and bugs last.
@@ -41,11 +46,13 @@ class Answer:
     """What may answer a question: its kind, what it is, how much its kind counts, and its words with their weights. An answer that was
     kept has neither: its words are in the index, and what it is was written down under its number (keeping.py)."""
 
-    __slots__ = ("kind", "it", "name", "path", "number", "counts", "rank", "title", "length", "words", "pairs", "score")
+    __slots__ = ("kind", "it", "name", "path", "topic", "number", "counts", "rank", "title", "length", "words", "pairs", "score")
 
     def __init__(self, kind, it, counts, fields):
         self.kind, self.it, self.counts, self.rank, self.number, self.score = kind, it, counts, RANKS.get(kind, 0), 0, 0
         self.name, self.path = getattr(it, "name", ""), getattr(it, "path", "")
+        # What others may be about too: a section of a page but a row of a table, and otherwise what has this name in code.
+        self.topic = f"{self.path} {it.name or it.heading}" if kind in ("page", "declaration") else self.name
         self.words, self.pairs, self.length = {}, set(), 0
         for weight, text in fields:
             stems = stems_of(text)
@@ -65,13 +72,13 @@ class Answer:
     @property
     def kept(self):
         """Returns what is kept of it."""
-        return self.kind, self.name, self.path, self.number, self.counts, self.rank, self.title, self.length
+        return self.kind, self.name, self.path, self.topic, self.number, self.counts, self.rank, self.title, self.length
 
     @classmethod
     def of_kept(cls, kept):
         """Returns an answer that was kept."""
         self = cls.__new__(cls)
-        self.kind, self.name, self.path, self.number, self.counts, self.rank, self.title, self.length = kept
+        self.kind, self.name, self.path, self.topic, self.number, self.counts, self.rank, self.title, self.length = kept
         self.it, self.score = None, 0
         return self
 
@@ -171,27 +178,40 @@ class Index:
         if favoured == DOING:
             words = [it for it in words if it.lower() not in ANOTHER] or words
         meanings = meanings_of(words)
-        fits, stems = [self.fits(it) for it in meanings], {stem for it in meanings for stem in it[0]}
-        titles = {frozenset(it) for it in meanings[0]} if len(meanings) == 1 else {frozenset(stems)}
-        best = {}
+        fits = [self.fits(it) for it in meanings]
+        rarities = [math.log(1 + len(self.answers) / (1 + len(it))) for it in fits]
+        asked_of, best = ASKED_OF if ASKS.match(asked) else {}, {}
         for place in {place for it in fits for place in it}:
             answer, each = self.answers[place], [it.get(place, 0) for it in fits]
-            answer.score = sum(each) * sum(it > 0 for it in each) / len(each) * answer.counts
-            title = frozenset(answer.title)
-            if title in titles:
-                answer.score *= WHOLE
-            elif title and title < stems and len(stems) <= 2 * len(title):
-                answer.score *= MOST
+            covered = sum(rarity for rarity, fit in zip(rarities, each) if fit) / sum(rarities)
+            answer.score = sum(each) * covered * answer.counts * (1 + TITLE * titled(answer.title, meanings))
+            answer.score *= asked_of.get(answer.kind, 1)
             if answer.path in favoured:
                 answer.score *= ASKED
             if answer.number not in best or best[answer.number].score < answer.score:
                 best[answer.number] = answer
+        topics = {}
+        for it in sorted(best.values(), key=lambda it: (-it.score, it.number)):
+            it.score *= REPEATED ** topics.get(it.topic, 0)
+            topics[it.topic] = topics.get(it.topic, 0) + 1
         least = WORTH * max((it.score for it in best.values()), default=0)
         # A name copied from code means what has that name.
         names = {it for it in words if is_identifier(it, words)}
         named = {it.number: it for it in self.answers if it.name in names}
         found = {at: it for at, it in best.items() if it.score >= least} | {at: best.get(at, it) for at, it in named.items()}
         return sorted(found.values(), key=lambda it: (it.rank, it.number not in named, -it.score, it.number))
+
+
+def titled(title, meanings):
+    """Returns how far a title is what was asked for: which part of it a question has, times which part of a question it has."""
+    if not title:
+        return 0
+    met, parts = set(), 0
+    for meaning in meanings:
+        stems = next((it for it in meaning if all(stem in title for stem in it)), ())
+        met.update(stems)
+        parts += bool(stems)
+    return len(met) / len(set(title)) * parts / len(meanings)
 
 
 def is_identifier(name, words):
@@ -201,7 +221,7 @@ def is_identifier(name, words):
 
 def counts_of(path):
     """Returns how much a page or the header counts."""
-    return RULES if path in RULING else CALLS if path == HEADER else OTHERS
+    return RULES if path in RULING else CALLS if path == HEADER else OF_CRATES if path.startswith(("bench/", "crates/")) else OTHERS
 
 
 def answers(sources):

@@ -16,6 +16,8 @@ from .index import Index
 # What is read, below the repository's top.
 READ = ("crates", "docs", "include", "tests/worked", "tools/atlas", "README.md", "crates.txt")
 KEPT = f"{ROOT}/out/find"
+# The form of what is kept, which an older Python or another machine can't read.
+FORM = f"{marshal.version} {sys.byteorder}"
 # Two checksums, and the lengths of both indexes and of the list of places of the texts.
 SUM = 32
 HEAD = struct.Struct(f"{SUM}s{SUM}sQQQ")
@@ -57,12 +59,12 @@ def files():
 def sum_of_states():
     """Returns the checksum of the names, sizes and times of the files."""
     listed = [f"{path} {state.st_size} {state.st_mtime_ns}" for path, state in files()]
-    return hashlib.sha256("\n".join([sys.version, *listed]).encode()).digest()
+    return hashlib.sha256("\n".join([FORM, *listed]).encode()).digest()
 
 
 def sum_of_texts():
     """Returns the checksum of the names and texts of the files."""
-    state = hashlib.sha256(sys.version.encode())
+    state = hashlib.sha256(FORM.encode())
     for path, found in files():
         state.update(f"{path} {found.st_size} ".encode())
         with open(path, "rb") as it:

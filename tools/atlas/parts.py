@@ -1,7 +1,7 @@
 """The parts of pages, and of the header for C: each is about one thing."""
 import re
 
-from .files import files_below, text_of
+from .files import crates, exists, files_below, text_of
 from .functions import comment_above
 
 HEADER = "include/upc.h"
@@ -30,8 +30,8 @@ class Part:
 
 
 def pages():
-    """Yields the pages that say what holds."""
-    yield from ("README.md", *files_below("docs", ".md"))
+    """Yields the pages that say what holds, those of the crates last."""
+    yield from ("README.md", *files_below("docs", ".md"), "bench/README.md", *(f"crates/{it}/README.md" for it in crates() if exists(f"crates/{it}/README.md")))
 
 
 def parts_of(path, text):

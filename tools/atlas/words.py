@@ -7,16 +7,21 @@ from .parts import OTHERS, parts_of
 
 # Words that any question may have, whatever it is about.
 IDLE = frozenset(
-    "a an and are as at be by can code could do does for from get gets happens has have how i implemented in is it its many may me much must my of on or "
-    "per shall should so struct than that the their them then there they this to was what when where which who why will with would written".split()
+    "a about actually again also am an and are arent as at be been being between both by can cannot cant code could defined described did difference differences differ do documented does doesnt done dont during "
+    "each else exactly explained for from get gets going good had happen happened happens has have here how i if implemented in into is isnt it its itself just kind "
+    "kinds know made makes many matter matters may me mean means might much must my of often on or our per really said say says see shall should so some stated "
+    "struct such tell tells than that the their them then there these they thing things this those to too two upon us use used uses using very via want wants was way ways well "
+    "we were what when where whether which while who whose why will with work works would written you your".split()
 )
 # Endings, the longest first, and what has to be left of a word without them.
-ENDINGS = re.compile(r"(?<=\w{4})(?:ations?|ments?|ness)$|(?<=\w{3})(?:ings?|ions?|ers?|ors?|ed|ly)$")
+ENDINGS = re.compile(r"(?<=\w{4})(?:ations?|ments?|ness)$|(?<=\w{3}[^e]at)(?:ed|ing|es?|ors?)$|(?<=\w{3})(?:ings?|ions?|ers?|ors?|ed|ly)$")
+# What is left of `isolated`, whose noun is `isolation`.
+LEFT = re.compile(r"(?<=\w{3}[^e])at$")
 
 
 def words_of(text):
     """Returns the words of a text. `VBR.1` is `vbr1`, and a name of several words is these words."""
-    text = re.sub(r"(?<=[a-z0-9])(?=[A-Z])|(?<=[A-Z])(?=[A-Z][a-z])", " ", text)
+    text = re.sub(r"(?<=[a-z0-9])(?=[A-Z])|(?<=[A-Z])(?=[A-Z][a-z])", " ", re.sub(r"(?<=\w)\.(?:rt|antt|md)\b", " ", text))
     return re.findall(r"[a-z0-9]+", re.sub(r"(?<=[a-z])\.(?=\d)|(?<=[a-z])'(?=[a-z])", "", text.lower()))
 
 
@@ -28,6 +33,7 @@ def stem(word):
     word = re.sub(r"(?<=\w\w)ies$", "y", word)
     word = re.sub(r"(?<=[^su])s$|(?<=s)es$", "", word)
     short = ENDINGS.sub("", word)
+    short = LEFT.sub("", short) if short != word or word.endswith("ate") else short
     if short != word and len(short) > 3 and short[-1] == short[-2] and short[-1] not in "sl":
         short = short[:-1]
     return re.sub(r"e$", "", re.sub(r"y$", "i", short))
@@ -60,12 +66,13 @@ def searched_stems(text):
 
 
 def meanings_of(words):
-    """Returns for each part of a question what it may be called: lists of stems, its own first."""
-    stems = searched_stems(" ".join(words))
-    known, found, at = others(), [], 0
-    while at < len(stems):
-        end = next((end for end in range(len(stems), at, -1) if stems[at:end] in known), at + 1)
-        own = stems[at:end]
-        found.append([own, *known.get(own, [])])
-        at = end
-    return found
+    """Returns for each part of a question what it may be called: lists of stems, its own first. The words of a part may be apart in it,
+    and in any order."""
+    left = list(dict.fromkeys(searched_stems(" ".join(words).replace("how many", "number of"))))
+    known, found = others(), []
+    for own in sorted(known, key=lambda it: (-len(it), it)):
+        if len(own) > 1 and all(it in left for it in own):
+            found.append((min(left.index(it) for it in own), own))
+            left = [None if it in own else it for it in left]
+    found += [(at, (it,)) for at, it in enumerate(left) if it]
+    return [[own, *known.get(own, [])] for _, own in sorted(found)]

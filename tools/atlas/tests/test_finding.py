@@ -1,7 +1,9 @@
 """Words of questions and of texts meet, whatever their form."""
+import marshal
 import unittest
 
-from atlas.index import Answer
+from atlas.index import Answer, Index, titled
+from atlas.parts import Part
 from atlas.words import meanings_of, stem, words_of
 
 
@@ -14,7 +16,7 @@ class Words(unittest.TestCase):
         self.assertEqual(words_of("VBR.1 and vbr1."), ["vbr1", "and", "vbr1"])
 
     def test_endings_do_not_matter(self):
-        for words in (("divides", "divide"), ("released", "release", "releases"), ("dropping", "dropped", "drop"), ("entries", "entry"), ("faster", "fast")):
+        for words in (("divides", "divide"), ("released", "release", "releases"), ("dropping", "dropped", "drop"), ("entries", "entry"), ("faster", "fast"), ("isolated", "isolation", "isolates")):
             self.assertEqual(len({stem(it) for it in words}), 1, words)
 
     def test_words_that_tell_nothing(self):
@@ -25,11 +27,30 @@ class Words(unittest.TestCase):
         (meanings,) = meanings_of(["packets"])
         self.assertEqual(meanings, [("packet",), ("cell",)])
 
+    def test_words_of_others_are_met_in_any_order(self):
+        for question in ("it runs out of memory", "the memory runs out"):
+            (meanings,) = meanings_of(question.split())
+            self.assertIn(("alloc", "fail"), meanings)
+
 
 class Answers(unittest.TestCase):
     def test_a_name_counts_for_more(self):
         it = Answer("definition", None, 1, [(3, "is_judged"), (2, "The cell is judged.")])
         self.assertEqual((it.words["judg"], it.words["cell"], it.length), (5, 2, 14))
+
+    def test_a_title_counts_as_far_as_it_was_asked_for(self):
+        asked = meanings_of(["the", "crates"])
+        self.assertEqual(titled(("crat",), asked), 1)
+        self.assertEqual(titled(("crat", "libr"), asked), 0.5)
+        self.assertEqual(titled((), asked), 0)
+
+    def test_what_is_kept_answers_as_what_was_made(self):
+        parts = [Part("docs/DOORS.md", line, heading, "", text) for line, heading, text in ((3, "Doors", "A door has a key."), (9, "Keys", "A key is lost."), (11, "Keys", "Keys are many."))]
+        made = Index.of([Answer("page", it, 1, [(2, it.text), (1, it.heading)]) for it in parts])
+        again = Index.of_kept(marshal.loads(marshal.dumps(made.kept)))
+        for words in (["key"], ["how", "many", "keys"], ["lost", "door"]):
+            self.assertEqual([(it.number, it.score) for it in made.search(words)], [(it.number, it.score) for it in again.search(words)])
+        self.assertEqual([it.it for it in made.search(["lost"])], [parts[1]])
 
 
 if __name__ == "__main__":
