@@ -8,6 +8,7 @@ from .files import ROOT
 
 RULE = "A commit that changes a contract or a figure of bench/RESULTS.md has a body"
 CLAUSE = re.compile(r"^[+-]\s*(?:requires|ensures)\b")
+NUMBER = re.compile(r"\b\d[\d.,]*")
 FILE = re.compile(r"^\+\+\+ (?:b/)?(\S+)")
 
 
@@ -19,7 +20,7 @@ def git(*words):
 
 def changes(diff):
     """Returns what the lines of a diff change: 'contract', 'figure', both or nothing."""
-    found, file = set(), ""
+    found, file, figures = set(), "", {"-": [], "+": []}
     for line in diff.split("\n"):
         named = FILE.match(line)
         if named:
@@ -27,14 +28,15 @@ def changes(diff):
         elif not line.startswith(("+", "-")) or line.startswith("---"):
             continue
         elif file == "bench/RESULTS.md":
-            if line[1:].startswith("|") and re.search(r"\d", line):
-                found.add("figure")
+            if line[1:].startswith("|"):
+                figures[line[0]] += NUMBER.findall(line)
         elif re.match(r"crates/\w+/specs/(?!inner/).*\.antt$", file):
             if line[1:].strip() and not line[1:].strip().startswith(("--", "use ", "pub use ", "pub mod ")):
                 found.add("contract")
         elif re.match(r"crates/\w+/src/.*\.rt$", file) and CLAUSE.match(line):
             found.add("contract")
-    return found
+    # A row of which only names changed has the figures that it had.
+    return found | ({"figure"} if figures["-"] != figures["+"] else set())
 
 
 def fault(body, changed):

@@ -19,6 +19,8 @@ class Commits(unittest.TestCase):
         self.assertEqual(changes(diff("crates/leaky/specs/Bucket.antt", "+-- The fill of a bucket.", "+use Rattle.std.specs.Prelude.{List}")), set())
         self.assertEqual(changes(diff("crates/leaky/specs/inner/Bucket.antt", "+fill b = b.level")), set())
         self.assertEqual(changes(diff("bench/RESULTS.md", "-| run | 2.1 |", "+| run | 2.0 |")), {"figure"})
+        self.assertEqual(changes(diff("bench/RESULTS.md", "-| `vc_lines` | 2.1 |", "+| `vc_table` | 2.1 |")), set())
+        self.assertEqual(changes(diff("bench/RESULTS.md", "-| run | 2.1 |")), {"figure"})
         self.assertEqual(changes(diff("bench/RESULTS.md", "+Least of 30 rounds.")), set())
         self.assertEqual(changes(diff(source, "+    ensures b { c }") + diff("bench/RESULTS.md", "+| run | 2.0 |")), {"contract", "figure"})
 
