@@ -30,7 +30,7 @@ WHAT = re.compile(r"what (is|are) (a|an|the)? ?\w+$|what does \w+ mean$|(definit
 TITLE = 1.0
 # A whole question is about pages first, and then about the header.
 ASKS = re.compile(r"(how|what|where|when|which|why|who|whose|do|does|did|is|are|am|can|could|may|must|should|will|would|if|has|have)\b")
-ASKED_OF = {"page": 1.25, "declaration": 1.1}
+ASKED_OF = {"page": 1.4, "declaration": 1.2}
 # How much an answer counts for each better one of its section, or of its name.
 REPEATED = 0.8
 # What a question how something is done has besides its subject.

@@ -7,11 +7,11 @@ from .parts import OTHERS, parts_of
 
 # Words that any question may have, whatever it is about.
 IDLE = frozenset(
-    "a about actually again also am an and are arent as at be been being between both by can cannot cant code could defined described did difference differences differ do documented does doesnt done dont during "
-    "each else exactly explained for from get gets going good had happen happened happens has have here how i if implemented in into is isnt it its itself just kind "
-    "kinds know made makes many matter matters may me mean means might much must my of often on or our per really said say says see shall should so some stated "
+    "a about actually after again also am an and are arent as at be been before being between both by can cannot cant code could defined described did difference differences differ do documented does doesnt done dont during "
+    "each else ever exactly explained for from get gets going good had happen happened happens has have here how i if implemented in into is isnt it its itself just kind "
+    "kinds know made makes many matter matters may me mean means might much must my of often on one or our per really said say says see shall should so some stated still "
     "struct such tell tells than that the their them then there these they thing things this those to too two upon us use used uses using very via want wants was way ways well "
-    "we were what when where whether which while who whose why will with work works would written you your".split()
+    "we were what when where whether which while who whose why will with work works would written yet you your".split()
 )
 # Endings, the longest first, and what has to be left of a word without them.
 ENDINGS = re.compile(r"(?<=\w{4})(?:ations?|ments?|ness)$|(?<=\w{3}[^e]at)(?:ed|ing|es?|ors?)$|(?<=\w{3})(?:ings?|ions?|ers?|ors?|ed|ly)$")
@@ -21,6 +21,7 @@ LEFT = re.compile(r"(?<=\w{3}[^e])at$")
 
 def words_of(text):
     """Returns the words of a text. `VBR.1` is `vbr1`, and a name of several words is these words."""
+    text = re.sub(r"\b[cC]\+\+", " cplusplus ", text)
     text = re.sub(r"(?<=[a-z0-9])(?=[A-Z])|(?<=[A-Z])(?=[A-Z][a-z])", " ", re.sub(r"(?<=\w)\.(?:rt|antt|md)\b", " ", text))
     return re.findall(r"[a-z0-9]+", re.sub(r"(?<=[a-z])\.(?=\d)|(?<=[a-z])'(?=[a-z])", "", text.lower()))
 
