@@ -27,12 +27,16 @@ def questions():
                 yield words, [tuple(place.split(": ", 1)) for place in places], part
 
 
+def path_of(answer):
+    """Returns the file of an answer, or nothing for a planted bug."""
+    return answer.it.module.path if answer.kind == "definition" else answer.path
+
+
 def is_at(answer, places):
     """Returns whether an answer is one of these places."""
-    it = answer.it
+    it, path = answer.it, path_of(answer)
     if answer.rank:
         return False
-    path = it.module.path if answer.kind == "definition" else it.path
     text = f"{it.name} {it.text}" if answer.kind in ("page", "declaration") else ""
     return any(path == file and (it.name == words or words in text) for file, words in places)
 
@@ -45,10 +49,12 @@ class Questions(unittest.TestCase):
         cls.code = cls.index.of_code()
 
     def test_places_are_there(self):
-        every = [it for it in self.index.answers if not it.rank]
+        every = {}
+        for it in self.index.answers:
+            every.setdefault(path_of(it), []).append(it)
         for words, places, _ in questions():
             for place in places:
-                self.assertTrue(any(is_at(it, [place]) for it in every), f"{words}: {place}")
+                self.assertTrue(any(is_at(it, [place]) for it in every.get(place[0], [])), f"{words}: {place}")
 
     def test_answers(self):
         asked, missed = {it: 0 for it in (OTHER_WORDS, ALL, CODE, LATER)}, {it: [] for it in (OTHER_WORDS, ALL, CODE, LATER)}
