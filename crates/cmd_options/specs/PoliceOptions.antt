@@ -13,7 +13,7 @@ use Rattle.cmd_options.specs.CellsOptions.{link_rule, time_rule}
 use Rattle.cmd_options.specs.OptionAnswers.{Asks, IsOptionStop}
 use Rattle.cmd_options.specs.LinkOption.{link_of}
 use Rattle.cmd_options.specs.OptionValues.{asked_tick_of, cell_lines_of, every_of, file_name_of, threads_of, timing_of}
-use Rattle.cmd_options.specs.declared.police_options.PoliceOptions.{PoliceOptions}
+use Rattle.cmd_options.specs.declared.police.PoliceOptions.{PoliceOptions}
 
 -- The argument SETUP, which must be given.
 abbrev pub setup_rule : Rule

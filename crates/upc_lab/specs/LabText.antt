@@ -21,7 +21,7 @@ use Rattle.cmd_list.specs.Trace.{IsTraceText}
 use Rattle.cmd_rules.specs.AsmText.{MayBeAsmText}
 use Rattle.cmd_rules.specs.RulesText.{MayBeRulesText}
 use Rattle.cmd_rules.specs.WhyText.{MayBeWhyText}
-use Rattle.cmd_options.specs.declared.police_options.PoliceOptions.{PoliceOptions}
+use Rattle.cmd_options.specs.declared.police.PoliceOptions.{PoliceOptions}
 use Rattle.cmd_police.specs.SetupText.{MayBePolicedAsAgreed}
 use Rattle.cmd_police.specs.declared.scope.PoliceScope.{PoliceScope}
 use Rattle.cmd_size.specs.SizeText.{IsSizesText}

@@ -7,7 +7,7 @@ use Rattle.cmd_options.specs.PoliceOptions.{police_app, police_asked, police_ask
 use Rattle.cmd_options.specs.inner.Answered.{police_spelled}
 use Rattle.cmd_options.proofs.Answering.{answers}
 use Rattle.cmd_options.proofs.Commands.{police_is_free}
-use Rattle.cmd_options.proofs.police_options.police_options.Goals as goal
+use Rattle.cmd_options.proofs.police.police_options.Goals as goal
 
 pub values_of_words-found-requires : goal.values_of_words-found-requires
 unfolding police_app

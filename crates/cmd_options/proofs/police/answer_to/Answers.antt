@@ -4,7 +4,7 @@ use Rattle.text_command_line.specs.Arguments.{texts_of}
 use Rattle.cmd_options.specs.PoliceOptions.{police_asked_by}
 use Rattle.cmd_options.specs.inner.Answered.{AnswersValues, police_spelled}
 use Rattle.cmd_options.proofs.Answering.{at_ok}
-use Rattle.cmd_options.proofs.police_options.answer_to.Goals as goal
+use Rattle.cmd_options.proofs.police.answer_to.Goals as goal
 
 pub returns-in-Ok-clause-values : goal.returns-in-Ok-clause-values
 returns-in-Ok-clause-values c =
