@@ -4,6 +4,7 @@ use Rattle.std.proofs.lemmas.Result.{IfOk-weaker}
 use Rattle.std.specs.Global.{Vec}
 use Rattle.std.specs.Result.{OnErr, OnOk}
 use Rattle.captures.specs.declared.link.Link.{Link}
+use Rattle.captures.specs.declared.packet_time.TimeSource.TheVariants as source
 use Rattle.captures_text.specs.declared.cell_lines.CellLines.TheVariants as lines
 use Rattle.cmd_police.proofs.Existence.{fault_may, polices_timed}
 use Rattle.cmd_police.proofs.PoliceLemmas.{served_as}
@@ -45,7 +46,7 @@ some_forwarded others tick link script times octets = forwards_some others tick 
 
 -- A scope without lines.
 abbrev silent : Option Link → PoliceScope
-silent link = record { link = link; lines = lines.Nothing; every = None }
+silent link = record { link = link; timing = source.Record; lines = lines.Nothing; every = None }
 
 timed_some : (others : Others) (tick : ℕ) (link : Option Link) (setup : List ℕ) (times : List (Option ℕ)) (texts : List (List ℕ)) (octets text : List ℕ) (done : Done)
     → IsTimedPolicedBy MayBeFaultOfRules (silent link) tick setup times texts octets text done
