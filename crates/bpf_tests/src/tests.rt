@@ -1,15 +1,8 @@
-//! One module for each crate.
+//! One module for each crate, and what they share.
 
 mod assembly;
 mod cells;
 mod checks;
+mod expecting;
 mod instructions;
 mod machine;
-
-use std::alloc::{AllocError, Global};
-use std::fmt::Display;
-
-/// The text of a value.
-fn text_of(alloc: Global, value: &impl Display) -> Result<String, AllocError> {
-    format!(in alloc; "{value}")
-}

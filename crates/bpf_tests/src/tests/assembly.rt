@@ -13,6 +13,7 @@ mod long;
 mod numbers;
 mod spellings;
 
+use crate::tests::expecting;
 use bpf_asm::{assemble, listing};
 use bpf_code::{Instr, encode_one};
 use std::alloc::{AllocError, Global};
@@ -47,13 +48,66 @@ fn answer_to(alloc: Global, source: &[u8]) -> Result<String, AllocError> {
 /// Expects this answer to a source, and to the listing of its code.
 fn expect(rt: &impl Abort, alloc: Global, source: &str, answer: &str) -> Result<(), Fail> {
     let octets = octets_of(alloc, source)?;
-    let found = answer_to(alloc, &octets)?;
-    assert_eq!(rt; found.as_str(), answer, "{source:?}");
-    if let Ok(code) = assemble(alloc, &octets) {
-        let text = listing(alloc, &code)?;
-        let again = answer_to(alloc, &text)?;
-        assert_eq!(rt; again.as_str(), answer, "the listing of {source:?}");
+    expect_answers(rt, alloc, source, &octets, answer)
+}
+
+/// The same of the source that is these parts one after the other.
+fn expect_parts(rt: &impl Abort, alloc: Global, parts: &[&str], answer: &str) -> Result<(), Fail> {
+    let source = parts.concat(alloc)?;
+    expect(rt, alloc, source.as_str(), answer)
+}
+
+/// The same of these octets of the source.
+fn expect_answers(
+    rt: &impl Abort,
+    alloc: Global,
+    source: &str,
+    octets: &[u8],
+    answer: &str,
+) -> Result<(), Fail> {
+    expect_answer(rt, alloc, source, octets, answer)?;
+    match assemble(alloc, octets) {
+        Ok(code) => expect_again(rt, alloc, source, &code, answer),
+        Err(_) => Ok(()),
     }
+}
+
+/// Expects this answer to the octets of a source.
+fn expect_answer(
+    rt: &impl Abort,
+    alloc: Global,
+    source: &str,
+    octets: &[u8],
+    answer: &str,
+) -> Result<(), Fail> {
+    let found = answer_to(alloc, octets)?;
+    expecting::expect(rt, source, found.as_str(), answer);
+    Ok(())
+}
+
+/// Expects this answer to the listing of a source's code.
+fn expect_again(
+    rt: &impl Abort,
+    alloc: Global,
+    source: &str,
+    code: &[Instr],
+    answer: &str,
+) -> Result<(), Fail> {
+    let text = listing(alloc, code)?;
+    expect_to_listing(rt, alloc, source, &text, answer)
+}
+
+/// Expects this answer to a listing, which is that of a source's code.
+fn expect_to_listing(
+    rt: &impl Abort,
+    alloc: Global,
+    source: &str,
+    text: &[u8],
+    answer: &str,
+) -> Result<(), Fail> {
+    let found = answer_to(alloc, text)?;
+    let wanted = (source, answer);
+    expecting::expect(rt, "the listing", (source, found.as_str()), wanted);
     Ok(())
 }
 

@@ -1,6 +1,7 @@
 //! Headers of known cells, at either side, and refused octets and numbers.
 
-use crate::tests::text_of;
+use crate::tests::expecting::{expect, expect_printed};
+use std::process::Abort;
 use std::test::Fail;
 use upc_cell::*;
 
@@ -37,16 +38,18 @@ fn user_data_and_oam_cells_of_one_connection(rt: HostRuntime) -> Result<(), Fail
 
 #[test]
 fn each_field_at_its_highest(rt: HostRuntime) -> Result<(), Fail> {
-    assert_eq!(rt; fields_of([0xff; 4])?, (15, 255, 65535, 7, true));
+    let fields = fields_of([0xff; 4])?;
+    expect(&rt, "the fields", fields, (15, 255, 65535, 7, true));
     Ok(())
 }
 
 #[test]
 fn a_tagged_cell_differs_in_its_priority_alone(rt: HostRuntime) -> Result<(), Fail> {
     let cell = cell_of([0xf0, 0x10, 0x06, 0x4a])?;
-    assert_eq!(rt; cell.tagged(), cell_of([0xf0, 0x10, 0x06, 0x4b])?);
-    assert_eq!(rt; cell.tagged().tagged(), cell.tagged());
-    assert_eq!(rt; cell.bytes()[3], 0x4a);
+    let tagged = cell_of([0xf0, 0x10, 0x06, 0x4b])?;
+    expect(&rt, "tagged", cell.tagged(), tagged);
+    expect(&rt, "twice", cell.tagged().tagged(), cell.tagged());
+    expect(&rt, "the cell itself", cell.bytes()[3], 0x4a);
     Ok(())
 }
 
@@ -54,35 +57,34 @@ fn a_tagged_cell_differs_in_its_priority_alone(rt: HostRuntime) -> Result<(), Fa
 fn octets_of_another_number_are_no_cell(rt: HostRuntime) -> Result<(), Fail> {
     for octets in [&[0u8; 51][..], &[0; 53], &[]] {
         let fault = CellFault::WrongLength(octets.len());
-        assert_eq!(rt; Cell::from_bytes(octets).err(), Some(fault));
+        expect(&rt, "octets", Cell::from_bytes(octets).err(), Some(fault));
     }
-    let text = text_of(rt.alloc(), &CellFault::WrongLength(51))?;
-    assert_eq!(rt; text.as_str(), "1 WrongLength 51");
-    Ok(())
+    let fault = CellFault::WrongLength(51);
+    expect_printed(&rt, rt.alloc(), &[(fault, "1 WrongLength 51")])
 }
 
 #[test]
 fn the_path_takes_in_the_flow_control_between_nodes_alone(rt: HostRuntime) -> Result<(), Fail> {
-    let known = [
-        ([0xf0, 0x10, 0x06, 0x41], (1, 3841), 100),
-        ([0xff, 0xff, 0xff, 0xff], (255, 4095), 65535),
-    ];
-    for (header, (users, nodes), channel) in known {
-        let cell = cell_of(header)?;
-        assert_eq!(rt;
-            (cell.vpi(), cell.vci(), cell.clp()),
-            (users, channel, true)
-        );
-        assert_eq!(rt;
-            [cell.vpi_at(Side::Uni), cell.vpi_at(Side::Nni)],
-            [users, nodes]
-        );
-        let known = [
-            Vc::new(users, channel)?,
-            Vc::new_at(Side::Nni, nodes, channel)?,
-        ];
-        assert_eq!(rt; [cell.vc_at(Side::Uni), cell.vc_at(Side::Nni)], known);
+    for (header, paths, channel) in [
+        ([0xf0, 0x10, 0x06, 0x41], [1, 3841], 100),
+        ([0xff, 0xff, 0xff, 0xff], [255, 4095], 65535),
+    ] {
+        expect_paths(&rt, &cell_of(header)?, paths, channel)?;
     }
+    Ok(())
+}
+
+/// Expects that a cell of priority 1 has these paths between user and network and between nodes, and this channel.
+fn expect_paths(rt: &impl Abort, cell: &Cell, paths: [u16; 2], channel: u16) -> Result<(), Fail> {
+    let [users, nodes] = paths;
+    let fields = (cell.vpi(), cell.vci(), cell.clp());
+    expect(rt, "the fields", fields, (users, channel, true));
+    let found = [cell.vpi_at(Side::Uni), cell.vpi_at(Side::Nni)];
+    expect(rt, "the paths", found, paths);
+    let at_users = Vc::new(users, channel)?;
+    let between = Vc::new_at(Side::Nni, nodes, channel)?;
+    let found = [cell.vc_at(Side::Uni), cell.vc_at(Side::Nni)];
+    expect(rt, "the connections", found, [at_users, between]);
     Ok(())
 }
 
@@ -93,26 +95,32 @@ fn a_path_above_the_highest_of_its_side_is_refused(rt: HostRuntime) -> Result<()
         Vc::new_at(Side::Uni, 256, 0),
         Vc::new_at(Side::Nni, 4096, 0),
     ] {
-        assert_eq!(rt; made, Err(VcFault::VpiTooLarge));
+        expect(&rt, "too high", made, Err(VcFault::VpiTooLarge));
     }
     let users = Vc::new(255, 65535)?;
     let nodes = Vc::new_at(Side::Nni, 4095, 65535)?;
-    assert_eq!(rt;
-        [users.vpi, users.vci, nodes.vpi, nodes.vci],
-        [255, 65535, 4095, 65535]
-    );
-    let text = text_of(rt.alloc(), &VcFault::VpiTooLarge)?;
-    assert_eq!(rt; text.as_str(), "1 VpiTooLarge");
-    Ok(())
+    let found = [users.vpi, users.vci, nodes.vpi, nodes.vci];
+    expect(&rt, "the highest", found, [255, 65535, 4095, 65535]);
+    expect_printed(&rt, rt.alloc(), &[(VcFault::VpiTooLarge, "1 VpiTooLarge")])
 }
 
 #[test]
 fn connections_stand_in_order_of_path_then_channel(rt: HostRuntime) -> Result<(), Fail> {
-    assert!(rt; Vc::new(1, 200)? < Vc::new(2, 100)?);
-    assert!(rt; Vc::new(1, 100)? < Vc::new(1, 101)?);
-    assert!(rt; Vc::new(255, 65535)? < Vc::new_at(Side::Nni, 256, 0)?);
-    assert!(rt; same_vc(Vc::new(1, 100)?, Vc::new_at(Side::Nni, 1, 100)?));
-    assert!(rt; !same_vc(Vc::new(1, 100)?, Vc::new(1, 101)?));
-    assert!(rt; !same_vc(Vc::new(1, 100)?, Vc::new(2, 100)?));
+    for (first, second) in [
+        (Vc::new(1, 200), Vc::new(2, 100)),
+        (Vc::new(1, 100), Vc::new(1, 101)),
+        (Vc::new(255, 65535), Vc::new_at(Side::Nni, 256, 0)),
+    ] {
+        let (first, second) = (first?, second?);
+        expect(&rt, "in order", first < second, true);
+    }
+    let one = Vc::new(1, 100)?;
+    for (other, same) in [
+        (Vc::new_at(Side::Nni, 1, 100), true),
+        (Vc::new(1, 101), false),
+        (Vc::new(2, 100), false),
+    ] {
+        expect(&rt, "the same", same_vc(one, other?), same);
+    }
     Ok(())
 }

@@ -1,6 +1,6 @@
 //! Codes at the limits of each rule, with their errors.
 
-use crate::tests::text_of;
+use crate::tests::expecting::{expect, expect_printed};
 use bpf_code::{By, Instr, Op, Size, Test};
 use bpf_verify::*;
 use std::alloc::{AllocError, Global};
@@ -54,8 +54,8 @@ fn assert_refused(
     wanted: Fault,
 ) -> Result<(), Fail> {
     let (fault, back) = refused(code.to_vec(alloc)?).ok_or("a faulty code is accepted")?;
-    assert_eq!(rt; fault, wanted);
-    assert_eq!(rt; back.as_slice(), code);
+    expect(rt, "the fault", fault, wanted);
+    expect(rt, "the code", back.as_slice(), code);
     Ok(())
 }
 
@@ -89,13 +89,19 @@ const FAULTS: [(Fault, &str); 8] = [
     (Fault::Unwritten { at: 2, word: 15 }, "8 Unwritten 2 15"),
 ];
 
+/// The text of a refusal for this error.
+fn text_of_refusal(alloc: Global, fault: Fault) -> Result<String, AllocError> {
+    let code = Vec::new(alloc);
+    let refused = Refused { code, fault };
+    format!(in alloc; "{refused}")
+}
+
 #[test]
 fn each_fault_prints_its_number_and_name(rt: HostRuntime) -> Result<(), Fail> {
+    expect_printed(&rt, rt.alloc(), &FAULTS)?;
     for (fault, line) in FAULTS {
-        assert_eq!(rt; text_of(rt.alloc(), &fault)?.as_str(), line);
-        let code = Vec::new(rt.alloc());
-        let refused = Refused { code, fault };
-        assert_eq!(rt; text_of(rt.alloc(), &refused)?.as_str(), line);
+        let text = text_of_refusal(rt.alloc(), fault)?;
+        expect(&rt, "a refusal", text.as_str(), line);
     }
     Ok(())
 }
@@ -163,26 +169,31 @@ fn each_fault_of_a_code_is_found(rt: HostRuntime) -> Result<(), Fail> {
 
 #[test]
 fn accepted_codes_are_handed_through(rt: HostRuntime) -> Result<(), Fail> {
-    let alloc = rt.alloc();
     let either_way = jump_if_equal(0x4a, 0, 1);
     for code in [
-        vec![in alloc; load_octet(3), either_way, Instr::RetK(2), Instr::RetK(1)]?,
+        &[load_octet(3), either_way, Instr::RetK(2), Instr::RetK(1)][..],
         // No path reaches the read after the first return, so it isn't checked.
-        vec![in alloc; Instr::RetK(0), Instr::LoadMem(3), Instr::RetA]?,
+        &[Instr::RetK(0), Instr::LoadMem(3), Instr::RetA],
         // Division by X is checked only when the program runs.
-        vec![in alloc; Instr::LdxImm(0), alu(Op::Div, By::X), Instr::RetK(1)]?,
-        vec![in alloc; Instr::LdxImm(0), alu(Op::Mod, By::X), Instr::RetK(1)]?,
-        vec![in alloc;
+        &[Instr::LdxImm(0), alu(Op::Div, By::X), Instr::RetK(1)],
+        &[Instr::LdxImm(0), alu(Op::Mod, By::X), Instr::RetK(1)],
+        &[
             alu(Op::Mod, By::Imm(7)),
             alu(Op::Xor, By::Imm(0)),
             Instr::RetA,
-        ]?,
+        ],
     ] {
-        let copy = code.clone()?;
-        match verify(code) {
-            Ok(program) => assert_eq!(rt; program.code(), copy.as_slice()),
-            Err(refused) => assert!(rt; false, "refused: {refused}"),
-        }
+        assert_accepted(&rt, code.to_vec(rt.alloc())?)?;
+    }
+    Ok(())
+}
+
+/// Expects that a code is accepted, and handed through.
+fn assert_accepted(rt: &impl Abort, code: Vec<Instr>) -> Result<(), Fail> {
+    let copy = code.clone()?;
+    match verify(code) {
+        Ok(program) => assert_eq!(rt; program.code(), copy.as_slice()),
+        Err(refused) => assert!(rt; false, "refused: {refused}"),
     }
     Ok(())
 }
@@ -196,7 +207,8 @@ fn jumps_reach_as_far_as_the_code(rt: HostRuntime) -> Result<(), Fail> {
         (Instr::Jump(u32::MAX), 1, outside),
     ] {
         let code = before(rt.alloc(), first, Instr::RetK(1), returns)?;
-        assert_eq!(rt; fault_in(code), fault, "before {returns} returns");
+        let found = (returns, fault_in(code));
+        expect(&rt, "before so many returns", found, (returns, fault));
     }
     Ok(())
 }
@@ -206,7 +218,8 @@ fn the_longest_code_has_4096_instructions(rt: HostRuntime) -> Result<(), Fail> {
     for (jumps, fault) in [(4095, None), (4096, Some(Fault::TooLong))] {
         let mut code = [Instr::Jump(0)].repeat(rt.alloc(), jumps)?;
         code.push(Instr::RetK(7))?;
-        assert_eq!(rt; fault_in(code), fault, "after {jumps} jumps");
+        let found = (jumps, fault_in(code));
+        expect(&rt, "after so many jumps", found, (jumps, fault));
     }
     Ok(())
 }
@@ -227,8 +240,10 @@ fn ladder(alloc: Global, read: u32) -> Result<Vec<Instr>, AllocError> {
 #[test]
 fn a_word_is_written_where_every_path_stores_it(rt: HostRuntime) -> Result<(), Fail> {
     let alloc = rt.alloc();
-    let missing = Some(Fault::Unwritten { at: 2001, word: 0 });
-    assert_eq!(rt; fault_in(ladder(alloc, 15)?), None);
-    assert_eq!(rt; fault_in(ladder(alloc, 0)?), missing);
+    let missing = Fault::Unwritten { at: 2001, word: 0 };
+    for (word, fault) in [(15, None), (0, Some(missing))] {
+        let found = (word, fault_in(ladder(alloc, word)?));
+        expect(&rt, "a read of this word", found, (word, fault));
+    }
     Ok(())
 }

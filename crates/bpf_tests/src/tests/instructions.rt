@@ -1,6 +1,6 @@
 //! Every row of the instruction table, encoded and decoded, and octets that spell no instruction.
 
-use crate::tests::text_of;
+use crate::tests::expecting::{expect, expect_printed};
 use bpf_code::*;
 use std::test::Fail;
 
@@ -89,8 +89,9 @@ fn table() -> [(u8, Instr); 49] {
 fn each_row_of_the_table_is_read_written_and_read_again(rt: HostRuntime) {
     for (code, instr) in table() {
         let read = decode_one(&[0, code, 2, 255, 1, 2, 3, 4]);
-        assert_eq!(rt; read, Ok(instr));
-        assert_eq!(rt; decode_one(&encode_one(instr)), read);
+        expect(&rt, "read", read, Ok(instr));
+        let again = decode_one(&encode_one(instr));
+        expect(&rt, "written and read again", again, read);
     }
 }
 
@@ -104,51 +105,53 @@ fn no_other_code_is_known(rt: HostRuntime) {
             }
         }
     }
-    assert_eq!(rt; known, 49);
+    expect(&rt, "the known codes", known, 49);
 }
 
 #[test]
 fn unused_fields_are_written_as_0(rt: HostRuntime) {
-    assert_eq!(rt; encode_one(Instr::Tax), [0x00, 0x07, 0, 0, 0, 0, 0, 0]);
-    assert_eq!(rt;
-        encode_one(alu(Op::Div, By::X)),
-        [0x00, 0x3c, 0, 0, 0, 0, 0, 0]
-    );
-    assert_eq!(rt;
-        encode_one(branch(Test::Set, IMM)),
-        [0x00, 0x45, 2, 255, 1, 2, 3, 4]
-    );
+    for (instr, octets) in [
+        (Instr::Tax, [0x00, 0x07, 0, 0, 0, 0, 0, 0]),
+        (alu(Op::Div, By::X), [0x00, 0x3c, 0, 0, 0, 0, 0, 0]),
+        (branch(Test::Set, IMM), [0x00, 0x45, 2, 255, 1, 2, 3, 4]),
+    ] {
+        expect(&rt, "the octets", encode_one(instr), octets);
+    }
 }
+
+/// `ldb [3]`, `and #0xe`, `jge #8` with offsets 1 and 0, `ret #1`, `ret #2`
+const OCTETS: [u8; 40] = [
+    0x00, 0x30, 0x00, 0x00, 0x00, 0x00, 0x00, 0x03, 0x00, 0x54, 0x00, 0x00, 0x00, 0x00, 0x00, 0x0e,
+    0x00, 0x35, 0x01, 0x00, 0x00, 0x00, 0x00, 0x08, 0x00, 0x06, 0x00, 0x00, 0x00, 0x00, 0x00, 0x01,
+    0x00, 0x06, 0x00, 0x00, 0x00, 0x00, 0x00, 0x02,
+];
+
+/// The instructions of these octets.
+const CODE: [Instr; 5] = [
+    Instr::LoadAbs {
+        size: Size::Octet,
+        k: 3,
+    },
+    Instr::Alu {
+        op: Op::And,
+        by: By::Imm(0xe),
+    },
+    Instr::Branch {
+        test: Test::Ge,
+        by: By::Imm(8),
+        jt: 1,
+        jf: 0,
+    },
+    Instr::RetK(1),
+    Instr::RetK(2),
+];
 
 #[test]
 fn a_program_is_read_and_written_in_order(rt: HostRuntime) -> Result<(), Fail> {
-    // `ldb [3]`, `and #0xe`, `jge #8` with offsets 1 and 0, `ret #1`, `ret #2`
-    let octets = [
-        0x00, 0x30, 0x00, 0x00, 0x00, 0x00, 0x00, 0x03, 0x00, 0x54, 0x00, 0x00, 0x00, 0x00, 0x00,
-        0x0e, 0x00, 0x35, 0x01, 0x00, 0x00, 0x00, 0x00, 0x08, 0x00, 0x06, 0x00, 0x00, 0x00, 0x00,
-        0x00, 0x01, 0x00, 0x06, 0x00, 0x00, 0x00, 0x00, 0x00, 0x02,
-    ];
-    let code = decode(rt.alloc(), &octets)?;
-    let expected = [
-        Instr::LoadAbs {
-            size: Size::Octet,
-            k: 3,
-        },
-        alu(Op::And, By::Imm(0xe)),
-        Instr::Branch {
-            test: Test::Ge,
-            by: By::Imm(8),
-            jt: 1,
-            jf: 0,
-        },
-        Instr::RetK(1),
-        Instr::RetK(2),
-    ];
-    assert_eq!(rt; code.as_slice(), expected.as_slice());
-    assert_eq!(rt;
-        encode(rt.alloc(), &expected)?.as_slice(),
-        octets.as_slice()
-    );
+    let code = decode(rt.alloc(), &OCTETS)?;
+    expect(&rt, "read", code.as_slice(), CODE.as_slice());
+    let octets = encode(rt.alloc(), &CODE)?;
+    expect(&rt, "written", octets.as_slice(), OCTETS.as_slice());
     Ok(())
 }
 
@@ -168,29 +171,39 @@ fn a_long_code_is_read_and_written(rt: HostRuntime) -> Result<(), Fail> {
 
 #[test]
 fn refused_octets_name_their_fault(rt: HostRuntime) -> Result<(), Fail> {
-    let ragged = decode(rt.alloc(), &[0; 12]).err().ok_or("refused")?;
-    assert_eq!(rt; ragged, DecodeFault::Ragged);
-    let octets = [0, 7, 0, 0, 0, 0, 0, 0, 0, 0x0e, 0, 0, 0, 0, 0, 0];
-    let unknown = decode(rt.alloc(), &octets).err().ok_or("refused")?;
-    let code = 0x000e;
-    assert_eq!(rt; unknown, DecodeFault::UnknownCode { at: 1, code });
+    let unknown = DecodeFault::UnknownCode {
+        at: 1,
+        code: 0x000e,
+    };
+    for (octets, fault) in [
+        (&[0; 12][..], DecodeFault::Ragged),
+        (
+            &[0, 7, 0, 0, 0, 0, 0, 0, 0, 0x0e, 0, 0, 0, 0, 0, 0],
+            unknown,
+        ),
+    ] {
+        let found = decode(rt.alloc(), octets).err();
+        expect(&rt, "the fault", found, Some(fault));
+    }
     Ok(())
 }
 
+/// Each error of octets with its text.
+const FAULTS: [(DecodeFault, &str); 3] = [
+    (DecodeFault::Ragged, "1 Ragged"),
+    (
+        DecodeFault::UnknownCode {
+            at: 1000,
+            code: 0x000e,
+        },
+        "2 UnknownCode 1000 000e",
+    ),
+    (DecodeFault::NoMemory, "3 NoMemory"),
+];
+
 #[test]
 fn each_fault_prints_its_number_and_name(rt: HostRuntime) -> Result<(), Fail> {
-    let (at, code) = (1000, 0x000e);
-    for (fault, line) in [
-        (DecodeFault::Ragged, "1 Ragged"),
-        (
-            DecodeFault::UnknownCode { at, code },
-            "2 UnknownCode 1000 000e",
-        ),
-        (DecodeFault::NoMemory, "3 NoMemory"),
-    ] {
-        assert_eq!(rt; text_of(rt.alloc(), &fault)?.as_str(), line);
-    }
-    let full = text_of(rt.alloc(), &EncodeFault::NoMemory)?;
-    assert_eq!(rt; full.as_str(), "1 NoMemory");
-    Ok(())
+    expect_printed(&rt, rt.alloc(), &FAULTS)?;
+    let full = (EncodeFault::NoMemory, "1 NoMemory");
+    expect_printed(&rt, rt.alloc(), &[full])
 }

@@ -1,9 +1,11 @@
 //! Values and steps of programs on cells.
 
+use crate::tests::expecting::expect;
 use bpf_code::{By, Instr, Op, Size, Test};
 use bpf_interp::{Outcome, run};
 use bpf_verify::{MOST_LAID_OUT, verify};
 use std::alloc::{AllocError, Global};
+use std::process::Abort;
 use std::test::Fail;
 use upc_cell::Cell;
 
@@ -30,6 +32,18 @@ fn outcome(alloc: Global, code: &[Instr], header: [u8; 4]) -> Result<(u32, u32),
     Ok((value, steps))
 }
 
+/// Expects this value and these steps of a code on a user data cell.
+fn expect_outcome(
+    rt: &impl Abort,
+    alloc: Global,
+    code: &[Instr],
+    wanted: (u32, u32),
+) -> Result<(), Fail> {
+    let found = outcome(alloc, code, USER)?;
+    expect(rt, "value and steps", found, wanted);
+    Ok(())
+}
+
 fn load(size: Size, k: u32) -> Instr {
     Instr::LoadAbs { size, k }
 }
@@ -52,8 +66,10 @@ fn a_program_separates_user_data_from_oam(rt: HostRuntime) -> Result<(), Fail> {
         Instr::RetK(1),
         Instr::RetK(2),
     ];
-    assert_eq!(rt; outcome(rt.alloc(), &code, USER)?, (1, 4));
-    assert_eq!(rt; outcome(rt.alloc(), &code, OAM)?, (2, 4));
+    for (header, wanted) in [(USER, (1, 4)), (OAM, (2, 4))] {
+        let found = outcome(rt.alloc(), &code, header)?;
+        expect(&rt, "value and steps", found, wanted);
+    }
     Ok(())
 }
 
@@ -64,7 +80,7 @@ fn loads_end_at_the_end_of_the_cell(rt: HostRuntime) -> Result<(), Fail> {
         (load(Size::Word, 48), Instr::RetA, (16909060, 2)),
         (load(Size::Word, 49), Instr::RetA, (0, 1)),
     ] {
-        assert_eq!(rt; outcome(rt.alloc(), &[first, last], USER)?, expected);
+        expect_outcome(&rt, rt.alloc(), &[first, last], expected)?;
     }
     Ok(())
 }
@@ -79,15 +95,14 @@ fn an_offset_by_x_does_not_wrap(rt: HostRuntime) -> Result<(), Fail> {
         },
         Instr::RetK(7),
     ];
-    assert_eq!(rt; outcome(rt.alloc(), &code, USER)?, (0, 2));
-    Ok(())
+    expect_outcome(&rt, rt.alloc(), &code, (0, 2))
 }
 
 #[test]
 fn arithmetic_has_its_limits(rt: HostRuntime) -> Result<(), Fail> {
     for op in [Op::Div, Op::Mod] {
         let by_zero = [Instr::LdxImm(0), alu(op, By::X), Instr::RetK(1)];
-        assert_eq!(rt; outcome(rt.alloc(), &by_zero, USER)?, (0, 2));
+        expect_outcome(&rt, rt.alloc(), &by_zero, (0, 2))?;
     }
     let word = load(Size::Word, 0);
     let inverted = alu(Op::Xor, By::Imm(u32::MAX));
@@ -124,7 +139,7 @@ fn arithmetic_has_its_limits(rt: HostRuntime) -> Result<(), Fail> {
             (4294967295, 3),
         ),
     ] {
-        assert_eq!(rt; outcome(rt.alloc(), code, USER)?, expected);
+        expect_outcome(&rt, rt.alloc(), code, expected)?;
     }
     Ok(())
 }
@@ -132,8 +147,7 @@ fn arithmetic_has_its_limits(rt: HostRuntime) -> Result<(), Fail> {
 #[test]
 fn a_header_length_is_four_times_four_bits(rt: HostRuntime) -> Result<(), Fail> {
     let code = [Instr::LdxMsh(2), Instr::Txa, Instr::RetA];
-    assert_eq!(rt; outcome(rt.alloc(), &code, USER)?, (24, 3));
-    Ok(())
+    expect_outcome(&rt, rt.alloc(), &code, (24, 3))
 }
 
 #[test]
@@ -148,10 +162,9 @@ fn scratch_words_hold_what_was_stored(rt: HostRuntime) -> Result<(), Fail> {
         alu(Op::Sub, By::X),
         Instr::RetA,
     ];
-    assert_eq!(rt; outcome(rt.alloc(), &code, USER)?, (4, 8));
+    expect_outcome(&rt, rt.alloc(), &code, (4, 8))?;
     let unreached = [Instr::RetK(0), Instr::LoadMem(3), Instr::RetA];
-    assert_eq!(rt; outcome(rt.alloc(), &unreached, USER)?, (0, 1));
-    Ok(())
+    expect_outcome(&rt, rt.alloc(), &unreached, (0, 1))
 }
 
 /// Equal instructions up to this length, the last replaced by another.
@@ -171,8 +184,7 @@ fn ended_by(
 #[test]
 fn the_longest_program_takes_a_step_an_instruction(rt: HostRuntime) -> Result<(), Fail> {
     let code = ended_by(rt.alloc(), Instr::Jump(0), 4096, Instr::RetK(7))?;
-    assert_eq!(rt; outcome(rt.alloc(), &code, USER)?, (7, 4096));
-    Ok(())
+    expect_outcome(&rt, rt.alloc(), &code, (7, 4096))
 }
 
 /// The outcome of a code, and of the same code followed by enough unreachable returns that it isn't laid out.
@@ -183,6 +195,18 @@ fn both_ways(alloc: Global, code: &[Instr], header: [u8; 4]) -> Result<[(u32, u3
         outcome(alloc, code, header)?,
         outcome(alloc, &longer, header)?,
     ])
+}
+
+/// Expects this value and these steps of a code on a user data cell, laid out or not.
+fn expect_both_ways(
+    rt: &impl Abort,
+    alloc: Global,
+    code: &[Instr],
+    wanted: (u32, u32),
+) -> Result<(), Fail> {
+    let found = both_ways(alloc, code, USER)?;
+    expect(rt, "either way", found, [wanted; 2]);
+    Ok(())
 }
 
 fn branch(test: Test, k: u32, jt: u8, jf: u8) -> Instr {
@@ -246,13 +270,12 @@ fn sums() -> [Instr; 12] {
 fn instructions_run_by_twos_do_what_each_does(rt: HostRuntime) -> Result<(), Fail> {
     for ([first, second], expected) in pairs() {
         let whole = [first, second, Instr::RetK(2), Instr::RetK(1)];
-        assert_eq!(rt; both_ways(rt.alloc(), &whole, USER)?, [expected; 2]);
+        expect_both_ways(&rt, rt.alloc(), &whole, expected)?;
         let [by_twos, singly] = both_ways(rt.alloc(), &whole, OAM)?;
-        assert_eq!(rt; by_twos, singly);
+        expect(&rt, "either way", by_twos, singly);
     }
     let expected = (((0x0304 + 0x0304) | 1) << 1, 12);
-    assert_eq!(rt; both_ways(rt.alloc(), &sums(), USER)?, [expected; 2]);
-    Ok(())
+    expect_both_ways(&rt, rt.alloc(), &sums(), expected)
 }
 
 #[test]
@@ -262,7 +285,7 @@ fn the_longest_code_that_is_laid_out_runs_as_a_longer_one(rt: HostRuntime) -> Re
         (MOST_LAID_OUT + 1, (1024, 513)),
     ] {
         let code = ended_by(rt.alloc(), alu(Op::Add, By::Imm(2)), length, Instr::RetA)?;
-        assert_eq!(rt; outcome(rt.alloc(), &code, USER)?, expected);
+        expect_outcome(&rt, rt.alloc(), &code, expected)?;
     }
     Ok(())
 }

@@ -1,6 +1,6 @@
 //! Lines that are almost correct.
 
-use super::expect;
+use super::expect_parts;
 use std::alloc::Global;
 use std::process::Abort;
 use std::test::Fail;
@@ -114,8 +114,8 @@ ld #Len
 /// Expects BadLine for each line of a table, between two correct lines.
 fn expect_bad_lines(rt: &impl Abort, alloc: Global, table: &str) -> Result<(), Fail> {
     for line in table.lines() {
-        let source = ["near: ret #1|", line, "|far: ret #2"].concat(alloc)?;
-        expect(rt, alloc, source.as_str(), "1 BadLine 2")?;
+        let parts = ["near: ret #1|", line, "|far: ret #2"];
+        expect_parts(rt, alloc, &parts, "1 BadLine 2")?;
     }
     Ok(())
 }

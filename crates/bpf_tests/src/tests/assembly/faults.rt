@@ -1,6 +1,6 @@
 //! The texts of all errors.
 
-use crate::tests::text_of;
+use crate::tests::expecting::expect_printed;
 use bpf_asm::{AsmFault, AsmKind, ListFault};
 use std::test::Fail;
 
@@ -50,24 +50,15 @@ const LIST_FAULTS: [(ListFault, &str); 3] = [
 
 #[test]
 fn each_kind_has_its_text(rt: HostRuntime) -> Result<(), Fail> {
-    for (kind, text) in KINDS {
-        assert_eq!(rt; text_of(rt.alloc(), &kind)?.as_str(), text);
-    }
-    Ok(())
+    expect_printed(&rt, rt.alloc(), &KINDS)
 }
 
 #[test]
 fn a_fault_of_a_source_has_its_line(rt: HostRuntime) -> Result<(), Fail> {
-    for (fault, text) in FAULTS {
-        assert_eq!(rt; text_of(rt.alloc(), &fault)?.as_str(), text);
-    }
-    Ok(())
+    expect_printed(&rt, rt.alloc(), &FAULTS)
 }
 
 #[test]
 fn each_fault_of_a_code_has_its_text(rt: HostRuntime) -> Result<(), Fail> {
-    for (fault, text) in LIST_FAULTS {
-        assert_eq!(rt; text_of(rt.alloc(), &fault)?.as_str(), text);
-    }
-    Ok(())
+    expect_printed(&rt, rt.alloc(), &LIST_FAULTS)
 }

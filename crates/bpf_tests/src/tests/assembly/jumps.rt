@@ -82,29 +82,50 @@ fn expect_octets(
     others: usize,
     octets: &str,
 ) -> Result<(), Fail> {
-    let source = source_over(alloc, line, others)?;
     let answer = answer_over(alloc, octets, others)?;
-    expect(rt, alloc, source.as_str(), answer.as_str())
+    expect_over(rt, alloc, line, others, answer.as_str())
+}
+
+/// Expects this answer to a line at this distance from `far`.
+fn expect_over(
+    rt: &impl Abort,
+    alloc: Global,
+    line: &str,
+    others: usize,
+    answer: &str,
+) -> Result<(), Fail> {
+    let source = source_over(alloc, line, others)?;
+    expect(rt, alloc, source.as_str(), answer)
 }
 
 /// Expects this error for a line before 256 instructions and `far`.
 fn expect_fault(rt: &impl Abort, alloc: Global, line: &str, fault: &str) -> Result<(), Fail> {
-    let source = source_over(alloc, line, 255)?;
-    expect(rt, alloc, source.as_str(), fault)
+    expect_over(rt, alloc, line, 255, fault)
 }
 
 #[test]
 fn a_branch_goes_over_at_most_255_instructions_and_a_jump_over_any_number(
     rt: HostRuntime,
 ) -> Result<(), Fail> {
+    expect_branches(&rt, rt.alloc())?;
+    for (line, others, octets) in [
+        ("ja far", 254, "00050000000000ff"),
+        ("jmp far", 255, "0005000000000100"),
+        ("ja far", 9999, "0005000000002710"),
+    ] {
+        expect_octets(&rt, rt.alloc(), line, others, octets)?;
+    }
+    Ok(())
+}
+
+/// Expects that each branch goes over 255 instructions and not over 256.
+fn expect_branches(rt: &impl Abort, alloc: Global) -> Result<(), Fail> {
     for row in BRANCHES.lines() {
         let (line, octets) = parts_of(row)?;
-        expect_octets(&rt, rt.alloc(), line, 254, octets)?;
-        expect_fault(&rt, rt.alloc(), line, "6 TooFar 1")?;
+        expect_octets(rt, alloc, line, 254, octets)?;
+        expect_fault(rt, alloc, line, "6 TooFar 1")?;
     }
-    expect_octets(&rt, rt.alloc(), "ja far", 254, "00050000000000ff")?;
-    expect_octets(&rt, rt.alloc(), "jmp far", 255, "0005000000000100")?;
-    expect_octets(&rt, rt.alloc(), "ja far", 9999, "0005000000002710")
+    Ok(())
 }
 
 #[test]

@@ -90,10 +90,11 @@ const THEIR_OCTETS: &str = "0005000000000002 001d010100000000 0015000000000001 0
 
 /// Expects that jumps find the label of this name, with an instruction on its line and alone.
 fn expect_name(rt: &impl Abort, alloc: Global, name: &str) -> Result<(), Fail> {
-    let beside = BESIDE.replace(alloc, 'N', name)?;
-    expect(rt, alloc, beside.as_str(), THEIR_OCTETS)?;
-    let alone = ALONE.replace(alloc, 'N', name)?;
-    expect(rt, alloc, alone.as_str(), THEIR_OCTETS)
+    for source in [BESIDE, ALONE] {
+        let source = source.replace(alloc, 'N', name)?;
+        expect(rt, alloc, source.as_str(), THEIR_OCTETS)?;
+    }
+    Ok(())
 }
 
 #[test]

@@ -1,6 +1,7 @@
 //! Lines, comments, and octets that aren't tokens.
 
 use super::{answer_to, expect_table};
+use crate::tests::expecting;
 use std::alloc::Global;
 use std::process::Abort;
 use std::test::Fail;
@@ -67,6 +68,20 @@ fn lines_end_by_feeds_and_comments_begin_at_semicolons(rt: HostRuntime) -> Resul
     expect_table(&rt, rt.alloc(), FAULTY)
 }
 
+/// Expects this answer to a source that has this octet after this text.
+fn expect_to_octet(
+    rt: &impl Abort,
+    alloc: Global,
+    place: (u8, &str),
+    source: &[u8],
+    answer: &str,
+) -> Result<(), Fail> {
+    let found = answer_to(alloc, source)?;
+    let wanted = (place, answer);
+    expecting::expect(rt, "an octet after", (place, found.as_str()), wanted);
+    Ok(())
+}
+
 /// Expects this answer to a source with an octet between two texts.
 fn expect_around(
     rt: &impl Abort,
@@ -77,9 +92,7 @@ fn expect_around(
     answer: &str,
 ) -> Result<(), Fail> {
     let source = [front.as_bytes(), &[octet], back.as_bytes()].concat(alloc)?;
-    let found = answer_to(alloc, &source)?;
-    assert_eq!(rt; found.as_str(), answer, "{octet} after {front:?}");
-    Ok(())
+    expect_to_octet(rt, alloc, (octet, front), &source, answer)
 }
 
 #[test]

@@ -1,6 +1,7 @@
 //! Listings of codes.
 
 use super::{expect, octets_of, parts_of};
+use crate::tests::expecting::{self, expect_printed};
 use bpf_asm::listing;
 use bpf_code::{Instr, decode_one};
 use std::alloc::Global;
@@ -51,20 +52,26 @@ fn code_of(alloc: Global, digits: &str) -> Result<Vec<Instr>, Fail> {
     Ok(code)
 }
 
+/// Expects that this text, the listing of these digits, is this one, in which `|` means a line feed.
+fn expect_text(
+    rt: &impl Abort,
+    alloc: Global,
+    digits: &str,
+    text: &[u8],
+    wanted: &str,
+) -> Result<(), Fail> {
+    let wanted = octets_of(alloc, wanted)?;
+    expecting::expect(rt, digits, text, wanted.as_slice());
+    Ok(())
+}
+
 /// Expects this listing of a code (`|` means a line feed), or this error.
 fn expect_listing(rt: &impl Abort, alloc: Global, digits: &str, answer: &str) -> Result<(), Fail> {
     let code = code_of(alloc, digits)?;
     match listing(alloc, &code) {
-        Ok(text) => {
-            let expected = octets_of(alloc, answer)?;
-            assert_eq!(rt; text.as_slice(), expected.as_slice(), "{digits}");
-        }
-        Err(fault) => {
-            let found = format!(in alloc; "{fault}")?;
-            assert_eq!(rt; found.as_str(), answer, "{digits}");
-        }
+        Ok(text) => expect_text(rt, alloc, digits, &text, answer),
+        Err(fault) => expect_printed(rt, alloc, &[(fault, answer)]),
     }
-    Ok(())
 }
 
 #[test]

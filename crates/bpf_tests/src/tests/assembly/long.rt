@@ -1,5 +1,6 @@
 //! A source of many lines.
 
+use crate::tests::expecting::expect;
 use bpf_asm::{assemble, listing};
 use bpf_code::Instr;
 use std::alloc::{AllocError, Global};
@@ -21,9 +22,10 @@ fn long_source(alloc: Global) -> Result<Vec<u8>, AllocError> {
 
 /// Expects the code of that source: this number of instructions, the jump first, the return last.
 fn expect_long(rt: &impl Abort, code: &[Instr]) {
-    assert_eq!(rt; code.len(), PLAIN as usize + 2);
-    assert_eq!(rt; code.first().copied(), Some(Instr::Jump(PLAIN)));
-    assert_eq!(rt; code.last().copied(), Some(Instr::RetA));
+    expect(rt, "the instructions", code.len(), PLAIN as usize + 2);
+    let first = Some(Instr::Jump(PLAIN));
+    expect(rt, "the first", code.first().copied(), first);
+    expect(rt, "the last", code.last().copied(), Some(Instr::RetA));
 }
 
 #[test]

@@ -1,6 +1,6 @@
 //! Numbers, and negative numbers.
 
-use super::{expect, expect_table, parts_of};
+use super::{expect, expect_parts, expect_table, parts_of};
 use std::alloc::Global;
 use std::process::Abort;
 use std::test::Fail;
@@ -124,16 +124,26 @@ fn expect_number(
     answer: &str,
 ) -> Result<(), Fail> {
     let line = line.replace(alloc, 'N', number)?;
-    let source = [line.as_str(), "|last: ret a"].concat(alloc)?;
-    expect(rt, alloc, source.as_str(), answer)
+    expect_parts(rt, alloc, &[line.as_str(), "|last: ret a"], answer)
+}
+
+/// Expects the value of a row's number in this place.
+fn expect_row(
+    rt: &impl Abort,
+    alloc: Global,
+    line: &str,
+    octets: &str,
+    row: &str,
+) -> Result<(), Fail> {
+    let (number, value) = parts_of(row)?;
+    let answer = [octets, value, " 0016000000000000"].concat(alloc)?;
+    expect_number(rt, alloc, line, number, answer.as_str())
 }
 
 /// Expects each number's value in this place.
 fn expect_values(rt: &impl Abort, alloc: Global, line: &str, octets: &str) -> Result<(), Fail> {
     for row in NUMBERS.lines() {
-        let (number, value) = parts_of(row)?;
-        let answer = [octets, value, " 0016000000000000"].concat(alloc)?;
-        expect_number(rt, alloc, line, number, answer.as_str())?;
+        expect_row(rt, alloc, line, octets, row)?;
     }
     Ok(())
 }
@@ -167,6 +177,19 @@ fn a_minus_stands_only_between_a_hash_and_a_number(rt: HostRuntime) -> Result<()
     expect_table(&rt, rt.alloc(), MINUS_LINES)
 }
 
+/// Expects this answer to a header length with these numbers, under this name.
+fn expect_named(
+    rt: &impl Abort,
+    alloc: Global,
+    name: &str,
+    first: &str,
+    last: &str,
+    answer: &str,
+) -> Result<(), Fail> {
+    let source = [name, first, "*([9]&", last, ")"].concat(alloc)?;
+    expect(rt, alloc, source.as_str(), answer)
+}
+
 /// Expects this answer to a header length with these numbers, under both names.
 fn expect_header(
     rt: &impl Abort,
@@ -175,22 +198,31 @@ fn expect_header(
     last: &str,
     answer: &str,
 ) -> Result<(), Fail> {
-    let own = ["ldxb ", first, "*([9]&", last, ")"].concat(alloc)?;
-    expect(rt, alloc, own.as_str(), answer)?;
-    let shared = ["ldx ", first, "*([9]&", last, ")"].concat(alloc)?;
-    expect(rt, alloc, shared.as_str(), answer)
+    expect_named(rt, alloc, "ldxb ", first, last, answer)?;
+    expect_named(rt, alloc, "ldx ", first, last, answer)
+}
+
+/// Expects that a header length has this number and a 15.
+fn expect_each_15(rt: &impl Abort, alloc: Global, first: &str) -> Result<(), Fail> {
+    for last in "15 015 0xf 0XF 0x00f".split_whitespace() {
+        expect_header(rt, alloc, first, last, "00b1000000000009")?;
+    }
+    Ok(())
+}
+
+/// Expects that a header length has no other numbers.
+fn expect_no_other(rt: &impl Abort, alloc: Global) -> Result<(), Fail> {
+    for other in "0 1 3 5 0xe 14 16 017 0xff 4294967295".split_whitespace() {
+        expect_header(rt, alloc, other, "0xf", "1 BadLine 1")?;
+        expect_header(rt, alloc, "4", other, "1 BadLine 1")?;
+    }
+    Ok(())
 }
 
 #[test]
 fn a_header_length_has_a_4_and_a_15_in_any_spelling(rt: HostRuntime) -> Result<(), Fail> {
     for first in "4 04 0x4 0X04".split_whitespace() {
-        for last in "15 015 0xf 0XF 0x00f".split_whitespace() {
-            expect_header(&rt, rt.alloc(), first, last, "00b1000000000009")?;
-        }
+        expect_each_15(&rt, rt.alloc(), first)?;
     }
-    for other in "0 1 3 5 0xe 14 16 017 0xff 4294967295".split_whitespace() {
-        expect_header(&rt, rt.alloc(), other, "0xf", "1 BadLine 1")?;
-        expect_header(&rt, rt.alloc(), "4", other, "1 BadLine 1")?;
-    }
-    Ok(())
+    expect_no_other(&rt, rt.alloc())
 }

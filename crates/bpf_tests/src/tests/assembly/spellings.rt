@@ -1,6 +1,7 @@
 //! The instruction table, written with any blanks.
 
-use super::{expect, expect_table, parts_of};
+use super::{expect_parts, expect_table, parts_of};
+use crate::tests::expecting;
 use bpf_asm::{assemble, listing};
 use std::alloc::{AllocError, Global};
 use std::process::Abort;
@@ -130,45 +131,83 @@ fn with_all_gaps(alloc: Global, tokens: &[&str]) -> Result<String, AllocError> {
 
 /// Expects these octets for a line before the two instructions.
 fn expect_line(rt: &impl Abort, alloc: Global, line: &str, octets: &str) -> Result<(), Fail> {
-    let source = [line, "|near: ret #1|far: ret #2|"].concat(alloc)?;
     let answer = [octets, " 0006000000000001 0006000000000002"].concat(alloc)?;
-    expect(rt, alloc, source.as_str(), answer.as_str())
+    let parts = [line, "|near: ret #1|far: ret #2|"];
+    expect_parts(rt, alloc, &parts, answer.as_str())
+}
+
+/// Expects these octets for the tokens with blanks in one gap.
+fn expect_gap(
+    rt: &impl Abort,
+    alloc: Global,
+    tokens: &[&str],
+    at: usize,
+    octets: &str,
+) -> Result<(), Fail> {
+    let line = with_gap(alloc, tokens, at)?;
+    expect_line(rt, alloc, line.as_str(), octets)
+}
+
+/// Expects these octets for the tokens with blanks in no gap, in all and in each.
+fn expect_gaps(rt: &impl Abort, alloc: Global, tokens: &[&str], octets: &str) -> Result<(), Fail> {
+    let wide = with_all_gaps(alloc, tokens)?;
+    expect_line(rt, alloc, wide.as_str(), octets)?;
+    expect_gap(rt, alloc, tokens, usize::MAX, octets)?;
+    for at in 0..=tokens.len() {
+        expect_gap(rt, alloc, tokens, at, octets)?;
+    }
+    Ok(())
 }
 
 /// Expects these octets for the tokens, whichever gaps have blanks.
 fn expect_tokens(rt: &impl Abort, alloc: Global, tokens: &str, octets: &str) -> Result<(), Fail> {
     expect_line(rt, alloc, tokens, octets)?;
     let tokens: Vec<&str> = tokens.split_whitespace().collect(alloc)?;
-    let wide = with_all_gaps(alloc, &tokens)?;
-    expect_line(rt, alloc, wide.as_str(), octets)?;
-    let narrow = with_gap(alloc, &tokens, usize::MAX)?;
-    expect_line(rt, alloc, narrow.as_str(), octets)?;
-    for at in 0..=tokens.len() {
-        let one = with_gap(alloc, &tokens, at)?;
-        expect_line(rt, alloc, one.as_str(), octets)?;
-    }
-    Ok(())
+    expect_gaps(rt, alloc, &tokens, octets)
 }
 
-/// The same with a label before the tokens, and with a negative number in place of `#5`.
+/// The same for the tokens that are these parts one after the other.
+fn expect_form(rt: &impl Abort, alloc: Global, parts: &[&str], octets: &str) -> Result<(), Fail> {
+    let tokens = parts.concat(alloc)?;
+    expect_tokens(rt, alloc, tokens.as_str(), octets)
+}
+
+/// The same also with a label before the tokens, and with a negative number in place of `#5`.
 fn expect_forms(rt: &impl Abort, alloc: Global, tokens: &str, octets: &str) -> Result<(), Fail> {
     expect_tokens(rt, alloc, tokens, octets)?;
-    let labelled = ["here : ", tokens].concat(alloc)?;
-    expect_tokens(rt, alloc, labelled.as_str(), octets)?;
-    if let Some((front, back)) = tokens.split_once("# 5") {
-        let negative = [front, "# - 4294967291", back].concat(alloc)?;
-        expect_tokens(rt, alloc, negative.as_str(), octets)?;
+    expect_form(rt, alloc, &["here : ", tokens], octets)?;
+    match tokens.split_once("# 5") {
+        Some((front, back)) => {
+            let parts = [front, "# - 4294967291", back];
+            expect_form(rt, alloc, &parts, octets)
+        }
+        None => Ok(()),
     }
-    Ok(())
+}
+
+/// The listing of the code of a source.
+fn listing_of(alloc: Global, source: &str) -> Result<Vec<u8>, Fail> {
+    let code = assemble(alloc, source.as_bytes())?;
+    Ok(listing(alloc, &code)?)
 }
 
 /// Expects this line in the listing of the tokens' code.
 fn expect_listed(rt: &impl Abort, alloc: Global, tokens: &str, listed: &str) -> Result<(), Fail> {
     let source = [tokens, "\nnear: ret #1\nfar: ret #2"].concat(alloc)?;
-    let code = assemble(alloc, source.as_bytes())?;
-    let expected = ["L0: ", listed, "\nL1: ret #1\nL2: ret #2\n"].concat(alloc)?;
-    let text = listing(alloc, &code)?;
-    assert_eq!(rt; text.as_slice(), expected.as_bytes(), "{tokens}");
+    let text = listing_of(alloc, source.as_str())?;
+    expect_first_line(rt, alloc, tokens, &text, listed)
+}
+
+/// Expects that this text, the listing of the tokens' code, begins with this line.
+fn expect_first_line(
+    rt: &impl Abort,
+    alloc: Global,
+    tokens: &str,
+    text: &[u8],
+    listed: &str,
+) -> Result<(), Fail> {
+    let wanted = ["L0: ", listed, "\nL1: ret #1\nL2: ret #2\n"].concat(alloc)?;
+    expecting::expect(rt, tokens, text, wanted.as_bytes());
     Ok(())
 }
 
