@@ -1,6 +1,7 @@
-//! One module for each crate, and one for rules.
+//! One module for each crate, one for rules, and what they share.
 
 mod at_once;
+mod expecting;
 mod fit;
 mod link;
 mod options;

@@ -3,8 +3,9 @@
 
 ghost use Rattle.std.specs.Prelude.{[]};
 
-use super::link::record_of;
-use captures::{Fault, Tick, TimeSource};
+use super::expecting::expect;
+use super::link::{record_of, tick_of};
+use captures::{Fault, TimeSource};
 use captures_text::{CellFollower, CountedCell, PassedOver, follow_cells};
 use std::alloc::{AllocError, Global};
 use std::sync::atomic::{AtomicU64, Ordering};
@@ -143,9 +144,7 @@ fn three_readings(alloc: Global) -> Result<Vec<u8>, AllocError> {
 
 /// For how many readings a cell was answered meanwhile, as the input and as the follower saw it, and the number of cells.
 fn meetings(rt: &impl Threads, alloc: Global, capture: &[u8]) -> Result<[u64; 3], Fail> {
-    let Some(tick) = Tick::new(1_000_000_000) else {
-        return Err(Fail::new("no tick"));
-    };
+    let tick = tick_of(1_000_000_000)?;
     let stages = Stages {
         readings: AtomicU64::new(0),
         answered: AtomicU64::new(0),
@@ -162,13 +161,14 @@ fn meetings(rt: &impl Threads, alloc: Global, capture: &[u8]) -> Result<[u64; 3]
         met: 0,
     };
     let mut sink = WriterOutput::new(Vec::new(alloc));
+    let timing = TimeSource::Record;
     match follow_cells(
         rt,
         2,
         alloc,
         tick,
         None,
-        TimeSource::Record,
+        timing,
         &mut gate,
         &mut sink,
         &mut waiting,
@@ -181,6 +181,7 @@ fn meetings(rt: &impl Threads, alloc: Global, capture: &[u8]) -> Result<[u64; 3]
 #[test]
 fn records_are_read_while_cells_are_answered(rt: HostRuntime) -> Result<(), Fail> {
     let capture = three_readings(rt.alloc())?;
-    assert_eq!(rt; meetings(&rt, rt.alloc(), &capture)?, [2, 2, 20_000]);
+    let found = meetings(&rt, rt.alloc(), &capture)?;
+    expect(&rt, "meetings and cells", found, [2, 2, 20_000]);
     Ok(())
 }

@@ -1,9 +1,11 @@
 //! Values of cells by the code of a text.
 
+use crate::tests::expecting::expect;
 use bpf_interp::run;
 use bpf_verify::verify;
 use rules_text::compile_text;
 use std::alloc::Global;
+use std::process::Abort;
 use std::test::Fail;
 use upc_cell::Cell;
 
@@ -18,68 +20,82 @@ not (octet 4 & 0xf0 = 0x30 or word 8 > 7) -> 4
 otherwise -> refuse
 ";
 
-/// The value of a cell with this header, whose payload begins with an octet and has zeros else.
-fn value(alloc: Global, text: &[u8], header: u32, first: u8) -> Result<u32, Fail> {
-    let program = verify(compile_text(alloc, text)?)?;
+/// A cell with this header, whose payload begins with an octet and has zeros else.
+fn cell_of(header: u32, first: u8) -> Result<Cell, Fail> {
     let mut octets = [0; 52];
     octets[..4].copy_from_slice(&header.to_be_bytes());
     octets[4] = first;
-    Ok(run(&program, &Cell::from_bytes(&octets)?).value)
+    Ok(Cell::from_bytes(&octets)?)
 }
 
-#[test]
-fn cells_have_the_values_of_their_classes(rt: HostRuntime) -> Result<(), Fail> {
-    let rows = [
-        (0x0010_0648, 0x00, 2),
-        (0x0010_064a, 0x00, 2),
-        (0x0010_0641, 0x00, 3),
-        (0x0010_0640, 0x00, 1),
-        (0x0010_0200, 0x00, 1),
-        (0x0010_07f6, 0x00, 1),
-        (0x0010_01f0, 0x00, 4),
-        (0x0010_0800, 0x3f, 0),
-        (0x0020_0640, 0x30, 0),
-        (0x0020_0640, 0x40, 4),
-    ];
-    for (header, first, want) in rows {
-        assert_eq!(rt; value(rt.alloc(), CLASSES, header, first)?, want);
+/// The value of a cell with this header and this first octet of the payload.
+fn value(alloc: Global, text: &[u8], header: u32, first: u8) -> Result<u32, Fail> {
+    let cell = cell_of(header, first)?;
+    let program = verify(compile_text(alloc, text)?)?;
+    Ok(run(&program, &cell).value)
+}
+
+/// Expects a value of each cell: a header, the first octet of the payload, and the value.
+fn expect_values(
+    rt: &impl Abort,
+    alloc: Global,
+    text: &[u8],
+    rows: &[(u32, u8, u32)],
+) -> Result<(), Fail> {
+    for (header, first, wanted) in rows {
+        let found = value(alloc, text, *header, *first)?;
+        expect(rt, "a value", (*header, found), (*header, *wanted));
     }
     Ok(())
 }
 
+/// Cells and their values by the example.
+const CLASSED: [(u32, u8, u32); 10] = [
+    (0x0010_0648, 0x00, 2),
+    (0x0010_064a, 0x00, 2),
+    (0x0010_0641, 0x00, 3),
+    (0x0010_0640, 0x00, 1),
+    (0x0010_0200, 0x00, 1),
+    (0x0010_07f6, 0x00, 1),
+    (0x0010_01f0, 0x00, 4),
+    (0x0010_0800, 0x3f, 0),
+    (0x0020_0640, 0x30, 0),
+    (0x0020_0640, 0x40, 4),
+];
+
+#[test]
+fn cells_have_the_values_of_their_classes(rt: HostRuntime) -> Result<(), Fail> {
+    expect_values(&rt, rt.alloc(), CLASSES, &CLASSED)
+}
+
+/// Texts, with the header and the value of a cell.
+const SPELLED: [(&[u8], u32, u32); 12] = [
+    (b"1/32 || 1/5..7, 9 -> 7", 0x0010_0090, 7),
+    (b"1/32 || 1/5..7, 9 -> 7", 0x0020_0090, 0),
+    (b"1/* && !rm -> 7", 0x0010_000a, 7),
+    (b"1/* && !rm -> 7", 0x0010_000c, 0),
+    (b"not 1/32 -> 7", 0x0010_0210, 7),
+    (b"vci != 3, 5..7 -> 7", 0x0000_0060, 0),
+    (b"vci != 3, 5..7 -> 7", 0x0000_0040, 7),
+    (b"vci == 3, 5..7 -> 7", 0x0000_0060, 7),
+    (b"oam -> 7", 0x0050_0030, 7),
+    (b"oam -> 7", 0x0050_064a, 7),
+    (b"any -> drop\nany -> 7", 0, 0),
+    (b"idle -> 0\nany -> 7", 1, 0),
+];
+
 #[test]
 fn words_and_signs_have_several_spellings(rt: HostRuntime) -> Result<(), Fail> {
-    let rows: [(&[u8], u32, u32); 12] = [
-        (b"1/32 || 1/5..7, 9 -> 7", 0x0010_0090, 7),
-        (b"1/32 || 1/5..7, 9 -> 7", 0x0020_0090, 0),
-        (b"1/* && !rm -> 7", 0x0010_000a, 7),
-        (b"1/* && !rm -> 7", 0x0010_000c, 0),
-        (b"not 1/32 -> 7", 0x0010_0210, 7),
-        (b"vci != 3, 5..7 -> 7", 0x0000_0060, 0),
-        (b"vci != 3, 5..7 -> 7", 0x0000_0040, 7),
-        (b"vci == 3, 5..7 -> 7", 0x0000_0060, 7),
-        (b"oam -> 7", 0x0050_0030, 7),
-        (b"oam -> 7", 0x0050_064a, 7),
-        (b"any -> drop\nany -> 7", 0, 0),
-        (b"idle -> 0\nany -> 7", 1, 0),
-    ];
-    for (text, header, want) in rows {
-        assert_eq!(rt; value(rt.alloc(), text, header, 0)?, want);
+    for (text, header, wanted) in SPELLED {
+        expect_values(&rt, rt.alloc(), text, &[(header, 0, wanted)])?;
     }
     Ok(())
 }
 
 #[test]
 fn two_nots_are_none_and_refuse_is_0(rt: HostRuntime) -> Result<(), Fail> {
-    assert_eq!(rt;
-        value(rt.alloc(), b"not not clp 1 -> 7\nany -> refuse", 1, 0)?,
-        7
-    );
-    assert_eq!(rt;
-        value(rt.alloc(), b"not not clp 1 -> 7\nany -> refuse", 0, 0)?,
-        0
-    );
-    Ok(())
+    let text = b"not not clp 1 -> 7\nany -> refuse";
+    expect_values(&rt, rt.alloc(), text, &[(1, 0, 7), (0, 0, 0)])
 }
 
 /// Rules with names.
@@ -94,21 +110,20 @@ vpi customers and not care {
 otherwise -> gold # of all others
 ";
 
+/// Cells and their values by the names.
+const WITH_NAMES: [(u32, u8, u32); 7] = [
+    (0x0010_0200, 0, 2),
+    (0x0010_0201, 0, 3),
+    (0x0070_0051, 0, 3),
+    (0x0010_0051, 0, 2),
+    (0x01e0_0201, 0, 3),
+    (0x01f0_0201, 0, 2),
+    (0x0010_020d, 0, 2),
+];
+
 #[test]
 fn names_mean_what_lines_give_them(rt: HostRuntime) -> Result<(), Fail> {
-    let rows = [
-        (0x0010_0200, 2),
-        (0x0010_0201, 3),
-        (0x0070_0051, 3),
-        (0x0010_0051, 2),
-        (0x01e0_0201, 3),
-        (0x01f0_0201, 2),
-        (0x0010_020d, 2),
-    ];
-    for (header, want) in rows {
-        assert_eq!(rt; value(rt.alloc(), NAMED, header, 0)?, want);
-    }
-    Ok(())
+    expect_values(&rt, rt.alloc(), NAMED, &WITH_NAMES)
 }
 
 /// The example of docs/RULES.md whose tests go on inside parentheses.
@@ -124,23 +139,22 @@ vpi 1, 7 and (kept or ilmi) -> 3
 otherwise -> refuse
 ";
 
+/// Cells and their values by the example.
+const OVER_LINES: [(u32, u8, u32); 11] = [
+    (0x0010_0010, 0, 3),
+    (0x0070_0050, 0, 3),
+    (0x0070_0100, 0, 3),
+    (0x0020_0010, 0, 0),
+    (0x0010_0200, 0, 1),
+    (0x0010_0300, 0, 1),
+    (0x0070_0300, 0, 0),
+    (0x0070_0270, 0, 1),
+    (0x0010_0201, 0, 0),
+    (0x0010_0204, 0, 0),
+    (0x0010_0208, 0, 3),
+];
+
 #[test]
 fn tests_go_on_inside_parentheses(rt: HostRuntime) -> Result<(), Fail> {
-    let rows = [
-        (0x0010_0010, 3),
-        (0x0070_0050, 3),
-        (0x0070_0100, 3),
-        (0x0020_0010, 0),
-        (0x0010_0200, 1),
-        (0x0010_0300, 1),
-        (0x0070_0300, 0),
-        (0x0070_0270, 1),
-        (0x0010_0201, 0),
-        (0x0010_0204, 0),
-        (0x0010_0208, 3),
-    ];
-    for (header, want) in rows {
-        assert_eq!(rt; value(rt.alloc(), LINES, header, 0)?, want);
-    }
-    Ok(())
+    expect_values(&rt, rt.alloc(), LINES, &OVER_LINES)
 }
