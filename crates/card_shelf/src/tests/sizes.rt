@@ -1,9 +1,8 @@
 //! Shelves, programs, rooms and batches that are larger than those of the other tests.
 
-use super::{
-    HEADERS, are_decided_so, cell, decides_all, expect, id_of, set_up_all, set_up_all_on_card,
-    shape, take,
-};
+use super::beside::decides_all;
+use super::rooms::are_decided_so;
+use super::{HEADERS, cell, expect, id_of, set_up_all, set_up_all_on_card, shape, take};
 use crate::{Arrival, Decision, Room, Shelf};
 use bpf_code::Instr;
 use bpf_verify::{Program, verify};
