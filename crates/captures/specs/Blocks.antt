@@ -93,12 +93,14 @@ section_of_interface section block =
     else if nat_lt section.interfaces 64 then Ok (with_other_interface section)
     else Err (OtherLink (half_in_order section.order (drop 8 block)))
 
--- How many units of time an enhanced packet block counts: the number in octets 12 to 15 is the upper half, that in octets 16 to 19 the lower.
+-- How many units of time an enhanced packet block counts: the number in octets 12 to 15 is the upper half, that in
+-- octets 16 to 19 the lower.
 abbrev pub stamp_in_block : Order → List ℕ → ℕ
 stamp_in_block order block = number_in_order order (drop 12 block) * 2 ^ 32 + number_in_order order (drop 16 block)
 
--- The record in an enhanced packet block, or that its interface has no records: in octets 8 to 11 is the number of an interface, from 0, in octets 20 to 23 the length
--- of the packet, and the packet begins with octet 28. What comes after it is not read.
+-- The record in an enhanced packet block, or that its interface has no records: in octets 8 to 11 is the number of an
+-- interface, from 0, in octets 20 to 23 the length of the packet, and the packet begins with octet 28. What comes after
+-- it is not read.
 abbrev pub record_of_packet : Section → List ℕ → Result (Result Framed Unread) RecordFault
 record_of_packet section block =
     if nat_lt (length block) 32 then Err (ShortBlock (length block))
@@ -122,7 +124,8 @@ lacks_packet kind = kind == 4 || kind == 5 || kind == 10
 abbrev pub is_entry : ℕ → Bool
 is_entry kind = kind == 9 || kind == 0xbad || kind == 0x40000bad
 
--- What a block of this type is that is not read: a simple packet (3), an obsolete packet (2), one without a packet, or one of an unknown type.
+-- What a block of this type is that is not read: a simple packet (3), an obsolete packet (2), one without a packet, or
+-- one of an unknown type.
 abbrev pub unread_of_type : ℕ → Unread
 unread_of_type kind =
     if kind == 3 then SimplePacket

@@ -8,8 +8,9 @@ use Rattle.captures.specs.declared.fault.RecordFault.TheVariants.{ShortLength, L
 use Rattle.captures.specs.declared.format.Order.{Order}
 use Rattle.captures.specs.declared.format.Order.TheVariants.{HighestFirst, LowestFirst}
 
--- A record in a frame: the interface of its packet among those of a pcapng file, from 0; the time of its packet, if such times are read, in units
--- of 2^-32 seconds; and the octets of the record. In a file of another format there is no such interface.
+-- A record in a frame: the interface of its packet among those of a pcapng file, from 0; the time of its packet, if
+-- such times are read, in units of 2^-32 seconds; and the octets of the record. In a file of another format there is no
+-- such interface.
 pub record Framed : Type 0 where
   pub packet : Option ℕ
   pub stamped : Option ℕ

@@ -18,8 +18,9 @@ long_in_order LowestFirst octets = little_number 8 octets
 abbrev pub option_octets : ℕ → ℕ
 option_octets size = 4 + (size + 3) / 4 * 4
 
--- The value of the first option with this code among the first options, as many as this, of these octets. An option has its code and the length
--- of its value, of two octets each. One of code 0 is the last, and one that ends after the octets has no value.
+-- The value of the first option with this code among the first options, as many as this, of these octets. An option has
+-- its code and the length of its value, of two octets each. One of code 0 is the last, and one that ends after the
+-- octets has no value.
 unfoldable pub option_among : ℕ → Order → ℕ → List ℕ → Option (List ℕ)
 option_among zero order code octets = None
 option_among (suc count) order code octets =

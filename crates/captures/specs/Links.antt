@@ -7,8 +7,8 @@ use Rattle.captures.specs.declared.content.NoCell.{NoCell}
 use Rattle.captures.specs.declared.link.Channel.{Channel}
 use Rattle.captures.specs.declared.link.Link.{Link}
 
--- The channel in a multi-channel header, as the number in its four octets, the highest first: the physical port is in bits 16 to 19, and the
--- number of the connection in bits 0 to 10.
+-- The channel in a multi-channel header, as the number in its four octets, the highest first: the physical port is in
+-- bits 16 to 19, and the number of the connection in bits 0 to 10.
 abbrev pub channel_in_header : ℕ → Channel
 channel_in_header header = record { port = header / 65536 % 16; connection = header % 2048 }
 

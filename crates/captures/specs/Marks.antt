@@ -25,8 +25,8 @@ header_marks octets = record {
 abbrev pub has_mark : Marks → Bool
 has_mark marks = nat_lt 0 marks.losses || marks.truncated || marks.lost_octet || marks.header_corrected || marks.crc_error
 
--- The marks with those of a multi-channel header, as the number in its four octets, the highest first: an octet was lost (bit 24), the header
--- of the cell was corrected by its check (bit 25), the CRC-10 of the cell is wrong (bit 26).
+-- The marks with those of a multi-channel header, as the number in its four octets, the highest first: an octet was
+-- lost (bit 24), the header of the cell was corrected by its check (bit 25), the CRC-10 of the cell is wrong (bit 26).
 abbrev pub with_channel_marks : Marks → ℕ → Marks
 with_channel_marks marks header = record marks {
   lost_octet = header / 16777216 % 2 == 1;

@@ -3,7 +3,7 @@ use Rattle.std.specs.Prelude.{◌+◌, ◌-◌, ◌*◌, ◌/◌, ◌%◌, ◌^�
 use Rattle.captures.specs.declared.packet_time.PacketTimes.{PacketTimes}
 use Rattle.captures.specs.declared.packet_time.TimeUnit.{TimeUnit}
 
--- How many units of this resolution a second has: resolution N stands for 10^-N seconds, and 128 + N for 2^-N seconds, as in the option
+-- How many units of this resolution a second has: resolution N means 10^-N seconds, and 128 + N means 2^-N seconds, as in the option
 -- `if_tsresol`. A unit that is too short for 64 bits isn't read, and has 0.
 abbrev pub units_in_second : ℕ → ℕ
 units_in_second resolution =

@@ -1,4 +1,5 @@
--- The reading of a capture: its records and what was passed over between them, in order, and then its end or the first place at which it is no capture.
+-- The reading of a capture: its records and what was passed over between them, in order, and then its end or the first
+-- place at which it is no capture.
 use Rattle.std.specs.Prelude.{◌≡◌, ◌≤◌, ◌<◌, ◌+◌, ◌^◌, ◌⊎◌, ℕ, List, [], ◌∷◌, ◌++◌, length, drop, Option, Some, None, Result, Ok, Err}
 use Rattle.captures.specs.Blocks.{count_past, most_block}
 use Rattle.captures.specs.Frames.{Frame, first_frame}
@@ -40,8 +41,8 @@ abbrev pub count_after : ℕ → Result Record Passage → ℕ
 count_after count (Err passage) = count_past count passage.what
 count_after count (Ok record_read) = count + 1
 
--- After this many numbers, at this place, the octets are read as frames of which this is given, in order, and then end: the whole capture was
--- read, or this is its first fault.
+-- After this many numbers, at this place, the octets are read as frames of which this is given, in order, and then end:
+-- the whole capture was read, or this is its first fault.
 abbrev pub IsReading : Format → ℕ → ℕ → List ℕ → List (Result Record Passage) → Option Fault → Type 0
 IsReading format count at octets [] ending = EndsReading format at octets ending
 IsReading format count at octets (given ∷ frames) ending =

@@ -50,8 +50,8 @@ pub enum RecordFault {
     /// The resolution of an interface, by its option `if_tsresol`, whose units of time are too short to be read.
     #[error("15 OtherResolution {0}")]
     OtherResolution(u8),
-    /// The resolution of an interface of records whose times have another unit, or other seconds to add, than those of the first such interface of
-    /// its section.
+    /// The resolution of an interface of records whose times have another unit, or other seconds to add, than those of
+    /// the first such interface of its section.
     #[error("16 OtherUnit {0}")]
     OtherUnit(u8),
 }

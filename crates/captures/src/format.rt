@@ -30,8 +30,8 @@ pub enum Order {
 pub enum Format {
     /// Records, one after the other.
     Erf,
-    /// A file header of 24 octets, and then packets, each with a record. Numbers outside of the records are in this order, and this is known of
-    /// the times of packets.
+    /// A file header of 24 octets, and then packets, each with a record. Numbers outside of the records are in this
+    /// order, and this is known of the times of packets.
     Pcap(Order, PacketTimes),
     /// Blocks, some with a record, and the section that the blocks so far are in.
     PcapNg(Section),

@@ -15,7 +15,7 @@ pub enum TimeSource {
 /// In which units the headers of packets count time.
 #[derive(Clone, Copy, PartialEq, Eq, Debug)]
 pub struct TimeUnit {
-    /// N stands for 10^-N seconds, and 128 + N for 2^-N seconds.
+    /// N means 10^-N seconds, and 128 + N means 2^-N seconds.
     pub resolution: u8,
     /// The seconds that are added to each time, as a number of 64 bits with its sign.
     pub ahead: u64,

@@ -179,8 +179,8 @@ impl Reader {
 
     // no ensures: a caller only decides by it which copy of its code reads the record
     // no edit: it has no ensures
-    /// Whether these octets begin with a record as most are: in an ERF file, of type 3, without extension headers, an error or a loss. From a
-    /// copy of the code for them alone the compiler may drop cases that can't occur.
+    /// Whether the next record has the usual form: in an ERF file, of type 3, without extension headers, an error or a loss. Such
+    /// records have a copy of the code, from which the compiler drops the cases that can't occur.
     #[inline(always)]
     pub fn is_usual(&self, octets: &[u8]) -> bool {
         match self.format {

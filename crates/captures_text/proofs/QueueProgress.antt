@@ -1,4 +1,5 @@
--- Each step of a run that reads ahead keeps its progress from each world that was shown at first, and each end of it gives a text or a prefix of one.
+-- Each step of a run that reads ahead keeps its progress from each world that was shown at first, and each end of it
+-- gives a text or a prefix of one.
 use Rattle.std.proofs.Common.{◌≡◌, ℕ, List, [], ◌++◌, length, take, drop, Option, None, refl, ap, sym, ◌∙◌, subst, append-nil}
 use Rattle.std.proofs.lemmas.List.{take-append-drop}
 use Rattle.captures.specs.Frames.{first_frame}

@@ -43,8 +43,8 @@ RunsThrough rules world [] last = last ≡ world
 RunsThrough {World = World} rules world (counted ∷ cells) last =
     (here : List ℕ) × (next : World) × rules.steps world counted here (Some next) × RunsThrough rules next cells last
 
--- From this state of the filter and this world, after this many records, at this place, the text may answer the octets, and the run then ends
--- in this way.
+-- From this state of the filter and this world, after this many records, at this place, the text may answer the octets,
+-- and the run then ends in this way.
 abbrev pub IsRecordsText : {World : Type 0} → CellRules World → FilterState → Format → ℕ → ℕ → World → List ℕ → List ℕ → Done → Type 0
 IsRecordsText rules filter format count at world octets text done =
     (cells : List CountedCell) × (end : CellsEnd) × HasCells filter format count at octets cells end × IsTextOfCells rules world cells end text done

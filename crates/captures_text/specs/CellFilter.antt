@@ -18,8 +18,9 @@ use Rattle.captures_text.specs.declared.filter.Filtered.{Filtered}
 use Rattle.captures_text.specs.declared.filter.Filtered.TheVariants.{Counts, Passed, Several}
 use Rattle.captures_text.specs.declared.passed.PassedOver.{PassedOver}
 
--- The state of a filter: the nanoseconds of a tick, which time of a record counts, whether a link was asked for, the link that was, or that of the first cell, the time of
--- the first cell of any link and the latest time of a cell that counts, and the records passed over.
+-- The state of a filter: the nanoseconds of a tick, which time of a record counts, whether a link was asked for, the
+-- link that was, or that of the first cell, the time of the first cell of any link and the latest time of a cell that
+-- counts, and the records passed over.
 pub record FilterState : Type 0 where
   pub tick : ℕ
   pub timing : TimeSource
@@ -119,7 +120,8 @@ cells_end state (Err passage ∷ frames) ending = cells_end (filter_passage stat
 cells_end state (Ok record_read ∷ frames) ending =
     ends_then (filter_record state record_read).0 (cells_end (filter_record state record_read).1 frames ending)
 
--- From this state on, after this many records, at this place, the octets are read as frames in which these cells count, in order, and end so.
+-- From this state on, after this many records, at this place, the octets are read as frames in which these cells count,
+-- in order, and end so.
 pub record HasCells (state : FilterState) (format : Format) (count at : ℕ) (octets : List ℕ) (cells : List CountedCell) (end : CellsEnd) : Type 0 where
   pub frames : List (Result Record Passage)
   pub ending : Option Fault

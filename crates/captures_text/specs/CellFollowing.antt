@@ -1,5 +1,5 @@
--- The answers of a program to the cells of a capture that count, and to their end. It doesn't have to store the world that its rules are about.
--- Instead it shows worlds, by a relation that only laws and contracts use.
+-- The answers of a program to the cells of a capture that count, and to their end. It doesn't have to store the world
+-- that its rules are about. Instead it shows worlds, by a relation that only laws and contracts use.
 use Rattle.std.specs.Prelude.{◌≡◌, ℕ, List, ◌++◌, Option, Some, None}
 use Rattle.captures.specs.declared.fault.Fault.{Fault}
 use Rattle.captures_text.specs.CellRules.{CellRules}

@@ -45,8 +45,8 @@ cells_rules = fixed_rules cells_steps cells_closes
 abbrev pub cells_start : Bool → CellsWorld
 cells_start numbered = record { numbered = numbered }
 
--- The output for a whole file, and how the run ends, with a tick of this many nanoseconds, the link that was asked for and the time of a record
--- that counts. `numbered` says whether the numbers of records are asked for.
+-- The output for a whole file, and how the run ends, with a tick of this many nanoseconds, the link that was asked for
+-- and the time of a record that counts. `numbered` says whether the numbers of records are asked for.
 abbrev pub IsCellsText : ℕ → Option Link → TimeSource → Bool → List ℕ → List ℕ → Done → Type 0
 IsCellsText tick link timing numbered = IsCaptureText cells_rules (filter_start tick link timing) (cells_start numbered)
 

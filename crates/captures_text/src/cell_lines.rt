@@ -1,6 +1,6 @@
-//! Which cells a text about verdicts has lines for.
+//! Which cells get a line of the output.
 
-/// Which cells have lines in a text about verdicts.
+/// Which cells get a line of the output.
 #[derive(Clone, Copy, Debug, PartialEq, Eq)]
 pub enum CellLines {
     /// All cells.

@@ -105,9 +105,10 @@ impl CellFollower for Cells {
     ghost is_total = { fixed_total cells_steps cells_closes };
 }
 
-/// Answers a capture by its cells, each as a line of a script for `upc run` or `upc ports`. Moments are ticks since the first cell, by the times of
-/// records or of their packets. With `numbered` a comment with the number of its record comes before each. If no link is asked for, a cell of a
-/// second link ends the run. Comments say how many records were passed over and why.
+/// Answers a capture by its cells, each as a line of a script for `upc run` or `upc ports`. Moments are ticks since the
+/// first cell, by the times of records or of their packets. With `numbered` a comment with the number of its record
+/// comes before each. If no link is asked for, a cell of a second link ends the run. Comments say how many records were
+/// passed over and why.
 ///
 /// With `threads` above 1, records are read on one thread while the cells of earlier ones are written on another, as in [`follow_cells`]. The
 /// output is the same.

@@ -17,7 +17,7 @@ pub enum Filtered<'a> {
     Several(Link, Link),
 }
 
-/// Says of each record of a capture whether its cell counts. If a link was asked for, its cells count, otherwise those of the first
+/// Decides for each record of a capture whether its cell counts. If a link was asked for, its cells count, otherwise those of the first
 /// cell's link. A cell with a time before that of an earlier one does not count.
 #[derive(Clone, Copy, Drop, Debug)]
 pub struct CellFilter {

@@ -76,8 +76,9 @@ pub(crate) fn answer_read<F: CellFollower>(
     }
 }
 
-/// Answers the cells that were read before, and reads the waiting octets. Then the cells that were read now are answered too, unless they can
-/// wait: if two threads may work at once and the last reading filled the window, more octets are likely to come at once.
+/// Answers the cells that were read before, and reads the waiting octets. Then the cells that were read now are
+/// answered too, unless they can wait: if two threads may work at once and the last reading filled the window, more
+/// octets are likely to come at once.
 pub(crate) fn advance<F: CellFollower>(
     at_once: bool,
     reading: &mut ReadingAhead,

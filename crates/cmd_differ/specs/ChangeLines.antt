@@ -1,5 +1,5 @@
--- The lines of `upc-lab differ`: what decides a cell before the change and after it, which is a line of rules or a program, both values, and
--- the cell.
+-- The lines of `upc-lab differ`: what decides a cell before the change and after it, which is a line of rules or a
+-- program, both values, and the cell.
 use Rattle.std.specs.Prelude.{ℕ, ◌==◌, ◌&&◌, ◌||◌, not, Bool, true, false, if◌then◌else◌, List, [], ◌∷◌, ◌++◌, codes, decimal, Option, Some, None}
 use Rattle.hex.specs.Hex.{encode_lower}
 use Rattle.rules_diagrams.specs.declared.case.Case.{Case}

@@ -1,5 +1,5 @@
--- The output of `upc-lab differ`, which compares two texts, each of rules or with a program. The old one is a file, and the whole input is the
--- new one.
+-- The output of `upc-lab differ`, which compares two texts, each of rules or with a program. The old one is a file, and
+-- the whole input is the new one.
 use Rattle.std.specs.Prelude.{◌≡◌, ◌⊎◌, ℕ, Bool, List, ◌++◌, codes, decimal, Option, Some, MatchOption, Ok, Err}
 use Rattle.bpf_code.specs.declared.instr.Instr.{Instr}
 use Rattle.rules_diagrams.specs.Cases.{AreCasesOf}

@@ -15,8 +15,8 @@ use text_words::{add_text, add_too_long};
 /// The maximum number of octets of fault lines.
 const MOST_FAULT_OCTETS: u32 = 1048576;
 
-/// The family, the number and the name of each fault, and its sentence. In it `%` stands for the first number of the fault line, and `@` for
-/// the second.
+/// The family, the number and the name of each fault, and its sentence. In it `%` stands for the first number of the
+/// fault line, and `@` for the second.
 const FAULT_SENTENCES: [(&[u8], &[u8]); 34] = [
     (
         b"file 1 Gzip",

@@ -29,8 +29,8 @@ pub enum InputKind {
 
 /// An input that can be asked for its first line.
 pub trait Ahead: Input {
-    /// Reads the first line, if its only word is `source`, `rules` or `faults`, and returns what the input is. Otherwise all octets are left,
-    /// although the first line was read from the device.
+    /// Reads the first line, if its only word is `source`, `rules` or `faults`, and returns what the input is.
+    /// Otherwise all octets are left, although the first line was read from the device.
     ///
     /// # Errors
     ///

@@ -55,8 +55,8 @@ fn answer_found(
     }
 }
 
-/// Answers a text of rules as `compile_rules` of `cmd_rules` does, and puts the hints about it as comments into `comments`, in place of what
-/// was there.
+/// Answers a text of rules as `compile_rules` of `cmd_rules` does, and puts the hints about it as comments into
+/// `comments`, in place of what was there.
 ///
 /// # Errors
 ///

@@ -184,8 +184,8 @@ abbrev pub follows_text : Bool → Option ScriptFault → List ℕ
 follows_text faulty None = []
 follows_text faulty (Some fault) = if faulty && may_follow fault then codes "; an earlier line with a fault may be the reason" else []
 
--- The explanation of a fault: the number of its line, the column of the word that is wrong, and a sentence. `faulty` says whether an earlier
--- line has a fault.
+-- The explanation of a fault: the number of its line, the column of the word that is wrong, and a sentence. `faulty`
+-- says whether an earlier line has a fault.
 abbrev pub fault_explanation : Bool → Option Side → ℕ → List ℕ → List FoundWord → Option ScriptFault → List ℕ
 fault_explanation faulty side number content words found =
     place_words number (word_column (blamed_word side content words found))

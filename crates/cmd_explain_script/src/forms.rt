@@ -157,7 +157,7 @@ fn fits(side: Side, slot: ScriptSlot, word: &[u8]) -> bool
     }
 }
 
-/// Returns how many of the first words fit these slots.
+/// Returns the number of leading words that fit these slots.
 pub(crate) fn words_fitting(
     side: Side,
     line: &[u8],

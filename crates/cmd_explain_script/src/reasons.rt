@@ -378,8 +378,8 @@ fn follows_text(faulty: bool, found: Option<ScriptFault>) -> &'static [u8]
     }
 }
 
-/// Appends the explanation of a fault: the number of its line, the column of the word that is wrong, and a sentence. `faulty` says whether an
-/// earlier line has a fault.
+/// Appends the explanation of a fault: the number of its line, the column of the word that is wrong, and a sentence.
+/// `faulty` says whether an earlier line has a fault.
 #[tactic(auto, using(std::proofs::lemmas::List::append_assoc))]
 fn add_fault_explanation(
     answers: &mut Vec<u8>,

@@ -59,8 +59,9 @@ pub record IsFitOf (increment : ℕ) (cells : List CountedCell) (fit : Connectio
   -- If no cell needs a limit, the named record is that of the first cell.
   pub first : fit.limit ≡ 0 → before ≡ []
 
--- After a run that no cell ends, the state of each flow is right for its cells of the class among those that count, and a flow without such cells
--- has none. With rules these are the cells of a connection to which the rules give one value, and without them all cells of a connection.
+-- After a run that no cell ends, the state of each flow is right for its cells of the class among those that count, and
+-- a flow without such cells has none. With rules these are the cells of a connection to which the rules give one value,
+-- and without them all cells of a connection.
 abbrev pub FitsAreLeast : Type 0
 FitsAreLeast = (scope : FitScope) (cells : List CountedCell) (last : FitWorld) → RunsThrough fit_rules (fit_start scope) cells last
     → (flow : Flow) → let own = cells_fitted scope flow cells in MatchOption (fit_in flow last.fits) (own ≡ []) (IsFitOf scope.increment own)

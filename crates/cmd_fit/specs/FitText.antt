@@ -1,5 +1,5 @@
--- The text of `fit`: a line for each flow of a capture, in order of path, channel and value, and comments about the records that were passed
--- over.
+-- The text of `fit`: a line for each flow of a capture, in order of path, channel and value, and comments about the
+-- records that were passed over.
 use Rattle.std.specs.Prelude.{ℕ, ◌+◌, ◌*◌, if◌then◌else◌, Bool, List, [], ◌∷◌, ◌++◌, codes, decimal, flat_map, is_some, Option, Some, None, Result, Ok, Err}
 use Rattle.std.specs.BTreeMap.{insert_entry}
 use Rattle.std.specs.Map.{values_of}
@@ -111,7 +111,7 @@ fit_closes world passed ending =
 abbrev pub fit_rules : CellRules FitWorld
 fit_rules = fixed_rules fit_steps fit_closes
 
--- The output for a whole file, and how the run ends, of a run about this, with a tick of this many nanoseconds, the link that was asked for and
--- the time of a record that counts.
+-- The output for a whole file, and how the run ends, of a run about this, with a tick of this many nanoseconds, the
+-- link that was asked for and the time of a record that counts.
 abbrev pub IsFitText : FitScope → ℕ → Option Link → TimeSource → List ℕ → List ℕ → Done → Type 0
 IsFitText scope tick link timing = IsCaptureText fit_rules (filter_start tick link timing) (fit_start scope)

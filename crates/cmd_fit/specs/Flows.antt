@@ -6,8 +6,8 @@ use Rattle.upc_cell.specs.Connection.{is_same_vc, vc_of}
 use Rattle.upc_cell.specs.declared.side.Side.{Side}
 use Rattle.cmd_fit.specs.declared.flow.Flow.{Flow}
 
--- The value that the rules give a cell, or 0 without rules. The value of rules in memory has 32 bits, so the remainder changes nothing; it is there
--- because the definition takes any rules.
+-- The value that the rules give a cell, or 0 without rules. The value of rules in memory has 32 bits, so the remainder
+-- changes nothing; it is there because the definition takes any rules.
 unfoldable pub cell_value : Option RulesRead → List ℕ → ℕ
 cell_value None cell = 0
 cell_value (Some rules) cell = (rules_decide rules cell).value % 2 ^ 32

@@ -40,8 +40,8 @@ pub record IsTallyOf (records : List Record) (tally : LinkTally) : Type 0 where
   pub ends : records ≡ earlier ++ newest ∷ []
   pub last : tally.last ≡ newest.time
 
--- These are all rows of a link whose cells these records have, among this number of rows: the one that says what is known of it; or none, if it has no
--- cell, or if there is no room for one more row.
+-- These are all rows of a link whose cells these records have, among this number of rows: the one that says what is
+-- known of it; or none, if it has no cell, or if there is no room for one more row.
 abbrev pub HasRow : List Record → ℕ → List (Link × LinkTally) → Type 0
 HasRow records count [] = (records ≡ []) ⊎ (count ≡ most_links)
 HasRow records count (row ∷ []) = IsTallyOf records row.1

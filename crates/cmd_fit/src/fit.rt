@@ -190,23 +190,25 @@ fn give_answer<O: Output>(output: &mut O, mut answer: Vec<u8>) -> Result<Done, R
     give_last(output, &mut answer, Done::Ended)
 }
 
-/// Answers a capture by the least limit of each of its connections, in ticks, under which all its cells conform to one bucket of this increment, in
-/// ticks: what is called the observed cell delay variation. A line for each connection, in order of path and channel, has its path, its
-/// channel, the number of its cells, the limit, and the number of the first record whose cell needs that limit. `upc-lab cells` writes the
-/// same cells at the same moments. Headers are read at the side of the choice, which also says whether connections are virtual channels or paths. If
-/// a cell loss priority is asked for, a line is about the cells that have it, and the others count for nothing.
+/// Answers a capture by the least limit of each of its connections, in ticks, under which all its cells conform to one
+/// bucket of this increment, in ticks: what is called the observed cell delay variation. A line for each connection, in
+/// order of path and channel, has its path, its channel, the number of its cells, the limit, and the number of the
+/// first record whose cell needs that limit. `upc-lab cells` writes the same cells at the same moments. Headers are
+/// read at the side of the choice, which also says whether connections are virtual channels or paths. If a cell loss
+/// priority is asked for, a line is about the cells that have it, and the others count for nothing.
 ///
-/// `rules` are the octets of a text of rules, if one is given. A line is then about the cells of a connection to which the rules give one value,
-/// and has that value after the channel; the lines of a connection are in order of their values. Cells with the value 0, which a card refuses, have a
-/// line too. A text with a fault is answered by the fault, and nothing is read.
+/// `rules` are the octets of a text of rules, if one is given. A line is then about the cells of a connection to which
+/// the rules give one value, and has that value after the channel; the lines of a connection are in order of their
+/// values. Cells with the value 0, which a card refuses, have a line too. A text with a fault is answered by the fault,
+/// and nothing is read.
 ///
 /// A cell of a 65,536th connection, or of a 65,536th line if rules are given, ends the run, and so does one after which 64 bits don't hold the number
 /// of its line's cells or the ticks in the bucket. If no link is asked for, a cell of a second link ends the run. Comments say how many records were
 /// passed over and why. Memory is bounded: that of [`follow_cells`], at most some 60 MB with 65,535 lines, less than one MB with a few hundred, and
 /// the rules with their code.
 ///
-/// With `threads` above 1, records are read on one thread while the cells of earlier ones are answered on another, as in [`follow_cells`]. The
-/// output is the same.
+/// With `threads` above 1, records are read on one thread while the cells of earlier ones are answered on another, as
+/// in [`follow_cells`]. The output is the same.
 ///
 /// # Errors
 ///

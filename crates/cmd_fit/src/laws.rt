@@ -4,8 +4,8 @@ ghost use Rattle.cmd_fit.specs.FitLaws.{CapturesHaveOneFitText, ClassesAreAlone,
 ghost use Rattle.cmd_fit.specs.LinkLaws.{LinksAreCounted, RowsAreFew};
 ghost use Rattle.cmd_fit.specs.LinksText.{CapturesHaveOneLinksText};
 
-/// The limit of each connection is the least one under which all its cells conform, and the named record is the first whose cell doesn't conform
-/// under one less. With rules this is so of the cells of each connection and value.
+/// The limit of each connection is the least one under which all its cells conform, and the named record is the first
+/// whose cell doesn't conform under one less. With rules this is so of the cells of each connection and value.
 pub fn fits_are_least()
     ensures { FitsAreLeast }
 {}

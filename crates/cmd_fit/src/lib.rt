@@ -1,5 +1,6 @@
-//! What a capture says of its links, and of the connections of one: the cells, times and losses of each link (`upc-lab links`), and the least limit of
-//! each connection under which all its cells conform, which is the observed cell delay variation (`upc-lab fit`).
+//! What a capture says of its links, and of the connections of one: the cells, times and losses of each link (`upc-lab
+//! links`), and the least limit of each connection under which all its cells conform, which is the observed cell delay
+//! variation (`upc-lab fit`).
 #![tactic(auto)]
 
 mod cell_values;

@@ -64,9 +64,9 @@ fn add_text_of<I: Input>(
     }
 }
 
-/// Answers a capture by its links: a line for each link of a cell, in order of their first cells, with the number of its cells, the times of the
-/// first and the last one, and how many records were lost before them. Then come the comments about records that were passed over, and the
-/// fault at which the reading ended.
+/// Answers a capture by its links: a line for each link of a cell, in order of their first cells, with the number of
+/// its cells, the times of the first and the last one, and how many records were lost before them. Then come the
+/// comments about records that were passed over, and the fault at which the reading ended.
 ///
 /// Memory is bounded: a buffer of 524,288 octets and another one of this size, and what is known of 4096 links.
 ///

@@ -12,8 +12,8 @@ abbrev pub ForwardsAsAgreed : (ℕ → ReportedTexts) → Result ℕ (ℕ × ℕ
 ForwardsAsAgreed IsTextAt (Ok tick) octets text report done = IsTextAt tick octets text report done
 ForwardsAsAgreed IsTextAt (Err (named, asked)) octets text report done = (text ≡ []) × (report ≡ ticks_differ named asked) × (done ≡ Ended)
 
--- What is written for a setup script that names this tick, if it names one, the texts of its files of rules and a whole capture, where this tick
--- is asked for, if one is; what is reported; and how the run ends.
+-- What is written for a setup script that names this tick, if it names one, the texts of its files of rules and a whole
+-- capture, where this tick is asked for, if one is; what is reported; and how the run ends.
 abbrev pub IsForwardedAsAgreed : Others → Option ℕ → Option ℕ → Option Link → List ℕ → List (List ℕ) → ReportedTexts
 IsForwardedAsAgreed others named asked link setup texts = ForwardsAsAgreed (λ tick. IsSetupForwarded others tick link setup texts) (agreed_tick named asked)
 

@@ -6,7 +6,8 @@ use Rattle.leaky.specs.declared.contract.Contract.{Contract}
 use Rattle.leaky.specs.declared.verdict.Verdict.{Verdict}
 use Rattle.leaky.specs.declared.verdict.Verdict.TheVariants.{Pass, Tag, Discard, Refuse}
 
--- What a cell with this verdict is to the next policer: a passed cell arrives as it came, a tagged one with cell loss priority 1, any other not.
+-- What a cell with this verdict is to the next policer: a passed cell arrives as it came, a tagged one with cell loss
+-- priority 1, any other not.
 abbrev pub leaving : Verdict → Arrival → List Arrival
 leaving Pass arrival = arrival ∷ []
 leaving Tag arrival = record arrival { clp = true } ∷ []
@@ -27,8 +28,8 @@ AllPass contract buckets (arrival ∷ later) =
     (verdict_of contract buckets arrival.clp arrival.moment ≡ Pass)
     × AllPass contract (buckets_after contract buckets arrival.clp arrival.moment) later
 
--- What goes on conforms: under each contract, from empty buckets, the cells that go on all pass if they are judged once more by the same contract,
--- from empty buckets, at the same moments.
+-- What goes on conforms: under each contract, from empty buckets, the cells that go on all pass if they are judged once
+-- more by the same contract, from empty buckets, at the same moments.
 abbrev pub WhatWasForwardedConforms : Type 0
 WhatWasForwardedConforms = (contract : Contract) (arrivals : List Arrival)
     → AllPass contract opening_buckets (all_leaving contract opening_buckets arrivals)

@@ -1,5 +1,6 @@
--- The octets that `forward` writes, and its report. A script sets up a card, as `police` has it. If the script has a fault, the report explains it,
--- and nothing is written. Otherwise the card judges the cells of a capture that count, at port 0 and in order, and their records go on by its verdicts.
+-- The octets that `forward` writes, and its report. A script sets up a card, as `police` has it. If the script has a
+-- fault, the report explains it, and nothing is written. Otherwise the card judges the cells of a capture that count,
+-- at port 0 and in order, and their records go on by its verdicts.
 use Rattle.std.specs.Prelude.{◌≡◌, ◌⊎◌, ℕ, List, [], Option, Some, None, MatchOption}
 use Rattle.captures.specs.declared.link.Link.{Link}
 use Rattle.captures_text.specs.declared.counted.CountedCell.{CountedCell}
@@ -44,8 +45,8 @@ IsForwarded others tick link script times octets text report done =
     ⊎ ((card : Card) × IsSetUpAtTimes script times card
     × ForwardsCapture forward_rules others (forward_start tick link (policed_start tick card (waiting_at tick times (lines_of script)))) octets text report done)
 
--- The same for a setup script with files of rules, whose lines have these times, which are not in the script any more. `IsFault` says which line
--- is the fault line of a text of rules.
+-- The same for a setup script with files of rules, whose lines have these times, which are not in the script any more.
+-- `IsFault` says which line is the fault line of a text of rules.
 abbrev pub IsTimedForwardedBy : (List ℕ → List ℕ → Type 0) → Others → ℕ → Option Link → List ℕ → List (Option ℕ) → List (List ℕ) → ReportedTexts
 IsTimedForwardedBy IsFault others tick link setup times texts octets text report done =
     ((text ≡ []) × HasFaultyRules IsFault setup texts report × (done ≡ Ended))
@@ -61,7 +62,7 @@ IsSetupForwardedBy IsFault others tick link setup texts octets text report done 
 abbrev pub IsSetupForwarded : Others → ℕ → Option Link → List ℕ → List (List ℕ) → ReportedTexts
 IsSetupForwarded = IsSetupForwardedBy IsFaultOfRules
 
--- The same, but that the code of any rules may be reported as too long. For every setup script, texts and capture something may be forwarded so, so if a
--- call fails, what was written is the beginning of it.
+-- The same, but that the code of any rules may be reported as too long. For every setup script, texts and capture
+-- something may be forwarded so, so if a call fails, what was written is the beginning of it.
 abbrev pub MayBeSetupForwarded : Others → ℕ → Option Link → List ℕ → List (List ℕ) → ReportedTexts
 MayBeSetupForwarded = IsSetupForwardedBy MayBeFaultOfRules

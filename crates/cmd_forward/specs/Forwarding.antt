@@ -29,8 +29,8 @@ pub record ForwardState (World : Type 0) : Type 0 where
   pub filter : FilterState
   pub world : World
 
--- From this world, what is written of a record with this number and these octets that is this to the filter, and the next state, of which this
--- is the filter's; or the report with which the run ends: at a cell of a second link.
+-- From this world, what is written of a record with this number and these octets that is this to the filter, and the
+-- next state, of which this is the filter's; or the report with which the run ends: at a cell of a second link.
 abbrev pub WritesFiltered : {World : Type 0} → JudgeRules World → Others → World → ℕ → List ℕ → Filtered → FilterState
     → List ℕ → Result (ForwardState World) (List ℕ) → Type 0
 WritesFiltered {World = World} rules others world number octets (Counts moment cell) filter here next =
@@ -50,7 +50,8 @@ WritesFrame rules others state (Err passage) octets here next =
 WritesFrame rules others state (Ok record_read) octets here next =
     WritesFiltered rules others state.world record_read.number octets (filter_record state.filter record_read).0 (filter_record state.filter record_read).1 here next
 
--- From this state, this is written of these frames, in order, and then this is reported of the end of the reading, and the run ends in this way.
+-- From this state, this is written of these frames, in order, and then this is reported of the end of the reading, and
+-- the run ends in this way.
 abbrev pub Forwards : {World : Type 0} → JudgeRules World → Others → ForwardState World → List FrameRead → Option Fault → List ℕ → List ℕ → Done → Type 0
 Forwards rules others state [] ending text report done =
     (text ≡ []) × (report ≡ rules.closes state.world state.filter.passed ending) × (done ≡ done_at ending)
@@ -76,6 +77,7 @@ ForwardsOpened rules others state octets (Refused fault) text report done = (tex
 abbrev pub ForwardsCapture : {World : Type 0} → JudgeRules World → Others → ForwardState World → List ℕ → List ℕ → List ℕ → Done → Type 0
 ForwardsCapture rules others state octets text report done = ForwardsOpened rules others state octets (file_opening octets) text report done
 
--- The state at first, with a tick of this many nanoseconds and the link that was asked for. The times of records count: what goes on has no others.
+-- The state at first, with a tick of this many nanoseconds and the link that was asked for. The times of records count:
+-- what goes on has no others.
 abbrev pub forward_start : {World : Type 0} → ℕ → Option Link → World → ForwardState World
 forward_start tick link world = record { filter = filter_start tick link source.Record; world = world }

@@ -13,8 +13,8 @@ pub record FrameRead : Type 0 where
   pub given : Result Record Passage
   pub octets : List ℕ
 
--- After this many records, at this place, the octets are read as these frames, in order, and then end: the whole capture was read, or this is
--- its first fault. So the reading is that of `IsReading`.
+-- After this many records, at this place, the octets are read as these frames, in order, and then end: the whole
+-- capture was read, or this is its first fault. So the reading is that of `IsReading`.
 abbrev pub AreFrames : Format → ℕ → ℕ → List ℕ → List FrameRead → Option Fault → Type 0
 AreFrames format count at octets [] ending = EndsReading format at octets ending
 AreFrames format count at octets (read ∷ frames) ending =

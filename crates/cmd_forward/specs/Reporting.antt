@@ -21,8 +21,8 @@ abbrev pub ReportsText : ReportedTexts → {Source : Type 0} → InputView Sourc
 ReportsText IsText I source O sink sink' said said' result = I.is_known → O.is_known → IfOk result (λ done. (report : List ℕ) × (said' ≡ said ++ report)
     × Adds (λ text. IsText (I.rest source) text report done) (O.held sink) (O.held sink'))
 
--- The call answered the input by its text, and reported of it, or failed after a prefix of the text. `said` is the report before the call, and
--- `said'` after it.
+-- The call answered the input by its text, and reported of it, or failed after a prefix of the text. `said` is the
+-- report before the call, and `said'` after it.
 pub record IsServedWithReport (IsText : ReportedTexts)
     {Source : Type 0} (I : InputView Source) (source source' : Source)
     {Sink : Type 0} (O : OutputView Sink) (sink sink' : Sink)

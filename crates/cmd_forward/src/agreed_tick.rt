@@ -26,9 +26,9 @@ fn report_ticks(report: &mut Vec<u8>, ticks: TicksDiffer) -> Result<Done, RunFau
     }
 }
 
-/// Forwards the cells of a capture, as [`forward_setup`] does, with the tick that the setup script names or the one that was asked for. If they
-/// differ, the report is the fault line about them, and nothing is written. `setup` is the script without its tick
-/// ([`take_tick`](cmd_police::take_tick)).
+/// Forwards the cells of a capture, as [`forward_setup`] does, with the tick that the setup script names or the one
+/// that was asked for. If they differ, the report is the fault line about them, and nothing is written. `setup` is the
+/// script without its tick ([`take_tick`](cmd_police::take_tick)).
 ///
 /// # Errors
 ///

@@ -13,11 +13,12 @@ use captures_text::{CellFilter, WINDOW_ROOM, add_file_fault, find_opening, short
 use std::alloc::Global;
 use text_io::{Done, Input, Output, RunFault, Window};
 
-/// Writes the records of a capture that go on, in order, each as it was received, or with its cell tagged, and appends to the report what is to be
-/// said at the end. Records whose cells count go on as `judge` says, and all others as `others` says.
+/// Writes the records of a capture that go on, in order, each as it was received, or with its cell tagged, and appends
+/// to the report what is to be said at the end. Records whose cells count go on as `judge` says, and all others as
+/// `others` says.
 ///
-/// Memory is bounded: a buffer of 524,288 octets, another one of this size, and what waits to be written, 131,072 octets at most. What was read is
-/// answered before more is read.
+/// Memory is bounded: a buffer of 524,288 octets, another one of this size, and what waits to be written, 131,072
+/// octets at most. What was read is answered before more is read.
 ///
 /// # Errors
 ///

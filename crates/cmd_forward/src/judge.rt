@@ -10,8 +10,8 @@ use std::alloc::AllocError;
 
 /// A program that gets one cell that counts after another and says of each how it goes on.
 ///
-/// Its rules say which answers are allowed, as steps from world to world. It doesn't have to store its world: it shows worlds, and its answer
-/// must be allowed from each of them.
+/// Its rules say which answers are allowed, as steps from world to world. It doesn't have to store its world: it shows
+/// worlds, and its answer must be allowed from each of them.
 pub trait CellJudge {
     ghost World: { Type 0 };
 

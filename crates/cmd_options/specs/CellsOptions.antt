@@ -32,8 +32,8 @@ record_rule = flag_rule (codes "record")
 unfoldable pub cells_app : App
 cells_app = app_with_rules (codes "upc-lab cells") (tick_rule ∷ link_rule ∷ time_rule ∷ record_rule ∷ [])
 
--- What is asked for: the nanoseconds of a tick, the link, if any, which time of a record counts, and whether each cell comes after the number
--- of its record.
+-- What is asked for: the nanoseconds of a tick, the link, if any, which time of a record counts, and whether each cell
+-- comes after the number of its record.
 pub record CellsAsked : Type 0 where
   pub nanoseconds : ℕ
   pub link : Option Link

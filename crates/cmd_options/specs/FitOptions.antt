@@ -39,8 +39,8 @@ rules_rule = argument_rule (codes "rules") true None false
 unfoldable pub fit_app : App
 fit_app = app_with_rules (codes "upc-lab fit") (increment_rule ∷ tick_rule ∷ link_rule ∷ time_rule ∷ side_rule ∷ paths_rule ∷ clp_rule ∷ rules_rule ∷ [])
 
--- What is asked for: the increment in ticks, the nanoseconds of a tick, the link, if any, which time of a record counts, the side, the cell loss
--- priority, if any, and the name of the file with rules, if any.
+-- What is asked for: the increment in ticks, the nanoseconds of a tick, the link, if any, which time of a record
+-- counts, the side, the cell loss priority, if any, and the name of the file with rules, if any.
 pub record FitAsked : Type 0 where
   pub increment : ℕ
   pub nanoseconds : ℕ

@@ -18,8 +18,8 @@ use Rattle.cmd_options.specs.declared.forward.ForwardOptions.{ForwardOptions}
 abbrev pub others_rule : Rule
 others_rule = argument_rule (codes "others") true (Some (codes "pass")) false
 
--- The command `upc-lab forward`: the argument of `police`, its options `--tick` and `--link`, this one, and that for help, which every command
--- has.
+-- The command `upc-lab forward`: the argument of `police`, its options `--tick` and `--link`, this one, and that for
+-- help, which every command has.
 unfoldable pub forward_app : App
 forward_app = app_with_rules (codes "upc-lab forward") (setup_rule ∷ asked_tick_rule ∷ link_rule ∷ others_rule ∷ [])
 

@@ -35,12 +35,13 @@ every_rule = argument_rule (codes "every") true None false
 abbrev pub threads_rule : Rule
 threads_rule = argument_rule (codes "threads") true (Some (codes "2")) false
 
--- The command `upc-lab police`: this argument and these options, the options `--link` and `--time` of `cells`, and that for help, which every command has.
+-- The command `upc-lab police`: this argument and these options, the options `--link` and `--time` of `cells`, and that
+-- for help, which every command has.
 unfoldable pub police_app : App
 police_app = app_with_rules (codes "upc-lab police") (setup_rule ∷ asked_tick_rule ∷ link_rule ∷ time_rule ∷ lines_rule ∷ every_rule ∷ threads_rule ∷ [])
 
--- What is asked for: the name of the file with the setup script, the nanoseconds of a tick, if any, the link, if any, which time of a record
--- counts, which cells have lines, the nanoseconds of a span, if any, and the number of threads.
+-- What is asked for: the name of the file with the setup script, the nanoseconds of a tick, if any, the link, if any,
+-- which time of a record counts, which cells have lines, the nanoseconds of a span, if any, and the number of threads.
 pub record PoliceAsked : Type 0 where
   pub setup : Text
   pub nanoseconds : Option ℕ

@@ -43,8 +43,9 @@ const CELLS: Options = Options {
     arguments: &[TICK, LINK, TIME, RECORD],
 };
 
-/// Reads the words after `upc-lab cells`: `--tick TIME`, which is 100ns if it isn't given, `--link LINK`, `--time record|packet`,
-/// which is record if it isn't given, and `--record`. The forms of help that `clap` has request help. Any other word is an error, and so is a wrong value.
+/// Reads the words after `upc-lab cells`: `--tick TIME`, which is 100ns if it isn't given, `--link LINK`, `--time
+/// record|packet`, which is record if it isn't given, and `--record`. The forms of help that `clap` has request help.
+/// Any other word is an error, and so is a wrong value.
 pub fn cells_options(alloc: Global, words: Vec<String>) -> Result<CellsOptions, Stop>
     ensures asked { IfOk result (λ options. AsksCells (map string_bytes words.items) (cells_asked_by options)) }
     ensures stopped { IfErr result (IsCellsStop (map string_bytes words.items)) }

@@ -53,9 +53,9 @@ const DIFFER: Options = Options {
     arguments: &[OLD, PAIRS, PROGRAM],
 };
 
-/// Reads the words after `upc-lab differ`: the name of a file, `--lines LINES`, which is changed if it isn't given, and `--program WHICH`,
-/// without which both texts are rules. The forms of help that `clap` has request help. Any other word is an error, and so are a wrong value,
-/// an empty name and words without a name.
+/// Reads the words after `upc-lab differ`: the name of a file, `--lines LINES`, which is changed if it isn't given, and
+/// `--program WHICH`, without which both texts are rules. The forms of help that `clap` has request help. Any other
+/// word is an error, and so are a wrong value, an empty name and words without a name.
 pub fn differ_options(alloc: Global, words: Vec<String>) -> Result<DifferOptions, Stop>
     ensures asked { IfOk result (λ options. AsksDiffer (map string_bytes words.items) (differ_asked_by options)) }
     ensures stopped { IfErr result (IsDifferStop (map string_bytes words.items)) }

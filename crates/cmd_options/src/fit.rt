@@ -82,9 +82,10 @@ const FIT: Options = Options {
     arguments: &[INCREMENT, TICK, LINK, TIME, SIDE, PATHS, CLP, RULES],
 };
 
-/// Reads the words after `upc-lab fit`: `--increment T`, `--tick TIME`, which is 100ns if it isn't given, `--link LINK`,
-/// `--time record|packet`, which is record if it isn't given, `--side SIDE`, which is uni if it isn't given, `--paths`, `--clp CLP`, and `--rules FILE`. The forms of help that `clap` has request help. Any other
-/// word is an error, and so are a wrong value, an empty name and words without an increment.
+/// Reads the words after `upc-lab fit`: `--increment T`, `--tick TIME`, which is 100ns if it isn't given, `--link
+/// LINK`, `--time record|packet`, which is record if it isn't given, `--side SIDE`, which is uni if it isn't given,
+/// `--paths`, `--clp CLP`, and `--rules FILE`. The forms of help that `clap` has request help. Any other word is an
+/// error, and so are a wrong value, an empty name and words without an increment.
 pub fn fit_options(alloc: Global, words: Vec<String>) -> Result<FitOptions, Stop>
     ensures asked { IfOk result (λ options. AsksFit (map string_bytes words.items) (asked_by options)) }
     ensures stopped { IfErr result (IsFitStop (map string_bytes words.items)) }

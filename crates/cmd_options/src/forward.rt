@@ -43,9 +43,9 @@ const FORWARD: Options = Options {
     arguments: &[SETUP, ASKED_TICK, LINK, OTHERS],
 };
 
-/// Reads the words after `upc-lab forward`: the name of a file, `--tick TIME`, `--link LINK`, and `--others OTHERS`, which is pass if it
-/// isn't given. The forms of help that `clap` has request help. Any other word is an error, and so are a wrong value, an empty name and words
-/// without a name.
+/// Reads the words after `upc-lab forward`: the name of a file, `--tick TIME`, `--link LINK`, and `--others OTHERS`,
+/// which is pass if it isn't given. The forms of help that `clap` has request help. Any other word is an error, and so
+/// are a wrong value, an empty name and words without a name.
 pub fn forward_options(alloc: Global, words: Vec<String>) -> Result<ForwardOptions, Stop>
     ensures asked { IfOk result (λ options. AsksForward (map string_bytes words.items) (forward_asked_by options)) }
     ensures stopped { IfErr result (IsForwardStop (map string_bytes words.items)) }

@@ -66,9 +66,10 @@ const POLICE: Options = Options {
     arguments: &[SETUP, ASKED_TICK, LINK, TIME, LINES, EVERY, THREADS],
 };
 
-/// Reads the words after `upc-lab police`: the name of a file, `--tick TIME`, `--link LINK`,
-/// `--time record|packet`, which is record if it isn't given, `--lines LINES`, which is all if it isn't given, `--every TIME`, and
-/// `--threads N`, which is 2 if it isn't given. The forms of help that `clap` has request help. Any other word is an error, and so are a wrong value, an empty name and words without a name.
+/// Reads the words after `upc-lab police`: the name of a file, `--tick TIME`, `--link LINK`, `--time record|packet`,
+/// which is record if it isn't given, `--lines LINES`, which is all if it isn't given, `--every TIME`, and `--threads
+/// N`, which is 2 if it isn't given. The forms of help that `clap` has request help. Any other word is an error, and so
+/// are a wrong value, an empty name and words without a name.
 pub fn police_options(alloc: Global, words: Vec<String>) -> Result<PoliceOptions, Stop>
     ensures asked { IfOk result (λ options. AsksPolice (map string_bytes words.items) (police_asked_by options)) }
     ensures stopped { IfErr result (IsPoliceStop (map string_bytes words.items)) }

@@ -25,8 +25,8 @@ ended_journal (Some (release vc)) = Some (codes "released ", vc)
 ended_journal (Some (cut vc)) = Some (codes "cut ", vc)
 ended_journal (Some _) = None
 
--- The answer to such a command: the counts of the connection's line, as the table has them. Those of the journal would say when `police` dropped it
--- last. Without a connection it is the answer of `upc run`.
+-- The answer to such a command: the counts of the connection's line, as the table has them. Those of the journal would
+-- say when `police` dropped it last. Without a connection it is the answer of `upc run`.
 abbrev pub counted_answer : World → List ℕ × Vc → Option Connection → List ℕ → List ℕ
 counted_answer world ended None given = given
 counted_answer world ended (Some connection) given =

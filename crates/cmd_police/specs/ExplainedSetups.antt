@@ -1,5 +1,5 @@
--- The text of `upc-lab explain --setup` for a setup script with files of rules: the faults that `police` would find, or the hints and that there is
--- none; and the hints as comments.
+-- The text of `upc-lab explain --setup` for a setup script with files of rules: the faults that `police` would find, or
+-- the hints and that there is none; and the hints as comments.
 use Rattle.std.specs.Prelude.{◌≡◌, ◌⊎◌, ℕ, Bool, eqb, if◌then◌else◌, List, [], ◌∷◌, ◌++◌, codes, Option, MatchOption}
 use Rattle.std.specs.List.{starts_with}
 use Rattle.cmd_rules.specs.AsmText.{whole_line}
@@ -14,8 +14,8 @@ use Rattle.cmd_police.specs.RulesFiles.{IsFaultOfRules}
 use Rattle.cmd_police.specs.SetupPrograms.{HasPrograms}
 use Rattle.cmd_police.specs.TimedLines.{falling_line, falling_text, line_times, octets_before_times, without_times}
 
--- The explanation of a script whose lines have these times, and how it ends: its fault, or that of its lines before the first time, and Ended; or
--- without a fault its hints, and Whole.
+-- The explanation of a script whose lines have these times, and how it ends: its fault, or that of its lines before the
+-- first time, and Ended; or without a fault its hints, and Whole.
 abbrev pub IsExplainedAtTimes : List ℕ → List (Option ℕ) → List ℕ → Done → Type 0
 IsExplainedAtTimes script times text done =
     (IsFaultAtTimes script times text × (done ≡ Ended))

@@ -10,12 +10,14 @@ use Rattle.cmd_police.specs.RulesLines.{named_rules}
 abbrev pub rules_place : ℕ → List ℕ → List ℕ
 rules_place number name = place_words number None ++ (codes "in the rules of " ++ (quoted name ++ codes "\n"))
 
--- The text for a line of the script with this number, which names rules with a fault: the fault line of the rules, and where they are named.
+-- The text for a line of the script with this number, which names rules with a fault: the fault line of the rules, and
+-- where they are named.
 abbrev pub IsRulesFaultAt : (List ℕ → List ℕ → Type 0) → ℕ → List ℕ → List ℕ → List ℕ → Type 0
 IsRulesFaultAt IsFault number name rules text = (fault : List ℕ) × IsFault rules fault × (text ≡ fault ++ rules_place number name)
 
--- The text is about the first of these lines whose rules have a fault; the rules of those before it have programs. `met` lines of the script
--- are before these, and the texts are those that are left. `IsFault` says which line is the fault line of a text.
+-- The text is about the first of these lines whose rules have a fault; the rules of those before it have programs.
+-- `met` lines of the script are before these, and the texts are those that are left. `IsFault` says which line is the
+-- fault line of a text.
 abbrev pub HasFaultIn : (List ℕ → List ℕ → Type 0) → ℕ → List Line → List (List ℕ) → List ℕ → Type 0
 HasFaultIn IsFault met [] texts text = ⊥
 HasFaultIn IsFault met (line ∷ lines) texts text = MatchOption (named_rules line)

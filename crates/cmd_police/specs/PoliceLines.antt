@@ -1,5 +1,5 @@
--- The lines of `police` about cells: the number of the record, the moment, the connection, the cell loss priority, the value that the program
--- gave, the verdict, and by how much the cell comes too early for which bucket.
+-- The lines of `police` about cells: the number of the record, the moment, the connection, the cell loss priority, the
+-- value that the program gave, the verdict, and by how much the cell comes too early for which bucket.
 use Rattle.std.specs.Prelude.{ℕ, nat_lt, Bool, true, false, if◌then◌else◌, List, [], ◌∷◌, ◌++◌, codes, decimal, Option, Some, None, option_and_then}
 use Rattle.card_core.specs.World.{Connection, World, connection_in}
 use Rattle.card_core.specs.declared.answer.Answer.{Answer}
@@ -66,8 +66,8 @@ answer_columns answer.NoMemory excess = codes "-\tNoMemory\t-\t-\n"
 abbrev pub priority_digit : Bool → ℕ
 priority_digit clp = if clp then 1 else 0
 
--- The line of a cell whose record has this number, which arrived at this moment on this connection of a card of this side with this cell loss
--- priority.
+-- The line of a cell whose record has this number, which arrived at this moment on this connection of a card of this
+-- side with this cell loss priority.
 abbrev pub police_line : Side → ℕ → ℕ → Vc → Bool → Answer → Option Excess → List ℕ
 police_line side number moment vc clp given excess =
     in_column (decimal number) ++ (in_column (decimal moment) ++ (in_column (decimal vc.vpi) ++ (in_column (channel_name side vc.vci)

@@ -1,5 +1,5 @@
--- The text of `police`. A script sets up a card, as `upc run` does; its faults are explained, and then nothing is policed. Otherwise the card
--- judges the cells of a capture, at port 0 and in order.
+-- The text of `police`. A script sets up a card, as `upc run` does; its faults are explained, and then nothing is
+-- policed. Otherwise the card judges the cells of a capture, at port 0 and in order.
 use Rattle.std.specs.Prelude.{◌≡◌, ◌≤◌, ◌⊎◌, ℕ, ◌^◌, ◌||◌, Bool, false, if◌then◌else◌, List, [], ◌++◌, codes, length, Option, Some, None, option_map}
 use Rattle.text_io.specs.Words.{is_filled}
 use Rattle.captures.specs.declared.fault.Fault.{Fault}
@@ -34,8 +34,9 @@ use Rattle.cmd_police.specs.TimedLines.{WaitingCommand, octets_before_times, wai
 use Rattle.cmd_police.specs.declared.not_judged.NotJudged.{NotJudged}
 use Rattle.cmd_police.specs.declared.scope.PoliceScope.{PoliceScope}
 
--- The state of a run: which cells have lines, the nanoseconds of a tick, the card, the commands that wait, whether some were carried out, whether
--- the heading of the lines was written, the spans of time, and the cells that were not judged.
+-- The state of a run: which cells have lines, the nanoseconds of a tick, the card, the commands that wait, whether some
+-- were carried out, whether the heading of the lines was written, the spans of time, and the cells that were not
+-- judged.
 pub record PoliceWorld : Type 0 where
   pub lines : CellLines
   pub tick : ℕ
@@ -114,8 +115,8 @@ pub record CarriesOutDue (before : PoliceWorld) (moment : ℕ) (text : List ℕ)
   pub carried : CarriesOutWaiting before.waiting moment before.card text card left
   pub is : after ≡ record before { card = card; waiting = left; commanded = before.commanded || is_filled text }
 
--- A cell arrives in this state: this text answers it, and leads to the next state. If the cell ends a span, the text begins with the lines of
--- that span.
+-- A cell arrives in this state: this text answers it, and leads to the next state. If the cell ends a span, the text
+-- begins with the lines of that span.
 pub record PolicesArrived (before : PoliceWorld) (counted : CountedCell) (text : List ℕ) (next : Option PoliceWorld) : Type 0 where
   pub given : Answer
   pub card : Card
@@ -140,8 +141,8 @@ has_lines_before world = (world.begun || is_begun_after world.spans) || world.co
 abbrev pub police_gap : Bool → List ℕ
 police_gap begun = if begun then codes "\n" else []
 
--- The text at the end: the lines of the last span; an empty line after the lines about cells, spans and commands, if there are any; the table of
--- the connections; the comments; and the fault at which the reading ended.
+-- The text at the end: the lines of the last span; an empty line after the lines about cells, spans and commands, if
+-- there are any; the table of the connections; the comments; and the fault at which the reading ended.
 abbrev pub police_closes : PoliceWorld → PassedOver → Option Fault → List ℕ
 police_closes world passed ending =
     present_text world.spans ++ (police_gap (has_lines_before world) ++ (counts_heading ++ (counts_lines world.card.world

@@ -25,8 +25,8 @@ use Rattle.cmd_police.specs.declared.policed_card.OpenedCard.TheVariants.{Faulty
 use Rattle.cmd_police.specs.declared.policed_card.PolicedCard.{PolicedCard}
 use Rattle.cmd_police.specs.StoredCommands.{ShowsTimed}
 
--- The state: the card, the commands that wait, the lines of those that were carried out, the nanoseconds of a tick, and the cells that were not
--- judged.
+-- The state: the card, the commands that wait, the lines of those that were carried out, the nanoseconds of a tick, and
+-- the cells that were not judged.
 pub record PolicedWorld : Type 0 where
   pub card : Card
   pub waiting : List WaitingCommand
@@ -63,7 +63,8 @@ pub record ShowsPoliced (policed : PolicedCard) (world : PolicedWorld) : Type 0 
   pub tick : policed.tick.nanoseconds ≡ world.tick
   pub not_judged : policed.not_judged ≡ world.not_judged
 
--- The stored card is that of a state to which a script without a fault leads, whose lines have these times, with a tick of this many nanoseconds.
+-- The stored card is that of a state to which a script without a fault leads, whose lines have these times, with a tick
+-- of this many nanoseconds.
 pub record IsOpenedBy (tick : ℕ) (script : List ℕ) (times : List (Option ℕ)) (policed : PolicedCard) : Type 0 where
   pub card : Card
   pub reached : IsSetUpAtTimes script times card

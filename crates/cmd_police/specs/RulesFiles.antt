@@ -23,8 +23,8 @@ pub record IsReadAgain (code : List Instr) : Type 0 where
   pub digits : octets_of_digits (program_digits code) ≡ Some (code_octets code)
   pub spelled : SpellsCode (code_octets code) code
 
--- The text is within the limit, and the code is the one that is defined for it: it is accepted, on every cell the machine gives the value of
--- the text's rules, and it is what its digits are read as.
+-- The text is within the limit, and the code is the one that is defined for it: it is accepted, on every cell the
+-- machine gives the value of the text's rules, and it is what its digits are read as.
 pub record IsProgramOfRules (text : List ℕ) (code : List Instr) : Type 0 where
   pub within : gathered most_rules_octets text ≡ Some text
   pub accepted : IsAccepted code

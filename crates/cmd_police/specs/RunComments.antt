@@ -7,8 +7,8 @@ use Rattle.captures_text.specs.declared.tally.PassedTally.{PassedTally}
 abbrev pub tick_comment : ℕ → List ℕ
 tick_comment nanoseconds = codes "# a tick is " ++ decimal nanoseconds ++ codes " ns\n"
 
--- The comment about lost records, if there are any. A cell that was lost filled no bucket here: a later cell may pass here and be refused on the
--- link, and then one after it may pass there and be refused here.
+-- The comment about lost records, if there are any. A cell that was lost filled no bucket here: a later cell may pass
+-- here and be refused on the link, and then one after it may pass there and be refused here.
 abbrev pub loss_comment : PassedTally → List ℕ
 loss_comment losses =
     if losses.count == 0 then []

@@ -11,15 +11,16 @@ use Rattle.cmd_police.specs.SetupPrograms.{HasPrograms}
 use Rattle.cmd_police.specs.SetupTick.{agreed_tick, ticks_differ}
 use Rattle.cmd_police.specs.TimedLines.{falling_line, falling_text, line_times, without_times}
 
--- The text for a setup script whose lines have these times, which are not in the script any more, the texts of its files of rules and a whole
--- capture, and how the run ends. `IsFault` says which line is the fault line of a text of rules.
+-- The text for a setup script whose lines have these times, which are not in the script any more, the texts of its
+-- files of rules and a whole capture, and how the run ends. `IsFault` says which line is the fault line of a text of
+-- rules.
 abbrev pub IsTimedPolicedBy : (List ℕ → List ℕ → Type 0) → PoliceScope → ℕ → List ℕ → List (Option ℕ) → List (List ℕ) → List ℕ → List ℕ → Done → Type 0
 IsTimedPolicedBy IsFault scope tick setup times texts octets text done =
     (HasFaultyRules IsFault setup texts text × (done ≡ Ended))
     ⊎ ((script : List ℕ) × HasPrograms setup texts script × IsPoliceText scope tick script times octets text done)
 
--- The text for a setup script, the texts of its files of rules and a whole capture, and how the run ends. If the time of a line falls, the text
--- names the line, and nothing is policed.
+-- The text for a setup script, the texts of its files of rules and a whole capture, and how the run ends. If the time
+-- of a line falls, the text names the line, and nothing is policed.
 abbrev pub IsSetupPolicedBy : (List ℕ → List ℕ → Type 0) → PoliceScope → ℕ → List ℕ → List (List ℕ) → List ℕ → List ℕ → Done → Type 0
 IsSetupPolicedBy IsFault scope tick setup texts octets text done = MatchOption (falling_line setup)
     (IsTimedPolicedBy IsFault scope tick (without_times setup) (line_times setup) texts octets text done)
@@ -29,8 +30,8 @@ IsSetupPolicedBy IsFault scope tick setup texts octets text done = MatchOption (
 abbrev pub IsSetupPoliced : PoliceScope → ℕ → List ℕ → List (List ℕ) → List ℕ → List ℕ → Done → Type 0
 IsSetupPoliced = IsSetupPolicedBy IsFaultOfRules
 
--- The same, but that the code of any rules may be reported as too long. Every setup script, texts and capture have such a text, so if a call
--- fails, what was written is the beginning of one.
+-- The same, but that the code of any rules may be reported as too long. Every setup script, texts and capture have such
+-- a text, so if a call fails, what was written is the beginning of one.
 abbrev pub MayBeSetupPoliced : PoliceScope → ℕ → List ℕ → List (List ℕ) → List ℕ → List ℕ → Done → Type 0
 MayBeSetupPoliced = IsSetupPolicedBy MayBeFaultOfRules
 
@@ -39,8 +40,8 @@ abbrev pub AsAgreed : (ℕ → List ℕ → List ℕ → Done → Type 0) → Re
 AsAgreed IsTextAt (Ok tick) octets text done = IsTextAt tick octets text done
 AsAgreed IsTextAt (Err (named, asked)) octets text done = (text ≡ ticks_differ named asked) × (done ≡ Ended)
 
--- The text for a setup script that names this tick, if it names one, the texts of its files of rules, and a whole capture, where this tick is
--- asked for, if one is; and how the run ends.
+-- The text for a setup script that names this tick, if it names one, the texts of its files of rules, and a whole
+-- capture, where this tick is asked for, if one is; and how the run ends.
 abbrev pub IsPolicedAsAgreed : PoliceScope → Option ℕ → Option ℕ → List ℕ → List (List ℕ) → List ℕ → List ℕ → Done → Type 0
 IsPolicedAsAgreed scope named asked setup texts = AsAgreed (λ tick. IsSetupPoliced scope tick setup texts) (agreed_tick named asked)
 

@@ -28,8 +28,8 @@ tick_named (word ∷ time ∷ other ∷ words) = None
 unfoldable pub line_tick : List ℕ → Option ℕ
 line_tick content = tick_named (words_of content)
 
--- The tick that the first of these lines with words names, the place of the first octet of the line, where the lines begin at this place, and
--- the number of its octets without its line feed.
+-- The tick that the first of these lines with words names, the place of the first octet of the line, where the lines
+-- begin at this place, and the number of its octets without its line feed.
 abbrev pub tick_line_in : ℕ → List Line → Option (ℕ × (ℕ × ℕ))
 tick_line_in at [] = None
 tick_line_in at (first ∷ lines) =

@@ -77,8 +77,8 @@ abbrev pub rows_text : Side → Bool → ℕ → List (ℕ × (Vc × Tally)) →
 rows_text side begun begin rows =
     if has_rows rows then (if begun then [] else span_heading) ++ flat_map (span_line side begin) (values_of rows) else []
 
--- The spans of a run: the side of its card, how many ticks each has, if they are written, the present one, those before, the latest first, and whether the heading
--- was written.
+-- The spans of a run: the side of its card, how many ticks each has, if they are written, the present one, those
+-- before, the latest first, and whether the heading was written.
 pub record SpansWorld : Type 0 where
   pub side : Side
   pub ticks : Option ℕ

@@ -31,8 +31,8 @@ count_in_spans vc verdict (span ∷ spans) = count_of (tally_of (verdicts_of vc 
 abbrev pub all_spans : SpansWorld → List TimeSpan
 all_spans spans = spans.present ∷ spans.ended
 
--- The spans of a run without commands add up: what the line of a connection counts after the run is what it counted before, and the counts of
--- the connection in all spans.
+-- The spans of a run without commands add up: what the line of a connection counts after the run is what it counted
+-- before, and the counts of the connection in all spans.
 abbrev pub SpansAddUp : Type 0
 SpansAddUp = (scope : PoliceScope) (nanoseconds tick : ℕ) (card : Card) (cells : List CountedCell) (last : PoliceWorld) → scope.every ≡ Some nanoseconds
     → IsLed card → RunsThrough police_rules (police_start scope tick card []) cells last
@@ -58,8 +58,8 @@ abbrev pub row_of : Vc → List Verdict → Option (Vc × Tally)
 row_of vc [] = None
 row_of vc (verdict ∷ earlier) = Some (vc, in_words (tally_of (verdict ∷ earlier)))
 
--- The rows of a span have, for each connection, the counts of its cells in the span, and none for a connection without cells. A channel has 16
--- bits.
+-- The rows of a span have, for each connection, the counts of its cells in the span, and none for a connection without
+-- cells. A channel has 16 bits.
 abbrev pub RowsCountCells : Type 0
 RowsCountCells = (cells : List JudgedCell) → All (λ cell. cell.vc.vci < 2 ^ 16) cells → (vc : Vc) → vc.vci < 2 ^ 16
     → lookup (is_at (nat_cmp (order_number vc))) (span_rows cells) ≡ row_of vc (verdicts_of vc cells)

@@ -18,7 +18,8 @@ time_named _ = None
 unfoldable pub own_time : List ℕ → Option ℕ
 own_time content = time_named (words_of content)
 
--- The time at which a line is carried out: its own, or that of the line before it. Lines before the first time are carried out before all cells.
+-- The time at which a line is carried out: its own, or that of the line before it. Lines before the first time are
+-- carried out before all cells.
 abbrev pub later_time : Option ℕ → Option ℕ → Option ℕ
 later_time None before = before
 later_time (Some time) before = Some time

@@ -156,8 +156,9 @@ fn files_of_lines(alloc: Global, script: &[u8]) -> Result<Vec<Option<Vec<u8>>>, 
     Ok(files)
 }
 
-/// Returns for each line `rules NAME` of a setup script, in order, the name of the file, or none if that file need not be read: the card
-/// can't have room for its program then, or the run ended before. No file is read for a script whose times fall. docs/LAB.md has the format.
+/// Returns for each line `rules NAME` of a setup script, in order, the name of the file, or none if that file need not
+/// be read: the card can't have room for its program then, or the run ended before. No file is read for a script whose
+/// times fall. docs/LAB.md has the format.
 ///
 /// # Errors
 ///

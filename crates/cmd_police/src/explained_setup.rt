@@ -72,9 +72,9 @@ fn setup_explanation(
     }
 }
 
-/// Writes what `police` would find wrong in a setup script that may name files of rules and times, or its hints and that it has no fault. `texts`
-/// are the octets of these files, in the order of [`files_read`](crate::files_read). The run is Ended if there is a fault, and Whole if there is
-/// none. docs/LAB.md has the format.
+/// Writes what `police` would find wrong in a setup script that may name files of rules and times, or its hints and
+/// that it has no fault. `texts` are the octets of these files, in the order of [`files_read`](crate::files_read). The
+/// run is Ended if there is a fault, and Whole if there is none. docs/LAB.md has the format.
 ///
 /// # Errors
 ///
@@ -122,7 +122,8 @@ fn comments_of_hints(alloc: Global, text: &[u8]) -> Result<Vec<u8>, AllocError>
     Ok(hints)
 }
 
-/// Returns the hints about a setup script without a fault as comments, where `texts` are those of [`explain_setup`]. One with a fault has none.
+/// Returns the hints about a setup script without a fault as comments, where `texts` are those of [`explain_setup`].
+/// One with a fault has none.
 ///
 /// # Errors
 ///

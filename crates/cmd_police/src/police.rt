@@ -46,8 +46,8 @@ fn numbered<T: Copy>(items: &[T], number: u32) -> Option<T>
     items.get(number as usize - 1).copied()
 }
 
-/// Returns the levels of a contract after a cell with this verdict, as far as its excess depends on them: a tagged cell conformed to bucket 1,
-/// and filled it.
+/// Returns the levels of a contract after a cell with this verdict, as far as its excess depends on them: a tagged cell
+/// conformed to bucket 1, and filled it.
 fn met_after(verdict: Verdict, levels: Levels) -> Levels
     ensures first { result.first ≡ first_met verdict levels.first }
     ensures second { result.second ≡ levels.second }

@@ -72,9 +72,9 @@ impl PolicedCard {
         Ok(verdict_in(&decision))
     }
 
-    /// Appends the lines of commands, and what `police` prints after its lines about cells: the table of the connections, the comments about
-    /// cells that were not judged, commands that were not carried out, the tick and records that were passed over, and the fault at which the
-    /// reading ended.
+    /// Appends the lines of commands, and what `police` prints after its lines about cells: the table of the
+    /// connections, the comments about cells that were not judged, commands that were not carried out, the tick and
+    /// records that were passed over, and the fault at which the reading ended.
     #[tactic(auto, using(std::proofs::lemmas::List::append_assoc))]
     pub fn add_report(
         &self,

@@ -102,8 +102,8 @@ pub fn take_tick(script: &mut Vec<u8>) -> Option<Tick>
     Some(found.tick)
 }
 
-/// Returns the tick of a run: the one that the setup script names, or the one that was asked for, or 100 ns. If there are both, they must be
-/// the same.
+/// Returns the tick of a run: the one that the setup script names, or the one that was asked for, or 100 ns. If there
+/// are both, they must be the same.
 ///
 /// # Errors
 ///

@@ -18,8 +18,8 @@ use std::alloc::Global;
 use std::thread::Threads;
 use text_io::{Done, Input, Output, RunFault};
 
-/// Polices the cells of a capture, as [`police_setup`] does, by a setup script whose lines have these times, which are not in the script any
-/// more.
+/// Polices the cells of a capture, as [`police_setup`] does, by a setup script whose lines have these times, which are
+/// not in the script any more.
 fn police_timed<R: Threads, I: Input + Send, O: Output>(
     rt: &R,
     alloc: Global,
@@ -89,9 +89,9 @@ pub fn police_setup<R: Threads, I: Input + Send, O: Output>(
     }
 }
 
-/// Polices the cells of a capture, as [`police_setup`] does, with the tick that the setup script names or the one that was asked for. If they
-/// differ, the output is the fault line about them, and no cell is policed. `setup` is the script without its tick
-/// ([`take_tick`](crate::take_tick)).
+/// Polices the cells of a capture, as [`police_setup`] does, with the tick that the setup script names or the one that
+/// was asked for. If they differ, the output is the fault line about them, and no cell is policed. `setup` is the
+/// script without its tick ([`take_tick`](crate::take_tick)).
 ///
 /// # Errors
 ///

@@ -108,7 +108,7 @@ fn join_ports<'e, 'l, S: Ledgers, R: Threads>(
     }
 }
 
-/// Waits for each thread, and drops its port. There is nothing to say of what is dropped.
+/// Joins each thread, and drops its port.
 fn end_ports<'e, 'l, S: Ledgers, R: Threads>(rt: &R, running: Vec<Running<'e, 'l, S>>) {
     for thread in running {
         let _ = thread.join(rt);

@@ -138,8 +138,8 @@ pub record HasCode (text : List ℕ) : Type 0 where
   pub of_text : IsCodeOfText text code
   pub within : length code ≤ 4096
 
--- The answers to lines of cells by the rules of a text, or its fault. The code isn't needed to decide cells, but a text of rules is one that
--- can be compiled.
+-- The answers to lines of cells by the rules of a text, or its fault. The code isn't needed to decide cells, but a text
+-- of rules is one that can be compiled.
 abbrev pub PrintsDecisions : Bool → List Line → List ℕ → List ℕ → Done → Type 0
 PrintsDecisions counts cells text answer done =
     ((numbered : NumberedRead) × (numbered_in text ≡ Ok numbered) × HasCode text × Prints why_rules 0 (first_world counts numbered) cells answer done)

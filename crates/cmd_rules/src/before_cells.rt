@@ -69,8 +69,8 @@ fn next_octet<I: Input>(input: &mut I) -> Result<Option<u8>, RunFault>
     }
 }
 
-/// Whether a text is over the limit, if its last line begins at a place: the lines before it are, or they are with it and it is too long for
-/// the line `cells`.
+/// Whether a text is over the limit, if its last line begins at a place: the lines before it are, or they are with it
+/// and it is too long for the line `cells`.
 fn is_over(octets: usize, start: usize) -> bool
     ensures over { result ≡ true → (MOST_RULES_OCTETS < start) ⊎ ((MOST_RULES_OCTETS < octets) × (MOST_LINE_OCTETS < octets - start)) }
     ensures lines { result ≡ false → start ≤ MOST_RULES_OCTETS }

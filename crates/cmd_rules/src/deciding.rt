@@ -247,9 +247,10 @@ fn counts_if(alloc: Global, count: bool) -> Option<Counts>
     None
 }
 
-/// Answers an input. The lines before the line `cells` are a text of rules, within its limits; docs/RULES.md has it. Each line after it has a
-/// cell, alone or as a script has it, and its answer is the line of the rule that decides it, and its value. If cells are counted they have no answer, and at the end each
-/// rule has a line with the number of cells that it decided. A text with a fault is answered by the fault.
+/// Answers an input. The lines before the line `cells` are a text of rules, within its limits; docs/RULES.md has it.
+/// Each line after it has a cell, alone or as a script has it, and its answer is the line of the rule that decides it,
+/// and its value. If cells are counted they have no answer, and at the end each rule has a line with the number of
+/// cells that it decided. A text with a fault is answered by the fault.
 ///
 /// # Errors
 ///

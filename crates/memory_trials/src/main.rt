@@ -1,8 +1,8 @@
 //! Makes each call that may fail with NoMemory, and makes it again if it failed.
 //!
 //! Prints one line for each: its name, and whether it succeeded at once or only when it was made again. Anything else
-//! is status 1. `tests/memory-trials` runs this program so that its first allocation fails, then its second, and so on. The program is a test: what
-//! it prints is compared, so few of its functions have a contract.
+//! is status 1. `tests/memory-trials` runs this program so that its first allocation fails, then its second, and so on.
+//! The program is a test: what it prints is compared, so few of its functions have a contract.
 #![tactic(auto)]
 
 mod codes;

@@ -21,7 +21,7 @@ pub(crate) fn above_unit(mask: u32) -> u32
     1u32 << (mask.trailing_zeros() % 32)
 }
 
-/// The test of bits that a comparison of masked bits with a span is, where the lowest bit of the mask counts this.
+/// The equivalent bit test, if there is one. `unit` is the lowest bit of the mask.
 fn bits_in(mask: u32, unit: u32, span: Span) -> Option<BitTest>
     ensures { result ≡ bits_in mask unit span }
 {
@@ -40,7 +40,7 @@ fn bits_in(mask: u32, unit: u32, span: Span) -> Option<BitTest>
     }
 }
 
-/// The test of bits that a comparison of masked bits with a span is, if it is one.
+/// The equivalent bit test, if there is one.
 fn bits_from(mask: u32, span: Span) -> Option<BitTest>
     ensures { result ≡ bits_from mask (above_unit mask) span }
 {
@@ -52,7 +52,7 @@ fn bits_from(mask: u32, span: Span) -> Option<BitTest>
     }
 }
 
-/// The test of bits that a comparison is, if it is one.
+/// The bit test that is equivalent to this comparison, if there is one.
 pub(crate) fn bits_of(mask: Option<u32>, first: Span, others: &[Span]) -> Option<BitTest>
     ensures { result ≡ bits_of mask first others.now }
 {

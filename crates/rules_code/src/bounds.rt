@@ -114,8 +114,8 @@ fn bounded(alloc: Global, part: Part, bound: BoundTest) -> Result<PlainTest, All
     Ok(test)
 }
 
-/// The test that a part is in one of these spans. Where that asks for one bound of the bits from some bit upwards, the octets are
-/// compared without a mask: in a packet each is less than 256.
+/// The test that a part is in one of these spans. One bound on upper bits needs no mask: no octet of a packet is more than
+/// 255.
 pub fn compare(
     alloc: Global,
     part: Part,

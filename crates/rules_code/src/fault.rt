@@ -1,4 +1,4 @@
-//! Why lines have no code.
+//! Why tests have no code.
 
 use std::alloc::AllocError;
 use thiserror::Error;

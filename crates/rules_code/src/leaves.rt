@@ -117,7 +117,7 @@ pub(crate) fn held_to_compare(
     }
 }
 
-/// What is known of A where two ways join that leave this in it.
+/// What is known of A after two paths join, from what is known at the end of each.
 pub(crate) fn left_at_join(one: Option<Part>, other: Option<Part>) -> Option<Part>
     ensures { result ≡ left_at_join one other }
 {

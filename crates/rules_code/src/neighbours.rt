@@ -1,4 +1,4 @@
-//! Two comparisons of neighbouring bits as one, and the test that each of several holds.
+//! Merges comparisons of adjacent bits, and builds conjunctions.
 
 ghost use Rattle.std.specs.Prelude.{◌≡◌, [], ◌∷◌, ◌++◌, IfOk};
 ghost use Rattle.rules_code.specs.Neighbours.{AreParts, IsAllOf, IsSingle, are_neighbours, joined_by, joined_single, single_of};
@@ -10,7 +10,7 @@ use crate::plain_test::PlainTest;
 use std::alloc::{AllocError, Global};
 use std::mem;
 
-/// The comparison of masked bits with one span that a test is, if it is one.
+/// The test as a comparison with one span, if it is one.
 fn single_of(test: &PlainTest) -> Option<Single>
     ensures { result ≡ single_of test.now }
 {
@@ -37,7 +37,7 @@ fn single_of(test: &PlainTest) -> Option<Single>
     }
 }
 
-/// Whether the first has one number, and its bits are above those of the second in the same octets.
+/// Whether `high` compares with one value, and its bits are above those of `low` in the same octets.
 fn are_neighbours(high: Single, low: Single) -> bool
     ensures { result ≡ are_neighbours high low }
 {
@@ -51,7 +51,7 @@ fn are_neighbours(high: Single, low: Single) -> bool
         && low.span.high < unit
 }
 
-/// The comparison that the comparisons of neighbours are together.
+/// Merges two comparisons of adjacent bits.
 fn joined_by(high: Single, low: Single) -> Single
     ensures { result ≡ joined_by high low }
 {
@@ -65,7 +65,7 @@ fn joined_by(high: Single, low: Single) -> Single
     }
 }
 
-/// The one comparison that two tests are together, if they are neighbours.
+/// Merges two tests if they compare adjacent bits.
 fn joined_single(one: &PlainTest, other: &PlainTest) -> Option<Single>
     ensures { result ≡ joined_single one.now other.now }
 {
@@ -98,8 +98,7 @@ fn compared(alloc: Global, single: Single) -> PlainTest
     }
 }
 
-/// The parts that a test and those after it make, each joined to the one before it if they are neighbours: those before
-/// the last, and the last.
+/// Merges adjacent comparisons, from left to right. The last part is returned by itself.
 fn parts_of(
     alloc: Global,
     first: PlainTest,
@@ -118,9 +117,9 @@ fn parts_of(
     Ok((parts, last))
 }
 
-/// The test that each of these tests holds. Comparisons of neighbouring bits, as those of a path and of a channel, become
-/// one. A test that is left alone is itself. If there is none, the test always holds. It isn't inlined: callers call themselves for tests
-/// in tests, and each of their frames would have room for this.
+/// The conjunction of these tests, in which comparisons of adjacent bits, as those of a path and of a channel, are merged.
+/// Of one test it is that test; of none it always holds. It isn't inlined: its callers are recursive, and this would enlarge
+/// each of their frames.
 #[inline(never)]
 pub fn all_of(alloc: Global, tests: Vec<PlainTest>) -> Result<PlainTest, AllocError>
     ensures { IfOk result (IsAllOf tests.items) }

@@ -18,7 +18,7 @@ pub struct Part {
     ghost inside: { at + octets_loaded size ≤ 52 },
 }
 
-/// The numbers from the lowest to the highest, both among them.
+/// An inclusive range of numbers.
 #[derive(Clone, Copy, Debug, PartialEq, Eq)]
 pub struct Span {
     /// The lowest number.

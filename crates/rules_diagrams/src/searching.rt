@@ -19,8 +19,8 @@ use rules_cells::{RuleLine, Rules, laws};
 use std::alloc::{AllocError, Global};
 use std::collections::BTreeSet;
 
-/// The most work of a search, in steps: one for each node there is, for each rule that is found to decide no cell, and some for each rule that
-/// is named with it. It bounds time and memory where many rules decide no cell.
+/// The most work of a search, in steps: one for each node there is, for each rule that is found to decide no cell, and
+/// some for each rule that is named with it. It bounds time and memory where many rules decide no cell.
 const MOST_WORK: u64 = 268_435_456;
 
 /// The work of a rule that is named with another. So at most 4,194,304 are.
@@ -114,8 +114,8 @@ fn keep(unused: &mut Vec<Unused>, found: Option<Unused>) -> Result<(), AllocErro
 ///
 /// # Errors
 ///
-/// `TooLarge` if there are too many cases to decide, as for [`compare`](crate::compare), or if the search would take too long; `NoMemory` if an
-/// allocation failed.
+/// `TooLarge` if there are too many cases to decide, as for [`compare`](crate::compare), or if the search would take
+/// too long; `NoMemory` if an allocation failed.
 pub fn unused_rules(alloc: Global, rules: &Rules) -> Result<Vec<Unused>, Undecided>
     ensures { IfOk result (λ unused. AreUnused rules.now unused.items) }
 {

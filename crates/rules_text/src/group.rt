@@ -126,8 +126,7 @@ fn one_more_of_any(tests: Vec<Test>, test: Test) -> Result<Test, AllocError>
     Ok(Test::AnyOf(one_more(tests, test)?))
 }
 
-/// The test that all parts hold, and one more. A test that each of several holds has one more then, so that a chain is one
-/// list, however long it is.
+/// `parts and test`, or `test` if there are no parts. A chain of `and` is one list, however long it is.
 fn conjoined(alloc: Global, parts: Option<Test>, test: Test) -> Result<Test, AllocError>
     ensures { IfOk result (λ both. test_read both ≡ both_of (some_test_seen parts) (test_read test)) }
 {
@@ -137,7 +136,7 @@ fn conjoined(alloc: Global, parts: Option<Test>, test: Test) -> Result<Test, All
     }
 }
 
-/// The test that the parts hold, and one more: of a chain of `and` that is one list, of any other test a list of two.
+/// `parts and test`. An `AllOf` gets one more test; any other test becomes the first of a list of two.
 fn joined(alloc: Global, parts: Test, test: Test) -> Result<Test, AllocError>
     ensures { IfOk result (λ both. test_read both ≡ joined_by_and (test_read parts) (test_read test)) }
 {

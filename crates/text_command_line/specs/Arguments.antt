@@ -17,7 +17,8 @@ abbrev pub default_values : Option Text → List Text
 default_values None = []
 default_values (Some value) = value ∷ []
 
--- The argument of this name: an option `--NAME VALUE`, or a word that isn't an option. It may have a value if it isn't given, or be required.
+-- The argument of this name: an option `--NAME VALUE`, or a word that isn't an option. It may have a value if it isn't
+-- given, or be required.
 abbrev pub argument_rule : Text → Bool → Option Text → Bool → Rule
 argument_rule name is_option default required = record (new_rule name) {
   long = if is_option then Some name else None;

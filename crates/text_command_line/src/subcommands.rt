@@ -45,9 +45,10 @@ pub struct Row<T> {
     pub means: T,
 }
 
-/// Reads the words after the name of a program. The one word is the name of a row, and the answer is what that row means;
-/// None if there is no word. The forms of help that `clap` has request help, and `--version` and `-V` the version. Any other word and any further word is an error.
-/// As everywhere in `clap`, `--` ends the options and isn't a word itself, so it may be last.
+/// Reads the words after the name of a program. The one word is the name of a row, and the answer is what that row
+/// means; None if there is no word. The forms of help that `clap` has request help, and `--version` and `-V` the
+/// version. Any other word and any further word is an error. As everywhere in `clap`, `--` ends the options and isn't a
+/// word itself, so it may be last.
 pub fn row_of_words<T: Copy>(
     alloc: Global,
     program: &Program,

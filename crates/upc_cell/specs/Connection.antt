@@ -5,8 +5,9 @@ use Rattle.upc_cell.specs.declared.side.Side.{Side}
 use Rattle.upc_cell.specs.declared.vc.Vc.{Vc}
 use Rattle.upc_cell.specs.Side.{vci_at, vpi_at}
 
--- The path and the channel of the header, read at this side; where connections are virtual paths, the channel is 0. A path read from octets is at most 4095, so the
--- remainder changes nothing; it is there because the definition takes any list of numbers.
+-- The path and the channel of the header, read at this side; where connections are virtual paths, the channel is 0. A
+-- path read from octets is at most 4095, so the remainder changes nothing; it is there because the definition takes any
+-- list of numbers.
 abbrev pub vc_of : Side → List ℕ → Vc
 vc_of side octets = record {
   vpi = vpi_at side octets % 4096;

@@ -10,8 +10,8 @@ use Rattle.text_command_line.specs.ExitStatus.{status_of}
 use Rattle.text_command_line.specs.Messages.{WritesMessage}
 use Rattle.cmd_forward.specs.Reporting.{HasReportedText, ReportedTexts}
 
--- After a run the output grew by a text of the whole input, and what is reported with it was written to the error output. After a failed run
--- only the message of its fault was.
+-- After a run the output grew by a text of the whole input, and what is reported with it was written to the error
+-- output. After a failed run only the message of its fault was.
 abbrev pub ReportsRun : {Source Sink Errors : Type 0} → (RunFault → List ℕ) → ReportedTexts → InputView Source → Source
     → OutputView Sink → Sink → Sink → OutputView Errors → Errors → Errors → Result Done RunFault → Type 0
 ReportsRun message IsText I input O output output' E errors errors' (Ok done) =

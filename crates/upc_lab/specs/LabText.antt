@@ -76,9 +76,10 @@ kinds_asked which.Old = record { old = Program; new = Rules }
 kinds_asked which.New = record { old = Rules; new = Program }
 kinds_asked which.Both = record { old = Program; new = Program }
 
--- The output for the octets of the files that the words name, which are a setup script, with the tick that it names, files of rules and an old
--- text of `differ` or the rules of `fit`, and for a whole input, and how the run ends. Only `police` and `forward` have the first three, and only
--- `differ` and `fit` the last. `explain` is the one without `--setup`, with which it reads no input (`CarriesExplained`).
+-- The output for the octets of the files that the words name, which are a setup script, with the tick that it names,
+-- files of rules and an old text of `differ` or the rules of `fit`, and for a whole input, and how the run ends. Only
+-- `police` and `forward` have the first three, and only `differ` and `fit` the last. `explain` is the one without
+-- `--setup`, with which it reads no input (`CarriesExplained`).
 abbrev pub IsAskedText : List ℕ → Option ℕ → List (List ℕ) → List ℕ → Asked → List ℕ → List ℕ → Done → Type 0
 IsAskedText setup tick rules old (Plain subcommand) = IsLabText subcommand
 IsAskedText setup tick rules old (Why options) = MayBeWhyText options.count

@@ -22,7 +22,8 @@ use Rattle.upc_lab.specs.declared.choice.Subcommand.TheVariants as lab
 use Rattle.upc_lab.specs.declared.help_words.WithOptions.{WithOptions}
 use Rattle.upc_lab.specs.declared.help_words.WithOptions.TheVariants as own
 
--- The name of each subcommand without options: those for rules, those for programs, that for contracts, and that for the links of a capture.
+-- The name of each subcommand without options: those for rules, those for programs, that for contracts, and that for
+-- the links of a capture.
 abbrev pub lab_subcommands : List (Text × Subcommand)
 lab_subcommands =
     (codes "rules", lab.Rules) ∷ (codes "asm", lab.Asm) ∷ (codes "unused", lab.Unused) ∷ (codes "list", lab.List)
@@ -34,8 +35,8 @@ own_subcommands =
     (codes "why", own.Why) ∷ (codes "cells", own.Cells) ∷ (codes "fit", own.Fit) ∷ (codes "police", own.Police)
     ∷ (codes "forward", own.Forward) ∷ (codes "differ", own.Differ) ∷ (codes "explain", own.Explain) ∷ []
 
--- Each subcommand of the command. Those with options, which mean nothing here, have a command of their own: words that begin with the name of
--- one are read by it.
+-- Each subcommand of the command. Those with options, which mean nothing here, have a command of their own: words that
+-- begin with the name of one are read by it.
 abbrev pub lab_table : List (Text × Option Subcommand)
 lab_table =
     map (λ row. (row.0, Some row.1)) lab_subcommands ++ map (λ row. (row.0, None)) own_subcommands

@@ -1,5 +1,5 @@
--- What the program does with the files that the words name: a setup script and the files of rules that it names, an old text of `differ`, or the
--- rules of `fit`.
+-- What the program does with the files that the words name: a setup script and the files of rules that it names, an old
+-- text of `differ`, or the rules of `fit`.
 use Rattle.std.specs.Prelude.{◌≡◌, ◌⊎◌, ◌==◌, IsTrue, if◌then◌else◌, ℕ, List, [], ◌++◌, Option, Some, None, MatchBool, MatchOption, Bool, true, false, Result, Ok, Err, codes, is_some, length, not, option_map}
 use Rattle.std.specs.Path.{path_with_file_name}
 use Rattle.std.specs.Str.{bytes_eq}
@@ -205,8 +205,8 @@ CarriesOther message chosen files I input input' O output output' E errors error
     (CarriesPlain message chosen files I input input' O output output' E errors errors' status)
     (λ options. CarriesForward message (ForwardsAsked files options) (MayForwardAsked files options) I input input' O output output' E errors errors' status)
 
--- The effect of the program for its words, which don't ask that a setup script is explained, and for the octets of the files that they name, which
--- were read, with these messages for failures.
+-- The effect of the program for its words, which don't ask that a setup script is explained, and for the octets of the
+-- files that they name, which were read, with these messages for failures.
 abbrev pub CarriesWith : {Source Sink Errors : Type 0} → (RunFault → List ℕ) → Result Asked Stop → SetupFiles
     → InputView Source → Source → Source → OutputView Sink → Sink → Sink → OutputView Errors → Errors → Errors → ℕ → Type 0
 CarriesWith message chosen files I input input' O output output' E errors errors' status = MatchOption (differ_in chosen)
@@ -220,8 +220,8 @@ CarriesNamed message chosen files I input input' O output output' E errors error
     (CarriesExplained message files.script.items (rules_in_files files) I input input' O output output' E errors errors' status)
     (CarriesWith message chosen files I input input' O output output' E errors errors' status)
 
--- The same. If the words name a setup script, the hints about its files of rules are first written to the error output, and those about the script
--- itself, unless it is explained.
+-- The same. If the words name a setup script, the hints about its files of rules are first written to the error output,
+-- and those about the script itself, unless it is explained.
 abbrev pub CarriesHinted : {Source Sink Errors : Type 0} → (RunFault → List ℕ) → Result Asked Stop → SetupFiles
     → InputView Source → Source → Source → OutputView Sink → Sink → Sink → OutputView Errors → Errors → Errors → ℕ → Type 0
 CarriesHinted {Errors = Errors} message chosen files I input input' O output output' E errors errors' status = MatchOption (setup_name chosen)

@@ -36,7 +36,8 @@ AreFilesHints before (file ∷ files) (text ∷ texts) hints =
 abbrev pub AreOwnHints : Bool → List ℕ → List (List ℕ) → List ℕ → Type 0
 AreOwnHints wanted script texts hints = MatchBool wanted (AreHintsOfSetup script texts hints) (hints ≡ [])
 
--- The hints about the files of rules that a setup script names, with these texts, and then those about the script itself, if they are wanted.
+-- The hints about the files of rules that a setup script names, with these texts, and then those about the script
+-- itself, if they are wanted.
 abbrev pub AreSetupHints : Bool → List ℕ → List (List ℕ) → List ℕ → Type 0
 AreSetupHints own script texts hints =
     (first more : List ℕ) × AreFilesHints [] (files_read script) texts first × AreOwnHints own script texts more × (hints ≡ first ++ more)

@@ -152,9 +152,9 @@ const SUBCOMMANDS: [Row<Option<Subcommand>>; 14] = [
     },
 ];
 
-/// Reads the words after the program's name: the name of a subcommand with options and these, or the name of another subcommand. The forms of
-/// help that `clap` has request help. Any other word, any further word and no word is an error. As everywhere in `clap`, `--` ends the
-/// options and isn't a word itself, so it may be last.
+/// Reads the words after the program's name: the name of a subcommand with options and these, or the name of another
+/// subcommand. The forms of help that `clap` has request help. Any other word, any further word and no word is an
+/// error. As everywhere in `clap`, `--` ends the options and isn't a word itself, so it may be last.
 pub fn choose(alloc: Global, words: Vec<String>) -> Result<Asked, Stop>
     ensures asked { IfOk result (AsksLab (map string_bytes words.items)) }
     // Words that begin with no name of a subcommand with options are read without an error if and only if clap finds none in them.

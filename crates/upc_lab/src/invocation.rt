@@ -456,8 +456,8 @@ fn forward_in(chosen: &Result<Asked, Stop>) -> Option<&ForwardOptions>
     }
 }
 
-/// Writes the records of the capture that go on, and then what is reported of the run to the error output, and returns the exit status. A failure
-/// gets a message.
+/// Writes the records of the capture that go on, and then what is reported of the run to the error output, and returns
+/// the exit status. A failure gets a message.
 fn carry_out_forward<I: Ahead + Reasoned, O: Output + Reasoned, E: Output>(
     alloc: Global,
     options: &ForwardOptions,
@@ -509,8 +509,8 @@ fn carry_out_other<R: Threads, I: Ahead + Reasoned + Send, O: Output + Reasoned,
     }
 }
 
-/// Does what words that ask for no explanation of a setup script ask for, with the files that they name, and returns the exit status. A comparison
-/// has one of its own.
+/// Does what words that ask for no explanation of a setup script ask for, with the files that they name, and returns
+/// the exit status. A comparison has one of its own.
 fn carry_out_read<R: Threads, I: Ahead + Reasoned + Send, O: Output + Reasoned, E: Output>(
     rt: &R,
     alloc: Global,
@@ -603,8 +603,9 @@ fn carry_out_named<R: Threads, I: Ahead + Reasoned + Send, O: Output + Reasoned,
     }
 }
 
-/// Does what the words ask for, with the files that they name, and returns the exit status. If they name a setup script, it first writes the
-/// hints about its files of rules, and about the script itself unless it is explained, to the error output.
+/// Does what the words ask for, with the files that they name, and returns the exit status. If they name a setup
+/// script, it first writes the hints about its files of rules, and about the script itself unless it is explained, to
+/// the error output.
 fn carry_out_hinted<R: Threads, I: Ahead + Reasoned + Send, O: Output + Reasoned, E: Output>(
     rt: &R,
     alloc: Global,

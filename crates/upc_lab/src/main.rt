@@ -40,8 +40,9 @@ use std::process::ExitCode;
 use text_command_line::{OfProcess, Stop, status, words_after_name};
 use text_io::{RunFault, WriterOutput};
 
-/// Standard input with a buffer, which has no room if no memory is left. `why` takes an octet at a time, so that it takes nothing after the line
-/// `cells`; the buffer saves it a call of the system for each. A larger piece is read past the buffer.
+/// Standard input with a buffer, which has no room if no memory is left. `why` takes an octet at a time, so that it
+/// takes nothing after the line `cells`; the buffer saves it a call of the system for each. A larger piece is read past
+/// the buffer.
 fn buffered<D: Read + Drop>(alloc: Global, device: D, again: D) -> Result<BufReader<D>, RunFault> {
     match BufReader::new(alloc, device) {
         Ok(reader) => Ok(reader),

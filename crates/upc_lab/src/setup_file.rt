@@ -1,4 +1,5 @@
-//! The files that the words name: the setup script of `police` and the rules that it names, the old rules of `differ`, and the rules of `fit`.
+//! The files that the words name: the setup script of `police` and the rules that it names, the old rules of `differ`,
+//! and the rules of `fit`.
 
 ghost use Rattle.std.specs.Prelude.{◌≡◌, ◌⊎◌, IfErr, IfOk, IfSome, IsOkAnd, None, []};
 ghost use Rattle.std.specs.Path.{path_with_file_name};
@@ -390,8 +391,9 @@ fn read_old_shown<R: Files + AllocGlobal, C: CommandLine>(
     }
 }
 
-/// Reads the files that the words name: the setup script of `police`, `forward` or `explain` and the files of rules that it names, the old text of
-/// `differ`, or the rules of `fit`. Other words name none. `line` is the command line of these words.
+/// Reads the files that the words name: the setup script of `police`, `forward` or `explain` and the files of rules
+/// that it names, the old text of `differ`, or the rules of `fit`. Other words name none. `line` is the command line of
+/// these words.
 ///
 /// No contract is about the octets of a file. A script is read up to a line over the limits, and a file of rules up to its limit and an
 /// octet more. A file of rules isn't read if no program of it could be loaded ([`files_read`]), and it is read once for all lines that name

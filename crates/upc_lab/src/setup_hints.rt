@@ -144,8 +144,9 @@ fn setup_hints(
     Ok(hints)
 }
 
-/// Returns the hints about a setup script as comments: those about the files of rules that it names, each with the name of its file, and those about
-/// the script itself, if they are wanted. A file that several lines name has its hints once.
+/// Returns the hints about a setup script as comments: those about the files of rules that it names, each with the name
+/// of its file, and those about the script itself, if they are wanted. A file that several lines name has its hints
+/// once.
 pub(crate) fn setup_comments(alloc: Global, own: bool, files: &SetupFiles) -> Comments
     ensures { MayBeSetupHints own files.now.script.items (rules_in_files files.now) (text_of_comments result) }
 {

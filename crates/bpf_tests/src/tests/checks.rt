@@ -208,7 +208,7 @@ fn jumps_reach_as_far_as_the_code(rt: HostRuntime) -> Result<(), Fail> {
     ] {
         let code = before(rt.alloc(), first, Instr::RetK(1), returns)?;
         let found = (returns, fault_in(code));
-        expect(&rt, "before so many returns", found, (returns, fault));
+        expect(&rt, "before this many returns", found, (returns, fault));
     }
     Ok(())
 }
@@ -219,7 +219,7 @@ fn the_longest_code_has_4096_instructions(rt: HostRuntime) -> Result<(), Fail> {
         let mut code = [Instr::Jump(0)].repeat(rt.alloc(), jumps)?;
         code.push(Instr::RetK(7))?;
         let found = (jumps, fault_in(code));
-        expect(&rt, "after so many jumps", found, (jumps, fault));
+        expect(&rt, "after this many jumps", found, (jumps, fault));
     }
     Ok(())
 }

@@ -113,8 +113,8 @@ CameAhead going.On before near after cells = WentOn (with_window before near) af
 CameAhead going.Wants before near after cells = (near ≡ before.window) × (after ≡ before) × (cells ≡ [])
 CameAhead going.Ended before near after cells = Unit {0}
 
--- From this world, the answers grew by a text that leads to a sound world that is shown. Any text for the cells and the octets that wait after
--- it completes a text for those that waited before it.
+-- From this world, the answers grew by a text that leads to a sound world that is shown. Any text for the cells and the
+-- octets that wait after it completes a text for those that waited before it.
 pub record Advances {World : Type 0} (rules : CellRules World) (before : ReadingAhead) (cells : List CountedCell) (world : World) (after : ReadingAhead)
     (cells' : List CountedCell) (shown : World → Type 0) (old new : List ℕ) : Type 0 where
   pub here : List ℕ
@@ -147,8 +147,9 @@ abbrev pub CameToQueue : {World : Type 0} → CellRules World → (World → Typ
 CameToQueue rules shown0 shown reading0 reading cells Known Held rest0 rest before now waiting = OfEachWorld rules shown0
     (λ first. ReachesQueue rules shown reading0 reading cells first Known Held rest0 rest before now waiting)
 
--- From the worlds that were shown, the run went on through more octets, which were read after those that wait: as it came before these were read, and
--- then from there on. At the end of the input the cells that waited are answered, and none waits.
+-- From the worlds that were shown, the run went on through more octets, which were read after those that wait: as it
+-- came before these were read, and then from there on. At the end of the input the cells that waited are answered, and
+-- none waits.
 pub record FillsAhead {World : Type 0} (rules : CellRules World) (shown shown' : World → Type 0) (Known : Type 0) (rest rest' : List ℕ)
     (before : ReadingAhead) (cells : List CountedCell) (how : Going) (after : ReadingAhead) (cells' : List CountedCell) (old new : List ℕ) : Type 0 where
   pub near : List ℕ

@@ -10,7 +10,8 @@ use Rattle.text_io.specs.declared.ending.Done.TheVariants.{Ended}
 use Rattle.text_io.specs.declared.machine.Turn.{Turn}
 use Rattle.text_io.specs.declared.machine.Turn.TheVariants.{GoesOn, Ends}
 
--- From this world, the text answers these cells in order, and leads to the last world: any text for what follows, from there on, completes it.
+-- From this world, the text answers these cells in order, and leads to the last world: any text for what follows, from
+-- there on, completes it.
 abbrev pub StepsThrough : {World : Type 0} → CellRules World → World → List CountedCell → List ℕ → World → Type 0
 StepsThrough rules world cells here last = (later : List CountedCell) (end : CellsEnd) (more : List ℕ) (done : Done)
     → IsTextOfCells rules last later end more done → IsTextOfCells rules world (cells ++ later) end (here ++ more) done

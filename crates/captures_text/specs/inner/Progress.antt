@@ -6,9 +6,10 @@ use Rattle.text_io.specs.declared.ending.Done.{Done}
 abbrev pub Texts : Type 1
 Texts = List ℕ → List ℕ → Done → Type 0
 
--- The state of a run that began with these octets near, before a rest that was not read yet. Now these are near, and the rest is that; `waiting`
--- is what remains to be written of the output so far. The output held `before` at the start and holds `now`. Whatever follows what
--- is near: a text that answers them from here completes a text that answers the whole.
+-- The state of a run that began with these octets near, before a rest that was not read yet. Now these are near, and
+-- the rest is that; `waiting` is what remains to be written of the output so far. The output held `before` at the start
+-- and holds `now`. Whatever follows what is near: a text that answers them from here completes a text that answers the
+-- whole.
 pub record CaptureProgress (Whole Here : Texts) (Known Held : Type 0) (near0 rest0 near rest before now waiting : List ℕ) : Type 0 where
   pub answered : List ℕ
   pub printed : List ℕ

@@ -161,7 +161,7 @@ fn batches_with_desk_calls_between_are_decided_as_by_one_card(rt: HostRuntime) -
     Ok(())
 }
 
-/// Expects that a shelf of so many cards decides as one card.
+/// Expects that a shelf of this many cards decides as one card.
 fn expect_alike<R: Threads + Sync + Abort>(
     rt: &R,
     alloc: Global,

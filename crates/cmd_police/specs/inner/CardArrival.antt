@@ -8,8 +8,8 @@ use Rattle.cmd_run.specs.RunText.{Card, IsLed, TakesCommand}
 use Rattle.text_script.specs.ScriptCommands.{cut}
 use Rattle.cmd_police.specs.PoliceText.{TakesCell, TakesCellWithRoom}
 
--- For each card that a log leads to and that the core agrees with: the cell has this answer, and the core then agrees with the card after it.
--- There is no answer only if there is no such card.
+-- For each card that a log leads to and that the core agrees with: the cell has this answer, and the core then agrees
+-- with the card after it. There is no answer only if there is no such card.
 abbrev pub ArrivesBy : (Card → Answer → Card → Type 0) → CoreView → Option Answer → CoreView → Type 0
 ArrivesBy Takes old given new = (before : Card) → IsLed before → CoreAgrees old before.world
     → (answer : Answer) × (given ≡ Some answer) × (after : Card) × Takes before answer after × CoreAgrees new after.world

@@ -95,7 +95,7 @@ const LIMITS: [(usize, u64, Option<u8>, &[u8], Done); 5] = [
 fn first_of(alloc: Global, count: usize) -> Result<Vec<u8>, Fail> {
     match RECORDS.get(..count) {
         Some(records) => Ok(capture_of(alloc, records)?),
-        None => Err(Fail::new("not so many")),
+        None => Err(Fail::new("another number")),
     }
 }
 

@@ -196,8 +196,8 @@ pub(crate) const UNREAD_TIMES: PacketTimes = PacketTimes {
     unit: None,
 };
 
-/// The format of such a file, in nanoseconds if the highest octets come first, and otherwise in microseconds. The times of its packets aren't
-/// read.
+/// The format of such a file, in nanoseconds if the highest octets come first, and otherwise in microseconds. The times
+/// of its packets aren't read.
 fn pcap_format(order: Order) -> Format {
     let resolution = match order {
         Order::HighestFirst => 9,

@@ -1,5 +1,5 @@
--- Loop invariant: any text for what is left, from where the reading is, is one for the whole. The loop ends: each frame brings the reader nearer to the
--- last place, by more than a window holds, and each reading makes the window longer.
+-- Loop invariant: any text for what is left, from where the reading is, is one for the whole. The loop ends: each frame
+-- brings the reader nearer to the last place, by more than a window holds, and each reading makes the window longer.
 use Rattle.std.proofs.Common.{◌≡◌, ◌-◌, ◌*◌, ◌^◌, ◌≤◌, ◌<◌, length}
 use Rattle.cmd_fit.proofs.LinksProgress.{ReadTo}
 use Rattle.cmd_fit.proofs.links_driver.read_on.Given as goal

@@ -1,5 +1,5 @@
--- Loop invariant: from each world that was shown at first, what was written, what waits to be written, and any text for what is left, from a world that is
--- shown, are a text for the whole. Nothing was reported.
+-- Loop invariant: from each world that was shown at first, what was written, what waits to be written, and any text for
+-- what is left, from a world that is shown, are a text for the whole. Nothing was reported.
 use Rattle.std.proofs.Common.{◌≡◌, ◌-◌, ◌*◌, ◌^◌, ◌≤◌, ◌<◌, length}
 use Rattle.cmd_forward.specs.inner.ForwardSteps.{ForwardedTo}
 use Rattle.cmd_forward.proofs.driver.forward_on.Given as goal
@@ -17,6 +17,7 @@ invariant-loop-written g l =
           (g.I.Input.rest l.fn.input) (g.I.Input.rest l.input) (g.O.Output.held l.fn.output) (g.O.Output.held l.output) l.written.items;
     }
 
--- The loop ends: each frame brings the reader nearer to the last place, by more than a window holds, and each reading makes the window longer.
+-- The loop ends: each frame brings the reader nearer to the last place, by more than a window holds, and each reading
+-- makes the window longer.
 abbrev pub decreases-loop-written : goal.decreases-loop-written
 decreases-loop-written g l = (2 ^ 64 - l.reading.reader.at) * 600000 - length l.reading.window

@@ -100,7 +100,7 @@ fn records_in_pcapng_files(rt: HostRuntime) -> Result<(), Fail> {
     Ok(())
 }
 
-/// Expects that this comes next after the blocks of a file, as far as there are three, and that the reader comes to this number and place.
+/// Expects that this comes next after the blocks of a file, as far as there are three, and that the reader stops at this number and place.
 fn expect_read(rt: &impl Abort, octets: &[u8], wanted: &Next<'_>, count: u64, at: u64) {
     let (reader, found) = read_blocks(octets);
     expect(rt, "what comes next", &found, wanted);

@@ -39,7 +39,7 @@ pub fn first_octet(record: &Record<'_>) -> Result<u8, NoCell> {
     }
 }
 
-/// Expects that a reader comes to this number and place.
+/// Expects that the reader stops at this number and place.
 pub fn expect_reader(rt: &impl Abort, reader: &Reader, count: u64, at: u64) {
     expect(rt, "the reader", (reader.count, reader.at), (count, at));
 }
