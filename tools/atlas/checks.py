@@ -204,6 +204,22 @@ def applied(sources):
                 yield f"{path}: it can't be applied"
 
 
+def is_there(crate, test):
+    """Returns whether a crate has this test, such as tests::lines::NAME."""
+    *modules, name = test.split("::")
+    path = f"crates/{crate}/src/{'/'.join(modules)}.rt"
+    return exists(path) and re.search(rf"^fn {name}\b", text_of(path), re.M) is not None
+
+
+def caught(sources):
+    """Yields each wrong body that only tests find whose test isn't in the crate that it names."""
+    for crate in sources.crates:
+        for path in files_below(f"crates/{crate}/must-fail-by-test", ".patch"):
+            fields = dict(re.findall(r"^(Crate|Test): (.+)$", text_of(path), re.M))
+            if not is_there(fields["Crate"], fields["Test"]):
+                yield f"{path}: {fields['Crate']} has no test {fields['Test']}"
+
+
 def differing(listed, asked):
     """Yields each package that a check asks for and that isn't listed for it, and the other way round. Both are sets of a package and a check."""
     for package, check in sorted(asked - listed):
@@ -223,7 +239,7 @@ def packaged(sources):
     yield from differing(listed, asked)
 
 
-CHECKS = (comments, turned, defined, meant, linked, named, placed, failed, coded, layered, explained, applied, packaged)
+CHECKS = (comments, turned, defined, meant, linked, named, placed, failed, coded, layered, explained, applied, caught, packaged)
 
 
 def checked(sources):

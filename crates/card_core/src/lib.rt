@@ -6,6 +6,7 @@ mod answer;
 mod ask;
 mod connection_state;
 mod desk;
+mod desk_lines;
 mod fault;
 mod inspection;
 mod judging;

@@ -5,6 +5,7 @@ ghost use Rattle.std.specs.Prelude.{◌≡◌, ℕ};
 use crate::answer::{Answer, Judgement, Unjudged};
 use crate::ask::Ask;
 use crate::desk;
+use crate::desk_lines::{cut_line, free_lines, release_line, setup_line};
 use crate::fault::{CardFault, DeskFault};
 use crate::judging::{drop_if_long, judge_without_cell};
 use crate::picking::{Store, name, pick};
@@ -18,7 +19,7 @@ use crate::shape::{Shape, refusal};
 use crate::step::Step;
 use bpf_verify::Program;
 use gen_arena::{Arena, Id};
-use line_record::{Directory, Line, MOST_ENTRIES, Owner, Piece, Seating};
+use line_record::{Directory, Line, Owner, Piece, Seating};
 use std::alloc::Global;
 use std::marker::Model;
 use upc_cell::{Cell, Side, Vc};
@@ -404,31 +405,10 @@ impl Core {
     }
 }
 
-ghost use Rattle.std.specs.Prelude.{◌<◌, ◌≤◌, ◌≢◌, ◌^◌, false, length, replicate, None, Some, Err, IfSome, IfOk, OnErr, MatchResult};
+ghost use Rattle.std.specs.Prelude.{◌<◌, ◌≢◌, length, IfOk, OnErr, MatchResult};
 ghost use Rattle.card_core.specs.Sections.{answer_to, unjudged_answer};
-ghost use Rattle.line_record.specs.Tally.{nothing};
-ghost use Rattle.line_record.specs.Line.{free_line};
-ghost use Rattle.line_record.specs.Directory.{seating_at, IsOpenLine};
 ghost use Rattle.upc_cell.specs.Connection.{vc_of};
-ghost use Rattle.card_core.specs.inner.Parts.{IsFound, IsMissed, ChangesLine, JudgesOrRefuses, SetsUpOrRefuses, ReleasesOrRefuses, CutsOrRefuses, DropsIfLong, HasRoomFor};
-
-/// Makes `many` free lines, each with a journal of `journal` entries. Returns None if an allocation fails.
-fn free_lines(alloc: Global, many: usize, journal: u32) -> Option<Vec<Line>>
-    requires some { 1 ≤ journal }
-    requires most { journal ≤ MOST_ENTRIES }
-    ensures { IfSome result (λ lines. lines.items ≡ replicate many (free_line journal nothing false)) }
-{
-    let Ok(mut lines) = Vec::with_capacity(alloc, many) else {
-        return None;
-    };
-    for _ in 0..many {
-        let Ok(line) = Line::new(alloc, journal) else {
-            return None;
-        };
-        lines.push_reserved(line);
-    }
-    Some(lines)
-}
+ghost use Rattle.card_core.specs.inner.Parts.{IsFound, IsMissed, ChangesLine, JudgesOrRefuses, DropsIfLong, HasRoomFor};
 
 /// Returns the seating of the cell's connection, and the value that its program gives for the cell. Every cell runs
 /// this function and the next. They are inlined, since a call would copy the cell.
@@ -498,52 +478,4 @@ fn judge_line(lines: &mut Vec<Line>, found: &Found) -> Answer
         Ok(judged) => judged.answer(&found.named.cell()),
         Err(reason) => reason.answer(),
     }
-}
-
-/// Sets up a connection on the line of this number.
-fn setup_line(
-    directory: &mut Directory,
-    lines: &mut Vec<Line>,
-    number: u16,
-    ask: Ask,
-) -> Result<Owner, (DeskFault, Ask)>
-    requires there { number < length lines.old.items }
-    requires absent { seating_at directory.old ask.vc ≡ None }
-    requires within { number < directory.old.lines }
-    requires open { IsOpenLine directory.old number }
-    requires some { 0 < length ask.contracts.items }
-    requires unworn { directory.old.used < 2 ^ 62 }
-    ensures line { ChangesLine lines.old.items number
-        (SetsUpOrRefuses directory.old directory.new number ask result) lines.new.items }
-    ensures lines { directory.new.lines ≡ directory.old.lines }
-{
-    let line = &mut lines[usize::from(number)];
-    desk::setup(directory, line, number, ask)
-}
-
-/// Releases a connection from its line.
-fn release_line(
-    directory: &mut Directory,
-    lines: &mut Vec<Line>,
-    vc: Vc,
-    seating: &Seating,
-) -> Result<Piece, DeskFault>
-    requires there { seating.now.line < length lines.old.items }
-    requires sits { seating_at directory.old vc ≡ Some seating.now }
-    ensures line { ChangesLine lines.old.items seating.now.line
-        (ReleasesOrRefuses directory.old directory.new vc seating.now result) lines.new.items }
-    ensures lines { directory.new.lines ≡ directory.old.lines }
-{
-    let line = &mut lines[usize::from(seating.line)];
-    desk::release(directory, line, vc)
-}
-
-/// Returns the journal of a connection's line.
-fn cut_line(lines: &mut Vec<Line>, vc: Vc, seating: &Seating) -> Result<Piece, DeskFault>
-    requires { seating.now.line < length lines.old.items }
-    ensures { ChangesLine lines.old.items seating.now.line
-        (CutsOrRefuses vc seating.now result) lines.new.items }
-{
-    let line = &mut lines[usize::from(seating.line)];
-    desk::cut(line, vc, seating)
 }

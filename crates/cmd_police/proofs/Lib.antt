@@ -1,5 +1,6 @@
 pub mod SpanLemmas
 pub mod SpanRows
+pub mod SpanGains
 pub mod SpanSums
 pub mod SetUpLemmas
 pub mod CardLemmas

@@ -2,6 +2,7 @@
 
 mod arena;
 mod buckets;
+mod directories;
 mod expecting;
 mod lines;
 mod table;

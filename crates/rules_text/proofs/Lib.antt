@@ -7,8 +7,10 @@ pub mod NamePlaces
 pub mod NameTables
 pub mod NamesAdded
 pub mod Values
+pub mod GrammarHeads
 pub mod GrammarReads
 pub mod TestBeginnings
+pub mod GrammarGroups
 pub mod GrammarCovers
 pub mod Chains
 pub mod DecisionsSame

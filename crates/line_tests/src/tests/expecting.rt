@@ -1,5 +1,6 @@
 //! What tests expect. A comparison in a test costs the prover more than a call, so the tests share those that are here.
 
+use gen_arena::Id;
 use std::alloc::Global;
 use std::fmt::{Debug, Display};
 use std::process::Abort;
@@ -21,4 +22,12 @@ pub fn expect_printed<T: Copy + Display>(
         expect(rt, "printed", text.as_str(), *wanted);
     }
     Ok(())
+}
+
+/// Returns the first program of this place in the arena.
+pub fn program(slot: u16) -> Id {
+    Id {
+        slot,
+        generation: 1,
+    }
 }

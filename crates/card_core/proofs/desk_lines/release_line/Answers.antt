@@ -2,7 +2,7 @@ use Rattle.std.proofs.Common.{◌≡◌, ◌<◌, ℕ, Some, length, refl, ap, s
 use Rattle.std.specs.Prelude.{slice_get, slice_set}
 use Rattle.std.proofs.lemmas.Option.{slice_get_read}
 use Rattle.card_core.proofs.DeskLemmas.{releases}
-use Rattle.card_core.proofs.serial.release_line.Goals as goal
+use Rattle.card_core.proofs.desk_lines.release_line.Goals as goal
 
 pub returns-clause-line : goal.returns-clause-line
 returns-clause-line c =

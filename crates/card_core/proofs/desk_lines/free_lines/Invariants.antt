@@ -1,7 +1,7 @@
 use Rattle.std.proofs.Common.{◌≡◌, vec_len, vec_capacity, replicate, false}
 use Rattle.line_record.specs.Tally.{nothing}
 use Rattle.line_record.specs.Line.{free_line}
-use Rattle.card_core.proofs.serial.free_lines.Given as goal
+use Rattle.card_core.proofs.desk_lines.free_lines.Given as goal
 
 abbrev pub invariant-loop : goal.invariant-loop
 invariant-loop l =
