@@ -43,7 +43,7 @@ pub struct Policing {
 }
 
 impl Policing {
-    ghost use Rattle.std.specs.Prelude.{◌≡◌, None, IfOk};
+    ghost use Rattle.std.specs.Prelude.{◌≡◌, None, IfOk, option_map};
     ghost use Rattle.text_io.specs.Answering.{Answers};
     ghost use Rattle.cmd_run.specs.RunSide.{run_side};
     ghost use Rattle.cmd_run.specs.RunText.{RunWorld, run_rules};
@@ -63,6 +63,17 @@ impl Policing {
     {
         match &self.card {
             Some(card) => Some(card.side()),
+            None => None,
+        }
+    }
+
+    /// Lends the card, if there is one.
+    pub fn card(&self) -> Option<&ScriptCard>
+        ensures { (world : RunWorld) → ⟦<Policing as Machine>⟧.shows self.now world
+            → ShowsRun (option_map (λ card. card.now) result) world }
+    {
+        match &self.card {
+            Some(card) => Some(card),
             None => None,
         }
     }
