@@ -151,7 +151,7 @@ class Policed:
     def table(self):
         """Returns the counts of each connection, and the comments about cells that weren't judged."""
         connections = sorted(self.card.connections.items())
-        counts = [(*columns_of(vc, self.card.side), *(self.card.judged[it.line][verdict] for verdict in VERDICTS)) for vc, it in connections]
+        counts = [(*columns_of(vc, self.card.side), *(it.judged[verdict] for verdict in VERDICTS)) for vc, it in connections]
         comments = [
             f"# {len(self.unjudged[reason])} not judged: {why}; first record {self.unjudged[reason][0]}\n"
             for reason, why in REASONS.items()

@@ -89,10 +89,10 @@ class Commands:
             return fault.line()
 
     def ended(self, words):
-        """Returns the answer to a command that ends a journal: the counts of the connection's line before it."""
+        """Returns the answer to a command that ends a journal: the counts of the connection before it."""
         vc = self.dialogue.vc(*words[1:])
         connection = self.card.connections.get(vc)
-        counts = connection and [self.card.judged[connection.line][verdict] for verdict in VERDICTS]
+        counts = connection and [connection.judged[verdict] for verdict in VERDICTS]
         given = self.dialogue.answer(words)
         name = given.split(" ")[1]
         return " ".join([ENDS[words[0]], name, *map(str, counts)])

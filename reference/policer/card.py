@@ -1,6 +1,6 @@
 """A card: its programs by number, its connections, and what each command and each cell does to them."""
 
-from collections import Counter, defaultdict
+from collections import Counter
 from heapq import heappop, heappush
 
 from . import cell as cells
@@ -25,6 +25,7 @@ class Connection:
         self.contracts = contracts
         self.last_moment = 0
         self.journal = Counter()  # the verdicts since the last cut
+        self.judged = Counter()  # all verdicts since the setup
 
     def tally(self):
         """How many cells were judged since the last cut, and how many of each verdict."""
@@ -48,7 +49,6 @@ class Card:
         self.connections = {}
         self.set_up = 0
         self.free_lines = list(range(lines))  # a heap: the lowest is given first
-        self.judged = defaultdict(Counter)  # the verdicts of each line, whatever connection it served
 
     def load(self, program):
         """Puts an accepted program in; it is named by how many were put in until then."""
@@ -119,7 +119,7 @@ class Card:
             verdict = connection.contracts[value - 1].judge(moment, cells.priority_of(cell))
         connection.last_moment = moment
         connection.journal[verdict] += 1
-        self.judged[connection.line][verdict] += 1
+        connection.judged[verdict] += 1
         leaving = cells.tagged(cell) if verdict == "tag" else cell
         return vc, connection.program, value, verdict, leaving
 

@@ -4,7 +4,6 @@ use Rattle.std.specs.Bool.{MatchBool}
 use Rattle.std.specs.Option.{MatchOption}
 use Rattle.card_core.specs.World.{Connection, World, connection_in}
 use Rattle.card_core.specs.declared.shape.Shape.{Shape}
-use Rattle.line_record.specs.Tally.{tally_of}
 use Rattle.line_record.specs.declared.tally.Tally.{Tally}
 use Rattle.upc_cell.specs.declared.side.Side.{Side}
 use Rattle.text_io.specs.Words.{is_filled, words_of}
@@ -17,58 +16,64 @@ use Rattle.upc_cell.specs.declared.side.Side.{Side}
 use Rattle.upc_cell.specs.declared.vc.Vc.{Vc}
 use Rattle.cmd_run.specs.RunText.{Card, IsLed, RefusesLine, RunSteps, id_loaded}
 use Rattle.text_script.specs.ScriptCommands.{command_of, cut}
-use Rattle.cmd_run.specs.ShownCard.{AnswersLine, Held, Moves, ShowsCard}
+use Rattle.cmd_run.specs.ShownCard.{AnswersLine, Held, ShowsCard}
 use Rattle.text_words.specs.FaultLines.{bad_line}
 use Rattle.cmd_police.specs.CommandsUnderTraffic.{AnswersUnderTraffic, AnswersWithCounts, CarriesOutWaiting, command_line, counted_answer, ended_journal, is_taken_under_traffic, waiting_comment, waiting_text}
+use Rattle.cmd_police.specs.ConnectionCounts.{own_counts}
+use Rattle.cmd_police.specs.inner.CountsSince.{AreOwnCounts}
 use Rattle.cmd_police.specs.PoliceLines.{in_column}
 use Rattle.cmd_police.specs.PoliceText.{MayBeCut, TakesCellWithRoom, connection_of_cell}
 use Rattle.cmd_police.specs.TimedLines.{WaitingCommand}
+use Rattle.cmd_police.specs.declared.line_starts.LineStarts.{LineStarts}
 use Rattle.cmd_police.specs.declared.stored_commands.StoredCommand.{StoredCommand}
 use Rattle.cmd_police.specs.declared.stored_commands.StoredCommands.{StoredCommands}
 use Rattle.cmd_police.specs.declared.timed_card.TimedCard.{TimedCard}
 use Rattle.cmd_police.specs.inner.CommandLaws.{CarriesBy, under_traffic_led}
-use Rattle.cmd_police.specs.inner.CommandsShown.{AnswersPlainly, AreCountsOf, CarriesOn, CarriesShown, CarriesSoFar, CarriesTo, answer_of_counts}
+use Rattle.cmd_police.specs.inner.CommandsShown.{AnswersPlainly, CarriesOn, CarriesShown, CarriesSoFar, CarriesTo, answer_of_counts}
+use Rattle.cmd_police.specs.inner.NotedSetups.{MovesNoting}
 use Rattle.cmd_police.specs.StoredCommands.{shown_command, waiting_in}
 use Rattle.cmd_police.specs.inner.TimedScripts.{IsDue, IsNoneDue, after_first_left}
 
 -- A command that is taken is answered as in `run`.
-pub taken_moves : (line : List ℕ) (held held' : Held) (old new : List ℕ) → is_taken_under_traffic (words_of line) ≡ true
-    → Moves (AnswersLine line) held held' old new → Moves (λ before. AnswersPlainly before line) held held' old new
-taken_moves line held held' old new is moves = (
+pub taken_moves : (line : List ℕ) (held held' : Held) (starts starts' : List Tally) (old new : List ℕ) → is_taken_under_traffic (words_of line) ≡ true
+    → MovesNoting (AnswersLine line) held starts held' starts' old new → MovesNoting (λ before. AnswersPlainly before line) held starts held' starts' old new
+taken_moves line held held' starts starts' old new is moves = (
   moves.0,
   moves.1,
-  λ before led shown.
-      let on = moves.2 before led shown in (
+  λ before led shown are.
+      let on = moves.2 before led shown are in (
         on.0,
         on.1,
-        subst (λ (b : Bool). MatchBool b (RunSteps (Some before) line moves.0 (Some (Some on.0))) (RefusesLine bad_line before moves.0 on.0)) (sym is) on.2,
+        on.2,
+        subst (λ (b : Bool). MatchBool b (RunSteps (Some before) line moves.0 (Some (Some on.0))) (RefusesLine bad_line before moves.0 on.0)) (sym is) on.3,
       ),
 )
 
 -- The counts before a command are those of its answer.
 counts_answer : (world : World) (ended : List ℕ × Vc) (given : List ℕ) (connection : Option Connection)
-    → answer_of_counts world.shape.side ended.0 ended.1 (option_map (λ (c : Connection). tally_of (world.verdicts c.line)) connection) given ≡ counted_answer world ended connection given
+    → answer_of_counts world.shape.side ended.0 ended.1 (option_map own_counts connection) given ≡ counted_answer world ended connection given
 counts_answer world ended given None = refl
 counts_answer world ended given (Some connection) = refl
 
 -- A command that ends a journal is answered with the counts of its connection.
-pub counted_moves : (side : Side) (line word : List ℕ) (vc : Vc) (counts : Option Tally) (held held' : Held) (given old new : List ℕ)
-    → held.core.shape.side ≡ side → AreCountsOf held.core vc counts
-    → Moves (AnswersLine line) held held' [] given → new ≡ old ++ answer_of_counts side word vc counts given
-    → Moves (λ before text after. AnswersWithCounts before line (word, vc) text after) held held' old new
-counted_moves side line word vc counts held held' given old new is are moves added = (
+pub counted_moves : (side : Side) (line word : List ℕ) (vc : Vc) (counts : Option Tally) (held held' : Held) (starts starts' : List Tally) (given old new : List ℕ)
+    → held.core.shape.side ≡ side → AreOwnCounts held.core starts vc counts
+    → MovesNoting (AnswersLine line) held starts held' starts' [] given → new ≡ old ++ answer_of_counts side word vc counts given
+    → MovesNoting (λ before text after. AnswersWithCounts before line (word, vc) text after) held starts held' starts' old new
+counted_moves side line word vc counts held held' starts starts' given old new is own moves added = (
   answer_of_counts side word vc counts given,
   added,
-  λ before led shown.
-      let on = moves.2 before led shown in (
+  λ before led shown are.
+      let on = moves.2 before led shown are in (
         on.0,
         on.1,
+        on.2,
         record {
           given = moves.0;
-          steps = on.2;
+          steps = on.3;
           counted = ap (answer_of_counts side word vc counts) moves.1
-              ∙ ap (λ (tally : Option Tally). answer_of_counts side word vc tally moves.0) (sym (are before.world shown.agrees))
-              ∙ ap (λ (s : Side). answer_of_counts s word vc (option_map (λ (c : Connection). tally_of (before.world.verdicts c.line)) (connection_in before.world.connections vc)) moves.0)
+              ∙ ap (λ (tally : Option Tally). answer_of_counts side word vc tally moves.0) (sym (own before.world shown.agrees are))
+              ∙ ap (λ (s : Side). answer_of_counts s word vc (option_map own_counts (connection_in before.world.connections vc)) moves.0)
               (sym is ∙ ap (λ (shape : Shape). shape.side) shown.agrees.shape)
               ∙ counts_answer before.world (word, vc) moves.0 (connection_in before.world.connections vc);
         },
@@ -76,38 +81,40 @@ counted_moves side line word vc counts held held' given old new is are moves add
 )
 
 -- The answer to a command, by whether it ends a journal.
-pub ended_moves : (side : Side) (line word : List ℕ) (vc : Vc) (held held' : Held) (old new : List ℕ) → held.core.shape.side ≡ side
+pub ended_moves : (side : Side) (line word : List ℕ) (vc : Vc) (held held' : Held) (starts starts' : List Tally) (old new : List ℕ) → held.core.shape.side ≡ side
     → Some (word, vc) ≡ ended_journal (command_of side (words_of line))
-    → Moves (λ before text after. AnswersWithCounts before line (word, vc) text after) held held' old new
-    → Moves (λ before. AnswersUnderTraffic before line) held held' old new
-ended_moves side line word vc held held' old new is ends moves = (
+    → MovesNoting (λ before text after. AnswersWithCounts before line (word, vc) text after) held starts held' starts' old new
+    → MovesNoting (λ before. AnswersUnderTraffic before line) held starts held' starts' old new
+ended_moves side line word vc held held' starts starts' old new is ends moves = (
   moves.0,
   moves.1,
-  λ before led shown.
-      let on = moves.2 before led shown in
+  λ before led shown are.
+      let on = moves.2 before led shown are in
       let here : Some (word, vc) ≡ ended_journal (command_of before.world.shape.side (words_of line)) =
       ends ∙ ap (λ s. ended_journal (command_of s (words_of line))) (sym is ∙ ap (λ (shape : Shape). shape.side) shown.agrees.shape) in (
         on.0,
         on.1,
+        on.2,
         subst (λ (ended : Option (List ℕ × Vc)). MatchOption ended (AnswersPlainly before line moves.0 on.0)
-            (λ ended. AnswersWithCounts before line ended moves.0 on.0)) here on.2,
+            (λ ended. AnswersWithCounts before line ended moves.0 on.0)) here on.3,
       ),
 )
 
-pub plain_moves : (side : Side) (line : List ℕ) (held held' : Held) (old new : List ℕ) → held.core.shape.side ≡ side
-    → None ≡ ended_journal (command_of side (words_of line)) → Moves (λ before. AnswersPlainly before line) held held' old new
-    → Moves (λ before. AnswersUnderTraffic before line) held held' old new
-plain_moves side line held held' old new is ends moves = (
+pub plain_moves : (side : Side) (line : List ℕ) (held held' : Held) (starts starts' : List Tally) (old new : List ℕ) → held.core.shape.side ≡ side
+    → None ≡ ended_journal (command_of side (words_of line)) → MovesNoting (λ before. AnswersPlainly before line) held starts held' starts' old new
+    → MovesNoting (λ before. AnswersUnderTraffic before line) held starts held' starts' old new
+plain_moves side line held held' starts starts' old new is ends moves = (
   moves.0,
   moves.1,
-  λ before led shown.
-      let on = moves.2 before led shown in
+  λ before led shown are.
+      let on = moves.2 before led shown are in
       let here : None ≡ ended_journal (command_of before.world.shape.side (words_of line)) =
       ends ∙ ap (λ s. ended_journal (command_of s (words_of line))) (sym is ∙ ap (λ (shape : Shape). shape.side) shown.agrees.shape) in (
         on.0,
         on.1,
+        on.2,
         subst (λ (ended : Option (List ℕ × Vc)). MatchOption ended (AnswersPlainly before line moves.0 on.0)
-            (λ ended. AnswersWithCounts before line ended moves.0 on.0)) here on.2,
+            (λ ended. AnswersWithCounts before line ended moves.0 on.0)) here on.3,
       ),
 )
 
@@ -123,7 +130,7 @@ carried_none timed moment old none = (
   [],
   sym (append-nil old),
   refl,
-  λ before led shown. record { after = before; led = led; shown = shown; carried = none_carried (waiting_in timed.commands) moment before none },
+  λ before led shown are. record { after = before; led = led; shown = shown; starts = are; carried = none_carried (waiting_in timed.commands) moment before none },
 )
 
 -- At first nothing was carried out.
@@ -132,7 +139,7 @@ carries_start timed moment old = (
   [],
   sym (append-nil old),
   refl,
-  λ before led shown. record { present = before; led = led; shown = shown; completes = λ more after left carried. carried },
+  λ before led shown are. record { present = before; led = led; shown = shown; starts = are; completes = λ more after left carried. carried },
 )
 
 -- The first command is carried out.
@@ -163,30 +170,31 @@ filled_more [] moment answer = refl
 filled_more (octet ∷ octets) moment answer = refl
 
 -- One more was carried out.
-pub carries_more : (first timed : TimedCard) (held : Held) (command : StoredCommand) (moment : ℕ) (carried : Bool) (old now begun new : List ℕ)
+pub carries_more : (first timed : TimedCard) (held : Held) (starts : LineStarts) (command : StoredCommand) (moment : ℕ) (carried : Bool) (old now begun new : List ℕ)
     → CarriesSoFar first moment carried timed old now → IsDue timed.commands moment command → begun ≡ now ++ command_line command.moment []
-    → Moves (λ before. AnswersUnderTraffic before command.content.items) timed.card held begun new
-    → CarriesSoFar first moment true (record timed { card = held; commands = after_first_left timed.commands }) old new
-carries_more first timed held command moment carried old now begun new so_far due begins moves =
+    → MovesNoting (λ before. AnswersUnderTraffic before command.content.items) timed.card timed.starts.counts.items held starts.counts.items begun new
+    → CarriesSoFar first moment true (record timed { card = held; starts = starts; commands = after_first_left timed.commands }) old new
+carries_more first timed held starts command moment carried old now begun new so_far due begins moves =
     let line = command_line command.moment moves.0 in
-    let next : TimedCard = record timed { card = held; commands = after_first_left timed.commands } in (
+    let next : TimedCard = record timed { card = held; starts = starts; commands = after_first_left timed.commands } in (
       so_far.0 ++ line,
       moves.1 ∙ ap (λ xs. xs ++ moves.0) begins ∙ append_assoc now (command_line command.moment []) moves.0
           ∙ ap (λ xs. now ++ xs) (line_grows command.moment moves.0)
           ∙ ap (λ xs. xs ++ line) so_far.1 ∙ append_assoc old so_far.0 line,
       filled_more so_far.0 command.moment moves.0,
-      λ before led shown.
-          let on = so_far.3 before led shown in
-          let goes = moves.2 on.present on.led on.shown in
+      λ before led shown are.
+          let on = so_far.3 before led shown are in
+          let goes = moves.2 on.present on.led on.shown on.starts in
           record {
             present = goes.0;
-            led = under_traffic_led on.present goes.0 command.content.items moves.0 on.led goes.2;
+            led = under_traffic_led on.present goes.0 command.content.items moves.0 on.led goes.3;
             shown = goes.1;
+            starts = goes.2;
             completes = λ more after left later.
                 subst (λ xs. CarriesOutWaiting (waiting_in first.commands) moment before xs after left) (sym (append_assoc so_far.0 line more))
                 (on.completes (line ++ more) after left
                 (subst (λ (waiting : List WaitingCommand). CarriesOutWaiting waiting moment on.present (line ++ more) after left) (sym due.left)
-                (first_carried (shown_command command) (waiting_in (after_first_left timed.commands)) left moment on.present goes.0 after moves.0 more due.comes goes.2 later)));
+                (first_carried (shown_command command) (waiting_in (after_first_left timed.commands)) left moment on.present goes.0 after moves.0 more due.comes goes.3 later)));
           },
     )
 
@@ -197,12 +205,13 @@ carries_end first timed moment carried old new so_far none = (
   so_far.0,
   so_far.1,
   so_far.2,
-  λ before led shown.
-      let on = so_far.3 before led shown in
+  λ before led shown are.
+      let on = so_far.3 before led shown are in
       record {
         after = on.present;
         led = on.led;
         shown = on.shown;
+        starts = on.starts;
         carried = subst (λ xs. CarriesOutWaiting (waiting_in first.commands) moment before xs on.present (waiting_in timed.commands)) (append-nil so_far.0)
             (on.completes [] on.present (waiting_in timed.commands) (none_carried (waiting_in timed.commands) moment on.present none));
       },

@@ -1,5 +1,5 @@
 -- What each step of the card adds to the tally of a connection.
-use Rattle.std.proofs.Common.{◌≡◌, ◌⊎◌, inl, inr, ℕ, ◌+◌, ◌==◌, Bool, true, false, if◌then◌else◌, List, [], ◌∷◌, ◌++◌, Option, Some, None, option_map, refl, sym, ap, ◌∙◌, subst, arith}
+use Rattle.std.proofs.Common.{◌≡◌, ◌⊎◌, inl, inr, ℕ, ◌+◌, ◌==◌, Bool, true, false, if◌then◌else◌, List, [], ◌∷◌, ◌++◌, map, Option, Some, None, option_map, refl, sym, ap, ◌∙◌, subst, arith}
 use Rattle.std.proofs.lemmas.Bool.Decides.{nat_tests}
 use Rattle.std.proofs.lemmas.Option.{same_Some}
 use Rattle.std.specs.Option.{MatchOption}
@@ -16,7 +16,10 @@ use Rattle.card_core.specs.declared.shape.Shape.{Shape}
 use Rattle.card_core.specs.declared.step.Step.TheVariants.{Pick, Judge, Cut}
 use Rattle.leaky.specs.declared.verdict.Verdict.{Verdict}
 use Rattle.leaky.specs.declared.verdict.Verdict.TheVariants.{Pass as passes, Tag, Discard, Refuse}
+use Rattle.line_record.proofs.Public.{cells_are_judged_in_turn}
+use Rattle.line_record.specs.History.{NamedCell, empty_buckets, judged}
 use Rattle.line_record.specs.Tally.{count_of, counted, nothing, tally_of}
+use Rattle.line_record.specs.declared.entry.Entry.{Entry}
 use Rattle.line_record.specs.declared.tally.Tally.{Tally}
 use Rattle.upc_cell.proofs.Public.{vc_itself, vc_same}
 use Rattle.upc_cell.specs.Connection.{is_same_vc, vc_of}
@@ -25,6 +28,7 @@ use Rattle.cmd_run.specs.RunText.{Card, IsAnswered, IsLed}
 use Rattle.cmd_run.specs.inner.CardSteps.{desk-cases}
 use Rattle.cmd_run.specs.inner.PortZero.{PortIs}
 use Rattle.cmd_run.specs.inner.RunLaws.{cut-led}
+use Rattle.cmd_police.specs.ConnectionCounts.{own_counts, own_verdicts}
 use Rattle.cmd_police.specs.PoliceLines.{verdict_given}
 use Rattle.cmd_police.specs.PoliceText.{MayBeCut, TakesCell, TakesCellWithRoom, connection_of_cell}
 use Rattle.cmd_police.proofs.LeftLemmas.{cut_shaped, enters, put_found, refusal_reason, written}
@@ -65,7 +69,7 @@ count_last (first ∷ verdicts) given verdict =
     omega (arith, rest, one, other)
 
 -- How many cells with a verdict an answer with this verdict adds to a connection, if the cell is of it.
-abbrev added : Bool → Option Verdict → Verdict → ℕ
+abbrev pub added : Bool → Option Verdict → Verdict → ℕ
 added false given verdict = 0
 added true None verdict = 0
 added true (Some given) verdict = count_of (counted nothing given) verdict
@@ -76,17 +80,23 @@ added_none false verdict = refl
 
 -- ---- what a step adds to the counts of each connection's line
 
-abbrev count_on : World → Connection → Verdict → ℕ
+-- How many cells with a verdict the line of a connection had, and the connection itself.
+abbrev pub count_on : World → Connection → Verdict → ℕ
 count_on world connection verdict = count_of (tally_of (world.verdicts connection.line)) verdict
 
--- Each connection after the step was there before, on the same line, which counts one cell more if the answer has a verdict and is of it.
+abbrev pub own_count : Connection → Verdict → ℕ
+own_count connection verdict = count_of (own_counts connection) verdict
+
+-- Each connection after the step was there before, on the same line. It counts one cell more, and so does its line, if the
+-- answer has a verdict and is of it.
 pub record Gain (before after : World) (here : Vc) (given : Option Verdict) (vc : Vc) (next : Connection) : Type 0 where
   pub connection : Connection
   pub found : connection_in before.connections vc ≡ Some connection
   pub line : next.line ≡ connection.line
   pub counts : (verdict : Verdict) → count_on after next verdict ≡ count_on before connection verdict + added (is_same_vc vc here) given verdict
+  pub own : (verdict : Verdict) → own_count next verdict ≡ own_count connection verdict + added (is_same_vc vc here) given verdict
 
-abbrev Gains : World → World → Vc → Option Verdict → Type 0
+abbrev pub Gains : World → World → Vc → Option Verdict → Type 0
 Gains before after here given = (vc : Vc) (next : Connection) → connection_in after.connections vc ≡ Some next → Gain before after here given vc next
 
 -- A step without a verdict, and then one with this verdict or none.
@@ -103,10 +113,15 @@ joined before middle after here given first second vc next found =
           let b = one.counts verdict in
           let none = added_none (is_same_vc vc here) verdict in
           omega (arith, a, b, none);
+      own = λ verdict.
+          let a = two.own verdict in
+          let b = one.own verdict in
+          let none = added_none (is_same_vc vc here) verdict in
+          omega (arith, a, b, none);
     }
 
 -- Nothing but a port changes.
-port_gains : (before after : World) (state : PortState) (here : Vc) → after ≡ with_port before 0 state → Gains before after here None
+pub port_gains : (before after : World) (state : PortState) (here : Vc) → after ≡ with_port before 0 state → Gains before after here None
 port_gains before after state here same vc next found = record {
   connection = next;
   found = subst (λ (w : World). connection_in w.connections vc ≡ Some next) same found;
@@ -115,14 +130,15 @@ port_gains before after state here same vc next found = record {
       let e = ap (λ (w : World). count_on w next verdict) same in
       let none = added_none (is_same_vc vc here) verdict in
       omega (arith, e, none);
+  own = λ verdict. let none = added_none (is_same_vc vc here) verdict in omega (arith, none);
 }
 
 -- Lines of connections are apart.
-abbrev LinesApart : List (Vc × Connection) → Type 0
+abbrev pub LinesApart : List (Vc × Connection) → Type 0
 LinesApart connections = (one other : Vc) (connection another : Connection) → connection_in connections one ≡ Some connection
     → connection_in connections other ≡ Some another → connection.line ≡ another.line → one ≡ other
 
-without_others : (connections : List (Vc × Connection)) (vc other : Vc) → is_same_vc other vc ≡ false
+pub without_others : (connections : List (Vc × Connection)) (vc other : Vc) → is_same_vc other vc ≡ false
     → connection_in (without_connection connections vc) other ≡ connection_in connections other
 without_others [] vc other apart = refl
 without_others (first ∷ connections) vc other apart = by (is_same_vc vc first.0) refl (without_others connections vc other apart)
@@ -134,17 +150,27 @@ without_others (first ∷ connections) vc other apart = by (is_same_vc vc first.
         rest ∙ sym (ap (λ b. if b then Some first.1 else connection_in connections other) away)
     by false e rest = ap (λ (found : Option Connection). if is_same_vc other first.0 then Some first.1 else found) rest
 
-put_others : (connections : List (Vc × Connection)) (vc other : Vc) (connection : Connection) → is_same_vc other vc ≡ false
+pub put_others : (connections : List (Vc × Connection)) (vc other : Vc) (connection : Connection) → is_same_vc other vc ≡ false
     → connection_in (with_connection connections vc connection) other ≡ connection_in connections other
 put_others connections vc other connection apart =
     ap (λ b. if b then Some connection else connection_in (without_connection connections vc) other) apart ∙ without_others connections vc other apart
 
+verdicts_join : (one other : List Entry) → map (λ entry. entry.verdict) (one ++ other) ≡ map (λ entry. entry.verdict) one ++ map (λ entry. entry.verdict) other
+verdicts_join [] other = refl
+verdicts_join (entry ∷ one) other = ap (λ verdicts. entry.verdict ∷ verdicts) (verdicts_join one other)
+
+-- One more cell of a connection has one more verdict.
+own_grows : (connection : Connection) (cell : NamedCell) → own_verdicts (with_cell connection cell) ≡ own_verdicts connection ++ verdict_on connection cell ∷ []
+own_grows connection cell =
+    ap (λ (entries : List Entry). map (λ entry. entry.verdict) entries) (cells_are_judged_in_turn connection.contracts empty_buckets [] connection.history (cell ∷ []))
+    ∙ verdicts_join (judged connection.contracts empty_buckets [] connection.history) (judged connection.contracts empty_buckets connection.history (cell ∷ []))
+
 judged_gains : (before after : World) (picking : Picking) (connection : Connection) (verdict : Verdict) → LinesApart before.connections
     → connection_in before.connections picking.vc ≡ Some connection
     → after.connections ≡ with_connection before.connections picking.vc (with_cell connection (cell_of_picking picking))
-    → after.verdicts ≡ with_verdict before.verdicts connection.line verdict
+    → after.verdicts ≡ with_verdict before.verdicts connection.line verdict → verdict ≡ verdict_on connection (cell_of_picking picking)
     → Gains before after picking.vc (Some verdict)
-judged_gains before after picking connection given apart there lists counts vc next found = by (is_same_vc vc picking.vc) refl
+judged_gains before after picking connection given apart there lists counts right vc next found = by (is_same_vc vc picking.vc) refl
   where
     now : connection_in (with_connection before.connections picking.vc (with_cell connection (cell_of_picking picking))) vc ≡ Some next
     now = subst (λ (list : List (Vc × Connection)). connection_in list vc ≡ Some next) lists found
@@ -171,6 +197,12 @@ judged_gains before after picking connection given apart there lists counts vc n
               ∙ count_last (before.verdicts next.line) given verdict
               ∙ ap (λ n. count_of (tally_of (before.verdicts n)) verdict + count_of (counted nothing given) verdict) line
               ∙ ap (λ b. count_on before connection verdict + added b (Some given) verdict) (sym e);
+          own = λ verdict.
+              ap (λ (c : Connection). own_count c verdict) (sym (same_Some (with_cell connection (cell_of_picking picking)) next is))
+              ∙ ap (λ (verdicts : List Verdict). count_of (tally_of verdicts) verdict) (own_grows connection (cell_of_picking picking))
+              ∙ ap (λ (v : Verdict). count_of (tally_of (own_verdicts connection ++ v ∷ [])) verdict) (sym right)
+              ∙ count_last (own_verdicts connection) given verdict
+              ∙ ap (λ b. own_count connection verdict + added b (Some given) verdict) (sym e);
         }
     by false e =
         let was = sym (put_others before.connections picking.vc vc (with_cell connection (cell_of_picking picking)) e) ∙ now in
@@ -184,6 +216,7 @@ judged_gains before after picking connection given apart there lists counts vc n
               ∙ ap (λ b. count_of (tally_of (if b then before.verdicts next.line ++ given ∷ [] else before.verdicts next.line)) verdict) test in
               let none = ap (λ b. added b (Some given) verdict) e in
               omega (arith, same, none);
+          own = λ verdict. let none = ap (λ b. added b (Some given) verdict) e in omega (arith, none);
         }
       where
         other : (b : Bool) → (next.line == connection.line) ≡ b → (next.line == connection.line) ≡ false
@@ -199,7 +232,7 @@ judged_gains before after picking connection given apart there lists counts vc n
 -- ---- a cell
 
 -- Only a judged cell has a verdict.
-abbrev HasNone : Answer → Type 0
+abbrev pub HasNone : Answer → Type 0
 HasNone given = verdict_given given ≡ None
 
 judge_gains : (before after : World) (picking : Picking) (given : Answer) → LinesApart before.connections → PortIs before (picked picking)
@@ -222,7 +255,7 @@ judge_gains before after picking given apart had step =
         let is : given ≡ judged_answer before goes.picking goes.connection = cc in
         let gains : Gains before after goes.picking.vc (Some (verdict_on goes.connection (cell_of_picking goes.picking))) =
         judged_gains before after goes.picking goes.connection (verdict_on goes.connection (cell_of_picking goes.picking)) apart goes.found
-        (ap (λ (w : World). w.connections) goes.world) (ap (λ (w : World). w.verdicts) goes.world) in
+        (ap (λ (w : World). w.connections) goes.world) (ap (λ (w : World). w.verdicts) goes.world) refl in
         subst (λ (p : Picking). Gains before after p.vc (verdict_given given)) (sym same)
         (subst (λ (a : Answer). Gains before after goes.picking.vc (verdict_given a)) (sym is) gains)
     by None e (inr lacks) = let no = lacks.answer in cc
@@ -306,17 +339,17 @@ answered_gains before entering after cell moment given apart free came answered 
         joined before entering after here (verdict_given given) entering_gains
         (joined entering middle after here (verdict_given given) (port_gains entering middle goes.state here goes.world) last)
 
-lines_apart : (card : Card) → IsLed card → LinesApart card.world.connections
+pub lines_apart : (card : Card) → IsLed card → LinesApart card.world.connections
 lines_apart card led = (worlds-sound led.shape led.log card.world led.leads).connections.lines_apart
 
-taken_gains : (before after : Card) (cell : List ℕ) (moment : ℕ) (given : Answer) → IsLed before → TakesCell before cell moment given after
+pub taken_gains : (before after : Card) (cell : List ℕ) (moment : ℕ) (given : Answer) → IsLed before → TakesCell before cell moment given after
     → Gains before.world after.world (connection_of_cell before cell) (verdict_given given)
 taken_gains before after cell moment given led takes =
     answered_gains before.world takes.arrived.0 after.world cell moment given (lines_apart before led) led.free
     (enters before.world takes.arrived.0 cell moment Entered led.free takes.arrived.1) takes.arrived.2
 
 -- A cut adds nothing.
-same_gains : (before after : World) (here : Vc) → after ≡ before → Gains before after here None
+pub same_gains : (before after : World) (here : Vc) → after ≡ before → Gains before after here None
 same_gains before after here same vc next found = record {
   connection = next;
   found = subst (λ (w : World). connection_in w.connections vc ≡ Some next) same found;
@@ -325,25 +358,26 @@ same_gains before after here same vc next found = record {
       let e = ap (λ (w : World). count_on w next verdict) same in
       let none = added_none (is_same_vc vc here) verdict in
       omega (arith, e, none);
+  own = λ verdict. let none = added_none (is_same_vc vc here) verdict in omega (arith, none);
 }
 
-handed_gains : (before after : World) (here : Vc) (connection : Connection) (returned : ℕ) → connection_in before.connections here ≡ Some connection
-    → after.connections ≡ with_connection before.connections here (record connection { returned = returned }) → after.verdicts ≡ before.verdicts
+-- A connection is changed that keeps its line, its contracts and its cells.
+pub changed_gains : (before after : World) (here : Vc) (connection changed : Connection) → connection_in before.connections here ≡ Some connection
+    → after.connections ≡ with_connection before.connections here changed → after.verdicts ≡ before.verdicts
+    → changed.line ≡ connection.line → own_counts changed ≡ own_counts connection
     → Gains before after here None
-handed_gains before after here connection returned there lists counts vc next found = by (is_same_vc vc here) refl
+changed_gains before after here connection changed there lists counts on_line same_own vc next found = by (is_same_vc vc here) refl
   where
-    handed : Connection
-    handed = record connection { returned = returned }
-
-    now : connection_in (with_connection before.connections here handed) vc ≡ Some next
+    now : connection_in (with_connection before.connections here changed) vc ≡ Some next
     now = subst (λ (list : List (Vc × Connection)). connection_in list vc ≡ Some next) lists found
 
     by : (b : Bool) → is_same_vc vc here ≡ b → Gain before after here None vc next
     by true e =
         let same = vc_same vc here e in
-        let is : Some handed ≡ Some next =
-        sym (put_found before.connections here handed) ∙ subst (λ (v : Vc). connection_in (with_connection before.connections here handed) v ≡ Some next) same now in
-        let line : next.line ≡ connection.line = ap (λ (c : Connection). c.line) (sym (same_Some handed next is)) in
+        let is : Some changed ≡ Some next =
+        sym (put_found before.connections here changed) ∙ subst (λ (v : Vc). connection_in (with_connection before.connections here changed) v ≡ Some next) same now in
+        let it : changed ≡ next = same_Some changed next is in
+        let line : next.line ≡ connection.line = ap (λ (c : Connection). c.line) (sym it) ∙ on_line in
         record {
           connection = connection;
           found = subst (λ (v : Vc). connection_in before.connections v ≡ Some connection) (sym same) there;
@@ -353,21 +387,26 @@ handed_gains before after here connection returned there lists counts vc next fo
               ∙ ap (λ n. count_of (tally_of (before.verdicts n)) verdict) line in
               let none = added_none (is_same_vc vc here) verdict in
               omega (arith, one, none);
+          own = λ verdict.
+              let one = ap (λ (c : Connection). own_count c verdict) (sym it) ∙ ap (λ (tally : Tally). count_of tally verdict) same_own in
+              let none = added_none (is_same_vc vc here) verdict in
+              omega (arith, one, none);
         }
     by false e = record {
       connection = next;
-      found = sym (put_others before.connections here vc handed e) ∙ now;
+      found = sym (put_others before.connections here vc changed e) ∙ now;
       line = refl;
       counts = λ verdict.
           let one = ap (λ (of : ℕ → List Verdict). count_of (tally_of (of next.line)) verdict) counts in
           let none = added_none (is_same_vc vc here) verdict in
           omega (arith, one, none);
+      own = λ verdict. let none = added_none (is_same_vc vc here) verdict in omega (arith, none);
     }
 
-cut_gains : (before after : World) (vc : Vc) (reply : Reply) → WorldStep before (Cut vc) reply after → Gains before after vc None
+pub cut_gains : (before after : World) (vc : Vc) (reply : Reply) → WorldStep before (Cut vc) reply after → Gains before after vc None
 cut_gains before after vc reply =
     desk-cases (Gains before after vc None) (λ fault. Refused fault) (missing_fault before vc) before after (Cut vc) reply
-    (λ s. handed_gains before after vc s.connection _ s.found (ap (λ (w : World). w.connections) s.world) (ap (λ (w : World). w.verdicts) s.world))
+    (λ s. changed_gains before after vc s.connection _ s.found (ap (λ (w : World). w.connections) s.world) (ap (λ (w : World). w.verdicts) s.world) refl refl)
     (λ l. same_gains before after vc l.world)
     (λ fault r. same_gains before after vc r.world)
 

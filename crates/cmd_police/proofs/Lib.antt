@@ -1,6 +1,9 @@
 pub mod SpanLemmas
 pub mod SpanRows
-pub mod SpanGains
+pub mod CountGains
+pub mod CommandGains
+pub mod StartLemmas
+pub mod NotingLemmas
 pub mod SpanSums
 pub mod SetUpLemmas
 pub mod CardLemmas

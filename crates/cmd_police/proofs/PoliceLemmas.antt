@@ -39,6 +39,7 @@ use Rattle.cmd_police.specs.inner.CardArrival.{ArrivesWithRoom}
 use Rattle.cmd_police.specs.inner.CommandsShown.{CarriesShown, CarriesTo}
 use Rattle.cmd_police.specs.StoredCommands.{waiting_in}
 use Rattle.cmd_police.specs.inner.ExcessLeft.{LeavesConnection}
+use Rattle.cmd_police.proofs.StartLemmas.{room_starts}
 use Rattle.cmd_police.proofs.CommandLemmas.{room_names}
 use Rattle.cmd_police.proofs.LeftLemmas.{room_leaves}
 use Rattle.cmd_police.specs.declared.spans.Spans.{Spans}
@@ -119,6 +120,7 @@ polices_by before core given vc counted begun at_moment spans not_judged old end
           tick = shown.tick;
           timed = record {
             held = record { agrees = on.4; names = shown.timed.held.names ∙ room_names world.card on.2 cell moment on.0 on.3 };
+            starts = room_starts world.card on.2 cell moment on.0 before.timed.starts.counts.items led on.3 shown.timed.starts;
             waits = shown.timed.waits;
           };
           commanded = shown.commanded;
@@ -162,7 +164,7 @@ commanded_state before timed moment carried commanded text world filled either s
       record {
         lines = shown.lines;
         tick = shown.tick;
-        timed = record { held = to.shown; waits = refl };
+        timed = record { held = to.shown; starts = to.starts; waits = refl };
         commanded = either ∙ ap (λ b. before.commanded || b) filled ∙ ap (λ b. b || is_filled text) shown.commanded;
         begun = shown.begun;
         spans = shown.spans;
@@ -186,7 +188,7 @@ polices_after before timed carried commanded counted shown' old middle new carri
   carries.0 ++ follows.0,
   follows.1 ∙ ap (λ xs. xs ++ follows.0) carries.1 ∙ append_assoc old carries.0 follows.0,
   λ world led shown.
-      let state = commanded_state before timed counted.moment carried commanded carries.0 world carries.2 either shown (carries.3 world.card led shown.timed.held) in
+      let state = commanded_state before timed counted.moment carried commanded carries.0 world carries.2 either shown (carries.3 world.card led shown.timed.held shown.timed.starts) in
       let on = follows.2 state.0 state.2 state.1 in (
         on.0,
         on.1,

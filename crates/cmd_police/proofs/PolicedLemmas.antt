@@ -23,6 +23,7 @@ use Rattle.cmd_police.specs.declared.policed_card.PolicedCard.{PolicedCard}
 use Rattle.cmd_police.specs.declared.timed_card.TimedCard.{TimedCard}
 use Rattle.cmd_police.specs.inner.CardArrival.{ArrivesWithRoom}
 use Rattle.cmd_police.specs.inner.CommandsShown.{CarriesShown}
+use Rattle.cmd_police.proofs.StartLemmas.{room_starts}
 use Rattle.cmd_police.proofs.CommandLemmas.{room_names}
 use Rattle.cmd_police.specs.StoredCommands.{waiting_in}
 
@@ -43,14 +44,18 @@ pub polices_cell : (before : PolicedCard) (timed : TimedCard) (core : CoreView) 
     → (world : PolicedWorld) → IsLed world.card → ShowsPoliced before world
     → (after : PolicedWorld) × ShowsPoliced (policed_after before timed core answers not_judged) after × PolicesOneCell world counted verdict after
 polices_cell before timed core answers given counted not_judged carried verdict carries arrives counts gives world led shown =
-    let to = carries.3 world.card led shown.timed.held in
+    let to = carries.3 world.card led shown.timed.held shown.timed.starts in
     let on = arrives to.after to.led to.shown.agrees in
     let same : given ≡ on.0 = let e : Some given ≡ Some on.0 = on.1 in cc in
     let left = waiting_in timed.commands in
     let after : PolicedWorld = record { card = on.2; waiting = left; answers = answers.items; tick = world.tick; not_judged = not_judged } in (
       after,
       record {
-        timed = record { held = record { agrees = on.4; names = to.shown.names ∙ room_names to.after on.2 counted.cell counted.moment on.0 on.3 }; waits = refl };
+        timed = record {
+          held = record { agrees = on.4; names = to.shown.names ∙ room_names to.after on.2 counted.cell counted.moment on.0 on.3 };
+          starts = room_starts to.after on.2 counted.cell counted.moment on.0 timed.starts.counts.items to.led on.3 to.starts;
+          waits = refl;
+        };
         answers = refl;
         tick = shown.tick;
         not_judged = refl;
@@ -76,7 +81,7 @@ pub polices_no_cell : (before after : PolicedCard) (timed : TimedCard) (core : C
     → (world : PolicedWorld) → IsLed world.card → ShowsPoliced before world
     → (next : PolicedWorld) × ShowsPoliced after next × PolicesOneCell world counted verdict next
 polices_no_cell before after timed core counted carried verdict old new carries arrives world led shown =
-    let to = carries.3 world.card led shown.timed.held in
+    let to = carries.3 world.card led shown.timed.held shown.timed.starts in
     let on = arrives to.after to.led to.shown.agrees in let no = on.1 in cc
 
 -- The parts of the report, one after another.

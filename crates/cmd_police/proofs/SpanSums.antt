@@ -19,7 +19,7 @@ use Rattle.text_io.specs.Words.{is_filled}
 use Rattle.cmd_police.specs.SpanCounts.{JudgedCell, SpansWorld, span_begin, ends_span, judged_after, next_span, spans_after, spans_at, ticks_of_span}
 use Rattle.cmd_police.specs.SpanLaws.{SpansAddUp, all_spans, count_in_spans, verdicts_of}
 use Rattle.cmd_police.specs.inner.PoliceTotal.{room_led}
-use Rattle.cmd_police.proofs.SpanGains.{count_nothing, count_more, added, added_none, count_on, room_gains}
+use Rattle.cmd_police.proofs.CountGains.{count_nothing, count_more, added, added_none, own_count, room_gains}
 
 no_cells : (vc : Vc) (verdict : Verdict) → count_of (tally_of (verdicts_of vc [])) verdict ≡ 0
 no_cells vc verdict = count_nothing verdict
@@ -64,13 +64,12 @@ after_one spans ticks here given vc verdict wanted =
 
 -- ---- a run
 
--- A connection after the run was there before it, on the same line, which counts as many more cells as all spans do.
+-- A connection after the run was there before it, and counts as many more cells as all spans do.
 pub record Adds (first last : PoliceWorld) (vc : Vc) (next : Connection) : Type 0 where
   pub connection : Connection
   pub found : connection_in first.card.world.connections vc ≡ Some connection
-  pub line : next.line ≡ connection.line
-  pub counts : (verdict : Verdict) → count_on last.card.world next verdict + count_in_spans vc verdict (all_spans first.spans)
-      ≡ count_on first.card.world connection verdict + count_in_spans vc verdict (all_spans last.spans)
+  pub counts : (verdict : Verdict) → own_count next verdict + count_in_spans vc verdict (all_spans first.spans)
+      ≡ own_count connection verdict + count_in_spans vc verdict (all_spans last.spans)
 
 or_false : (b : Bool) → (b || false) ≡ b
 or_false true = refl
@@ -93,7 +92,6 @@ run_adds first last [] ticks leads wanted none led vc next found =
     subst (λ (w : PoliceWorld). Adds first w vc next) (sym leads) (record {
       connection = next;
       found = subst (λ (w : PoliceWorld). connection_in w.card.world.connections vc ≡ Some next) leads found;
-      line = refl;
       counts = λ verdict. refl;
     })
 run_adds first last (counted ∷ cells) ticks (here, after, polices, leads) wanted none led vc next found =
@@ -112,21 +110,17 @@ run_adds first last (counted ∷ cells) ticks (here, after, polices, leads) want
     record {
       connection = gain.connection;
       found = gain.found;
-      line = later.line ∙ gain.line;
       counts = λ verdict.
           let a = later.counts verdict in
-          let b = gain.counts verdict in
+          let b = gain.own verdict in
           let c = after_one (spans_at first.spans moment) ticks own step.given vc verdict there in
           let d = at_moment first.spans moment vc verdict in
           omega (arith, a, b, c, d);
     }
 
 pub spans_add_up : SpansAddUp
-spans_add_up scope nanoseconds tick card cells last every led runs vc connection found verdict =
+spans_add_up scope nanoseconds tick card cells last every led runs vc connection found =
     let first = police_start scope tick card [] in
     let wanted : first.spans.ticks ≡ Some (ticks_of_span nanoseconds tick) = ap (option_map (λ asked. ticks_of_span asked tick)) every in
     let adds = run_adds first last cells (ticks_of_span nanoseconds tick) runs wanted refl led vc connection found in
-    let counts = adds.counts verdict in
-    let none = no_cells vc verdict in
-    let line = ap (λ n. count_of (tally_of (card.world.verdicts n)) verdict) adds.line in
-    omega (arith, counts, none, line)
+    (adds.connection, adds.found, λ verdict. let counts = adds.counts verdict in let none = no_cells vc verdict in omega (arith, counts, none))

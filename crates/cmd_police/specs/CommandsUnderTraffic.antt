@@ -2,13 +2,13 @@
 use Rattle.std.specs.Prelude.{◌≡◌, ℕ, nat_le, Bool, true, false, ◌||◌, if◌then◌else◌, List, [], ◌∷◌, ◌++◌, codes, decimal, length, Option, Some, None, MatchBool, MatchOption}
 use Rattle.std.specs.Str.{bytes_eq}
 use Rattle.card_core.specs.World.{Connection, World, connection_in}
-use Rattle.line_record.specs.Tally.{tally_of}
 use Rattle.text_io.specs.Words.{words_of}
 use Rattle.upc_cell.specs.declared.vc.Vc.{Vc}
 use Rattle.cmd_run.specs.RunText.{Card, RefusesLine, RunSteps}
 use Rattle.text_script.specs.ReplyTexts.{connection_name, tally_text}
 use Rattle.text_script.specs.ScriptCommands.{Command, command_of, cut, release}
 use Rattle.text_words.specs.FaultLines.{bad_line, line}
+use Rattle.cmd_police.specs.ConnectionCounts.{own_counts}
 use Rattle.cmd_police.specs.PoliceLines.{in_column}
 use Rattle.cmd_police.specs.TimedLines.{WaitingCommand}
 
@@ -25,12 +25,12 @@ ended_journal (Some (release vc)) = Some (codes "released ", vc)
 ended_journal (Some (cut vc)) = Some (codes "cut ", vc)
 ended_journal (Some _) = None
 
--- The answer to such a command: the counts of the connection's line, as the table has them. Those of the journal would
+-- The answer to such a command: the counts of the connection, as the table has them. Those of the journal would
 -- say when `police` dropped it last. Without a connection it is the answer of `upc run`.
 abbrev pub counted_answer : World → List ℕ × Vc → Option Connection → List ℕ → List ℕ
 counted_answer world ended None given = given
 counted_answer world ended (Some connection) given =
-    line (ended.0 ++ (connection_name world.shape.side ended.1 ++ tally_text (tally_of (world.verdicts connection.line))))
+    line (ended.0 ++ (connection_name world.shape.side ended.1 ++ tally_text (own_counts connection)))
 
 -- The card takes the command as in `upc run`, and the text is the answer with these counts.
 pub record AnswersWithCounts (before : Card) (content : List ℕ) (ended : List ℕ × Vc) (text : List ℕ) (after : Card) : Type 0 where

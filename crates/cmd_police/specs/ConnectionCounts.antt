@@ -1,7 +1,9 @@
 -- The table of the counts of each connection, in order of path and channel.
-use Rattle.std.specs.Prelude.{ℕ, zero, suc, ◌/◌, ◌%◌, ◌^◌, List, [], ◌++◌, codes, decimal, Option, Some, None}
+use Rattle.std.specs.Prelude.{ℕ, zero, suc, ◌/◌, ◌%◌, ◌^◌, List, [], ◌++◌, codes, decimal, map, Option, Some, None}
 use Rattle.std.proofs.Math.Nat.{mod-lt, zero-lt-suc, le_of_suc-le-suc}
 use Rattle.card_core.specs.World.{Connection, World, connection_in}
+use Rattle.leaky.specs.declared.verdict.Verdict.{Verdict}
+use Rattle.line_record.specs.History.{empty_buckets, judged}
 use Rattle.line_record.specs.Tally.{tally_of}
 use Rattle.line_record.specs.declared.tally.Tally.{Tally}
 use Rattle.upc_cell.specs.declared.side.Side.{Side}
@@ -17,7 +19,15 @@ vc_numbered number = record {
   of_an_interface = le_of_suc-le-suc (mod-lt (number / 65536) (zero-lt-suc 4095));
 }
 
--- The line of a connection of a card of this side: its path, its channel, and the counts of its line.
+-- The verdicts on the cells of a connection since it was set up.
+abbrev pub own_verdicts : Connection → List Verdict
+own_verdicts connection = map (λ entry. entry.verdict) (judged connection.contracts empty_buckets [] connection.history)
+
+-- Their counts. Those of its line also have the cells of earlier connections on it.
+abbrev pub own_counts : Connection → Tally
+own_counts connection = tally_of (own_verdicts connection)
+
+-- The line of a connection of a card of this side: its path, its channel, and these counts.
 abbrev pub counts_line : Side → Vc → Tally → List ℕ
 counts_line side vc tally =
     in_column (decimal vc.vpi) ++ (in_column (channel_name side vc.vci) ++ (in_column (decimal tally.passed) ++ (in_column (decimal tally.tagged)
@@ -26,7 +36,7 @@ counts_line side vc tally =
 -- The line of a connection of this world, or nothing if it isn't set up.
 abbrev pub counts_if_any : World → Vc → Option Connection → List ℕ
 counts_if_any world vc None = []
-counts_if_any world vc (Some connection) = counts_line world.shape.side vc (tally_of (world.verdicts connection.line))
+counts_if_any world vc (Some connection) = counts_line world.shape.side vc (own_counts connection)
 
 -- The line of this connection, if it is set up.
 abbrev pub connection_counts : World → Vc → List ℕ

@@ -2,6 +2,7 @@
 pub mod PoliceLines
 pub mod NotJudgedCells
 pub mod ConnectionCounts
+pub mod LineStarts
 pub mod OrderNumber
 pub mod SpanCounts
 pub mod RunComments

@@ -12,6 +12,7 @@ use Rattle.line_record.specs.declared.tally.Tally.{Tally}
 use Rattle.upc_cell.specs.Connection.{is_same_vc}
 use Rattle.upc_cell.specs.declared.vc.Vc.{Vc}
 use Rattle.cmd_run.specs.RunText.{Card, IsLed}
+use Rattle.cmd_police.specs.ConnectionCounts.{own_counts}
 use Rattle.cmd_police.specs.OrderNumber.{order_number}
 use Rattle.cmd_police.specs.PoliceText.{PoliceWorld, police_rules, police_start}
 use Rattle.cmd_police.specs.SpanCounts.{JudgedCell, SpansWorld, TimeSpan, span_rows}
@@ -31,14 +32,14 @@ count_in_spans vc verdict (span ∷ spans) = count_of (tally_of (verdicts_of vc 
 abbrev pub all_spans : SpansWorld → List TimeSpan
 all_spans spans = spans.present ∷ spans.ended
 
--- The spans of a run without commands add up: what the line of a connection counts after the run is what it counted
--- before, and the counts of the connection in all spans.
+-- The spans of a run without commands add up: the counts of a connection after the run are those before, and those of
+-- all spans.
 abbrev pub SpansAddUp : Type 0
 SpansAddUp = (scope : PoliceScope) (nanoseconds tick : ℕ) (card : Card) (cells : List CountedCell) (last : PoliceWorld) → scope.every ≡ Some nanoseconds
     → IsLed card → RunsThrough police_rules (police_start scope tick card []) cells last
     → (vc : Vc) (connection : Connection) → connection_in last.card.world.connections vc ≡ Some connection
-    → (verdict : Verdict) → count_of (tally_of (last.card.world.verdicts connection.line)) verdict
-    ≡ count_of (tally_of (card.world.verdicts connection.line)) verdict + count_in_spans vc verdict (all_spans last.spans)
+    → (before : Connection) × (connection_in card.world.connections vc ≡ Some before)
+    × ((verdict : Verdict) → count_of (own_counts connection) verdict ≡ count_of (own_counts before) verdict + count_in_spans vc verdict (all_spans last.spans))
 
 -- A count as it is written: a number of 64 bits at most.
 abbrev pub in_a_word : ℕ → ℕ

@@ -1,4 +1,6 @@
 -- Definitions that only private functions and proofs use.
+pub mod CountsSince
+pub mod NotedSetups
 pub mod SetUpCard
 pub mod CardArrival
 pub mod TimedScripts

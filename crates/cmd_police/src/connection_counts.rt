@@ -6,9 +6,11 @@ ghost use Rattle.card_core.specs.World.{World};
 ghost use Rattle.text_script.specs.ReplyTexts.{channel_name};
 ghost use Rattle.cmd_police.specs.PoliceLines.{in_column};
 ghost use Rattle.cmd_police.specs.ConnectionCounts.{connection_counts, counts_heading, counts_line, counts_lines};
+ghost use Rattle.cmd_police.specs.LineStarts.{AreStarts};
 ghost use Rattle.cmd_police.specs.OrderNumber.{order_number};
 
 use crate::cell_lines::{add_channel_column, add_number_column};
+use crate::line_starts::LineStarts;
 use card_core::Core;
 use line_record::Tally;
 use std::alloc::AllocError;
@@ -64,13 +66,19 @@ pub(crate) fn add_counts_line(
 }
 
 /// Appends the line of this connection, if the card has it.
-fn add_counts_of(answers: &mut Vec<u8>, core: &Core, vc: Vc) -> Result<(), AllocError>
-    ensures { (world : World) → CoreAgrees core.now world → OnOk result (answers.new.items ≡ answers.old.items ++ connection_counts world vc) }
+fn add_counts_of(
+    answers: &mut Vec<u8>,
+    core: &Core,
+    starts: &LineStarts,
+    vc: Vc,
+) -> Result<(), AllocError>
+    ensures { (world : World) → CoreAgrees core.now world → AreStarts starts.now.counts.items world
+        → OnOk result (answers.new.items ≡ answers.old.items ++ connection_counts world vc) }
 {
-    let Some(state) = core.line_state(vc) else {
-        return Ok(());
-    };
-    add_counts_line(answers, core.shape().side, vc, state.state.counts)
+    match starts.own_counts(core, vc) {
+        Some(counts) => add_counts_line(answers, core.shape().side, vc, counts),
+        None => Ok(()),
+    }
 }
 
 /// Returns the number of a connection in the order of path and channel.
@@ -83,8 +91,9 @@ pub(crate) fn order_number(vc: Vc) -> u64
 }
 
 /// Appends the lines of all connections, in order of path and channel.
-fn add_all_counts(answers: &mut Vec<u8>, core: &Core) -> Result<(), AllocError>
-    ensures { (world : World) → CoreAgrees core.now world → OnOk result (answers.new.items ≡ answers.old.items ++ counts_lines world) }
+fn add_all_counts(answers: &mut Vec<u8>, core: &Core, starts: &LineStarts) -> Result<(), AllocError>
+    ensures { (world : World) → CoreAgrees core.now world → AreStarts starts.now.counts.items world
+        → OnOk result (answers.new.items ≡ answers.old.items ++ counts_lines world) }
 {
     let mut earlier = None;
     // The connections with a smaller number have their lines.
@@ -95,7 +104,7 @@ fn add_all_counts(answers: &mut Vec<u8>, core: &Core) -> Result<(), AllocError>
         if number < least {
             break;
         }
-        add_counts_of(answers, core, vc)?;
+        add_counts_of(answers, core, starts, vc)?;
         earlier = Some(vc);
         least = number + 1;
     }
@@ -104,10 +113,14 @@ fn add_all_counts(answers: &mut Vec<u8>, core: &Core) -> Result<(), AllocError>
 
 /// Appends the table: its heading, and the line of each connection, in order of path and channel.
 #[tactic(auto, using(std::proofs::lemmas::List::append_assoc))]
-pub(crate) fn add_counts(answers: &mut Vec<u8>, core: &Core) -> Result<(), AllocError>
-    ensures { (world : World) → CoreAgrees core.now world → OnOk result (answers.new.items
+pub(crate) fn add_counts(
+    answers: &mut Vec<u8>,
+    core: &Core,
+    starts: &LineStarts,
+) -> Result<(), AllocError>
+    ensures { (world : World) → CoreAgrees core.now world → AreStarts starts.now.counts.items world → OnOk result (answers.new.items
         ≡ answers.old.items ++ (counts_heading ++ counts_lines world)) }
 {
     add_counts_heading(answers)?;
-    add_all_counts(answers, core)
+    add_all_counts(answers, core, starts)
 }

@@ -14,7 +14,7 @@ pub fn rows_count_cells()
     ensures { RowsCountCells }
 {}
 
-/// The counts of a connection in all spans of a run are what the run adds to the counts of its line.
+/// The counts of a connection in all spans of a run are what the run adds to its counts.
 pub fn spans_add_up()
     ensures { SpansAddUp }
 {}

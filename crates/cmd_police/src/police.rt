@@ -226,7 +226,7 @@ impl CellFollower for PoliceRun {
             answers,
             has_lines_before(self.begun, &self.spans, self.commanded),
         )?;
-        add_counts(answers, self.timed.core())?;
+        add_counts(answers, self.timed.core(), &self.timed.starts)?;
         add_not_judged(answers, &self.not_judged)?;
         add_waiting(answers, &self.timed.commands)?;
         add_run_comments(answers, self.tick, passed)?;

@@ -87,7 +87,7 @@ impl PolicedCard {
     {
         add_text(report, &self.answers)?;
         add_gap(report, is_filled(&self.answers))?;
-        add_counts(report, self.timed.core())?;
+        add_counts(report, self.timed.core(), &self.timed.starts)?;
         add_not_judged(report, &self.not_judged)?;
         add_waiting(report, &self.timed.commands)?;
         add_run_comments(report, self.tick, passed)?;

@@ -5,11 +5,13 @@ ghost use Rattle.cmd_explain_script.specs.ScriptText.{IsScriptExplained};
 ghost use Rattle.cmd_police.specs.PoliceText.{IsFaultOfEither};
 ghost use Rattle.cmd_police.specs.inner.SetUpCard.{IsSetUpAs, LeadsScriptTo, RunsWhole};
 
+use crate::line_starts::LineStarts;
+use crate::noted_setups::NotedSetups;
 use crate::stored_commands::{before_times, commands_at};
 use crate::timed_card::TimedCard;
 use captures::Tick;
 use cmd_explain_script::explain_script;
-use cmd_run::{Policing, ScriptCard};
+use cmd_run::ScriptCard;
 use std::alloc::{AllocError, Global};
 use text_io::{Done, ReaderInput, WriterOutput, answer_lines};
 
@@ -74,19 +76,22 @@ fn faults_at_times(
     faults_of(alloc, before)
 }
 
-/// Returns the card that a script without a fault leads to.
-fn card_of(alloc: Global, script: &[u8]) -> Result<ScriptCard, AllocError>
+/// Returns the card that a script without a fault leads to, and the starts of its lines.
+fn card_of(alloc: Global, script: &[u8]) -> Result<(ScriptCard, LineStarts), AllocError>
     requires { RunsWhole script.now }
-    ensures { IfOk result (λ card. IsSetUpAs script.now card) }
+    ensures { IfOk result (λ made. IsSetUpAs script.now made.0 made.1.counts.items) }
 {
     let mut input = ReaderInput::new(script);
     let mut output = WriterOutput::new(Vec::new(alloc));
-    let mut policing = Policing::new(alloc);
-    match answer_lines(alloc, &mut input, &mut output, &mut policing) {
-        Ok(Done::Whole) => match policing.into_card() {
-            Some(card) => Ok(card),
-            None => unreachable!(),
-        },
+    let mut run = NotedSetups::new(alloc);
+    match answer_lines(alloc, &mut input, &mut output, &mut run) {
+        Ok(Done::Whole) => {
+            let (card, starts) = run.into_parts();
+            match card {
+                Some(card) => Ok((card, starts)),
+                None => unreachable!(),
+            }
+        }
         Ok(Done::Ended) => unreachable!(),
         Err(_) => Err(AllocError),
     }
@@ -105,11 +110,12 @@ pub(crate) fn set_up(
     if let Some(text) = faults_at_times(alloc, script, before)? {
         return Ok(SetUp::Faulty(text));
     }
-    let card = card_of(alloc, before)?;
+    let (card, starts) = card_of(alloc, before)?;
     let commands = commands_at(alloc, tick, times, script)?;
     Ok(SetUp::Ready(TimedCard {
         alloc,
         card,
+        starts,
         commands,
     }))
 }

@@ -3,15 +3,17 @@
 ghost use Rattle.std.specs.Prelude.{◌≡◌, ◌++◌, [], IfOk, OnOk, option_map};
 ghost use Rattle.card_core.specs.Sections.{answer_to};
 ghost use Rattle.text_io.specs.Words.{words_of};
-ghost use Rattle.cmd_run.specs.ShownCard.{Moves};
 ghost use Rattle.cmd_police.specs.CommandsUnderTraffic.{AnswersUnderTraffic, AnswersWithCounts, command_line, ended_journal, is_taken_under_traffic};
 ghost use Rattle.cmd_police.specs.inner.CardArrival.{ArrivesWithRoom};
-ghost use Rattle.cmd_police.specs.inner.CommandsShown.{AnswersPlainly, AreCountsOf, CarriesShown, answer_of_counts};
+ghost use Rattle.cmd_police.specs.inner.CommandsShown.{AnswersPlainly, CarriesShown, answer_of_counts};
+ghost use Rattle.cmd_police.specs.inner.NotedSetups.{MovesNoting};
 ghost use Rattle.text_script.specs.CommandSeen.{command_seen};
 ghost use Rattle.text_script.specs.ReplyTexts.{channel_name, connection_name};
 ghost use Rattle.text_script.specs.ScriptCommands.{command_of};
 
 use crate::cell_lines::add_number_column;
+use crate::line_starts::LineStarts;
+use crate::noted_setups::answer_noting;
 use crate::stored_commands::{StoredCommands, add_waiting};
 use card_core::{Core, Judgement, Unjudged};
 use cmd_run::ScriptCard;
@@ -33,6 +35,8 @@ pub struct TimedCard {
     pub(crate) alloc: Global,
     /// The card.
     pub(crate) card: ScriptCard,
+    /// What the lines of the card had counted when their connections were set up.
+    pub(crate) starts: LineStarts,
     /// The commands.
     pub(crate) commands: StoredCommands,
 }
@@ -56,13 +60,15 @@ fn is_taken_under_traffic(line: &[u8]) -> bool
 fn answer_plain(
     alloc: Global,
     card: &mut ScriptCard,
+    starts: &mut LineStarts,
     line: &[u8],
     answers: &mut Vec<u8>,
 ) -> Result<(), AllocError>
-    ensures { OnOk result (Moves (λ before. AnswersPlainly before line.now) card.old card.new answers.old.items answers.new.items) }
+    ensures { OnOk result (MovesNoting (λ before. AnswersPlainly before line.now) card.old starts.old.counts.items
+        card.new starts.new.counts.items answers.old.items answers.new.items) }
 {
     if is_taken_under_traffic(line) {
-        card.answer(alloc, line, answers)
+        answer_noting(alloc, card, starts, line, answers)
     } else {
         add_bad_line(answers)
     }
@@ -89,16 +95,6 @@ fn ended_journal(side: Side, line: &[u8]) -> Option<(&'static [u8], Vc)>
 {
     match read_command(side, line) {
         Some(command) => journal_ended_by(command),
-        None => None,
-    }
-}
-
-/// Returns the counts of a connection's line, if the card has the connection.
-fn counts_of(core: &Core, vc: Vc) -> Option<Tally>
-    ensures { AreCountsOf core.now vc result }
-{
-    match core.line_state(vc) {
-        Some(state) => Some(state.state.counts),
         None => None,
     }
 }
@@ -151,18 +147,19 @@ fn add_counted(
 fn answer_counted(
     alloc: Global,
     card: &mut ScriptCard,
+    starts: &mut LineStarts,
     line: &[u8],
     word: &[u8],
     vc: Vc,
     answers: &mut Vec<u8>,
 ) -> Result<(), AllocError>
-    ensures { OnOk result (Moves (λ before text after. AnswersWithCounts before line.now (word.now, vc) text after) card.old card.new
-        answers.old.items answers.new.items) }
+    ensures { OnOk result (MovesNoting (λ before text after. AnswersWithCounts before line.now (word.now, vc) text after)
+        card.old starts.old.counts.items card.new starts.new.counts.items answers.old.items answers.new.items) }
 {
-    let counts = counts_of(card.core(), vc);
+    let counts = starts.own_counts(card.core(), vc);
     let side = card.core().shape().side;
     let mut given = Vec::new(alloc);
-    card.answer(alloc, line, &mut given)?;
+    answer_noting(alloc, card, starts, line, &mut given)?;
     add_counted(answers, side, word, vc, counts, &given)
 }
 
@@ -170,14 +167,16 @@ fn answer_counted(
 fn answer_command(
     alloc: Global,
     card: &mut ScriptCard,
+    starts: &mut LineStarts,
     line: &[u8],
     answers: &mut Vec<u8>,
 ) -> Result<(), AllocError>
-    ensures { OnOk result (Moves (λ before. AnswersUnderTraffic before line.now) card.old card.new answers.old.items answers.new.items) }
+    ensures { OnOk result (MovesNoting (λ before. AnswersUnderTraffic before line.now) card.old starts.old.counts.items
+        card.new starts.new.counts.items answers.old.items answers.new.items) }
 {
     match ended_journal(card.core().shape().side, line) {
-        Some((word, vc)) => answer_counted(alloc, card, line, word, vc, answers),
-        None => answer_plain(alloc, card, line, answers),
+        Some((word, vc)) => answer_counted(alloc, card, starts, line, word, vc, answers),
+        None => answer_plain(alloc, card, starts, line, answers),
     }
 }
 
@@ -205,7 +204,13 @@ impl TimedCard {
         let mut carried = false;
         while let Some(command) = self.commands.due(moment) {
             add_moment(answers, command.moment)?;
-            answer_command(self.alloc, &mut self.card, &command.content, answers)?;
+            answer_command(
+                self.alloc,
+                &mut self.card,
+                &mut self.starts,
+                &command.content,
+                answers,
+            )?;
             self.commands.next += 1;
             carried = true;
         }

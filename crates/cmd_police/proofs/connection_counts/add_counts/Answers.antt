@@ -4,7 +4,7 @@ use Rattle.cmd_police.specs.ConnectionCounts.{counts_heading, counts_lines}
 use Rattle.cmd_police.proofs.connection_counts.add_counts.Goals as goal
 
 pub returns : goal.returns
-returns c = λ world agrees.
-    on_done c.add_all_counts.result _ _ (c.add_all_counts.ensures world agrees)
+returns c = λ world agrees are.
+    on_done c.add_all_counts.result _ _ (c.add_all_counts.ensures world agrees are)
     (λ grew. grew ∙ ap (λ xs. xs ++ counts_lines world) c.in_ok-add_counts_heading.ensures
     ∙ append_assoc c.args.answers.now.items counts_heading (counts_lines world))

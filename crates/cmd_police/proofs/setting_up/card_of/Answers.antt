@@ -5,16 +5,17 @@ use Rattle.text_io.specs.Printing.{EndsAt, Prints}
 use Rattle.text_io.specs.declared.ending.Done.TheVariants.{Ended}
 use Rattle.cmd_run.specs.RunText.{RunWorld, run_rules}
 use Rattle.cmd_run.specs.ShownCard.{Held, ShowsRun}
+use Rattle.cmd_police.specs.inner.NotedSetups.{AreRunStarts}
 use Rattle.cmd_police.proofs.SetUpLemmas.{ends_card, never_ended}
 use Rattle.cmd_police.proofs.setting_up.card_of.Goals as goal
 
 pub returns-in-Some : goal.returns-in-Some
 returns-in-Some c =
-    let end = c.answer_lines.ensures.world (λ r. refl) (c.in-Ok-Whole.is ∙ ap Ok c.in-Ok-Whole.field-0-is) None tt c.new-policing.ensures in
+    let end = c.answer_lines.ensures.world (λ r. refl) (c.in-Ok-Whole.is ∙ ap Ok c.in-Ok-Whole.field-0-is) None tt c.new-run.ensures in
     let ends : EndsAt run_rules 0 None (lines_of c.args.script.now) end.0 end.1 =
     subst (λ (r : Bor (List ℕ)). EndsAt run_rules 0 None (lines_of r.now) end.0 end.1) c.new-input.ensures.reader end.3 in
     let card = ends_card c.args.script.now end.0 end.1 ends in
-    let shown : ShowsRun (Some c.in-Some.card) end.1 = subst (λ (o : Option Held). ShowsRun o end.1) c.in-Some.is (c.into_card.ensures end.1 end.2) in
+    let shown : ShowsRun (Some c.in-Some.card) end.1 = subst (λ (o : Option Held). ShowsRun o end.1) c.in-Some.is (c.into_parts-card.ensures.card end.1 end.2) in
     record {
       card = card.0;
       reached = record {
@@ -25,20 +26,21 @@ returns-in-Some c =
       };
       led = card.2;
       shown = subst (λ (it : RunWorld). ShowsRun (Some c.in-Some.card) it) card.1 shown;
+      starts = subst (λ (it : RunWorld). AreRunStarts c.into_parts-card.result.1.counts.items it) card.1 (c.into_parts-card.ensures.starts end.1 end.2);
     }
 
 pub unreachable-requires : goal.unreachable-requires
 unreachable-requires c =
-    let end = c.answer_lines.ensures.world (λ r. refl) (c.in-Ok-Whole.is ∙ ap Ok c.in-Ok-Whole.field-0-is) None tt c.new-policing.ensures in
+    let end = c.answer_lines.ensures.world (λ r. refl) (c.in-Ok-Whole.is ∙ ap Ok c.in-Ok-Whole.field-0-is) None tt c.new-run.ensures in
     let ends : EndsAt run_rules 0 None (lines_of c.args.script.now) end.0 end.1 =
     subst (λ (r : Bor (List ℕ)). EndsAt run_rules 0 None (lines_of r.now) end.0 end.1) c.new-input.ensures.reader end.3 in
     let card = ends_card c.args.script.now end.0 end.1 ends in
-    let shown : ShowsRun None end.1 = subst (λ (o : Option Held). ShowsRun o end.1) c.in-None.is (c.into_card.ensures end.1 end.2) in
+    let shown : ShowsRun None end.1 = subst (λ (o : Option Held). ShowsRun o end.1) c.in-None.is (c.into_parts-card.ensures.card end.1 end.2) in
     subst (λ (it : RunWorld). ShowsRun None it) card.1 shown
 
 pub unreachable-requires-in-Ok-Ended : goal.unreachable-requires-in-Ok-Ended
 unreachable-requires-in-Ok-Ended c =
-    let text = c.in-Ok-Ended.ensures.text (λ r. refl) (λ w. refl) None tt c.new-policing.ensures in
+    let text = c.in-Ok-Ended.ensures.text (λ r. refl) (λ w. refl) None tt c.new-run.ensures in
     let ended : Prints run_rules 0 None (lines_of c.new-input.result.reader.now) text.0 Ended =
     subst (λ done. Prints run_rules 0 None (lines_of c.new-input.result.reader.now) text.0 done) c.in-Ok-Ended.field-0-is text.2 in
     let here : Prints run_rules 0 None (lines_of c.args.script.now) text.0 Ended =

@@ -3,17 +3,22 @@ use Rattle.std.proofs.Common.{List, ℕ, ◌++◌, ◌∙◌, ap, subst, sym}
 use Rattle.card_core.specs.Agreement.{CoreView}
 use Rattle.card_core.specs.declared.shape.Shape.{Shape}
 use Rattle.captures_text.proofs.Public.{on_done}
-use Rattle.cmd_run.specs.ShownCard.{AnswersLine, Moves}
-use Rattle.cmd_police.specs.inner.CommandsShown.{AreCountsOf, answer_of_counts}
+use Rattle.cmd_run.specs.ShownCard.{AnswersLine}
+use Rattle.cmd_police.specs.inner.CountsSince.{AreOwnCounts}
+use Rattle.cmd_police.specs.inner.CommandsShown.{answer_of_counts}
+use Rattle.cmd_police.specs.inner.NotedSetups.{MovesNoting}
 use Rattle.cmd_police.proofs.CommandLemmas.{counted_moves}
 use Rattle.cmd_police.proofs.timed_card.answer_counted.Goals as goal
 
 pub returns : goal.returns
 returns c =
+    let starts = c.args.starts.now.counts.items in
     on_done c.add_counted.result _ _ c.add_counted.ensures
-    (λ grew. counted_moves c.shape-side.result.side c.args.line.now c.args.word.now c.args.vc c.counts_of-counts.result c.args.card.now c.answer.new.self c.answer.new.answers.items
+    (λ grew. counted_moves c.shape-side.result.side c.args.line.now c.args.word.now c.args.vc c.own_counts-counts.result c.args.card.now c.answer_noting.new.card
+    starts c.answer_noting.new.starts.counts.items c.answer_noting.new.answers.items
     c.args.answers.now.items c.add_counted.new.answers.items
     (ap (λ (core : CoreView). core.shape.side) (sym c.core-2.ensures) ∙ ap (λ (shape : Shape). shape.side) (sym c.shape-side.ensures))
-    (subst (λ (core : CoreView). AreCountsOf core c.args.vc c.counts_of-counts.result) c.core.ensures c.counts_of-counts.ensures)
-    (subst (λ (xs : List ℕ). Moves (AnswersLine c.args.line.now) c.args.card.now c.answer.new.self xs c.answer.new.answers.items) c.new-given.ensures.items c.in_ok-answer.ensures)
-    (grew ∙ ap (λ xs. c.args.answers.now.items ++ answer_of_counts c.shape-side.result.side c.args.word.now c.args.vc c.counts_of-counts.result xs) c.deref.ensures.value))
+    (subst (λ (core : CoreView). AreOwnCounts core starts c.args.vc c.own_counts-counts.result) c.core.ensures c.own_counts-counts.ensures)
+    (subst (λ (xs : List ℕ). MovesNoting (AnswersLine c.args.line.now) c.args.card.now starts c.answer_noting.new.card c.answer_noting.new.starts.counts.items
+    xs c.answer_noting.new.answers.items) c.new-given.ensures.items c.in_ok-answer_noting.ensures)
+    (grew ∙ ap (λ xs. c.args.answers.now.items ++ answer_of_counts c.shape-side.result.side c.args.word.now c.args.vc c.own_counts-counts.result xs) c.deref.ensures.value))

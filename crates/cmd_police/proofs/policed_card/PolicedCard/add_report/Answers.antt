@@ -15,5 +15,5 @@ returns c = λ world shown.
     c.add_not_judged.new.answers.items c.add_waiting.new.answers.items c.add_run_comments.new.answers.items c.add_closing.new.answers.items shown
     (c.in_ok-add_text.ensures ∙ ap (λ xs. c.args.report.now.items ++ xs) c.deref.ensures.value)
     (c.in_ok-add_gap.ensures ∙ ap (λ b. c.add_text.new.answers.items ++ police_gap b) (c.is_filled.ensures ∙ ap is_filled c.deref-2.ensures.value))
-    (c.in_ok-add_counts.ensures world.card.world agrees)
+    (c.in_ok-add_counts.ensures world.card.world agrees shown.timed.starts)
     c.in_ok-add_not_judged.ensures c.in_ok-add_waiting.ensures c.in_ok-add_run_comments.ensures grew)
