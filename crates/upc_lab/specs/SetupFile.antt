@@ -22,7 +22,7 @@ use Rattle.upc_lab.specs.Comparison.{CarriesFinding}
 use Rattle.upc_lab.specs.ExplainRun.{CarriesExplained}
 use Rattle.upc_lab.specs.ForwardRun.{CarriesForward}
 use Rattle.upc_lab.specs.RulesRun.{CarriesRules}
-use Rattle.upc_lab.specs.LabText.{IsAskedText, kinds_asked, others_asked}
+use Rattle.upc_lab.specs.LabText.{IsAskedText, IsLabText, kinds_asked, others_asked}
 use Rattle.upc_lab.specs.SetupHints.{MayBeSetupHints}
 use Rattle.upc_lab.specs.ShownNames.{shown_name}
 use Rattle.upc_lab.specs.declared.choice.Asked.{Asked}
@@ -62,62 +62,6 @@ differ_in (Ok (Forward options)) = None
 differ_in (Ok (Differ options)) = Some options
 differ_in (Ok (Explain options)) = None
 differ_in (Err stop) = None
-
--- What `forward` is asked for, if the words ask for it.
-abbrev pub forward_in : Result Asked Stop → Option ForwardOptions
-forward_in (Ok (Plain subcommand)) = None
-forward_in (Ok (Why options)) = None
-forward_in (Ok (Cells options)) = None
-forward_in (Ok (Fit options)) = None
-forward_in (Ok (Police options)) = None
-forward_in (Ok (Forward options)) = Some options
-forward_in (Ok (Differ options)) = None
-forward_in (Ok (Explain options)) = None
-forward_in (Err stop) = None
-
--- Whether this is `unused`.
-abbrev pub is_unused : Subcommand → Bool
-is_unused lab.Unused = true
-is_unused lab.Rules = false
-is_unused lab.Asm = false
-is_unused lab.List = false
-is_unused lab.Trace = false
-is_unused lab.Size = false
-is_unused lab.Links = false
-
--- Whether the words ask for `unused`.
-abbrev pub asks_unused : Result Asked Stop → Bool
-asks_unused (Ok (Plain subcommand)) = is_unused subcommand
-asks_unused (Ok (Why options)) = false
-asks_unused (Ok (Cells options)) = false
-asks_unused (Ok (Fit options)) = false
-asks_unused (Ok (Police options)) = false
-asks_unused (Ok (Forward options)) = false
-asks_unused (Ok (Differ options)) = false
-asks_unused (Ok (Explain options)) = false
-asks_unused (Err stop) = false
-
--- Whether this is `rules`.
-abbrev pub is_rules : Subcommand → Bool
-is_rules lab.Rules = true
-is_rules lab.Asm = false
-is_rules lab.Unused = false
-is_rules lab.List = false
-is_rules lab.Trace = false
-is_rules lab.Size = false
-is_rules lab.Links = false
-
--- Whether the words ask for `rules`.
-abbrev pub asks_rules : Result Asked Stop → Bool
-asks_rules (Ok (Plain subcommand)) = is_rules subcommand
-asks_rules (Ok (Why options)) = false
-asks_rules (Ok (Cells options)) = false
-asks_rules (Ok (Fit options)) = false
-asks_rules (Ok (Police options)) = false
-asks_rules (Ok (Forward options)) = false
-asks_rules (Ok (Differ options)) = false
-asks_rules (Ok (Explain options)) = false
-asks_rules (Err stop) = false
 
 -- The name of the file with the old text, if the words name one.
 abbrev pub old_name : Result Asked Stop → Option (List ℕ)
@@ -174,20 +118,6 @@ tick_in_files files = option_map (λ tick. tick.nanoseconds) files.tick
 abbrev pub rules_in_files : SetupFiles → List (List ℕ)
 rules_in_files files = octets_of_texts files.rules.items
 
--- The effect of the program for words that ask for neither `differ`, `forward` nor `rules`.
-abbrev pub CarriesSilent : {Source Sink Errors : Type 0} → (RunFault → List ℕ) → Result Asked Stop → SetupFiles
-    → InputView Source → Source → Source → OutputView Sink → Sink → Sink → OutputView Errors → Errors → Errors → ℕ → Type 0
-CarriesSilent message chosen files I input input' O output output' E errors errors' status = MatchBool (asks_unused chosen)
-    (CarriesFinding message IsUnusedText I input input' O output output' E errors errors' status)
-    (CarriesOut message (IsAskedText files.script.items (tick_in_files files) (rules_in_files files) files.old.items) chosen I input input' O output output' E errors errors' status)
-
--- The effect of the program for words that ask for neither `differ` nor `forward`.
-abbrev pub CarriesPlain : {Source Sink Errors : Type 0} → (RunFault → List ℕ) → Result Asked Stop → SetupFiles
-    → InputView Source → Source → Source → OutputView Sink → Sink → Sink → OutputView Errors → Errors → Errors → ℕ → Type 0
-CarriesPlain message chosen files I input input' O output output' E errors errors' status = MatchBool (asks_rules chosen)
-    (CarriesRules message I input input' O output output' E errors errors' status)
-    (CarriesSilent message chosen files I input input' O output output' E errors errors' status)
-
 -- What is written for what is asked of `forward`, with these files, and what is reported.
 abbrev pub ForwardsAsked : SetupFiles → ForwardOptions → ReportedTexts
 ForwardsAsked files options = IsForwardedAsAgreed (others_asked options.others) (tick_in_files files)
@@ -198,20 +128,31 @@ abbrev pub MayForwardAsked : SetupFiles → ForwardOptions → ReportedTexts
 MayForwardAsked files options = MayBeForwardedAsAgreed (others_asked options.others) (tick_in_files files)
     (option_map (λ asked. asked.nanoseconds) options.tick) options.link files.script.items (rules_in_files files)
 
--- The effect of the program for words that don't ask for `differ`.
-abbrev pub CarriesOther : {Source Sink Errors : Type 0} → (RunFault → List ℕ) → Result Asked Stop → SetupFiles
+-- The effect of a subcommand without options, with these messages for failures.
+abbrev pub CarriesPlain : {Source Sink Errors : Type 0} → (RunFault → List ℕ) → Subcommand
     → InputView Source → Source → Source → OutputView Sink → Sink → Sink → OutputView Errors → Errors → Errors → ℕ → Type 0
-CarriesOther message chosen files I input input' O output output' E errors errors' status = MatchOption (forward_in chosen)
-    (CarriesPlain message chosen files I input input' O output output' E errors errors' status)
-    (λ options. CarriesForward message (ForwardsAsked files options) (MayForwardAsked files options) I input input' O output output' E errors errors' status)
+CarriesPlain message lab.Rules = CarriesRules message
+CarriesPlain message lab.Unused = CarriesFinding message IsUnusedText
+CarriesPlain message subcommand = CarriesOut message IsLabText (Ok subcommand)
 
--- The effect of the program for its words, which don't ask that a setup script is explained, and for the octets of the
--- files that they name, which were read, with these messages for failures.
+-- The effect of what was asked for, and for the octets of the files that the words name, which were read.
+abbrev pub CarriesAsked : {Source Sink Errors : Type 0} → (RunFault → List ℕ) → Asked → SetupFiles
+    → InputView Source → Source → Source → OutputView Sink → Sink → Sink → OutputView Errors → Errors → Errors → ℕ → Type 0
+CarriesAsked message (Plain subcommand) files = CarriesPlain message subcommand
+CarriesAsked message (Differ options) files = CarriesFinding message (IsDifferText (kinds_asked options.programs) options.all files.old.items)
+CarriesAsked message (Forward options) files = CarriesForward message (ForwardsAsked files options) (MayForwardAsked files options)
+CarriesAsked message asked files = CarriesOut message (IsAskedText files.script.items (tick_in_files files) (rules_in_files files) files.old.items) (Ok asked)
+
+-- The effect of words for which nothing is run.
+abbrev pub CarriesStop : {Source Sink Errors : Type 0} → (RunFault → List ℕ) → Stop
+    → InputView Source → Source → Source → OutputView Sink → Sink → Sink → OutputView Errors → Errors → Errors → ℕ → Type 0
+CarriesStop message stop = CarriesOut message IsLabText (Err stop)
+
+-- The effect of the program for its words, which don't ask that a setup script is explained.
 abbrev pub CarriesWith : {Source Sink Errors : Type 0} → (RunFault → List ℕ) → Result Asked Stop → SetupFiles
     → InputView Source → Source → Source → OutputView Sink → Sink → Sink → OutputView Errors → Errors → Errors → ℕ → Type 0
-CarriesWith message chosen files I input input' O output output' E errors errors' status = MatchOption (differ_in chosen)
-    (CarriesOther message chosen files I input input' O output output' E errors errors' status)
-    (λ options. CarriesFinding message (IsDifferText (kinds_asked options.programs) options.all files.old.items) I input input' O output output' E errors errors' status)
+CarriesWith message (Ok asked) files = CarriesAsked message asked files
+CarriesWith message (Err stop) files = CarriesStop message stop
 
 -- The same, also for words that ask that a setup script is explained.
 abbrev pub CarriesNamed : {Source Sink Errors : Type 0} → (RunFault → List ℕ) → Result Asked Stop → SetupFiles

@@ -3,3 +3,4 @@ pub mod ReasonedLine
 pub mod ProgressText
 pub mod OnlyWord
 pub mod NamesMet
+pub mod Stops

@@ -9,6 +9,8 @@ mod laws;
 mod notice;
 mod progress;
 mod reason;
+mod reporting;
+mod running;
 mod setup_file;
 mod setup_hints;
 #[cfg(test)]
@@ -28,11 +30,12 @@ pub use cmd_options::{
 pub use cmd_police::{explain_setup, police_as_agreed};
 pub use cmd_rules::{assemble_rules, compile_rules, decide_cells};
 pub use cmd_size::size_contracts;
+pub use invocation::carry_out;
 use invocation::explains_setup;
-pub use invocation::{carry_out, shell_status};
 pub use notice::awaited;
 pub use progress::{Counted, reads_capture};
 pub use reason::{Knowing, Reasoned, Work};
+pub use reporting::shell_status;
 pub use setup_file::{SetupFiles, Unreadable, read_setup};
 use std::alloc::Global;
 use std::io::{BufReader, IsTerminal, Read};

@@ -1,11 +1,20 @@
 -- The effect is that of the comparison and of its message.
+use Rattle.upc_lab.proofs.Differing.{finding_ends}
 use Rattle.upc_lab.proofs.invocation.carry_out_differ.Goals as goal
 
 pub returns-clause-carried : goal.returns-clause-carried
-returns-clause-carried g c = λ known written shown. record {
-  ended = c.compare_texts-ended.result;
-  status_is = c.report_finding.ensures.status;
-  served = c.compare_texts-ended.ensures.served;
-  printed = c.compare_texts-ended.ensures.printed known written;
-  reports = c.report_finding.ensures.reported shown;
-}
+returns-clause-carried g c = λ known written shown.
+    let served = c.compare_texts-ended.ensures.served in
+    let served_here = rw c.kinds_asked.ensures at served in
+    let printed = c.compare_texts-ended.ensures.printed known written in
+    let printed_here = rw c.kinds_asked.ensures at printed in
+    record {
+      ended = c.compare_texts-ended.result;
+      status_is = c.report_finding.ensures.status;
+      served = served_here;
+      printed = printed_here;
+      reports = c.report_finding.ensures.reported shown;
+    }
+
+pub returns-clause-status : goal.returns-clause-status
+returns-clause-status g c = finding_ends c.report_finding.result (c.compare_texts-ended.result, c.report_finding.ensures.status)

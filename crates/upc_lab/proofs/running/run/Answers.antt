@@ -1,5 +1,5 @@
 -- The script and the files of rules are those that were read.
-use Rattle.upc_lab.proofs.invocation.run.Goals as goal
+use Rattle.upc_lab.proofs.running.run.Goals as goal
 
 pub returns-in-Fit : goal.returns-in-Fit
 returns-in-Fit g c =
