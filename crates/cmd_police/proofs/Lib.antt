@@ -25,3 +25,4 @@ pub mod PolicedLemmas
 pub mod Public
 pub mod CommandLemmas
 pub mod TimedLemmas
+pub mod one_text

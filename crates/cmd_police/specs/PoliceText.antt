@@ -173,9 +173,13 @@ IsFaultOfEither script before text = IsScriptExplained script text Ended ⊎ IsS
 abbrev pub IsFaultAtTimes : List ℕ → List (Option ℕ) → List ℕ → Type 0
 IsFaultAtTimes script times text = IsFaultOfEither script (octets_before_times times (lines_of script)) text
 
+-- The text for a whole capture that is policed by a setup script without a fault, whose lines have these times, and how the run ends.
+abbrev pub IsPoliced : PoliceScope → ℕ → List ℕ → List (Option ℕ) → List ℕ → List ℕ → Done → Type 0
+IsPoliced scope tick script times octets text done =
+    (card : Card) × IsSetUpAtTimes script times card
+    × IsCaptureText police_rules (filter_start tick scope.link scope.timing) (police_start scope tick card (waiting_at tick times (lines_of script))) octets text done
+
 -- The text for a setup script whose lines have these times, and a whole capture, and how the run ends.
 abbrev pub IsPoliceText : PoliceScope → ℕ → List ℕ → List (Option ℕ) → List ℕ → List ℕ → Done → Type 0
 IsPoliceText scope tick script times octets text done =
-    (IsFaultAtTimes script times text × (done ≡ Ended))
-    ⊎ ((card : Card) × IsSetUpAtTimes script times card
-    × IsCaptureText police_rules (filter_start tick scope.link scope.timing) (police_start scope tick card (waiting_at tick times (lines_of script))) octets text done)
+    (IsFaultAtTimes script times text × (done ≡ Ended)) ⊎ IsPoliced scope tick script times octets text done

@@ -1,12 +1,17 @@
 //! Laws of the definitions that this crate's contracts cite. Each function does nothing; its contract is the law.
 
-ghost use Rattle.cmd_police.specs.PoliceLaws.{PolicesEachCapture};
+ghost use Rattle.cmd_police.specs.PoliceLaws.{PoliceTextsAreOne, PolicesEachCapture};
 ghost use Rattle.cmd_police.specs.SpanLaws.{RowsCountCells, SpansAddUp};
 ghost use Rattle.cmd_police.specs.SetupLaws.{LoadCommandsLoad, PolicesEachSetup, ProgramsKeepLines, ScriptsWithoutRulesStay};
 
 /// A setup script and a capture have a text, for each scope and tick.
 pub fn each_capture_has_a_text()
     ensures { PolicesEachCapture }
+{}
+
+/// A capture that is policed by a setup script has one text. On two threads, and however the input is cut, `police` writes that text.
+pub fn a_policed_capture_has_one_text()
+    ensures { PoliceTextsAreOne }
 {}
 
 /// The rows of a span have the counts of each connection's cells in it.

@@ -11,6 +11,7 @@ pub mod ConnectionSteps
 pub mod RecordSteps
 pub mod CellCases
 pub mod CellSteps
+pub mod CellAnswers
 pub mod SeenLines
 pub mod OneAnswer
 pub mod OneScript

@@ -24,7 +24,7 @@ use Rattle.text_script.specs.declared.script_words.Wanted.{Wanted}
 use Rattle.cmd_run.proofs.one_script.Numbers.{number_in}
 use Rattle.cmd_run.proofs.one_script.OpenPlaces.{apart-filter, is_taken, open-place, taken-filter}
 use Rattle.cmd_run.proofs.one_script.Seen.{Seen, SeenConnection, code_of, found_at, seen, seen_connection, seen_connections, with_at}
-use Rattle.cmd_run.proofs.one_script.SeenConnections.{all-filter, all-found, found-seen, gone-filter, gone-seen, line_of, line-freed, some-seen}
+use Rattle.cmd_run.proofs.one_script.SeenConnections.{AreSetUpOnce, all-filter, all-found, found-seen, gone-filter, gone-here, gone-seen, line_of, line-freed, once-without, some-seen}
 use Rattle.cmd_run.proofs.one_script.SeenPrograms.{code-seen}
 use Rattle.cmd_run.proofs.one_script.HoldsAfter.{Comes, HoldsAfter, ConnectionsHold, answered, desk-split, left, refused-comes, reprinted, holds-later, unnamed}
 
@@ -39,7 +39,7 @@ open-lines met world invariant =
     (open-place line_of world.shape.lines world.connections invariant.connections.apart invariant.connections.below).some
     ∙ ap (λ n. nat_lt n world.shape.lines) (sym (length-connections world.loaded world.connections))
 
-is-none_mapped : {X Y : Type 0} (f : X → Y) (found : Option X) → is_none (option_map f found) ≡ is_none found
+pub is-none_mapped : {X Y : Type 0} (f : X → Y) (found : Option X) → is_none (option_map f found) ≡ is_none found
 is-none_mapped f None = refl
 is-none_mapped f (Some x) = refl
 
@@ -60,6 +60,7 @@ connections-without bound given connections vc invariant =
     let kept : Vc × Connection → Bool = λ here. not (is_same_vc vc here.0) in
     let less : ConnectionsHold bound given (filter kept connections) = record {
       known = all-filter (λ here. 0 < number_in given here.1.program) kept connections invariant.known;
+      once = subst AreSetUpOnce (gone-filter connections vc) (once-without connections vc invariant.once);
       apart = apart-filter line_of kept connections invariant.apart;
       below = all-filter (λ here. line_of here < bound) kept connections invariant.below;
     } in
@@ -72,7 +73,7 @@ pub connections-with : (bound : ℕ) (given : List Loading) (connections : List 
     → ConnectionsHold bound given (with_connection connections vc connection)
 connections-with bound given connections vc connection invariant known below free =
     let less = connections-without bound given connections vc invariant in
-    record { known = (known, less.known); apart = (free, less.apart); below = (below, less.below) }
+    record { known = (known, less.known); once = (gone-here connections vc, less.once); apart = (free, less.apart); below = (below, less.below) }
 
 -- A connection that replaces another on the same line.
 pub connections-changed : (bound : ℕ) (given : List Loading) (connections : List (Vc × Connection)) (vc : Vc) (old new : Connection)
@@ -158,9 +159,9 @@ sets_up-comes met before after ask vc number wanted reply text invariant known p
       holds = subst (λ (world : World). HoldsAfter (met + 1) world) (sym goes.world) (record {
         programs = later.programs;
         connections = connections-with before.shape.lines before.loaded before.connections ask.vc new invariant.connections known goes.within free;
-        counted = later.counted;
       });
       named = unnamed before after reply (ap (λ (world : World). world.loaded) goes.world) (ap id_loaded goes.answer);
+      judged = ap (λ (world : World). world.verdicts) goes.world;
     }
 
 -- A connection is set up.

@@ -1,6 +1,7 @@
 -- The invariant of a card's world after this number of lines of a script.
 use Rattle.std.proofs.Common.{◌≡◌, ℕ, ◌+◌, ◌≤◌, ◌⊎◌, List, [], ◌++◌, length, Option, Some, None, option_map, sym, ap, ◌∙◌, subst, inl, inr, arith, append-nil}
 use Rattle.std.specs.Option.{MatchOption}
+use Rattle.leaky.specs.declared.verdict.Verdict.{Verdict}
 use Rattle.upc_cell.specs.declared.side.Side.{Side}
 use Rattle.upc_cell.specs.declared.vc.Vc.{Vc}
 use Rattle.card_core.specs.Steps.{FindsNoMemory, IsRefused, Succeeds}
@@ -16,7 +17,7 @@ use Rattle.text_script.specs.ScriptCommands.{Command}
 use Rattle.cmd_run.proofs.one_script.Numbers.{AreOnce, names_of}
 use Rattle.cmd_run.proofs.one_script.OpenPlaces.{AreApart, AreBelow}
 use Rattle.cmd_run.proofs.one_script.Seen.{Seen, seen}
-use Rattle.cmd_run.proofs.one_script.SeenConnections.{line_of}
+use Rattle.cmd_run.proofs.one_script.SeenConnections.{AreSetUpOnce, line_of}
 use Rattle.cmd_run.proofs.one_script.SeenPrograms.{AreKnown, NameKnown}
 
 -- The slot of a program.
@@ -32,24 +33,40 @@ pub record ProgramsHold (met bound : ℕ) (given live : List Loading) : Type 0 w
   pub below : AreBelow slot_of bound live
   pub worn : (slot : ℕ) → times_given given slot ≤ met
 
--- Connections' programs have names, and each connection has a line of its own.
+-- Connections' programs have names, each virtual connection has one connection at most, and each connection has a line of its own.
 pub record ConnectionsHold (bound : ℕ) (given : List Loading) (connections : List (Vc × Connection)) : Type 0 where
   pub known : NameKnown given connections
+  pub once : AreSetUpOnce connections
   pub apart : AreApart line_of connections
   pub below : AreBelow line_of bound connections
 
--- The invariants of programs and connections hold, and no line has more verdicts than there were lines of the script.
+-- The invariants of programs and connections hold after this number of lines.
 pub record HoldsAfter (met : ℕ) (world : World) : Type 0 where
   pub programs : ProgramsHold met world.shape.programs world.loaded world.live
   pub connections : ConnectionsHold world.shape.lines world.loaded world.connections
-  pub counted : (line : ℕ) → length (world.verdicts line) ≤ met
 
 pub opening-holds : (met : ℕ) (shape : Shape) → HoldsAfter met (opening_world shape)
 opening-holds met shape = record {
   programs = record { once = tt; known = tt; apart = tt; below = tt; worn = λ slot. omega arith };
-  connections = record { known = tt; apart = tt; below = tt };
-  counted = λ line. omega arith;
+  connections = record { known = tt; once = tt; apart = tt; below = tt };
 }
+
+-- The invariant holds after a step that loads no program and counts as no line, if it holds after one more line.
+pub holds-kept : (met : ℕ) (before after : World) → HoldsAfter met before → HoldsAfter (met + 1) after → after.loaded ≡ before.loaded → HoldsAfter met after
+holds-kept met before after invariant later same = record {
+  programs = record {
+    once = later.programs.once;
+    known = later.programs.known;
+    apart = later.programs.apart;
+    below = later.programs.below;
+    worn = subst (λ (given : List Loading). (slot : ℕ) → times_given given slot ≤ met) (sym same) invariant.programs.worn;
+  };
+  connections = later.connections;
+}
+
+-- No line has more verdicts than this.
+abbrev pub JudgedAtMost : ℕ → World → Type 0
+JudgedAtMost most world = (line : ℕ) → length (world.verdicts line) ≤ most
 
 pub programs-later : (met bound : ℕ) (given live : List Loading) → ProgramsHold met bound given live → ProgramsHold (met + 1) bound given live
 programs-later met bound given live invariant = record {
@@ -65,16 +82,22 @@ pub holds-later : (met : ℕ) (world : World) → HoldsAfter met world → Holds
 holds-later met world invariant = record {
   programs = programs-later met world.shape.programs world.loaded world.live invariant.programs;
   connections = invariant.connections;
-  counted = λ line. let counted = invariant.counted line in omega arith;
 }
 
+-- No line has more verdicts after a step that gives none.
+pub judged-later : (most : ℕ) (before after : World) → JudgedAtMost most before → after.verdicts ≡ before.verdicts → JudgedAtMost (most + 1) after
+judged-later most before after counted same line =
+    let here : length (after.verdicts line) ≤ most = subst (λ (verdicts : ℕ → List Verdict). length (verdicts line) ≤ most) (sym same) (counted line) in
+    omega arith
+
 -- A line led from one world to another with this reply: its text is the given one, the view after it is the given one,
--- and the invariant holds after one more line.
+-- the invariant holds after one more line, and no cell is judged.
 pub record Comes (met : ℕ) (before after : World) (reply : Reply) (found : Option (List ℕ)) (text : List ℕ) (to : Seen) : Type 0 where
   pub printed : found ≡ Some text
   pub shown : seen after ≡ to
   pub holds : HoldsAfter (met + 1) after
   pub named : names_of after.loaded ≡ names_of before.loaded ++ id_loaded reply
+  pub judged : after.verdicts ≡ before.verdicts
 
 -- The text for a command of the desk: that of its error, or this text if it has none.
 abbrev pub answered : Option DeskFault → Option (List ℕ) → Option (List ℕ)
@@ -105,6 +128,7 @@ refused-comes met before after reply fault text invariant same none printed = re
   shown = ap seen same;
   holds = subst (λ (world : World). HoldsAfter (met + 1) world) (sym same) (holds-later met before invariant);
   named = unnamed before after reply (ap (λ (world : World). world.loaded) same) none;
+  judged = ap (λ (world : World). world.verdicts) same;
 }
 
 -- A step of the desk succeeds, fails to allocate, or is refused with the given error.

@@ -25,7 +25,8 @@ use Rattle.text_script.specs.declared.script_words.Rate.{Rate}
 use Rattle.text_script.specs.declared.script_words.Wanted.{Wanted}
 use Rattle.text_script.specs.declared.script_words.Wanted.TheVariants as wanted
 use Rattle.cmd_programs.proofs.Public.{reads-once}
-use Rattle.cmd_run.proofs.one_script.CellSteps.{FoundSeen, JudgesSeen, PolicesSeen, judged_seen, judged_text, seen_cell, seen_refusal}
+use Rattle.cmd_run.proofs.one_script.CellAnswers.{FoundSeen, JudgesSeen, PolicesSeen, judged_text, seen_refusal}
+use Rattle.cmd_run.proofs.one_script.CellSteps.{judged_seen, seen_cell}
 use Rattle.cmd_run.proofs.one_script.Numbers.{is_number}
 use Rattle.cmd_run.proofs.one_script.Seen.{Seen, SeenConnection, found_at}
 use Rattle.cmd_run.proofs.one_script.SeenLines.{AsksSeen, LineSeen, LoadsSeen, NamedSeen, ObeysSeen, ReadingSeen, ReloadsSeen, RetiresSeen, SetsUpSeen, SizedSeen, StaysSeen, TakesSeen}
@@ -61,7 +62,7 @@ asked-once (Vbr3 a b) (Vbr3 c d) same = let one = rate-once a c cc in let two = 
 asked-once _ _ same = absurd (cc)
 
 -- Requested contracts are made in one way.
-contracts-once : (asks : List Wanted) (one other : List Contract) → AreContracts asks one → AreContracts asks other → one ≡ other
+pub contracts-once : (asks : List Wanted) (one other : List Contract) → AreContracts asks one → AreContracts asks other → one ≡ other
 contracts-once [] [] [] p q = refl
 contracts-once [] [] (contract ∷ other) p q = absurd q
 contracts-once [] (contract ∷ one) other p q = absurd p

@@ -1,8 +1,9 @@
 -- A script has one run text: if two cards, each after the same number of lines, have equal views, then a line has the
 -- same answer on both, and their views after it are equal.
-use Rattle.std.proofs.Common.{◌≡◌, ℕ, ◌+◌, ◌<◌, Bool, true, false, List, [], codes, Option, Some, None, refl, sym, ◌∙◌, subst}
+use Rattle.std.proofs.Common.{◌≡◌, ℕ, ◌+◌, ◌^◌, ◌<◌, Bool, true, false, List, [], codes, Option, Some, None, refl, sym, ◌∙◌, subst, arith}
 use Rattle.std.specs.Bool.{MatchBool, ⊤}
 use Rattle.std.specs.Option.{MatchOption}
+use Rattle.gen_arena.specs.Slot.{greatest_generation}
 use Rattle.card_core.specs.Shapes.{shape_fault}
 use Rattle.card_core.specs.declared.fault.CardFault.{CardFault}
 use Rattle.card_core.specs.declared.shape.Shape.{Shape}
@@ -20,12 +21,12 @@ use Rattle.cmd_run.specs.inner.RunLaws.{run-total}
 use Rattle.cmd_run.proofs.one_script.OneAnswer.{line-once}
 use Rattle.cmd_run.proofs.one_script.Seen.{Seen, seen}
 use Rattle.cmd_run.proofs.one_script.SeenLines.{IsAfterLines, LineSeen, line-comes}
-use Rattle.cmd_run.proofs.one_script.HoldsAfter.{opening-holds, holds-later}
+use Rattle.cmd_run.proofs.one_script.HoldsAfter.{opening-holds, holds-later, judged-later}
 
 -- Both cards have had this number of lines, and their views are equal.
 pub record AreCardsAlike (met : ℕ) (one other : Card) : Type 0 where
-  pub first : IsAfterLines met one
-  pub second : IsAfterLines met other
+  pub first : IsAfterLines met met one
+  pub second : IsAfterLines met met other
   pub same : seen one.world ≡ seen other.world
 
 -- No card was opened yet, or both cards are alike.
@@ -45,8 +46,13 @@ abbrev AnswerAlike : ℕ → List ℕ → List ℕ → Option RunWorld → Optio
 AnswerAlike met one other next next' = (one ≡ other) × LeadAlike (AreAlike met) next next'
 
 -- A line that leaves a card unchanged.
-after_lines-later : (met : ℕ) (card : Card) → IsAfterLines met card → IsAfterLines (met + 1) card
-after_lines-later met card reached = record { led = reached.led; holds = holds-later met card.world reached.holds; names = reached.names }
+after_lines-later : (met : ℕ) (card : Card) → IsAfterLines met met card → IsAfterLines (met + 1) (met + 1) card
+after_lines-later met card reached = record {
+  led = reached.led;
+  holds = holds-later met card.world reached.holds;
+  names = reached.names;
+  counted = judged-later met card.world card.world reached.counted refl;
+}
 
 ends-alike : (met : ℕ) (fault one other : List ℕ) (next next' : Option RunWorld) → EndsBy fault one next → EndsBy fault other next'
     → AnswerAlike met one other next next'
@@ -59,7 +65,12 @@ opens-alike : (met : ℕ) (shape : Shape) (found : Option CardFault) (one other 
     → MatchOption found ((other ≡ codes "ready\n") × (next' ≡ Some (Some (new_card shape)))) (λ fault. EndsBy (shape_fault_line fault) other next')
     → AnswerAlike met one other next next'
 opens-alike met shape None one other next next' led p q =
-    let reached : IsAfterLines met (new_card shape) = record { led = led (new_card shape) p.1; holds = opening-holds met shape; names = refl } in
+    let reached : IsAfterLines met met (new_card shape) = record {
+      led = led (new_card shape) p.1;
+      holds = opening-holds met shape;
+      names = refl;
+      counted = λ line. omega arith;
+    } in
     (p.0 ∙ sym q.0, lead met next next' (Some (Some (new_card shape))) (Some (Some (new_card shape))) p.1 q.1 (record { first = reached; second = reached; same = refl }))
 opens-alike met shape (Some fault) one other next next' led p q = ends-alike met (shape_fault_line fault) one other next next' p q
 
@@ -77,14 +88,16 @@ commands-alike : (met : ℕ) (before before' : Card) (words : List (List ℕ)) (
     → CommandLine before words one after → CommandLine before' words other after'
     → (one ≡ other) × AreCardsAlike (met + 1) after after'
 commands-alike met before before' words one other after after' few alike led led' p q =
-    let here = line-comes met few before alike.first after one words p in
-    let there = line-comes met few before' alike.second after' other words q in
+    let generations : met < greatest_generation = omega arith in
+    let unworn : met < 2 ^ 62 = omega arith in
+    let here = line-comes met met generations unworn before alike.first after one words p in
+    let there = line-comes met met generations unworn before' alike.second after' other words q in
     let same = line-once (seen before.world) words one other (seen after.world) (seen after'.world) here.shown
     (subst (λ (s : Seen). LineSeen s words other (seen after'.world)) (sym alike.same) there.shown) in (
       same.0,
       record {
-        first = record { led = led; holds = here.holds; names = here.names };
-        second = record { led = led'; holds = there.holds; names = there.names };
+        first = record { led = led; holds = here.holds; names = here.names; counted = here.counted };
+        second = record { led = led'; holds = there.holds; names = there.names; counted = there.counted };
         same = same.1;
       },
     )
@@ -142,7 +155,7 @@ close-alike met (Some before) None one other done done' alike p q = absurd alike
 close-alike met (Some before) (Some before') one other done done' alike p q = (p.0 ∙ sym q.0, p.1 ∙ sym q.1)
 
 -- The rules of `run` give the same text in worlds that are alike.
-run-alike : KeepsAlike run_rules AreAlike
+pub run-alike : KeepsAlike run_rules AreAlike
 run-alike = record { step = step-alike; close = close-alike }
 
 pub some-run_text : (octets : List ℕ) → (text : List ℕ) × (done : Done) × IsRunText octets text done

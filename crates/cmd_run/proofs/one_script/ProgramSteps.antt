@@ -16,7 +16,6 @@ use Rattle.card_core.specs.declared.fault.DeskFault.TheVariants.{Busy, InUse, No
 use Rattle.card_core.specs.declared.reply.Reply.{Reply}
 use Rattle.card_core.specs.declared.reply.Reply.TheVariants.{Loaded, NotLoaded, Refused, Retired}
 use Rattle.card_core.specs.declared.step.Step.TheVariants.{Load, Retire}
-use Rattle.text_io.specs.Limits.{most_input_lines}
 use Rattle.text_words.specs.FaultLines.{line}
 use Rattle.text_script.specs.ReplyTexts.{program_name}
 use Rattle.text_card.specs.Replies.{reply_text}
@@ -37,8 +36,8 @@ length-live : (given live : List Loading) → length (seen_live given live) ≡ 
 length-live given [] = refl
 length-live given (loading ∷ later) = ap suc (length-live given later)
 
--- After fewer lines than a script may have, a slot is open exactly if there are fewer live programs than slots.
-open-slots : (met : ℕ) (world : World) → HoldsAfter met world → met < most_input_lines
+-- After fewer lines than a slot has generations, it is open exactly if there are fewer live programs than slots.
+open-slots : (met : ℕ) (world : World) → HoldsAfter met world → met < greatest_generation
     → any_below world.shape.programs (is_open_slot world) ≡ nat_lt (length (seen_live world.loaded world.live)) world.shape.programs
 open-slots met world invariant few =
     let unworn : (slot : ℕ) → nat_lt (times_given world.loaded slot) greatest_generation ≡ true = λ slot.
@@ -55,7 +54,7 @@ seen_load_fault s =
     else if not (nat_lt (length s.live) s.shape.programs) then Some ProgramsFull
     else None
 
-load_fault-seen : (met : ℕ) (world : World) → HoldsAfter met world → met < most_input_lines → load_fault world ≡ seen_load_fault (seen world)
+load_fault-seen : (met : ℕ) (world : World) → HoldsAfter met world → met < greatest_generation → load_fault world ≡ seen_load_fault (seen world)
 load_fault-seen met world invariant few =
     let e = open-slots met world invariant few in
     λ i. if is_busy world then Some Busy else if not (e i) then Some ProgramsFull else None
@@ -96,10 +95,10 @@ holds-loaded met before loading invariant new free within =
       };
       connections = record {
         known = names-stay loading before.loaded before.connections new invariant.connections.known;
+        once = invariant.connections.once;
         apart = invariant.connections.apart;
         below = invariant.connections.below;
       };
-      counted = λ line. let counted = invariant.counted line in omega arith;
     }
 
 shown-loaded : (met : ℕ) (before : World) (loading : Loading) → HoldsAfter met before → number_in before.loaded loading.id ≡ 0
@@ -135,11 +134,12 @@ loads-comes met before after code digits reply text invariant sound printed goes
       holds = subst (λ (world : World). HoldsAfter (met + 1) world) (sym goes.world) (holds-loaded met before loading invariant new free within);
       named = ap (λ (world : World). names_of world.loaded) goes.world
           ∙ ap (λ (r : Reply). names_of before.loaded ++ id_loaded r) (sym goes.answer);
+      judged = ap (λ (world : World). world.verdicts) goes.world;
     }
 
 -- A program is loaded.
 pub load-comes : (met : ℕ) (before after : World) (code : List Instr) (digits : List ℕ) (reply : Reply) (text : List ℕ) → HoldsAfter met before
-    → WorldInvariant before → met < most_input_lines → reply_text before.shape.side (load digits) (length before.loaded) reply ≡ Some text
+    → WorldInvariant before → met < greatest_generation → reply_text before.shape.side (load digits) (length before.loaded) reply ≡ Some text
     → WorldStep before (Load code) reply after
     → Comes met before after reply (answered (seen_load_fault (seen before)) (loaded_text (seen before))) text
     (left (seen_load_fault (seen before)) (seen before) (with_program (seen before) code))
@@ -202,9 +202,9 @@ retires-comes met before after id number reply text invariant printed goes =
       holds = subst (λ (world : World). HoldsAfter (met + 1) world) (sym goes.world) (record {
         programs = programs-without (met + 1) before.shape.programs before.loaded before.live id later.programs;
         connections = later.connections;
-        counted = later.counted;
       });
       named = unnamed before after reply (ap (λ (world : World). world.loaded) goes.world) (ap id_loaded goes.answer);
+      judged = ap (λ (world : World). world.verdicts) goes.world;
     }
 
 -- A program is retired.

@@ -65,9 +65,9 @@ reloads-comes met before after vc id number reply text invariant known printed g
       holds = subst (λ (world : World). HoldsAfter (met + 1) world) (sym goes.world) (record {
         programs = later.programs;
         connections = connections-changed before.shape.lines before.loaded before.connections vc goes.connection new invariant.connections goes.found refl known;
-        counted = later.counted;
       });
       named = unnamed before after reply (ap (λ (world : World). world.loaded) goes.world) (ap id_loaded goes.answer);
+      judged = ap (λ (world : World). world.verdicts) goes.world;
     }
 
 -- A connection is given another program.
@@ -153,9 +153,9 @@ releases-comes met before after vc reply text invariant printed goes =
       holds = subst (λ (world : World). HoldsAfter (met + 1) world) (sym goes.world) (record {
         programs = later.programs;
         connections = connections-without before.shape.lines before.loaded before.connections vc invariant.connections;
-        counted = later.counted;
       });
       named = unnamed before after reply (ap (λ (world : World). world.loaded) goes.world) (ap id_loaded goes.answer);
+      judged = ap (λ (world : World). world.verdicts) goes.world;
     }
 
 -- A connection is released.
@@ -199,10 +199,18 @@ cuts-comes met before after vc reply text invariant printed goes =
       holds = subst (λ (world : World). HoldsAfter (met + 1) world) (sym goes.world) (record {
         programs = later.programs;
         connections = connections-changed before.shape.lines before.loaded before.connections vc goes.connection new invariant.connections goes.found refl known;
-        counted = later.counted;
       });
       named = unnamed before after reply (ap (λ (world : World). world.loaded) goes.world) (ap id_loaded goes.answer);
+      judged = ap (λ (world : World). world.verdicts) goes.world;
     }
+
+-- A cut loads no program.
+pub cut-loads : (before after : World) (vc : Vc) (reply : Reply) → WorldStep before (Cut vc) reply after → after.loaded ≡ before.loaded
+cut-loads before after vc reply step =
+    desk-split (λ found. after.loaded ≡ before.loaded) (λ fault. Refused fault) (missing_fault before vc) before after (Cut vc) reply
+    (λ goes. ap (λ (world : World). world.loaded) goes.world)
+    (λ lacks. ap (λ (world : World). world.loaded) lacks.world)
+    (λ fault is. ap (λ (world : World). world.loaded) is.world) step
 
 -- A connection's journal is cut.
 pub cut-comes : (met : ℕ) (before after : World) (vc : Vc) (reply : Reply) (text : List ℕ) → HoldsAfter met before

@@ -1,5 +1,6 @@
 -- The view of a card's connections after a lookup and after a removal. No two connections have the same line.
 use Rattle.std.proofs.Common.{◌≡◌, ℕ, ◌==◌, Bool, true, false, cond, if◌then◌else◌, not, List, [], ◌∷◌, Option, Some, None, is_some, option_map, refl, sym, ap, ◌∙◌, subst}
+use Rattle.std.specs.Bool.{⊤}
 use Rattle.std.specs.List.{filter, AllByRecursion}
 use Rattle.std.proofs.lemmas.Bool.{or_from, or_left, or_right, eq-eqb, ne_eqb}
 use Rattle.std.proofs.lemmas.Option.{same_Some}
@@ -78,6 +79,50 @@ all-found P (here ∷ later) vc connection all found =
       | false ↦ λ found. all-found P later vc connection all.1 found
     ] in
     choice (is_same_vc vc here.0) found
+
+-- No virtual connection has two connections.
+abbrev pub AreSetUpOnce : List (Vc × Connection) → Type 0
+AreSetUpOnce [] = ⊤
+AreSetUpOnce (here ∷ later) = (connection_in later here.0 ≡ None) × AreSetUpOnce later
+
+-- A virtual connection without a connection has none after a removal either.
+none-without : (connections : List (Vc × Connection)) (vc other : Vc) → connection_in connections other ≡ None
+    → connection_in (without_connection connections vc) other ≡ None
+none-without [] vc other none = refl
+none-without (here ∷ later) vc other none =
+    let parts : (b : Bool) → (if b then Some here.1 else connection_in later other) ≡ None → (b ≡ false) × (connection_in later other ≡ None) = elim [
+      | true ↦ λ e. absurd (cc)
+      | false ↦ λ e. (refl, e)
+    ] in
+    let apart = parts (is_same_vc other here.0) none in
+    let rest = none-without later vc other apart.1 in
+    let choice : (b : Bool) → connection_in (if b then without_connection later vc else here ∷ without_connection later vc) other ≡ None = elim [
+      | true ↦ rest
+      | false ↦ ap (λ (b : Bool). if b then Some here.1 else connection_in (without_connection later vc) other) apart.0 ∙ rest
+    ] in
+    choice (is_same_vc vc here.0)
+
+-- It has none after its own removal.
+pub gone-here : (connections : List (Vc × Connection)) (vc : Vc) → connection_in (without_connection connections vc) vc ≡ None
+gone-here [] vc = refl
+gone-here (here ∷ later) vc =
+    let rest = gone-here later vc in
+    let choice : (b : Bool) → is_same_vc vc here.0 ≡ b
+    → connection_in (if b then without_connection later vc else here ∷ without_connection later vc) vc ≡ None = elim [
+      | true ↦ λ e. rest
+      | false ↦ λ e. ap (λ (b : Bool). if b then Some here.1 else connection_in (without_connection later vc) vc) e ∙ rest
+    ] in
+    choice (is_same_vc vc here.0) refl
+
+pub once-without : (connections : List (Vc × Connection)) (vc : Vc) → AreSetUpOnce connections → AreSetUpOnce (without_connection connections vc)
+once-without [] vc once = tt
+once-without (here ∷ later) vc once =
+    let rest = once-without later vc once.1 in
+    let choice : (b : Bool) → AreSetUpOnce (if b then without_connection later vc else here ∷ without_connection later vc) = elim [
+      | true ↦ rest
+      | false ↦ (none-without later vc here.0 once.0, rest)
+    ] in
+    choice (is_same_vc vc here.0)
 
 -- The line of an entry.
 abbrev pub line_of : Vc × Connection → ℕ

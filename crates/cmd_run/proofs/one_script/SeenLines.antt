@@ -1,5 +1,5 @@
 -- The answer to a line of a script, as a function of the view of the card alone. Each line is answered so.
-use Rattle.std.proofs.Common.{◌≡◌, ℕ, ◌+◌, ◌<◌, ◌==◌, Bool, true, false, List, ◌++◌, length, Option, Some, None, sym, ap, ◌∙◌, subst}
+use Rattle.std.proofs.Common.{◌≡◌, ℕ, ◌+◌, ◌^◌, ◌<◌, ◌==◌, Bool, true, false, List, ◌++◌, length, Option, Some, None, sym, ap, ◌∙◌, subst}
 use Rattle.std.specs.Bool.{MatchBool}
 use Rattle.std.specs.Option.{MatchOption}
 use Rattle.upc_cell.specs.declared.vc.Vc.{Vc}
@@ -12,7 +12,7 @@ use Rattle.card_core.specs.inner.Sound.{WorldInvariant}
 use Rattle.card_core.specs.declared.reply.Reply.{Reply}
 use Rattle.card_core.specs.declared.step.Step.{Step}
 use Rattle.card_core.specs.declared.step.Step.TheVariants.{Cut, Load, Release, Reload, Retire, Setup}
-use Rattle.text_io.specs.Limits.{most_input_lines}
+use Rattle.gen_arena.specs.Slot.{greatest_generation}
 use Rattle.text_words.specs.FaultLines.{bad_hex, bad_line, wrong_length}
 use Rattle.text_card.specs.CardFaults.{gcra_fault, no_such_program}
 use Rattle.text_words.specs.Hexadecimal.{cell_of_octets, octets_of_digits}
@@ -23,13 +23,14 @@ use Rattle.text_card.specs.Replies.{reply_text}
 use Rattle.cmd_run.specs.RunText.{AsksConnection, Card, CommandLine, IsLed, LoadsOctets, Obeys, PolicesCell, PolicesOctets, RefusesLine, TakesCommand, TakesNamed, TakesReading, id_loaded}
 use Rattle.text_script.specs.ScriptCommands.{Command, cell, command_of, cut, load, release, reload, retire, setup}
 use Rattle.text_script.specs.declared.script_words.Wanted.{Wanted}
-use Rattle.cmd_run.proofs.one_script.CellSteps.{PolicesSeen, cell-comes}
+use Rattle.cmd_run.proofs.one_script.CellAnswers.{PolicesSeen, cell-comes}
+use Rattle.cmd_run.proofs.one_script.CellSteps.{cell-step}
 use Rattle.cmd_run.proofs.one_script.ConnectionSteps.{changed_at, seen_setup_fault, set_text, set_up, setup-comes}
 use Rattle.cmd_run.proofs.one_script.Numbers.{IsNamed, is_number, length-names, named, named-number, names_of, number_in, unnamed as none_named}
 use Rattle.cmd_run.proofs.one_script.ProgramSteps.{load-comes, loaded_text, retire-comes, retired, retired_text, seen_load_fault, seen_retire_fault, with_program}
 use Rattle.cmd_run.proofs.one_script.RecordSteps.{cut-comes, cut_text, handed_out, release-comes, released, released_text, reload-comes, reloaded, reloaded_text, seen_missing_fault, seen_reload_fault}
 use Rattle.cmd_run.proofs.one_script.Seen.{Seen, seen}
-use Rattle.cmd_run.proofs.one_script.HoldsAfter.{Comes, HoldsAfter, answered, left, holds-later}
+use Rattle.cmd_run.proofs.one_script.HoldsAfter.{Comes, HoldsAfter, JudgedAtMost, answered, left, holds-later, judged-later}
 
 -- The line has this text, if there is one, and leads to this view.
 abbrev pub TakesSeen : Option (List ℕ) → Seen → List ℕ → Seen → Type 0
@@ -91,36 +92,39 @@ abbrev pub LineSeen : Seen → List (List ℕ) → List ℕ → Seen → Type 0
 LineSeen s words text to =
     MatchOption (command_of s.shape.side words) (StaysSeen s bad_line text to) (λ command. ObeysSeen s command text to)
 
--- A card after this number of lines: a log leads to it, the invariant of its world holds, and its names are those of
--- all programs that were loaded.
-pub record IsAfterLines (met : ℕ) (card : Card) : Type 0 where
+-- A card after `met` lines, with at most `most` verdicts on a line: a log leads to it, the invariant of its world holds, and
+-- its names are those of all programs that were loaded.
+pub record IsAfterLines (met most : ℕ) (card : Card) : Type 0 where
   pub led : IsLed card
   pub holds : HoldsAfter met card.world
   pub names : card.names ≡ names_of card.world.loaded
+  pub counted : JudgedAtMost most card.world
 
 -- The result of a line: the view decides its answer, and the invariant of the card holds again after one more line.
-pub record LineComes (met : ℕ) (after : Card) (AnswersSeen : Seen → Type 0) : Type 0 where
+pub record LineComes (met most : ℕ) (after : Card) (AnswersSeen : Seen → Type 0) : Type 0 where
   pub shown : AnswersSeen (seen after.world)
   pub holds : HoldsAfter (met + 1) after.world
   pub names : after.names ≡ names_of after.world.loaded
+  pub counted : JudgedAtMost (most + 1) after.world
 
-module _ (met : ℕ) (few : met < most_input_lines) (before : Card) (reached : IsAfterLines met before) (after : Card) (text : List ℕ) where
+module _ (met most : ℕ) (few : met < greatest_generation) (unworn : most < 2 ^ 62) (before : Card) (reached : IsAfterLines met most before) (after : Card) (text : List ℕ) where
   sound : WorldInvariant before.world
   sound = worlds-sound reached.led.shape reached.led.log before.world reached.led.leads
 
   -- A line that changes nothing.
-  refuses-comes : (fault : List ℕ) → RefusesLine fault before text after → LineComes met after (StaysSeen (seen before.world) fault text)
+  refuses-comes : (fault : List ℕ) → RefusesLine fault before text after → LineComes met most after (StaysSeen (seen before.world) fault text)
   refuses-comes fault refuses = record {
     shown = (refuses.0, ap (λ (card : Card). seen card.world) refuses.1);
     holds = subst (λ (card : Card). HoldsAfter (met + 1) card.world) (sym refuses.1) (holds-later met before.world reached.holds);
     names = subst (λ (card : Card). card.names ≡ names_of card.world.loaded) (sym refuses.1) reached.names;
+    counted = judged-later most before.world after.world reached.counted (ap (λ (card : Card). card.world.verdicts) refuses.1);
   }
 
   -- A step of the desk.
   takes-come : (command : Command) (step : Step) (found : Option (List ℕ)) (next : Seen)
       → ((reply : Reply) → WorldStep before.world step reply after.world → reply_text before.world.shape.side command (length before.world.loaded) reply ≡ Some text
       → Comes met before.world after.world reply found text next)
-      → TakesCommand before command step text after → LineComes met after (TakesSeen found next text)
+      → TakesCommand before command step text after → LineComes met most after (TakesSeen found next text)
   takes-come command step found next comes takes =
       let many = ap length reached.names ∙ length-names before.world.loaded in
       let printed = subst (λ n. reply_text before.world.shape.side command n takes.reply ≡ Some text) many takes.printed in
@@ -129,14 +133,15 @@ module _ (met : ℕ) (few : met < most_input_lines) (before : Card) (reached : I
         shown = (done.printed, done.shown);
         holds = done.holds;
         names = takes.named ∙ ap (λ ids. ids ++ id_loaded takes.reply) reached.names ∙ sym done.named;
+        counted = judged-later most before.world after.world reached.counted done.judged;
       }
 
   -- The program that a number names.
   found-comes : (number : ℕ) (TakesWith : Id → List ℕ → Card → Type 0) (AnswersSeen : List ℕ → Seen → Type 0)
-      → ((id : Id) → number_in before.world.loaded id ≡ number → 0 < number → TakesWith id text after → LineComes met after (AnswersSeen text))
+      → ((id : Id) → number_in before.world.loaded id ≡ number → 0 < number → TakesWith id text after → LineComes met most after (AnswersSeen text))
       → (found : Option Id) → IsNamed before.world.loaded number found
       → MatchOption found (RefusesLine no_such_program before text after) (λ id. TakesWith id text after)
-      → LineComes met after (NamedSeen (seen before.world) number AnswersSeen text)
+      → LineComes met most after (NamedSeen (seen before.world) number AnswersSeen text)
   found-comes number TakesWith AnswersSeen comes found (named id there is some) takes =
       let done = comes id is some takes in
       record {
@@ -144,6 +149,7 @@ module _ (met : ℕ) (few : met < most_input_lines) (before : Card) (reached : I
             (sym there) done.shown;
         holds = done.holds;
         names = done.names;
+        counted = done.counted;
       }
   found-comes number TakesWith AnswersSeen comes found (none_named missing) refuses =
       let done = refuses-comes no_such_program refuses in
@@ -152,12 +158,13 @@ module _ (met : ℕ) (few : met < most_input_lines) (before : Card) (reached : I
             (sym missing) done.shown;
         holds = done.holds;
         names = done.names;
+        counted = done.counted;
       }
 
   named-comes : (command : Command) (number : ℕ) (TakesWith : Id → List ℕ → Card → Type 0) (AnswersSeen : List ℕ → Seen → Type 0)
-      → ((id : Id) → number_in before.world.loaded id ≡ number → 0 < number → TakesWith id text after → LineComes met after (AnswersSeen text))
+      → ((id : Id) → number_in before.world.loaded id ≡ number → 0 < number → TakesWith id text after → LineComes met most after (AnswersSeen text))
       → TakesNamed before command number TakesWith text after
-      → LineComes met after (NamedSeen (seen before.world) number AnswersSeen text)
+      → LineComes met most after (NamedSeen (seen before.world) number AnswersSeen text)
   named-comes command number TakesWith AnswersSeen comes takes =
       found-comes number TakesWith AnswersSeen comes (program_named (names_of before.world.loaded) number)
       (named-number before.world.loaded reached.holds.programs.once number)
@@ -165,26 +172,26 @@ module _ (met : ℕ) (few : met < most_input_lines) (before : Card) (reached : I
 
   -- A program is loaded.
   reading-comes : (digits : List ℕ) (reading : ProgramReading) → TakesReading before digits reading text after
-      → LineComes met after (ReadingSeen (seen before.world) reading text)
+      → LineComes met most after (ReadingSeen (seen before.world) reading text)
   reading-comes digits (is_program code) takes =
       takes-come (load digits) (Load code) (answered (seen_load_fault (seen before.world)) (loaded_text (seen before.world)))
       (left (seen_load_fault (seen before.world)) (seen before.world) (with_program (seen before.world) code))
       (λ reply step printed. load-comes met before.world after.world code digits reply text reached.holds sound few printed step) takes
   reading-comes digits (is_refused fault) refuses = refuses-comes fault refuses
 
-  loads-come : (digits octets : List ℕ) → LoadsOctets before digits octets text after → LineComes met after (LoadsSeen (seen before.world) octets text)
+  loads-come : (digits octets : List ℕ) → LoadsOctets before digits octets text after → LineComes met most after (LoadsSeen (seen before.world) octets text)
   loads-come digits octets loads =
       let done = reading-comes digits loads.0 loads.2 in
-      record { shown = (loads.0, loads.1, done.shown); holds = done.holds; names = done.names }
+      record { shown = (loads.0, loads.1, done.shown); holds = done.holds; names = done.names; counted = done.counted }
 
   load-line : (digits : List ℕ) (octets : Option (List ℕ))
       → MatchOption octets (RefusesLine bad_hex before text after) (λ found. LoadsOctets before digits found text after)
-      → LineComes met after (λ to. MatchOption octets (StaysSeen (seen before.world) bad_hex text to) (λ found. LoadsSeen (seen before.world) found text to))
+      → LineComes met most after (λ to. MatchOption octets (StaysSeen (seen before.world) bad_hex text to) (λ found. LoadsSeen (seen before.world) found text to))
   load-line digits None refuses = refuses-comes bad_hex refuses
   load-line digits (Some octets) loads = loads-come digits octets loads
 
   -- A program is retired.
-  retire-line : (number : ℕ) → Obeys before (retire number) text after → LineComes met after (ObeysSeen (seen before.world) (retire number) text)
+  retire-line : (number : ℕ) → Obeys before (retire number) text after → LineComes met most after (ObeysSeen (seen before.world) (retire number) text)
   retire-line number takes =
       named-comes (retire number) number (λ id. TakesCommand before (retire number) (Retire id)) (RetiresSeen (seen before.world) number)
       (λ id is some taken.
@@ -196,7 +203,7 @@ module _ (met : ℕ) (few : met < most_input_lines) (before : Card) (reached : I
       is (retire-comes met before.world after.world id number reply text reached.holds printed step)) taken) takes
 
   -- A connection is given another program.
-  reload-line : (vc : Vc) (number : ℕ) → Obeys before (reload vc number) text after → LineComes met after (ObeysSeen (seen before.world) (reload vc number) text)
+  reload-line : (vc : Vc) (number : ℕ) → Obeys before (reload vc number) text after → LineComes met most after (ObeysSeen (seen before.world) (reload vc number) text)
   reload-line vc number takes =
       named-comes (reload vc number) number (λ id. TakesCommand before (reload vc number) (Reload vc id)) (ReloadsSeen (seen before.world) vc number)
       (λ id is some taken.
@@ -209,7 +216,7 @@ module _ (met : ℕ) (few : met < most_input_lines) (before : Card) (reached : I
 
   -- A connection is set up.
   asks-come : (vc : Vc) (number : ℕ) (wanted : List Wanted) (id : Id) → number_in before.world.loaded id ≡ number → 0 < number
-      → AsksConnection before vc number wanted id text after → LineComes met after (AsksSeen (seen before.world) vc number wanted text)
+      → AsksConnection before vc number wanted id text after → LineComes met most after (AsksSeen (seen before.world) vc number wanted text)
   asks-come vc number wanted id is some asks =
       let contracts = asks.ask.contracts.items in
       let own : number_in before.world.loaded asks.ask.program ≡ number = ap (number_in before.world.loaded) asks.program ∙ is in
@@ -225,12 +232,12 @@ module _ (met : ℕ) (few : met < most_input_lines) (before : Card) (reached : I
       own
       (setup-comes met before.world after.world asks.ask vc number wanted reply text reached.holds (subst (λ n. 0 < n) (sym own) some) printed step)))
       asks.taken in
-      record { shown = (contracts, asks.contracts, done.shown); holds = done.holds; names = done.names }
+      record { shown = (contracts, asks.contracts, done.shown); holds = done.holds; names = done.names; counted = done.counted }
 
   setup-line : (vc : Vc) (number : ℕ) (wanted : List Wanted) (found : Option GcraFault)
       → MatchOption found (TakesNamed before (setup vc number wanted) number (AsksConnection before vc number wanted) text after)
       (λ fault. RefusesLine (gcra_fault fault) before text after)
-      → LineComes met after (λ to. MatchOption found (NamedSeen (seen before.world) number (AsksSeen (seen before.world) vc number wanted) text to)
+      → LineComes met most after (λ to. MatchOption found (NamedSeen (seen before.world) number (AsksSeen (seen before.world) vc number wanted) text to)
       (λ fault. StaysSeen (seen before.world) (gcra_fault fault) text to))
   setup-line vc number wanted None takes =
       named-comes (setup vc number wanted) number (AsksConnection before vc number wanted) (AsksSeen (seen before.world) vc number wanted)
@@ -239,26 +246,31 @@ module _ (met : ℕ) (few : met < most_input_lines) (before : Card) (reached : I
 
   -- A cell arrives.
   polices-come : (moment : ℕ) (octets : List ℕ) → PolicesCell before moment octets text after
-      → LineComes met after (PolicesSeen (seen before.world) moment octets text)
+      → LineComes met most after (PolicesSeen (seen before.world) moment octets text)
   polices-come moment octets polices =
-      let done = cell-comes met before.world after.world before.names moment octets polices.answer text reached.holds sound few reached.names reached.led.free
-      polices.arrived polices.printed in
-      record { shown = done.shown; holds = done.holds; names = polices.same ∙ reached.names ∙ ap names_of (sym done.same) }
+      let done = cell-step met before.world after.world moment octets polices.answer reached.holds reached.led.free polices.arrived in
+      record {
+        shown = cell-comes met most before.world after.world before.names moment octets polices.answer text reached.holds reached.counted unworn sound reached.names
+            polices.printed done.case;
+        holds = done.holds;
+        names = polices.same ∙ reached.names ∙ ap names_of (sym done.same);
+        counted = done.counted most reached.counted;
+      }
 
   sized-line : (moment : ℕ) (octets : List ℕ) (b : Bool)
       → MatchBool b (PolicesCell before moment octets text after) (RefusesLine (wrong_length (length octets)) before text after)
-      → LineComes met after (λ to. MatchBool b (PolicesSeen (seen before.world) moment octets text to) (StaysSeen (seen before.world) (wrong_length (length octets)) text to))
+      → LineComes met most after (λ to. MatchBool b (PolicesSeen (seen before.world) moment octets text to) (StaysSeen (seen before.world) (wrong_length (length octets)) text to))
   sized-line moment octets true polices = polices-come moment octets polices
   sized-line moment octets false refuses = refuses-comes (wrong_length (length octets)) refuses
 
   cell-line : (moment : ℕ) (octets : Option (List ℕ))
       → MatchOption octets (RefusesLine bad_hex before text after) (λ found. PolicesOctets before moment (cell_of_octets found) text after)
-      → LineComes met after (λ to. MatchOption octets (StaysSeen (seen before.world) bad_hex text to) (λ found. SizedSeen (seen before.world) moment (cell_of_octets found) text to))
+      → LineComes met most after (λ to. MatchOption octets (StaysSeen (seen before.world) bad_hex text to) (λ found. SizedSeen (seen before.world) moment (cell_of_octets found) text to))
   cell-line moment None refuses = refuses-comes bad_hex refuses
   cell-line moment (Some octets) polices = sized-line moment (cell_of_octets octets) (length (cell_of_octets octets) == 52) polices
 
   -- A command.
-  obeys-come : (command : Command) → Obeys before command text after → LineComes met after (ObeysSeen (seen before.world) command text)
+  obeys-come : (command : Command) → Obeys before command text after → LineComes met most after (ObeysSeen (seen before.world) command text)
   obeys-come (load digits) obeys = load-line digits (octets_of_digits digits) obeys
   obeys-come (retire number) obeys = retire-line number obeys
   obeys-come (setup vc number wanted) obeys = setup-line vc number wanted (first_wanted_fault wanted) obeys
@@ -274,10 +286,10 @@ module _ (met : ℕ) (few : met < most_input_lines) (before : Card) (reached : I
   obeys-come (cell moment digits) obeys = cell-line moment (octets_of_digits digits) obeys
 
   words-come : (found : Option Command) → MatchOption found (RefusesLine bad_line before text after) (λ command. Obeys before command text after)
-      → LineComes met after (λ to. MatchOption found (StaysSeen (seen before.world) bad_line text to) (λ command. ObeysSeen (seen before.world) command text to))
+      → LineComes met most after (λ to. MatchOption found (StaysSeen (seen before.world) bad_line text to) (λ command. ObeysSeen (seen before.world) command text to))
   words-come None refuses = refuses-comes bad_line refuses
   words-come (Some command) obeys = obeys-come command obeys
 
   -- A line with words.
-  pub line-comes : (words : List (List ℕ)) → CommandLine before words text after → LineComes met after (LineSeen (seen before.world) words text)
+  pub line-comes : (words : List (List ℕ)) → CommandLine before words text after → LineComes met most after (LineSeen (seen before.world) words text)
   line-comes words line = words-come (command_of before.world.shape.side words) line

@@ -1,0 +1,7 @@
+-- A capture that is policed by a setup script has one text.
+pub mod CommandsAlike
+pub mod CellAlike
+pub mod AnswersShown
+pub mod RunsAlike
+pub mod FramesFew
+pub mod OneText
