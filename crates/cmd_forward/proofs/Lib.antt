@@ -7,3 +7,4 @@ pub mod ForwardTexts
 pub mod AgreedTexts
 pub mod Public
 pub mod Conforming
+pub mod one_output

@@ -1,10 +1,14 @@
 -- What is proved of the cells that go on.
-use Rattle.std.specs.Prelude.{◌≡◌, true, List, [], ◌∷◌, ◌++◌}
+use Rattle.std.specs.Prelude.{◌≡◌, ℕ, true, List, [], ◌∷◌, ◌++◌, Option}
+use Rattle.captures.specs.declared.link.Link.{Link}
 use Rattle.leaky.specs.Arrivals.{Arrival}
 use Rattle.leaky.specs.Contract.{Buckets, buckets_after, opening_buckets, verdict_of}
 use Rattle.leaky.specs.declared.contract.Contract.{Contract}
 use Rattle.leaky.specs.declared.verdict.Verdict.{Verdict}
 use Rattle.leaky.specs.declared.verdict.Verdict.TheVariants.{Pass, Tag, Discard, Refuse}
+use Rattle.text_io.specs.declared.ending.Done.{Done}
+use Rattle.cmd_forward.specs.ForwardText.{IsJudgedOnward}
+use Rattle.cmd_forward.specs.declared.others.Others.{Others}
 
 -- What a cell with this verdict is to the next policer: a passed cell arrives as it came, a tagged one with cell loss
 -- priority 1, any other not.
@@ -33,3 +37,10 @@ AllPass contract buckets (arrival ∷ later) =
 abbrev pub WhatWasForwardedConforms : Type 0
 WhatWasForwardedConforms = (contract : Contract) (arrivals : List Arrival)
     → AllPass contract opening_buckets (all_leaving contract opening_buckets arrivals)
+
+-- What goes on of a capture, and what is reported of it, is one output and one report, although a card chooses the slots of programs and the
+-- lines of connections, and drops the journal of a connection before any cell.
+abbrev pub ForwardedOnce : Type 0
+ForwardedOnce = (others : Others) (tick : ℕ) (link : Option Link) (script : List ℕ) (times : List (Option ℕ)) (octets one other report other_report : List ℕ) (ends other_ends : Done)
+    → IsJudgedOnward others tick link script times octets one report ends → IsJudgedOnward others tick link script times octets other other_report other_ends
+    → (one ≡ other) × (report ≡ other_report) × (ends ≡ other_ends)

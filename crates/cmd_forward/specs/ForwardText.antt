@@ -38,12 +38,16 @@ GoesByVerdict before counted onward after = (verdict : Option Verdict) × Police
 abbrev pub forward_rules : JudgeRules PolicedWorld
 forward_rules = record { steps = GoesByVerdict; closes = policed_report; is_sound = λ world. IsLed world.card }
 
+-- What is written of a whole capture by a setup script without a fault, whose lines have these times, and what is reported, and how the run ends.
+abbrev pub IsJudgedOnward : Others → ℕ → Option Link → List ℕ → List (Option ℕ) → ReportedTexts
+IsJudgedOnward others tick link script times octets text report done =
+    (card : Card) × IsSetUpAtTimes script times card
+    × ForwardsCapture forward_rules others (forward_start tick link (policed_start tick card (waiting_at tick times (lines_of script)))) octets text report done
+
 -- What is written for a setup script whose lines have these times, and a whole capture, and what is reported, and how the run ends.
 abbrev pub IsForwarded : Others → ℕ → Option Link → List ℕ → List (Option ℕ) → ReportedTexts
 IsForwarded others tick link script times octets text report done =
-    ((text ≡ []) × IsFaultAtTimes script times report × (done ≡ Ended))
-    ⊎ ((card : Card) × IsSetUpAtTimes script times card
-    × ForwardsCapture forward_rules others (forward_start tick link (policed_start tick card (waiting_at tick times (lines_of script)))) octets text report done)
+    ((text ≡ []) × IsFaultAtTimes script times report × (done ≡ Ended)) ⊎ IsJudgedOnward others tick link script times octets text report done
 
 -- The same for a setup script with files of rules, whose lines have these times, which are not in the script any more.
 -- `IsFault` says which line is the fault line of a text of rules.

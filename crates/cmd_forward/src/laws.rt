@@ -1,8 +1,14 @@
 //! Laws of the definitions. Each function does nothing; its contract is the law.
 
-ghost use Rattle.cmd_forward.specs.ForwardLaws.{WhatWasForwardedConforms};
+ghost use Rattle.cmd_forward.specs.ForwardLaws.{ForwardedOnce, WhatWasForwardedConforms};
 
 /// Under each contract, what goes on passes if it is judged once more by the same contract, from empty buckets, at the same moments.
 pub fn what_was_forwarded_conforms()
     ensures { WhatWasForwardedConforms }
+{}
+
+/// A capture that is judged by a setup script has one output and one report. On two threads, and however the input is cut, `forward` writes
+/// that output.
+pub fn a_forwarded_capture_has_one_output()
+    ensures { ForwardedOnce }
 {}

@@ -5,3 +5,4 @@ pub mod AnswersShown
 pub mod RunsAlike
 pub mod FramesFew
 pub mod OneText
+pub mod PolicedAlike

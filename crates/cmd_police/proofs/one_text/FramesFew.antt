@@ -99,7 +99,7 @@ first_wide format at octets frame is = by (nat_lt (length octets) (head_length f
     by true never = absurd (cc)
     by false is = of_size format at octets (frame_size format octets) frame refl is
 
-frames_few : (frames : List (Result Record Passage)) (format : Format) (count at : ℕ) (octets : List ℕ) (ending : Option Fault) → at ≤ 2 ^ 64
+pub frames_few : (frames : List (Result Record Passage)) (format : Format) (count at : ℕ) (octets : List ℕ) (ending : Option Fault) → at ≤ 2 ^ 64
     → IsReading format count at octets frames ending → at + 12 * length frames ≤ 2 ^ 64
 frames_few [] format count at octets ending near reading = omega (arith, near)
 frames_few (given ∷ frames) format count at octets ending near reading =

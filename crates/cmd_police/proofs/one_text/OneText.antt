@@ -17,7 +17,7 @@ use Rattle.text_io.specs.Words.{is_silent, words_of}
 use Rattle.text_io.specs.declared.ending.Done.{Done}
 use Rattle.text_io.proofs.Public.{prints-end}
 use Rattle.cmd_explain_script.specs.ScriptText.{script_rules, before_script}
-use Rattle.cmd_run.proofs.alike.SetUpAlike.{lines-few, set_up-alike}
+use Rattle.cmd_run.proofs.alike.SetUpAlike.{SetUpAlike, lines-few, set_up-alike}
 use Rattle.cmd_run.specs.RunText.{Card}
 use Rattle.cmd_police.specs.PoliceLaws.{PoliceTextsAreOne}
 use Rattle.cmd_police.specs.PoliceText.{IsSetUpAtTimes, PoliceWorld, police_rules, police_start}
@@ -41,7 +41,7 @@ joined_few [] other many few rest = omega (arith, rest)
 joined_few (first ∷ []) other many few rest = omega (arith, rest)
 joined_few (first ∷ second ∷ one) other many few rest = absurd (omega (arith, few))
 
-waiting_few : (tick : ℕ) (times : List (Option ℕ)) (lines : List Line) → length (waiting_at tick times lines) ≤ length lines
+pub waiting_few : (tick : ℕ) (times : List (Option ℕ)) (lines : List Line) → length (waiting_at tick times lines) ≤ length lines
 waiting_few tick [] lines = omega arith
 waiting_few tick (time ∷ times) [] = omega arith
 waiting_few tick (None ∷ times) (first ∷ lines) = let rest = waiting_few tick times lines in omega (arith, rest)
@@ -52,12 +52,17 @@ waiting_few tick (Some time ∷ times) (first ∷ lines) =
     omega (arith, both)
 
 -- A script without a fault has no more lines than an input may have.
-script_few : (script : List ℕ) (times : List (Option ℕ)) (card : Card) → IsSetUpAtTimes script times card → length (lines_of script) ≤ most_input_lines
+pub script_few : (script : List ℕ) (times : List (Option ℕ)) (card : Card) → IsSetUpAtTimes script times card → length (lines_of script) ≤ most_input_lines
 script_few script times card set_up =
     let ends = prints-end script_rules 0 before_script (lines_of script) set_up.explanation set_up.faultless in
     let none : 0 ≤ most_input_lines = omega arith in
     let few = lines-few script_rules (lines_of script) 0 before_script ends.0 set_up.explanation none ends.1 in
     omega (arith, few)
+
+-- Both cards that a script sets up are alike.
+pub set_up_alike : (script : List ℕ) (times : List (Option ℕ)) (one other : Card) → IsSetUpAtTimes script times one → IsSetUpAtTimes script times other → SetUpAlike one other
+set_up_alike script times one other p q =
+    set_up-alike (lines_of (octets_before_times times (lines_of script))) p.before.answers q.before.answers one other p.before.reached q.before.reached
 
 -- The states at first, before this many cells.
 start_alike : (scope : PoliceScope) (tick : ℕ) (script : List ℕ) (times : List (Option ℕ)) (one other : Card) → IsSetUpAtTimes script times one → IsSetUpAtTimes script times other
@@ -66,7 +71,7 @@ start_alike : (scope : PoliceScope) (tick : ℕ) (script : List ℕ) (times : Li
 start_alike scope tick script times one other set_up set_up' cells few =
     let waiting = waiting_few tick times (lines_of script) in
     let lines = script_few script times one set_up in
-    let both = set_up-alike (lines_of (octets_before_times times (lines_of script))) set_up.before.answers set_up'.before.answers one other set_up.before.reached set_up'.before.reached in
+    let both = set_up_alike script times one other set_up set_up' in
     let most = both.most in
     let sides : one.world.shape.side ≡ other.world.shape.side = λ i. (both.cards.views.rest i).shape.side in
     record {
@@ -82,7 +87,7 @@ start_alike scope tick script times one other set_up set_up' cells few =
 
 -- ---- the capture
 
-start_near : (format : Format) → format_start format ≤ 2 ^ 64
+pub start_near : (format : Format) → format_start format ≤ 2 ^ 64
 start_near Erf = omega arith
 start_near (Pcap order times) = omega arith
 start_near (PcapNg section) = omega arith
