@@ -7,3 +7,4 @@ pub mod Public
 pub mod RefusedCells
 pub mod Turning
 pub mod WordsFound
+pub mod OneExplanation

@@ -12,4 +12,5 @@ pub mod LoadedPrograms
 pub mod SetupHints
 pub mod ScriptText
 pub mod AsRun
+pub mod ExplanationLaws
 pub mod inner

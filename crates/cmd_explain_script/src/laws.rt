@@ -3,11 +3,17 @@
 ghost use Rattle.cmd_explain_script.specs.AsRun.{NamesFaultsOfRun};
 ghost use Rattle.cmd_explain_script.specs.CommandFits.{CommandsFit};
 ghost use Rattle.cmd_explain_script.specs.ContractNumbers.{RefusesEachCell};
+ghost use Rattle.cmd_explain_script.specs.ExplanationLaws.{ScriptsHaveOneExplanation};
 ghost use Rattle.cmd_explain_script.specs.FoundWords.{FindsWords};
 
 /// What `explain` prints for a script has the fault lines of `upc run`, in the same order, each with its explanation.
 pub fn explain_names_the_faults_of_run()
     ensures { NamesFaultsOfRun }
+{}
+
+/// A script has one explanation.
+pub fn a_script_has_one_explanation()
+    ensures { ScriptsHaveOneExplanation }
 {}
 
 /// A connection whose code names none of its contracts, as a hint says, refuses each cell.

@@ -7,7 +7,7 @@ use Rattle.leaky.specs.declared.contract.Contract.{Contract}
 use Rattle.leaky.specs.declared.verdict.Verdict.{Verdict}
 use Rattle.leaky.specs.declared.verdict.Verdict.TheVariants.{Pass, Tag, Discard, Refuse}
 use Rattle.text_io.specs.declared.ending.Done.{Done}
-use Rattle.cmd_forward.specs.ForwardText.{IsJudgedOnward}
+use Rattle.cmd_forward.specs.ForwardText.{IsForwarded}
 use Rattle.cmd_forward.specs.declared.others.Others.{Others}
 
 -- What a cell with this verdict is to the next policer: a passed cell arrives as it came, a tagged one with cell loss
@@ -38,9 +38,9 @@ abbrev pub WhatWasForwardedConforms : Type 0
 WhatWasForwardedConforms = (contract : Contract) (arrivals : List Arrival)
     → AllPass contract opening_buckets (all_leaving contract opening_buckets arrivals)
 
--- What goes on of a capture, and what is reported of it, is one output and one report, although a card chooses the slots of programs and the
+-- A setup script, times of its lines and a capture have one output and one report, although a card chooses the slots of programs and the
 -- lines of connections, and drops the journal of a connection before any cell.
 abbrev pub ForwardedOnce : Type 0
 ForwardedOnce = (others : Others) (tick : ℕ) (link : Option Link) (script : List ℕ) (times : List (Option ℕ)) (octets one other report other_report : List ℕ) (ends other_ends : Done)
-    → IsJudgedOnward others tick link script times octets one report ends → IsJudgedOnward others tick link script times octets other other_report other_ends
+    → IsForwarded others tick link script times octets one report ends → IsForwarded others tick link script times octets other other_report other_ends
     → (one ≡ other) × (report ≡ other_report) × (ends ≡ other_ends)

@@ -101,7 +101,7 @@ set_up_some script whole =
 
 timed_by : (script : List ℕ) (times : List (Option ℕ)) (explanation text : List ℕ) (done : Done) → IsScriptExplained script explanation Whole
     → IsScriptExplained (octets_before_times times (lines_of script)) text done → FaultOrCard script times
-timed_by script times explanation text Ended faultless explained = inl (text, inr explained)
+timed_by script times explanation text Ended faultless explained = inl (text, inr (explanation, faultless, explained))
 timed_by script times explanation text Whole faultless explained =
     let set = set_up_some (octets_before_times times (lines_of script)) (text, explained) in
     inr (set.0, record { explanation = explanation; faultless = faultless; before = set.1 }, set.2)

@@ -1,4 +1,4 @@
--- A capture that is policed by a setup script has one text.
+-- A setup script and a capture have one text.
 pub mod CommandsAlike
 pub mod CellAlike
 pub mod AnswersShown

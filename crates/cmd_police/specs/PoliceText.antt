@@ -165,11 +165,14 @@ pub record IsSetUpAtTimes (script : List ℕ) (times : List (Option ℕ)) (card 
   pub faultless : IsScriptExplained script explanation Whole
   pub before : IsSetUpBy (octets_before_times times (lines_of script)) card
 
--- The text explains a fault of a script, or one of its first lines, `before`.
+-- The text explains a fault of a script, or, if it has none, one of its first lines, `before`.
 abbrev pub IsFaultOfEither : List ℕ → List ℕ → List ℕ → Type 0
-IsFaultOfEither script before text = IsScriptExplained script text Ended ⊎ IsScriptExplained before text Ended
+IsFaultOfEither script before text =
+    IsScriptExplained script text Ended
+    ⊎ ((explanation : List ℕ) × IsScriptExplained script explanation Whole × IsScriptExplained before text Ended)
 
--- The text explains a fault of a script whose lines have these times: one of the script, or one of its lines before the first time.
+-- The text explains a fault of a script whose lines have these times: one of the script, or, if it has none, one of its lines before the
+-- first time.
 abbrev pub IsFaultAtTimes : List ℕ → List (Option ℕ) → List ℕ → Type 0
 IsFaultAtTimes script times text = IsFaultOfEither script (octets_before_times times (lines_of script)) text
 

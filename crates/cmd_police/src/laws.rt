@@ -9,7 +9,7 @@ pub fn each_capture_has_a_text()
     ensures { PolicesEachCapture }
 {}
 
-/// A capture that is policed by a setup script has one text. On two threads, and however the input is cut, `police` writes that text.
+/// A setup script, times of its lines and a capture have one text. On two threads, and however the input is cut, `police` writes that text.
 pub fn a_policed_capture_has_one_text()
     ensures { PoliceTextsAreOne }
 {}

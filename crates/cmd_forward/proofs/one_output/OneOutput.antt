@@ -1,5 +1,5 @@
 -- What `forward` writes of a capture, and what it reports, is one.
-use Rattle.std.proofs.Common.{◌≡◌, ◌<◌, ◌+◌, ◌^◌, ℕ, List, [], ◌∷◌, ◌++◌, length, drop, Option, Some, Result, Ok, Err, arith, refl, ◌∙◌, sym, ap, subst}
+use Rattle.std.proofs.Common.{inl, inr, ◌≡◌, ◌<◌, ◌+◌, ◌^◌, ℕ, List, [], ◌∷◌, ◌++◌, length, drop, Option, Some, Result, Ok, Err, arith, refl, ◌∙◌, sym, ap, subst}
 use Rattle.std.specs.Result.{MatchResult}
 use Rattle.captures.specs.Frames.{format_start}
 use Rattle.captures.specs.Opening.{file_opening}
@@ -20,7 +20,7 @@ use Rattle.text_io.specs.declared.ending.Done.{Done}
 use Rattle.text_io.specs.declared.ending.Done.TheVariants.{Ended}
 use Rattle.cmd_run.specs.RunText.{Card}
 use Rattle.cmd_police.proofs.one_text.FramesFew.{frames_few}
-use Rattle.cmd_police.proofs.one_text.OneText.{start_near}
+use Rattle.cmd_police.proofs.one_text.OneText.{faults_once, never_both, start_near}
 use Rattle.cmd_police.proofs.one_text.PolicedAlike.{PolicedAlike, cell_judged_alike, reports_alike, starts_alike}
 use Rattle.cmd_police.specs.PoliceText.{IsSetUpAtTimes}
 use Rattle.cmd_police.specs.PolicedCards.{PolicedWorld, policed_start}
@@ -155,5 +155,9 @@ module _ (others : Others) where
   opened_once tick link script times octets one other set_up set_up' (Refused fault) text text' report report' done done' p q = (p.0 ∙ sym q.0, p.1 ∙ sym q.1, p.2 ∙ sym q.2)
 
 pub forwarded_once : ForwardedOnce
-forwarded_once others tick link script times octets one other report other_report ends other_ends p q =
+forwarded_once others tick link script times octets one other report other_report ends other_ends (inl p) (inl q) =
+    (p.0 ∙ sym q.0, faults_once script times report other_report p.1 q.1, p.2 ∙ sym q.2)
+forwarded_once others tick link script times octets one other report other_report ends other_ends (inl p) (inr q) = absurd (never_both script times report q.0 p.1 q.1)
+forwarded_once others tick link script times octets one other report other_report ends other_ends (inr p) (inl q) = absurd (never_both script times other_report p.0 q.1 p.1)
+forwarded_once others tick link script times octets one other report other_report ends other_ends (inr p) (inr q) =
     opened_once others tick link script times octets p.0 q.0 p.1 q.1 (file_opening octets) one other report other_report ends other_ends p.2 q.2

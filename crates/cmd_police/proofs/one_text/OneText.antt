@@ -1,5 +1,5 @@
--- A capture that is policed by a setup script has one text.
-use Rattle.std.proofs.Common.{◌≡◌, ℕ, ◌+◌, ◌≤◌, ◌<◌, ◌^◌, Bool, true, false, if◌then◌else◌, List, [], ◌∷◌, ◌++◌, length, drop, Option, Some, None, refl, sym, ◌∙◌, subst, arith}
+-- A setup script and a capture have one text.
+use Rattle.std.proofs.Common.{◌≡◌, ℕ, ◌+◌, ◌≤◌, ◌<◌, ◌^◌, Bool, true, false, if◌then◌else◌, List, [], ◌∷◌, ◌++◌, length, drop, Option, Some, None, refl, sym, ◌∙◌, subst, arith, inl, inr}
 use Rattle.captures.specs.Frames.{format_start, format_timed}
 use Rattle.captures.specs.Opening.{file_opening}
 use Rattle.captures.specs.declared.format.Format.{Format}
@@ -15,12 +15,14 @@ use Rattle.text_io.specs.Limits.{most_input_lines}
 use Rattle.text_io.specs.Lines.{Line, line_content, lines_of}
 use Rattle.text_io.specs.Words.{is_silent, words_of}
 use Rattle.text_io.specs.declared.ending.Done.{Done}
+use Rattle.text_io.specs.declared.ending.Done.TheVariants.{Ended, Whole}
 use Rattle.text_io.proofs.Public.{prints-end}
+use Rattle.cmd_explain_script.proofs.OneExplanation.{explained_once}
 use Rattle.cmd_explain_script.specs.ScriptText.{script_rules, before_script}
 use Rattle.cmd_run.proofs.alike.SetUpAlike.{SetUpAlike, lines-few, set_up-alike}
 use Rattle.cmd_run.specs.RunText.{Card}
 use Rattle.cmd_police.specs.PoliceLaws.{PoliceTextsAreOne}
-use Rattle.cmd_police.specs.PoliceText.{IsSetUpAtTimes, PoliceWorld, police_rules, police_start}
+use Rattle.cmd_police.specs.PoliceText.{IsFaultAtTimes, IsSetUpAtTimes, PoliceWorld, police_rules, police_start}
 use Rattle.cmd_police.specs.TimedLines.{WaitingCommand, moment_of_time, octets_before_times, waiting_at, waiting_line}
 use Rattle.cmd_police.specs.declared.scope.PoliceScope.{PoliceScope}
 use Rattle.cmd_police.proofs.one_text.FramesFew.{cells_few}
@@ -128,6 +130,24 @@ module _ (scope : PoliceScope) (tick : ℕ) (script : List ℕ) (times : List (O
       cells_one [] [] (Closes filter.passed (Some (short_fault octets))) (Closes filter.passed (Some (short_fault octets))) text text' done done' refl refl none p q
   opened_one (Refused fault) text text' done done' p q = (p.0 ∙ sym q.0, p.1 ∙ sym q.1)
 
+-- ---- the faults of the script
+
+pub faults_once : (script : List ℕ) (times : List (Option ℕ)) (one other : List ℕ) → IsFaultAtTimes script times one → IsFaultAtTimes script times other → one ≡ other
+faults_once script times one other (inl p) (inl q) = (explained_once script one other Ended Ended p q).0
+faults_once script times one other (inl p) (inr q) = let never = (explained_once script one q.0 Ended Whole p q.1).1 in absurd (cc)
+faults_once script times one other (inr p) (inl q) = let never = (explained_once script p.0 other Whole Ended p.1 q).1 in absurd (cc)
+faults_once script times one other (inr p) (inr q) = (explained_once (octets_before_times times (lines_of script)) one other Ended Ended p.2 q.2).0
+
+-- A script that sets up a card has no fault.
+pub never_both : (script : List ℕ) (times : List (Option ℕ)) (text : List ℕ) (card : Card) → IsFaultAtTimes script times text → IsSetUpAtTimes script times card → ⊥
+never_both script times text card (inl fault) set_up =
+    let never = (explained_once script text set_up.explanation Ended Whole fault set_up.faultless).1 in absurd (cc)
+never_both script times text card (inr fault) set_up =
+    let never = (explained_once (octets_before_times times (lines_of script)) text set_up.before.explanation Ended Whole fault.2 set_up.before.faultless).1 in absurd (cc)
+
 pub policed_once : PoliceTextsAreOne
-policed_once scope tick script times octets one other ends other_ends p q =
+policed_once scope tick script times octets one other ends other_ends (inl p) (inl q) = (faults_once script times one other p.0 q.0, p.1 ∙ sym q.1)
+policed_once scope tick script times octets one other ends other_ends (inl p) (inr q) = absurd (never_both script times one q.0 p.0 q.1)
+policed_once scope tick script times octets one other ends other_ends (inr p) (inl q) = absurd (never_both script times other p.0 q.0 p.1)
+policed_once scope tick script times octets one other ends other_ends (inr p) (inr q) =
     opened_one scope tick script times octets p.0 q.0 p.1 q.1 (file_opening octets) one other ends other_ends p.2 q.2

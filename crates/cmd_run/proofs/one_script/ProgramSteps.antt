@@ -23,7 +23,7 @@ use Rattle.cmd_run.specs.RunText.{id_loaded}
 use Rattle.text_script.specs.ScriptCommands.{load, retire}
 use Rattle.cmd_run.proofs.one_script.Numbers.{names_of, number_in, number-next, number-none}
 use Rattle.cmd_run.proofs.one_script.OpenPlaces.{any-same, apart-filter, is_open, is_taken, open-place}
-use Rattle.cmd_run.proofs.one_script.Seen.{Seen, code_of, names_number, seen, seen_live, without_program}
+use Rattle.cmd_run.proofs.one_script.Seen.{Seen, code_of, codes_of, names_number, seen, seen_live, without_program}
 use Rattle.cmd_run.proofs.one_script.SeenConnections.{all-filter}
 use Rattle.cmd_run.proofs.one_script.SeenPrograms.{code-seen, connections-stay, known-stays, live-stays, named-seen, names-stay, without-filter, without-seen}
 use Rattle.cmd_run.proofs.one_script.HoldsAfter.{Comes, HoldsAfter, ProgramsHold, answered, desk-split, left, refused-comes, reprinted, slot_of, holds-later, unnamed}
@@ -61,7 +61,7 @@ load_fault-seen met world invariant few =
 
 -- The view with one more program.
 abbrev pub with_program : Seen → List Instr → Seen
-with_program s code = record s { programs = suc s.programs; live = record { number = suc s.programs; code = code } ∷ s.live }
+with_program s code = record s { programs = suc s.programs; codes = code ∷ s.codes; live = record { number = suc s.programs; code = code } ∷ s.live }
 
 -- The id of a program that is loaded is new.
 new-id : (world : World) → WorldInvariant world → (id : Id) → id.generation ≡ times_given world.loaded id.slot + 1 → number_in world.loaded id ≡ 0
@@ -109,6 +109,7 @@ shown-loaded met before loading invariant new =
     let connections = connections-stay loading before.loaded before.connections new invariant.connections.known in
     λ i. record (seen before) {
       programs = suc (length before.loaded);
+      codes = loading.code ∷ codes_of before.loaded;
       live = record { number = number i; code = loading.code } ∷ live i;
       connections = connections i;
     }

@@ -29,11 +29,12 @@ pub record SeenProgram : Type 0 where
   pub number : ℕ
   pub code : List Instr
 
--- The number of programs that were loaded, the live ones, the connections, the number of all connections ever, and the
--- ports.
+-- The number of programs that were loaded, their codes, the latest first, the live ones, the connections, the number of all connections
+-- ever, and the ports.
 pub record Seen : Type 0 where
   pub shape : Shape
   pub programs : ℕ
+  pub codes : List (List Instr)
   pub live : List SeenProgram
   pub connections : List (Vc × SeenConnection)
   pub incarnations : ℕ
@@ -59,11 +60,16 @@ seen_entry given here = (here.0, seen_connection given here.1)
 abbrev pub seen_connections : List Loading → List (Vc × Connection) → List (Vc × SeenConnection)
 seen_connections given connections = map (seen_entry given) connections
 
+-- The codes of these, in the same order.
+abbrev pub codes_of : List Loading → List (List Instr)
+codes_of given = map (λ loading. loading.code) given
+
 -- The view of a world.
 abbrev pub seen : World → Seen
 seen world = record {
   shape = world.shape;
   programs = length world.loaded;
+  codes = codes_of world.loaded;
   live = seen_live world.loaded world.live;
   connections = seen_connections world.loaded world.connections;
   incarnations = world.incarnations;
