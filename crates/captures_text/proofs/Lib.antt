@@ -2,6 +2,7 @@ pub mod Progresses
 pub mod CellTexts
 pub mod CellsOfOctets
 pub mod FixedTexts
+mod Inverses
 pub mod ReadingLemmas
 pub mod AdvanceLemmas
 pub mod FillsAheadLemmas

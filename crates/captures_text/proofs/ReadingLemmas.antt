@@ -1,8 +1,9 @@
 -- Records that are read ahead: each frame keeps what the reading so far has.
-use Rattle.std.proofs.Common.{◌≡◌, ◌⊎◌, inl, inr, ◌+◌, ◌^◌, ◌<◌, ◌≤◌, ℕ, List, [], ◌∷◌, ◌++◌, length, take, drop, Some, None, Ok, Err, refl, ap, sym, ◌∙◌, subst, arith, append_assoc, append-nil}
-use Rattle.std.proofs.lemmas.List.{length-append, length-drop, take-append-drop}
+use Rattle.std.proofs.Common.{◌≡◌, ◌⊎◌, inl, inr, ◌+◌, ◌^◌, ◌<◌, ◌≤◌, ℕ, List, [], ◌∷◌, ◌++◌, length, take, drop, Option, Some, None, Ok, Err, refl, ap, sym, ◌∙◌, subst, arith, append_assoc, append-nil}
+use Rattle.std.proofs.lemmas.List.{drop-drop, length-append, length-drop, take-append-drop}
 use Rattle.captures.specs.Frames.{first_frame}
 use Rattle.captures.specs.Reading.{ComesNext, TakesFrame}
+use Rattle.captures.specs.declared.clock.Clock.{Clock}
 use Rattle.captures.specs.declared.fault.Fault.{Fault}
 use Rattle.captures.specs.declared.format.Format.{Format}
 use Rattle.captures.specs.declared.link.Link.{Link}
@@ -17,7 +18,10 @@ use Rattle.captures_text.specs.declared.filter.Filtered.TheVariants.{Counts, Pas
 use Rattle.captures_text.specs.declared.reading_ahead.Coming.{Coming}
 use Rattle.captures_text.specs.declared.reading_ahead.Coming.TheVariants as coming
 use Rattle.captures_text.specs.declared.reading_ahead.ReadingAhead.{ReadingAhead}
-use Rattle.captures_text.specs.inner.Ahead.{ComesAfter, HasCellsFrom, ReadsCells, ReadsSoFar}
+use Rattle.captures_text.specs.declared.filter.Following.{Following}
+use Rattle.captures_text.specs.declared.reading_ahead.Farther.{Farther}
+use Rattle.captures_text.specs.inner.Ahead.{ComesAfter, HasCellsFrom, ReadsCells, ReadsSoFar, ReadsUsual, reading_at, reading_farther}
+use Rattle.captures_text.specs.inner.Following.{CountsAt, IsFollowing, with_clock}
 use Rattle.captures_text.proofs.CellsOfOctets.{broken_cells, passed_cells, some_cells, taken_cells}
 
 -- From where a reading is, octets have some cells.
@@ -108,6 +112,29 @@ reads_counted before between after record_read moment cell own old new newer cou
     (λ more later end has.
     taken_cells (filter_state between.filter) (filter_state after.filter) between.reader after.reader record_read (Counts moment cell) between.window more own later end
     takes read has))
+
+-- No usual record.
+pub reads_no_usual : (following : Following) (reader : Reader) (octets : List ℕ) (cells : List CountedCell)
+    → ReadsUsual following reader octets cells (record { reader = reader; clock = following.clock; place = 0 }) cells
+reads_no_usual following reader octets cells first filter old follows reads =
+    subst (λ (clock : Option Clock). ReadsSoFar first (reading_at (record filter { clock = clock }) reader octets) old cells) follows.clock_is reads
+
+-- One usual record more.
+pub reads_usual : (following : Following) (reader next : Reader) (octets : List ℕ) (cells new newer : List CountedCell) (so_far : Farther)
+    (record_read : Record) (moment : ℕ) (cell : List ℕ) (own : ℕ) (clock : Clock) (counted : CountedCell)
+    → ReadsUsual following reader octets cells so_far new
+    → TakesFrame so_far.reader (drop so_far.place octets) (Ok record_read) own next
+    → ((filter : CellFilter) → IsFollowing filter following so_far.clock → CountsAt filter record_read moment cell clock)
+    → counted ≡ record { number = record_read.number; moment = moment; cell = cell } → newer ≡ new ++ counted ∷ []
+    → ReadsUsual following reader octets cells (record { reader = next; clock = clock; place = so_far.place + own }) newer
+reads_usual following reader next octets cells new newer so_far record_read moment cell own clock counted usual takes counts made grew first filter old follows reads =
+    let between = reading_farther filter octets so_far in
+    let after = reading_farther filter octets (record { reader = next; clock = clock; place = so_far.place + own }) in
+    let in_time = with_clock filter so_far.clock in
+    reads_counted first between after record_read moment cell own old new newer counted
+    (usual first filter old follows reads) takes
+    (counts in_time (record { ticks = follows.ticks; link = follows.link; clock_is = refl })) made grew
+    (ap (λ (window : List ℕ). record after { window = window }) (sym (drop-drop own so_far.place octets)))
 
 -- After a record the reading is farther than at first.
 pub reads_moved : (before between : ReadingAhead) (reader : Reader) (record_read : Record) (own : ℕ) (old new : List CountedCell)

@@ -32,7 +32,7 @@ pub record FilterState : Type 0 where
 -- The state of this filter.
 abbrev pub filter_state : CellFilter → FilterState
 filter_state filter = record {
-  tick = filter.tick.nanoseconds;
+  tick = filter.ticks.tick.nanoseconds;
   timing = filter.timing;
   asked = filter.asked;
   link = filter.link;

@@ -1,9 +1,12 @@
 //! Which cells of a capture count, and at which moments.
 
-ghost use Rattle.std.specs.Prelude.{◌≡◌};
+ghost use Rattle.std.specs.Prelude.{◌≡◌, List, ℕ, Ok, IfSome};
 ghost use Rattle.captures_text.specs.CellFilter.{filter_at_link, filter_at_time, filter_content, filter_passage, filter_record, filter_start, filter_state};
+ghost use Rattle.captures_text.specs.inner.Following.{CountsAt, IsFollowing, with_clock};
+ghost use Rattle.captures_text.specs.declared.filter.CellFilter.{CellFilter as Filter};
 
 use crate::passed::PassedOver;
+use crate::ticks::Ticks;
 use captures::{Clock, LentCell, Link, Passage, Record, Tick, TimeSource};
 
 /// What a record is to a run that reads the cells of one link.
@@ -21,7 +24,7 @@ pub enum Filtered<'a> {
 /// cell's link. A cell with a time before that of an earlier one does not count.
 #[derive(Clone, Copy, Drop, Debug)]
 pub struct CellFilter {
-    tick: Tick,
+    ticks: Ticks,
     timing: TimeSource,
     /// Whether a link was asked for.
     asked: bool,
@@ -32,19 +35,65 @@ pub struct CellFilter {
     passed: PassedOver,
 }
 
+/// What a filter has that knows its link. Usual records change only the clock: in a variable of its own the compiler keeps it in registers.
+#[derive(Clone, Copy)]
+pub(crate) struct Following {
+    ticks: Ticks,
+    link: Link,
+    pub(crate) clock: Clock,
+}
+
+impl Following {
+    /// Returns the moment of a record whose cell counts and that has no marks, and goes on from its time. Returns none of any other.
+    #[inline(always)]
+    pub(crate) fn moment_of(self, clock: &mut Clock, record_read: &Record<'_>) -> Option<u64>
+        ensures { (filter : Filter) (cell : List ℕ) → IsFollowing filter self clock.old → record_read.now.content ≡ Ok cell
+            → IfSome result (λ moment. CountsAt filter record_read.now moment cell clock.new) }
+    {
+        if record_read.marks.any()
+            || !self.link.is_same(record_read.link)
+            || record_read.time < clock.latest
+        {
+            return None;
+        }
+        clock.latest = record_read.time;
+        Some(self.ticks.nearest(record_read.time - clock.first))
+    }
+}
+
 impl CellFilter {
     /// Starts with this tick, for the link that was asked for, where `Reader` gives records with this time (`Format::timed_by`).
     pub fn new(tick: Tick, link: Option<Link>, timing: TimeSource) -> CellFilter
         ensures { filter_state result ≡ filter_start tick.nanoseconds link timing }
     {
         CellFilter {
-            tick,
+            ticks: Ticks::new(tick),
             timing,
             asked: link.is_some(),
             link,
             clock: None,
             passed: PassedOver::none(),
         }
+    }
+
+    /// Returns what usual records need of the filter. None before the first cell.
+    pub(crate) fn following(&self) -> Option<Following>
+        ensures { IfSome result (λ following. IsFollowing self.now following following.clock) }
+    {
+        let link = self.link?;
+        let clock = self.clock?;
+        Some(Following {
+            ticks: self.ticks,
+            link,
+            clock,
+        })
+    }
+
+    /// Goes on with this clock.
+    pub(crate) fn go_on_at(&mut self, clock: Clock)
+        ensures { self.new ≡ with_clock self.old clock }
+    {
+        self.clock = Some(clock);
     }
 
     // no edit: it returns a field
@@ -66,7 +115,7 @@ impl CellFilter {
         ensures { filter_at_time (filter_state self.old) clock.first clock.latest record_read.now cell.now
             ≡ (result, filter_state self.new) }
     {
-        let moment = clock.read(record_read.time, self.tick);
+        let moment = clock.read(record_read.time, self.ticks.tick);
         self.clock = Some(clock);
         match moment {
             None => {

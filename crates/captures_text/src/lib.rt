@@ -19,6 +19,7 @@ mod queue;
 mod reading_ahead;
 mod run_lines;
 mod tally;
+mod ticks;
 mod two_threads;
 
 pub use blocks::BlockTallies;

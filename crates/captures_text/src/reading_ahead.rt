@@ -1,19 +1,24 @@
 //! Records that are read before the cells of earlier ones are answered.
 
-ghost use Rattle.std.specs.Prelude.{◌≡◌, ◌≢◌, ◌<◌, Err, IfOk, List, None, length};
+ghost use Rattle.std.specs.Prelude.{◌≡◌, ◌≢◌, ◌<◌, ◌≤◌, Err, IfOk, List, None, length};
 ghost use Rattle.text_io.specs.Failures.{read_failures};
-ghost use Rattle.captures_text.specs.inner.Ahead.{FillsAndReads, ReadsCells, ReadsSoFar, StepsTo};
+ghost use Rattle.captures_text.specs.inner.Ahead.{FillsAndReads, ReadsCells, ReadsSoFar, ReadsUsual, StepsTo};
 ghost use Rattle.captures_text.specs.declared.counted.CountedCell.{CountedCell as Counted};
 ghost use Rattle.captures_text.specs.declared.reading_ahead.ReadingAhead.{ReadingAhead as Reading};
 
 use crate::counted::CountedCell;
-use crate::filter::{CellFilter, Filtered};
-use captures::{Fault, Link, Next, Reader};
+use crate::filter::{CellFilter, Filtered, Following};
+use byteorder::{BigEndian, ByteOrder};
+use captures::{Clock, Fault, Link, Next, Reader};
 use std::alloc::AllocError;
 use text_io::{Input, RunFault, Window};
+use upc_cell::CELL_OCTETS;
 
 /// The room of the window, in octets. A frame has at most 131,072.
 pub const WINDOW_ROOM: usize = 524_288;
+
+/// The octets of a usual record: a header of 16 octets, and a cell.
+const USUAL_OCTETS: usize = 16 + CELL_OCTETS;
 
 /// What comes after the records that were read.
 #[derive(Clone, Copy, PartialEq, Eq, Debug)]
@@ -28,6 +33,15 @@ pub(crate) enum Coming {
     Broken(Fault),
 }
 
+/// How far usual records were read.
+#[derive(Clone, Copy)]
+struct Farther {
+    reader: Reader,
+    clock: Clock,
+    /// How many octets they have.
+    place: usize,
+}
+
 /// What reads the records of a capture.
 #[derive(Drop)]
 pub(crate) struct ReadingAhead {
@@ -35,6 +49,64 @@ pub(crate) struct ReadingAhead {
     pub(crate) window: Window<WINDOW_ROOM>,
     pub(crate) reader: Reader,
     pub(crate) filter: CellFilter,
+}
+
+// no ensures: a caller only decides by it which of two loops reads the record
+/// Whether the next record has the form that most have: usual (`Reader::is_usual`), with a cell and nothing else. The tests give the
+/// compiler the numbers in the header, from which it drops the cases that can't occur.
+#[inline(always)]
+fn is_usual(reader: &Reader, octets: &[u8]) -> bool {
+    octets.len() >= USUAL_OCTETS
+        && reader.is_usual(octets)
+        && BigEndian::read_u16(&octets[10..]) as usize == USUAL_OCTETS
+        && BigEndian::read_u16(&octets[14..]) as usize == CELL_OCTETS
+}
+
+/// Reads usual records, as long as their cells count, and appends these cells to the others, as far as there is room and to no more than
+/// `most`. What a record changes is in variables: the compiler doesn't know that the octets are apart from what lies behind a reference,
+/// and would load a header again after each change there.
+fn read_usual_of(
+    following: Following,
+    mut reader: Reader,
+    octets: &[u8],
+    cells: &mut Vec<CountedCell>,
+    most: usize,
+) -> Farther
+    ensures within { result.place ≤ length octets.now }
+    ensures reads { ReadsUsual following reader octets.now cells.old.items result cells.new.items }
+{
+    let mut clock = following.clock;
+    let mut place = 0;
+    while cells.len() < most && cells.len() < cells.capacity() {
+        let left = &octets[place..];
+        if !is_usual(&reader, left) {
+            break;
+        }
+        let mut next_reader = reader;
+        let Next::Taken(record_read, own) = next_reader.next(left) else {
+            break;
+        };
+        let Ok(cell) = &record_read.content else {
+            break;
+        };
+        let mut next_clock = clock;
+        let Some(moment) = following.moment_of(&mut next_clock, &record_read) else {
+            break;
+        };
+        cells.push_reserved(CountedCell {
+            number: record_read.number,
+            moment,
+            cell: cell.cell(),
+        });
+        reader = next_reader;
+        clock = next_clock;
+        place += own;
+    }
+    Farther {
+        reader,
+        clock,
+        place,
+    }
 }
 
 impl ReadingAhead {
@@ -101,35 +173,20 @@ impl ReadingAhead {
         Ok(None)
     }
 
-    /// The same, apart from the code for usual records.
-    fn step_apart(
-        &mut self,
-        cells: &mut Vec<CountedCell>,
-        most: usize,
-    ) -> Result<Option<Coming>, AllocError>
+    /// Reads usual records among the octets that wait, as [`read_usual_of`] does.
+    fn read_usual(&mut self, cells: &mut Vec<CountedCell>, most: usize)
         ensures reads { (first : Reading) (old : List Counted) → ReadsSoFar first self.old old cells.old.items
-            → IfOk result (λ found. StepsTo first self.new old cells.new.items found) }
-        ensures shorter { IfOk result (λ found. found ≡ None → length self.new.window < length self.old.window) }
+            → ReadsSoFar first self.new old cells.new.items }
+        ensures shorter { length self.new.window ≤ length self.old.window }
     {
-        self.step(cells, most)
-    }
-
-    /// The same, by one of two copies of the code: from that for usual records the compiler may drop cases that can't occur.
-    #[inline(always)]
-    fn step_either(
-        &mut self,
-        cells: &mut Vec<CountedCell>,
-        most: usize,
-    ) -> Result<Option<Coming>, AllocError>
-        ensures reads { (first : Reading) (old : List Counted) → ReadsSoFar first self.old old cells.old.items
-            → IfOk result (λ found. StepsTo first self.new old cells.new.items found) }
-        ensures shorter { IfOk result (λ found. found ≡ None → length self.new.window < length self.old.window) }
-    {
-        if self.reader.is_usual(self.window.octets()) {
-            self.step(cells, most)
-        } else {
-            self.step_apart(cells, most)
-        }
+        let Some(following) = self.filter.following() else {
+            return;
+        };
+        let octets = self.window.octets();
+        let found = read_usual_of(following, self.reader, octets, cells, most);
+        self.reader = found.reader;
+        self.filter.go_on_at(found.clock);
+        self.window.skip(found.place);
     }
 
     /// Reads the whole frames among the octets that wait, and appends the cells that count to the others. It stops at what ends a run,
@@ -142,7 +199,8 @@ impl ReadingAhead {
         ensures { IfOk result (λ coming. ReadsCells self.old coming self.new cells.old.items cells.new.items) }
     {
         loop {
-            if let Some(coming) = self.step_either(cells, most)? {
+            self.read_usual(cells, most.saturating_sub(1));
+            if let Some(coming) = self.step(cells, most)? {
                 return Ok(coming);
             }
         }

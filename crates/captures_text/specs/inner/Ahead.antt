@@ -1,14 +1,19 @@
 -- Records that are read before the cells of earlier ones are answered.
-use Rattle.std.specs.Prelude.{◌≡◌, ◌≢◌, ◌⊎◌, ◌+◌, ◌^◌, ◌<◌, ◌≤◌, ℕ, List, [], ◌++◌, length, take, Option, None, Some}
+use Rattle.std.specs.Prelude.{◌≡◌, ◌≢◌, ◌⊎◌, ◌+◌, ◌^◌, ◌<◌, ◌≤◌, ℕ, List, [], ◌++◌, length, take, drop, Option, None, Some}
 use Rattle.captures.specs.Frames.{first_frame}
 use Rattle.captures_text.specs.CaptureText.{IsTextOfCells}
 use Rattle.captures_text.specs.CellFilter.{CellsEnd, Closes, Crosses, HasCells, filter_state}
 use Rattle.captures_text.specs.CellFollowing.{OfEachWorld}
 use Rattle.captures_text.specs.CellRules.{CellRules}
+use Rattle.captures.specs.declared.reader.Reader.{Reader}
+use Rattle.captures_text.specs.inner.Following.{IsFollowing, with_clock}
 use Rattle.captures_text.specs.inner.Progress.{CaptureProgress, Texts}
 use Rattle.captures_text.specs.declared.one_thread.Going.{Going}
 use Rattle.captures_text.specs.declared.one_thread.Going.TheVariants as going
 use Rattle.captures_text.specs.declared.counted.CountedCell.{CountedCell}
+use Rattle.captures_text.specs.declared.filter.CellFilter.{CellFilter}
+use Rattle.captures_text.specs.declared.filter.Following.{Following}
+use Rattle.captures_text.specs.declared.reading_ahead.Farther.{Farther}
 use Rattle.captures_text.specs.declared.reading_ahead.Coming.{Coming}
 use Rattle.captures_text.specs.declared.reading_ahead.Coming.TheVariants as coming
 use Rattle.captures_text.specs.declared.reading_ahead.ReadingAhead.{ReadingAhead}
@@ -32,6 +37,14 @@ ComesAfter after coming.Enough more later end = HasCellsFrom after (after.window
 ComesAfter after (coming.Several one other) more later end = (later ≡ []) × (end ≡ Crosses one other)
 ComesAfter after (coming.Broken fault) more later end = (later ≡ []) × (end ≡ Closes after.filter.passed (Some fault))
 
+-- The reading with this filter and reader, at these octets.
+abbrev pub reading_at : CellFilter → Reader → List ℕ → ReadingAhead
+reading_at filter reader octets = record { window = octets; reader = reader; filter = filter }
+
+-- The reading with this filter, after usual records were read so far among these octets.
+abbrev pub reading_farther : CellFilter → List ℕ → Farther → ReadingAhead
+reading_farther filter octets found = reading_at (with_clock filter found.clock) found.reader (drop found.place octets)
+
 -- The reading went on through these octets.
 pub record WentOn (before after : ReadingAhead) : Type 0 where
   pub own : List ℕ
@@ -47,6 +60,13 @@ pub record ReadsSoFar (before after : ReadingAhead) (old new : List CountedCell)
   pub grew : new ≡ old ++ fresh
   pub leads : (more : List ℕ) (later : List CountedCell) (end : CellsEnd) → HasCellsFrom after (after.window ++ more) later end
       → HasCellsFrom before (before.window ++ more) (fresh ++ later) end
+
+-- Usual records were read so far among these octets, from this reader on, and their cells came to the others: what reading came to them came
+-- through them.
+abbrev pub ReadsUsual : Following → Reader → List ℕ → List CountedCell → Farther → List CountedCell → Type 0
+ReadsUsual following reader octets cells found cells' = (first : ReadingAhead) (filter : CellFilter) (old : List CountedCell)
+    → IsFollowing filter following following.clock → ReadsSoFar first (reading_at filter reader octets) old cells
+    → ReadsSoFar first (reading_farther filter octets found) old cells'
 
 -- How far the reading came: to where more octets are wanted, or through one frame at least.
 abbrev pub CameTo : Coming → ReadingAhead → ReadingAhead → List CountedCell → List CountedCell → Type 0
