@@ -3,8 +3,8 @@
     python3 -m captures.police UPC_LAB [COUNT] [SEED]
 
 Where a line of the script has a fault, the output is that of `upc-lab explain`. Some scripts name files of rules: then the output is
-that for the script with the programs that `upc-lab rules` makes of them, or the fault of the first file that has one; and standard error has the
-comments of `upc-lab rules`, with the names of the files. The last line is
+that for the script with the programs that `upc-lab rules` makes of them, or the fault of the first file that has one, with what `upc-lab explain`
+says of it; and standard error has the comments of `upc-lab rules`, with the names of the files. The last line is
 'N passed, M failed'.
 """
 import os
@@ -144,7 +144,8 @@ class Rules:
         output, comments, status = self.program.ran(["rules"], text)
         self.comments += b"".join(b"# %s: %s" % (name, it[2:]) for it in comments.splitlines(keepends=True))
         if status and self.fault is None:
-            self.fault = output + b"line %d: in the rules of `%s`\n" % (number, name)
+            _, reason = self.program.ran(["explain"], b"rules\n" + text)[0].split(b"\n", 1)
+            self.fault = output + b"line %d: in the rules of `%s`: %s" % (number, name, reason)
         self.add(b" rules  %s" % name, b"load " + output.split(b"\n")[1])
 
     def wrong(self):

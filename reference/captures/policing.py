@@ -19,6 +19,9 @@ SPAN_HEADING = ("span", "moment", "vpi", "vci", "passed", "tagged", "discarded",
 TABLE = ("vpi", "vci", "passed", "tagged", "discarded", "refused")
 VERDICTS = ("pass", "tag", "discard", "refuse")
 
+# What is said of a time before that of an earlier line.
+FALLS = "this time is before that of an earlier line; the times of a setup don't fall"
+
 # Why cells aren't judged, in the order of the comments.
 REASONS = {
     "NoConnection": "no connection",
@@ -169,7 +172,7 @@ def policed(script, octets, asked, link, lines, every=None):
     tick = named or asked or 100
     timed = TimedScript(script)
     if timed.falls:
-        return f"fault at 1 Falls {timed.falls}\n".encode(), 1
+        return f"fault at 1 Falls {timed.falls}\nline {timed.falls}: {FALLS}\n".encode(), 1
     if timed.faulty() is not None:
         return None
     capture = Capture(octets, tick, link)

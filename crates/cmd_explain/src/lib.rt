@@ -36,6 +36,7 @@ pub use first_line::{Ahead, InputKind, LookedAt};
 pub use forms::{Form, Shape, Slot};
 pub use hint_comments::{Comments, add_hints_about};
 pub use hinted_rules::compile_with_hints;
+pub use rule_faults::add_rule_explanation;
 pub use rule_tokens::RuleWord;
 pub use spots::{Place, Spot};
 pub use token_parts::{Part, Subject};

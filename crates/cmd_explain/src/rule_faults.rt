@@ -272,7 +272,11 @@ fn add_placed(
 }
 
 /// Appends the explanation of a fault of a text of rules: its source line, the column of the token that is wrong, and a sentence.
-pub(crate) fn add_rule_explanation(
+///
+/// # Errors
+///
+/// `AllocError` if an allocation failed.
+pub fn add_rule_explanation(
     alloc: Global,
     answers: &mut Vec<u8>,
     text: &[u8],

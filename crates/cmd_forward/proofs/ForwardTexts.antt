@@ -56,7 +56,7 @@ timed_some others tick link setup times texts octets text done (inr (script, mad
     let some = some_forwarded others tick link script times octets in (some.0, some.1, (some.2.0, inr (script, made, some.2.1)))
 
 -- By whether the time of a line falls.
-abbrev ForwardsUnless : Option ℕ → (List ℕ → List ℕ → Type 0) → Others → ℕ → Option Link → List ℕ → List (List ℕ) → ReportedTexts
+abbrev ForwardsUnless : Option ℕ → (List ℕ → List ℕ → List ℕ → Type 0) → Others → ℕ → Option Link → List ℕ → List (List ℕ) → ReportedTexts
 ForwardsUnless falls IsFault others tick link setup texts octets text report done = MatchOption falls
     (IsTimedForwardedBy IsFault others tick link (without_times setup) (line_times setup) texts octets text report done)
     (λ number. (text ≡ []) × (report ≡ falling_text number) × (done ≡ Ended))
@@ -136,7 +136,7 @@ pub faulty_setup : (others : Others) (tick : ℕ) (link : Option Link) (setup : 
 faulty_setup others tick link setup texts text opens octets = faulty_unless (falling_line setup) others tick link setup texts text opens octets
 
 -- What is forwarded by an opened card is forwarded for its setup.
-pub opened_setup : (IsFault : List ℕ → List ℕ → Type 0) (others : Others) (tick : ℕ) (link : Option Link) (setup : List ℕ) (texts : List (List ℕ)) (octets text report : List ℕ) (done : Done)
+pub opened_setup : (IsFault : List ℕ → List ℕ → List ℕ → Type 0) (others : Others) (tick : ℕ) (link : Option Link) (setup : List ℕ) (texts : List (List ℕ)) (octets text report : List ℕ) (done : Done)
     → falling_line setup ≡ None
     → IsTimedForwardedBy IsFault others tick link (without_times setup) (line_times setup) texts octets text report done
     → IsSetupForwardedBy IsFault others tick link setup texts octets text report done

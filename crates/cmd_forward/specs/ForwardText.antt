@@ -50,14 +50,14 @@ IsForwarded others tick link script times octets text report done =
     ((text ≡ []) × IsFaultAtTimes script times report × (done ≡ Ended)) ⊎ IsJudgedOnward others tick link script times octets text report done
 
 -- The same for a setup script with files of rules, whose lines have these times, which are not in the script any more.
--- `IsFault` says which line is the fault line of a text of rules.
-abbrev pub IsTimedForwardedBy : (List ℕ → List ℕ → Type 0) → Others → ℕ → Option Link → List ℕ → List (Option ℕ) → List (List ℕ) → ReportedTexts
+-- `IsFault` says which lines are the fault line of a text of rules and its explanation.
+abbrev pub IsTimedForwardedBy : (List ℕ → List ℕ → List ℕ → Type 0) → Others → ℕ → Option Link → List ℕ → List (Option ℕ) → List (List ℕ) → ReportedTexts
 IsTimedForwardedBy IsFault others tick link setup times texts octets text report done =
     ((text ≡ []) × HasFaultyRules IsFault setup texts report × (done ≡ Ended))
     ⊎ ((script : List ℕ) × HasPrograms setup texts script × IsForwarded others tick link script times octets text report done)
 
 -- The same for a setup script. If the time of a line falls, the report names the line, and nothing is written.
-abbrev pub IsSetupForwardedBy : (List ℕ → List ℕ → Type 0) → Others → ℕ → Option Link → List ℕ → List (List ℕ) → ReportedTexts
+abbrev pub IsSetupForwardedBy : (List ℕ → List ℕ → List ℕ → Type 0) → Others → ℕ → Option Link → List ℕ → List (List ℕ) → ReportedTexts
 IsSetupForwardedBy IsFault others tick link setup texts octets text report done = MatchOption (falling_line setup)
     (IsTimedForwardedBy IsFault others tick link (without_times setup) (line_times setup) texts octets text report done)
     (λ number. (text ≡ []) × (report ≡ falling_text number) × (done ≡ Ended))

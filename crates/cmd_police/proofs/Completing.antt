@@ -1,10 +1,10 @@
 -- How the lines that are left complete a script.
-use Rattle.std.proofs.Common.{◌≡◌, ◌⊎◌, inr, ℕ, ◌+◌, List, [], ◌++◌, Option, Some, None, refl, sym, ap, subst, ◌∙◌, append-nil, append_assoc, length}
+use Rattle.std.proofs.Common.{◌≡◌, ◌⊎◌, inl, inr, ℕ, ◌+◌, List, [], ◌++◌, Option, Some, None, refl, sym, ap, subst, ◌∙◌, append-nil, append_assoc, length}
 use Rattle.std.specs.Option.{MatchOption}
 use Rattle.bpf_code.specs.declared.instr.Instr.{Instr}
 use Rattle.text_io.specs.Lines.{Line, lines_of}
 use Rattle.cmd_rules.specs.AsmText.{whole_line}
-use Rattle.cmd_police.specs.FaultyRules.{HasFaultIn, HasFaultyRules, IsRulesFaultAt}
+use Rattle.cmd_police.specs.FaultyRules.{HasFaultIn, HasFaultyRules, IsRulesFaultAt, rules_place}
 use Rattle.cmd_police.specs.RulesFiles.{IsFaultOfRules, IsProgramOfRules, later_texts, next_text}
 use Rattle.cmd_police.specs.RulesLines.{name_within, named_rules}
 use Rattle.cmd_police.specs.SetupPrograms.{HasPrograms, HasProgramsIn, load_line}
@@ -19,7 +19,7 @@ ReplacesAt name line lines texts expanded = MatchOption name
     × ((rest : List ℕ) × HasProgramsIn lines (later_texts texts) rest × (expanded ≡ load_line code ++ rest)))
 
 -- A fault among such lines.
-abbrev pub FailsAt : (List ℕ → List ℕ → Type 0) → Option (List ℕ) → ℕ → List Line → List (List ℕ) → List ℕ → Type 0
+abbrev pub FailsAt : (List ℕ → List ℕ → List ℕ → Type 0) → Option (List ℕ) → ℕ → List Line → List (List ℕ) → List ℕ → Type 0
 FailsAt IsFault name met lines texts text = MatchOption name
     (HasFaultIn IsFault (met + 1) lines texts text)
     (λ name. IsRulesFaultAt IsFault (met + 1) name (next_text texts) text
@@ -50,6 +50,11 @@ module _ (script : List ℕ) (texts : List (List ℕ)) (made : List ℕ) (met : 
         let here : named_rules cut.line ≡ name = named_here name named in
         so.faults text (subst (λ (ls : List Line). HasFaultIn IsFaultOfRules met ls texts_left text) (sym cut.lines)
         (subst (λ (n : Option (List ℕ)). FailsAt IsFaultOfRules n met (lines_of rest) texts_left text) (sym here) is))
+
+    -- A line that names rules with a fault has the report about the script.
+    pub faulty_line : (name fault reason text : List ℕ) → name_within size content ≡ Some name → IsFaultOfRules (next_text texts_left) fault reason
+        → text ≡ fault ++ rules_place (met + 1) name reason → HasFaultyRules IsFaultOfRules script texts text
+    faulty_line name fault reason text named is printed = fails (Some name) text named (inl (fault, reason, is, printed))
 
     -- A line that names no rules goes as it is after what was made.
     pub kept_line : (new : List ℕ) → name_within size content ≡ None → new ≡ made ++ whole → Completes script texts new (met + 1) rest texts_left

@@ -1,7 +1,6 @@
 -- Every setup script, texts and capture have a text.
 use Rattle.std.proofs.Common.{◌≡◌, ◌⊎◌, inl, inr, ℕ, ◌+◌, Bool, true, false, if◌then◌else◌, nat_lt, List, [], ◌∷◌, ◌++◌, length, Option, Some, None, Result, Ok, Err, refl, sym, subst, ◌∙◌}
-use Rattle.rules_text.specs.RulesRead.{RulesRead}
-use Rattle.rules_text.specs.TextOfRules.{placed_fault, rules_in}
+use Rattle.rules_text.specs.TextOfRules.{NumberedRead, numbered_in, placed_fault}
 use Rattle.rules_text.specs.declared.fault.RuleFault.{RuleFault}
 use Rattle.rules_text.specs.declared.fault.RuleKind.TheVariants.{TooLong}
 use Rattle.text_io.specs.Gathered.{gathered}
@@ -10,13 +9,14 @@ use Rattle.text_io.specs.declared.ending.Done.{Done}
 use Rattle.text_io.specs.declared.ending.Done.TheVariants.{Ended}
 use Rattle.cmd_police.specs.declared.scope.PoliceScope.{PoliceScope}
 use Rattle.cmd_police.proofs.EachCapture.{some_police_text}
+use Rattle.cmd_explain.specs.RuleReasons.{rule_explanation}
+use Rattle.cmd_explain.specs.RulesExplained.{IsFaultOfText}
 use Rattle.cmd_rules.specs.RuleFaults.{rule_fault}
-use Rattle.cmd_rules.specs.RulesAnswers.{AnswersBy, most_rules_octets}
-use Rattle.cmd_rules.specs.RulesText.{PrintsRules}
+use Rattle.cmd_rules.specs.RulesAnswers.{most_rules_octets}
 use Rattle.text_words.specs.FaultLines.{too_long}
 use Rattle.cmd_rules.specs.AsmText.{whole_line}
 use Rattle.cmd_police.specs.FaultyRules.{HasFaultIn, rules_place}
-use Rattle.cmd_police.specs.RulesFiles.{IsFaultOfRules, MayBeFaultOfRules, later_texts, next_text}
+use Rattle.cmd_police.specs.RulesFiles.{IsFaultOfRules, MayBeFaultOfRules, MayBeFaultOfText, TellsFault, later_texts, next_text, too_large_text}
 use Rattle.cmd_police.specs.RulesLines.{named_rules}
 use Rattle.cmd_police.specs.SetupLaws.{PolicesEachSetup}
 use Rattle.cmd_police.specs.SetupPrograms.{HasProgramsIn}
@@ -28,23 +28,30 @@ use Rattle.cmd_police.proofs.Completing.{FailsAt, ReplacesAt}
 
 -- ---- a text of rules may have a fault
 
-read_faulty : (text : List ℕ) (read : Result RulesRead RuleFault) → gathered most_rules_octets text ≡ Some text → rules_in text ≡ read
-    → (fault : List ℕ) × MayBeFaultOfRules text fault
-read_faulty text (Ok rules) found same = (rule_fault (placed_fault 0 0 TooLong), inr ((text, rules, found, same), (refl, refl)))
-read_faulty text (Err fault) found same =
-    (rule_fault fault, inl (subst (λ (found : Option (List ℕ)). AnswersBy PrintsRules found (rule_fault fault) Ended) (sym found) (inr (inl (fault, same, refl, refl)))))
+told_faulty : (text : List ℕ) (fault : RuleFault) → gathered most_rules_octets text ≡ Some text → MayBeFaultOfText text fault
+    → (line : List ℕ) × (reason : List ℕ) × MayBeFaultOfRules text line reason
+told_faulty text fault found is = (
+  rule_fault fault,
+  rule_explanation text fault,
+  subst (λ (found : Option (List ℕ)). TellsFault MayBeFaultOfText found (rule_fault fault) (rule_explanation text fault)) (sym found) (fault, is, refl, refl),
+)
+
+read_faulty : (text : List ℕ) (read : Result NumberedRead RuleFault) → gathered most_rules_octets text ≡ Some text → numbered_in text ≡ read
+    → (line : List ℕ) × (reason : List ℕ) × MayBeFaultOfRules text line reason
+read_faulty text (Ok numbered) found same = told_faulty text (placed_fault 0 0 TooLong) found (inr ((numbered, same), refl))
+read_faulty text (Err fault) found same = told_faulty text fault found (inl (inl same))
 
 found_faulty : (text : List ℕ) (found : Option (List ℕ)) → gathered most_rules_octets text ≡ found → (found ≡ None) ⊎ (found ≡ Some text)
-    → (fault : List ℕ) × MayBeFaultOfRules text fault
+    → (line : List ℕ) × (reason : List ℕ) × MayBeFaultOfRules text line reason
 found_faulty text found same (inl none) =
-    (too_long, inl (subst (λ (found : Option (List ℕ)). AnswersBy PrintsRules found too_long Ended) (sym (same ∙ none)) (refl, refl)))
-found_faulty text found same (inr some) = read_faulty text (rules_in text) (same ∙ some) refl
+    (too_long, too_large_text, subst (λ (found : Option (List ℕ)). TellsFault MayBeFaultOfText found too_long too_large_text) (sym (same ∙ none)) (refl, refl))
+found_faulty text found same (inr some) = read_faulty text (numbered_in text) (same ∙ some) refl
 
 gathered_or : (text : List ℕ) (over : Bool) → ((if over then None else Some text) ≡ None) ⊎ ((if over then None else Some text) ≡ Some text)
 gathered_or text true = inl refl
 gathered_or text false = inr refl
 
-pub may_be_faulty : (text : List ℕ) → (fault : List ℕ) × MayBeFaultOfRules text fault
+pub may_be_faulty : (text : List ℕ) → (line : List ℕ) × (reason : List ℕ) × MayBeFaultOfRules text line reason
 may_be_faulty text = found_faulty text (gathered most_rules_octets text) refl (gathered_or text (nat_lt most_rules_octets (length text)))
 
 -- ---- a script has a fault, or it has programs
@@ -61,8 +68,8 @@ line_leads None met line lines texts named (inr on) =
     inr (whole_line line ++ on.0, subst (λ (n : Option (List ℕ)). ReplacesAt n line lines texts (whole_line line ++ on.0)) (sym named) (on.0, on.1, refl))
 line_leads (Some name) met line lines texts named on =
     let fault = may_be_faulty (next_text texts) in
-    let text = fault.0 ++ rules_place (met + 1) name in
-    inl (text, subst (λ (n : Option (List ℕ)). FailsAt MayBeFaultOfRules n met lines texts text) (sym named) (inl (fault.0, fault.1, refl)))
+    let text = fault.0 ++ rules_place (met + 1) name fault.1 in
+    inl (text, subst (λ (n : Option (List ℕ)). FailsAt MayBeFaultOfRules n met lines texts text) (sym named) (inl (fault.0, fault.1, fault.2, refl)))
 
 leads_on : (lines : List Line) (met : ℕ) (texts : List (List ℕ)) → LeadsOn met lines texts
 leads_on [] met texts = inr ([], refl)
@@ -92,14 +99,18 @@ polices_each scope tick setup texts octets = polices_unless (falling_line setup)
 
 -- ---- a fault of rules that is reported is one that may be reported
 
-pub may_be_fault : (text fault : List ℕ) → IsFaultOfRules text fault → MayBeFaultOfRules text fault
-may_be_fault text fault is = inl is
+tells_may : (found : Option (List ℕ)) (line reason : List ℕ) → TellsFault IsFaultOfText found line reason → TellsFault MayBeFaultOfText found line reason
+tells_may None line reason is = is
+tells_may (Some text) line reason (fault, is, said, why) = (fault, inl is, said, why)
+
+pub may_be_fault : (text line reason : List ℕ) → IsFaultOfRules text line reason → MayBeFaultOfRules text line reason
+may_be_fault text line reason is = tells_may (gathered most_rules_octets text) line reason is
 
 fault_at_may : (name : Option (List ℕ)) (met : ℕ) (lines : List Line) (texts : List (List ℕ)) (text : List ℕ)
     → ((texts : List (List ℕ)) → HasFaultIn IsFaultOfRules (met + 1) lines texts text → HasFaultIn MayBeFaultOfRules (met + 1) lines texts text)
     → FailsAt IsFaultOfRules name met lines texts text → FailsAt MayBeFaultOfRules name met lines texts text
 fault_at_may None met lines texts text on is = on texts is
-fault_at_may (Some name) met lines texts text on (inl (fault, is, printed)) = inl (fault, may_be_fault (next_text texts) fault is, printed)
+fault_at_may (Some name) met lines texts text on (inl (fault, reason, is, printed)) = inl (fault, reason, may_be_fault (next_text texts) fault reason is, printed)
 fault_at_may (Some name) met lines texts text on (inr (code, program, is)) = inr (code, program, on (later_texts texts) is)
 
 pub fault_may : (lines : List Line) (met : ℕ) (texts : List (List ℕ)) (text : List ℕ) → HasFaultIn IsFaultOfRules met lines texts text → HasFaultIn MayBeFaultOfRules met lines texts text

@@ -16,6 +16,7 @@ pub mod LeftExcess
 pub mod PoliceLemmas
 pub mod ScriptLines
 pub mod Completing
+pub mod RulesTold
 pub mod Existence
 pub mod Digits
 pub mod WholeLines

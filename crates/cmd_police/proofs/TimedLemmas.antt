@@ -68,7 +68,7 @@ takes_end setup left script times met before takes none = record {
 }
 
 -- The text of a script and its times is that of the setup.
-pub timed_setup : (IsFault : List ℕ → List ℕ → Type 0) (scope : PoliceScope) (tick : ℕ) (setup script : List ℕ) (times : List (Option ℕ)) (texts : List (List ℕ))
+pub timed_setup : (IsFault : List ℕ → List ℕ → List ℕ → Type 0) (scope : PoliceScope) (tick : ℕ) (setup script : List ℕ) (times : List (Option ℕ)) (texts : List (List ℕ))
     (octets text : List ℕ) (done : Done) → HasTimes setup script times → IsTimedPolicedBy IsFault scope tick script times texts octets text done
     → IsSetupPolicedBy IsFault scope tick setup texts octets text done
 timed_setup IsFault scope tick setup script times texts octets text done has is =
@@ -78,7 +78,7 @@ timed_setup IsFault scope tick setup script times texts octets text done has is 
     (subst (λ (plain : List ℕ). IsTimedPolicedBy IsFault scope tick plain times texts octets text done) has.plain is))
 
 -- The text about a time that falls.
-pub falling_setup : (IsFault : List ℕ → List ℕ → Type 0) (scope : PoliceScope) (tick : ℕ) (setup : List ℕ) (texts : List (List ℕ)) (octets text : List ℕ) (number : ℕ)
+pub falling_setup : (IsFault : List ℕ → List ℕ → List ℕ → Type 0) (scope : PoliceScope) (tick : ℕ) (setup : List ℕ) (texts : List (List ℕ)) (octets text : List ℕ) (number : ℕ)
     → falling_line setup ≡ Some number → text ≡ falling_text number → IsSetupPolicedBy IsFault scope tick setup texts octets text Ended
 falling_setup IsFault scope tick setup texts octets text number falls is =
     subst (λ (falls : Option ℕ). MatchOption falls (IsTimedPolicedBy IsFault scope tick (without_times setup) (line_times setup) texts octets text Ended)

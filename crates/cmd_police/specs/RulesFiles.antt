@@ -1,16 +1,21 @@
 -- What the text of a file of rules leads to: a program, or a fault line.
-use Rattle.std.specs.Prelude.{◌≡◌, ℕ, List, [], ◌∷◌, map, Some}
+use Rattle.std.specs.Prelude.{◌≡◌, ◌⊎◌, ℕ, List, [], ◌∷◌, codes, map, Option, Some, MatchOption, Ok}
 use Rattle.bpf_code.specs.Encoding.{code_octets}
 use Rattle.bpf_code.specs.OctetSpelling.{SpellsCode}
 use Rattle.bpf_code.specs.declared.instr.Instr.{Instr}
 use Rattle.bpf_verify.specs.Accepted.{IsAccepted}
 use Rattle.hex.specs.Hex.{encode_lower}
+use Rattle.cmd_explain.specs.RuleReasons.{rule_explanation}
+use Rattle.cmd_explain.specs.RulesExplained.{IsFaultOfText}
+use Rattle.cmd_rules.specs.RuleFaults.{rule_fault}
 use Rattle.cmd_rules.specs.RulesAnswers.{most_rules_octets}
-use Rattle.cmd_rules.specs.RulesText.{IsRulesText, MayBeRulesText}
 use Rattle.rules_text.specs.CodeOfText.{IsCodeOfText}
+use Rattle.rules_text.specs.TextOfRules.{NumberedRead, numbered_in, placed_fault}
 use Rattle.rules_text.specs.ValuesRead.{FollowsText}
+use Rattle.rules_text.specs.declared.fault.RuleFault.{RuleFault}
+use Rattle.rules_text.specs.declared.fault.RuleKind.TheVariants.{TooLong}
 use Rattle.text_io.specs.Gathered.{gathered}
-use Rattle.text_io.specs.declared.ending.Done.TheVariants.{Ended}
+use Rattle.text_words.specs.FaultLines.{too_long}
 use Rattle.text_words.specs.Hexadecimal.{octets_of_digits}
 use Rattle.cmd_police.specs.declared.shared_text.SharedText.{SharedText}
 
@@ -32,13 +37,28 @@ pub record IsProgramOfRules (text : List ℕ) (code : List Instr) : Type 0 where
   pub of_text : IsCodeOfText text code
   pub read_again : IsReadAgain code
 
--- The text has a fault, and `upc-lab rules` prints this line for it.
-abbrev pub IsFaultOfRules : List ℕ → List ℕ → Type 0
-IsFaultOfRules text fault = IsRulesText text fault Ended
+-- The explanation of a text over the limit.
+abbrev pub too_large_text : List ℕ
+too_large_text = codes "a text of rules has at most 1048576 octets\n"
 
--- The same, but that the code of any rules may be reported as too long.
-abbrev pub MayBeFaultOfRules : List ℕ → List ℕ → Type 0
-MayBeFaultOfRules text fault = MayBeRulesText text fault Ended
+-- The lines about the text that was found: its fault line, as `upc-lab rules` has it, and the explanation of that fault, as
+-- `upc-lab explain` has it. `IsFault` says which the fault is. No text was found where it is over the limit.
+abbrev pub TellsFault : (List ℕ → RuleFault → Type 0) → Option (List ℕ) → List ℕ → List ℕ → Type 0
+TellsFault IsFault found line reason = MatchOption found ((line ≡ too_long) × (reason ≡ too_large_text))
+    (λ text. (fault : RuleFault) × IsFault text fault × (line ≡ rule_fault fault) × (reason ≡ rule_explanation text fault))
+
+-- The text has a fault, and these are its fault line and its explanation.
+abbrev pub IsFaultOfRules : List ℕ → List ℕ → List ℕ → Type 0
+IsFaultOfRules text line reason = TellsFault IsFaultOfText (gathered most_rules_octets text) line reason
+
+-- The fault of a text, or that the code of its rules is too long, if it has rules.
+abbrev pub MayBeFaultOfText : List ℕ → RuleFault → Type 0
+MayBeFaultOfText text fault =
+    IsFaultOfText text fault ⊎ (((numbered : NumberedRead) × (numbered_in text ≡ Ok numbered)) × (fault ≡ placed_fault 0 0 TooLong))
+
+-- The same as `IsFaultOfRules`, but that the code of any rules may be reported as too long.
+abbrev pub MayBeFaultOfRules : List ℕ → List ℕ → List ℕ → Type 0
+MayBeFaultOfRules text line reason = TellsFault MayBeFaultOfText (gathered most_rules_octets text) line reason
 
 -- The octets of a text.
 abbrev pub octets_of_text : SharedText → List ℕ

@@ -12,21 +12,21 @@ use Rattle.cmd_police.specs.SetupTick.{agreed_tick, ticks_differ}
 use Rattle.cmd_police.specs.TimedLines.{falling_line, falling_text, line_times, without_times}
 
 -- The text for a setup script whose lines have these times, which are not in the script any more, the texts of its
--- files of rules and a whole capture, and how the run ends. `IsFault` says which line is the fault line of a text of
--- rules.
-abbrev pub IsTimedPolicedBy : (List ℕ → List ℕ → Type 0) → PoliceScope → ℕ → List ℕ → List (Option ℕ) → List (List ℕ) → List ℕ → List ℕ → Done → Type 0
+-- files of rules and a whole capture, and how the run ends. `IsFault` says which lines are the fault line of a
+-- text of rules and its explanation.
+abbrev pub IsTimedPolicedBy : (List ℕ → List ℕ → List ℕ → Type 0) → PoliceScope → ℕ → List ℕ → List (Option ℕ) → List (List ℕ) → List ℕ → List ℕ → Done → Type 0
 IsTimedPolicedBy IsFault scope tick setup times texts octets text done =
     (HasFaultyRules IsFault setup texts text × (done ≡ Ended))
     ⊎ ((script : List ℕ) × HasPrograms setup texts script × IsPoliceText scope tick script times octets text done)
 
 -- The text for a setup script, the texts of its files of rules and a whole capture, and how the run ends. If the time
 -- of a line falls, the text names the line, and nothing is policed.
-abbrev pub IsSetupPolicedBy : (List ℕ → List ℕ → Type 0) → PoliceScope → ℕ → List ℕ → List (List ℕ) → List ℕ → List ℕ → Done → Type 0
+abbrev pub IsSetupPolicedBy : (List ℕ → List ℕ → List ℕ → Type 0) → PoliceScope → ℕ → List ℕ → List (List ℕ) → List ℕ → List ℕ → Done → Type 0
 IsSetupPolicedBy IsFault scope tick setup texts octets text done = MatchOption (falling_line setup)
     (IsTimedPolicedBy IsFault scope tick (without_times setup) (line_times setup) texts octets text done)
     (λ number. (text ≡ falling_text number) × (done ≡ Ended))
 
--- The same, where the fault line is that of `upc-lab rules`.
+-- The same, where the fault line is that of `upc-lab rules`, and its explanation that of `upc-lab explain`.
 abbrev pub IsSetupPoliced : PoliceScope → ℕ → List ℕ → List (List ℕ) → List ℕ → List ℕ → Done → Type 0
 IsSetupPoliced = IsSetupPolicedBy IsFaultOfRules
 

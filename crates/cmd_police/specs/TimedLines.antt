@@ -1,6 +1,7 @@
 -- The lines of a setup script that are carried out while cells arrive: `at TIME COMMAND`, and the lines after it up to the next such line.
 use Rattle.std.specs.Prelude.{ℕ, ◌+◌, ◌/◌, ◌%◌, ◌==◌, nat_lt, Bool, true, false, ◌||◌, if◌then◌else◌, List, [], ◌∷◌, ◌++◌, codes, decimal, drop, flat_map, replicate, Option, Some, None, suc}
 use Rattle.std.specs.Str.{bytes_eq}
+use Rattle.cmd_explain_script.specs.Places.{place_words}
 use Rattle.cmd_rules.specs.AsmText.{whole_line}
 use Rattle.cmd_size.specs.SizeWords.{duration_of}
 use Rattle.text_io.specs.Lines.{Line, lines_of, line_content}
@@ -50,9 +51,13 @@ falls_after met before (first ∷ lines) =
 abbrev pub falling_line : List ℕ → Option ℕ
 falling_line script = falls_after 0 None (lines_of script)
 
--- The answer to a script with such a line.
+-- The explanation of a time that falls on the line of this number.
+abbrev pub falling_reason : ℕ → List ℕ
+falling_reason number = place_words number None ++ line (codes "this time is before that of an earlier line; the times of a setup don't fall")
+
+-- The answer to a script with such a line: its fault line, and the explanation.
 abbrev pub falling_text : ℕ → List ℕ
-falling_text number = line (codes "fault at 1 Falls " ++ decimal number)
+falling_text number = line (codes "fault at 1 Falls " ++ decimal number) ++ falling_reason number
 
 -- ---- the script without its times
 

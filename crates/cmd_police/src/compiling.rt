@@ -3,12 +3,15 @@
 ghost use Rattle.std.specs.Prelude.{◌≡◌, ◌++◌, IfOk, OnOk, MatchOption};
 ghost use Rattle.std.specs.String.{string_bytes};
 ghost use Rattle.hex.specs.Hex.{IsBytes, encode_lower};
+ghost use Rattle.cmd_explain.specs.RuleReasons.{rule_explanation};
 ghost use Rattle.cmd_rules.specs.RuleFaults.{rule_fault};
-ghost use Rattle.cmd_police.specs.RulesFiles.{IsFaultOfRules, IsReadAgain, program_digits};
+ghost use Rattle.text_words.specs.FaultLines.{too_long};
+ghost use Rattle.cmd_police.specs.RulesFiles.{IsFaultOfRules, IsReadAgain, program_digits, too_large_text};
 ghost use Rattle.cmd_police.specs.SetupPrograms.{load_line};
 ghost use Rattle.cmd_police.specs.inner.Expansion.{CompilesTo, GrowsByProgram};
 
 use bpf_code::{Instr, encode};
+use cmd_explain::add_rule_explanation;
 use cmd_rules::add_rule_fault;
 use rules_text::{RuleFault, RuleKind, compile_text};
 use std::alloc::{AllocError, Global};
@@ -17,22 +20,46 @@ use text_words::{add_text, add_too_long};
 /// The maximum number of octets of a text of rules, as `upc-lab rules` has it.
 const MOST_RULES_OCTETS: usize = 1048576;
 
+/// The lines about a fault of rules.
+#[derive(Drop)]
+pub(crate) struct ToldFault {
+    /// The fault line.
+    pub line: Vec<u8>,
+    /// Its explanation.
+    pub reason: Vec<u8>,
+}
+
 /// What a text of rules leads to.
 #[derive(Drop)]
 pub(crate) enum Compiled {
     /// A program.
     Program(Vec<Instr>),
-    /// A fault, with its fault line.
-    Faulty(Vec<u8>),
+    /// A fault.
+    Faulty(ToldFault),
 }
 
-/// Returns the fault line of a text.
-fn fault_line(alloc: Global, fault: RuleFault) -> Result<Vec<u8>, AllocError>
-    ensures { IfOk result (λ line. line.items ≡ rule_fault fault) }
+/// Returns the lines about a fault of a text.
+fn told_fault(alloc: Global, text: &[u8], fault: RuleFault) -> Result<ToldFault, AllocError>
+    ensures line { IfOk result (λ told. told.line.items ≡ rule_fault fault) }
+    ensures reason { IfOk result (λ told. told.reason.items ≡ rule_explanation text.now fault) }
 {
     let mut line = Vec::new(alloc);
     add_rule_fault(&mut line, fault)?;
-    Ok(line)
+    let mut reason = Vec::new(alloc);
+    add_rule_explanation(alloc, &mut reason, text, fault)?;
+    Ok(ToldFault { line, reason })
+}
+
+/// Returns the lines about a text over the limit.
+fn told_too_large(alloc: Global) -> Result<ToldFault, AllocError>
+    ensures line { IfOk result (λ told. told.line.items ≡ too_long) }
+    ensures reason { IfOk result (λ told. told.reason.items ≡ too_large_text) }
+{
+    let mut line = Vec::new(alloc);
+    add_too_long(&mut line)?;
+    let mut reason = Vec::new(alloc);
+    add_text(&mut reason, b"a text of rules has at most 1048576 octets\n")?;
+    Ok(ToldFault { line, reason })
 }
 
 /// Compiles a text of rules.
@@ -40,9 +67,7 @@ fn program_or_fault(alloc: Global, text: &[u8]) -> Result<Compiled, AllocError>
     ensures { IfOk result (CompilesTo text.now) }
 {
     if text.len() > MOST_RULES_OCTETS {
-        let mut line = Vec::new(alloc);
-        add_too_long(&mut line)?;
-        return Ok(Compiled::Faulty(line));
+        return Ok(Compiled::Faulty(told_too_large(alloc)?));
     }
     match compile_text(alloc, text) {
         Ok(code) => Ok(Compiled::Program(code)),
@@ -52,7 +77,7 @@ fn program_or_fault(alloc: Global, text: &[u8]) -> Result<Compiled, AllocError>
                 ..
             },
         ) => Err(AllocError),
-        Err(fault) => Ok(Compiled::Faulty(fault_line(alloc, fault)?)),
+        Err(fault) => Ok(Compiled::Faulty(told_fault(alloc, text, fault)?)),
     }
 }
 
@@ -87,20 +112,21 @@ fn add_load(alloc: Global, script: &mut Vec<u8>, code: &[Instr]) -> Result<(), A
     add_text(script, b"\n")
 }
 
-/// Compiles a text of rules, and appends the line that loads its program. Returns the fault line if the text has a fault.
+/// Compiles a text of rules, and appends the line that loads its program. Returns the lines about the fault
+/// if the text has one.
 pub(crate) fn add_program_of(
     alloc: Global,
     script: &mut Vec<u8>,
     text: &[u8],
-) -> Result<Option<Vec<u8>>, AllocError>
-    ensures { IfOk result (λ fault. MatchOption fault (GrowsByProgram text.now script.old.items script.new.items)
-        (λ fault. IsFaultOfRules text.now fault.items)) }
+) -> Result<Option<ToldFault>, AllocError>
+    ensures { IfOk result (λ told. MatchOption told (GrowsByProgram text.now script.old.items script.new.items)
+        (λ told. IsFaultOfRules text.now told.line.items told.reason.items)) }
 {
     match program_or_fault(alloc, text)? {
         Compiled::Program(code) => {
             add_load(alloc, script, &code)?;
             Ok(None)
         }
-        Compiled::Faulty(fault) => Ok(Some(fault)),
+        Compiled::Faulty(told) => Ok(Some(told)),
     }
 }

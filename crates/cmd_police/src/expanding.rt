@@ -5,7 +5,7 @@ ghost use Rattle.cmd_police.specs.FaultyRules.{rules_place};
 ghost use Rattle.cmd_police.specs.RulesFiles.{later_texts, next_text, octets_of_texts};
 ghost use Rattle.cmd_police.specs.inner.Expansion.{ExpandsTo};
 
-use crate::compiling::add_program_of;
+use crate::compiling::{ToldFault, add_program_of};
 use crate::rules_lines::{has_rules, name_within};
 use crate::script_lines::next_line;
 use crate::shared_text::SharedText;
@@ -44,15 +44,30 @@ fn later_texts(texts: &[SharedText]) -> &[SharedText]
     }
 }
 
-/// Appends the line that says which line of the script names the rules.
+/// Appends the line that says which line of the script names the rules, and what is wrong in them.
 #[tactic(auto, using(std::proofs::lemmas::List::append_assoc))]
-fn add_rules_place(answers: &mut Vec<u8>, number: usize, name: &[u8]) -> Result<(), AllocError>
-    ensures { OnOk result (answers.new.items ≡ answers.old.items ++ rules_place number name.now) }
+fn add_rules_place(
+    answers: &mut Vec<u8>,
+    number: usize,
+    name: &[u8],
+    reason: &[u8],
+) -> Result<(), AllocError>
+    ensures { OnOk result (answers.new.items ≡ answers.old.items ++ rules_place number name.now reason.now) }
 {
     add_place(answers, number, None)?;
     add_text(answers, b"in the rules of ")?;
     add_quoted(answers, name)?;
-    add_text(answers, b"\n")
+    add_text(answers, b": ")?;
+    add_text(answers, reason)
+}
+
+/// Returns the report about rules that the line of this number names.
+fn faulty_text(told: ToldFault, number: usize, name: &[u8]) -> Result<Vec<u8>, AllocError>
+    ensures { IfOk result (λ text. text.items ≡ told.line.items ++ rules_place number name.now told.reason.items) }
+{
+    let mut text = told.line;
+    add_rules_place(&mut text, number, name, &told.reason)?;
+    Ok(text)
 }
 
 /// Returns a script with the line that loads a program of its text in place of each line `rules NAME`. If a text has a fault, it returns
@@ -69,9 +84,8 @@ fn replaced(alloc: Global, script: &[u8], texts: &[SharedText]) -> Result<Expand
         match name_within(line, size) {
             None => add_text(&mut made, octets)?,
             Some(name) => {
-                if let Some(mut fault) = add_program_of(alloc, &mut made, next_text(texts_left))? {
-                    add_rules_place(&mut fault, number, name)?;
-                    return Ok(Expanded::Faulty(fault));
+                if let Some(told) = add_program_of(alloc, &mut made, next_text(texts_left))? {
+                    return Ok(Expanded::Faulty(faulty_text(told, number, name)?));
                 }
                 texts_left = later_texts(texts_left);
             }

@@ -1,11 +1,13 @@
 //! The times of the lines of a setup script.
 
-ghost use Rattle.std.specs.Prelude.{◌≡◌, ◌≤◌, ◌++◌, length, IfOk, OnOk};
+ghost use Rattle.std.specs.Prelude.{◌≡◌, ◌≤◌, ◌++◌, codes, decimal, length, IfOk, OnOk};
 ghost use Rattle.text_io.specs.Words.{is_blank as blank, words_of};
-ghost use Rattle.cmd_police.specs.TimedLines.{blanks_before, falling_text, falls_below, first_word_end, later_time, octets_of_word, own_time, second_word_end, with_blanks, without_time};
+ghost use Rattle.text_words.specs.FaultLines.{line};
+ghost use Rattle.cmd_police.specs.TimedLines.{blanks_before, falling_reason, falling_text, falls_below, first_word_end, later_time, octets_of_word, own_time, second_word_end, with_blanks, without_time};
 ghost use Rattle.cmd_police.specs.inner.TimedScripts.{TakesTimes};
 
 use crate::script_lines::next_line;
+use cmd_explain_script::add_place;
 use cmd_size::duration;
 use std::alloc::{AllocError, Global};
 use text_io::first_word;
@@ -134,14 +136,26 @@ fn add_without_time(made: &mut Vec<u8>, own: Option<u64>, octets: &[u8]) -> Resu
     }
 }
 
-/// Appends the answer to a script whose time falls on the line of this number.
+/// Appends the fault line of a time that falls on the line of this number.
 #[tactic(auto, using(std::proofs::lemmas::List::append_assoc))]
 fn add_falling(answers: &mut Vec<u8>, number: usize) -> Result<(), AllocError>
-    ensures { OnOk result (answers.new.items ≡ answers.old.items ++ falling_text number) }
+    ensures { OnOk result (answers.new.items ≡ answers.old.items ++ line (codes "fault at 1 Falls " ++ decimal number)) }
 {
     add_text(answers, b"fault at 1 Falls ")?;
     add_number(answers, number as u64)?;
     add_text(answers, b"\n")
+}
+
+/// Appends the explanation of such a fault.
+#[tactic(auto, using(std::proofs::lemmas::List::append_assoc))]
+fn add_falling_reason(answers: &mut Vec<u8>, number: usize) -> Result<(), AllocError>
+    ensures { OnOk result (answers.new.items ≡ answers.old.items ++ falling_reason number) }
+{
+    add_place(answers, number, None)?;
+    add_text(
+        answers,
+        b"this time is before that of an earlier line; the times of a setup don't fall\n",
+    )
 }
 
 /// Returns the answer to a script whose time falls on the line of this number.
@@ -150,6 +164,7 @@ fn falling_text(alloc: Global, number: usize) -> Result<Vec<u8>, AllocError>
 {
     let mut text = Vec::new(alloc);
     add_falling(&mut text, number)?;
+    add_falling_reason(&mut text, number)?;
     Ok(text)
 }
 

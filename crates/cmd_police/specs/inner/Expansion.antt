@@ -25,7 +25,7 @@ pub record IsCodeOfRules (text : List ℕ) (code : List Instr) : Type 0 where
 -- What a text of rules leads to.
 abbrev pub CompilesTo : List ℕ → Compiled → Type 0
 CompilesTo text (Program code) = IsCodeOfRules text code.items
-CompilesTo text (Faulty fault) = IsFaultOfRules text fault.items
+CompilesTo text (Faulty fault) = IsFaultOfRules text fault.line.items fault.reason.items
 
 -- The script grew by the line that loads a program of this text.
 abbrev pub GrowsByProgram : List ℕ → List ℕ → List ℕ → Type 0

@@ -118,7 +118,9 @@ fn two_programs_by_hand(rt: HostRuntime) -> Result<(), Fail> {
 }
 
 /// The output for a fault in the second text.
-const FAULTY: &[u8] = b"fault rules 10 UnknownName 2 1\nline 3: in the rules of `second`\n";
+const FAULTY: &[u8] = b"fault rules 10 UnknownName 2 1\n\
+line 3: in the rules of `second`: line 2 column 1: `othrewise` is no word of rules, and no line before gives it as a name; \
+perhaps `otherwise` is meant\n";
 
 #[test]
 fn a_faulty_file_by_hand(rt: HostRuntime) -> Result<(), Fail> {
