@@ -6,7 +6,7 @@ use Rattle.std.proofs.lemmas.List.{drop-drop, drop_min, take_min, take_more, tak
 use Rattle.std.proofs.lemmas.Option.{slice_get-get_or}
 use Rattle.std.proofs.lemmas.Result.{IfErr-weaker, IfOk-weaker}
 use Rattle.card_core.specs.Agreement.{CoreView}
-use Rattle.upc_c.specs.CardArrival.{IsPoliced}
+use Rattle.upc_c.specs.CardArrival.{IsPolicedCell}
 use Rattle.upc_c.specs.CardBatch.{ArePoliced, PolicesEach, IsNextRefused, buffer_after, cell_in}
 use Rattle.upc_c.specs.CardHandle.{card_in, card_missing}
 use Rattle.upc_c.specs.CellHeader.{IsCellFault}
@@ -31,7 +31,7 @@ card_with like core reached = (
 
 -- A card with the same core has judged the same cell.
 policed-from : (first before after : UpcCard) (cell leaving : List ℕ) (moment : ℕ) (answer : UpcAnswer) → card_in before ≡ card_in first
-    → IsPoliced before after cell moment answer leaving → IsPoliced first after cell moment answer leaving
+    → IsPolicedCell before after cell moment answer leaving → IsPolicedCell first after cell moment answer leaving
 policed-from first before after cell leaving moment answer same policed =
     let arrives = policed.arrives in record {
       sized = policed.sized;
@@ -43,13 +43,13 @@ policed-from first before after cell leaving moment answer same policed =
 -- One more cell after the others.
 policed-last : (card middle after : UpcCard) (octets left : List ℕ) (stride number : ℕ) (moments : List ℕ) (answers : List UpcAnswer)
     (next moment : ℕ) (answer : UpcAnswer) (leaving : List ℕ) → PolicesEach card octets stride number moments answers middle left
-    → next ≡ number + length moments → IsPoliced middle after (cell_in left stride next) moment answer leaving
+    → next ≡ number + length moments → IsPolicedCell middle after (cell_in left stride next) moment answer leaving
     → PolicesEach card octets stride number (moments ++ moment ∷ []) (answers ++ answer ∷ []) after (buffer_after left stride next leaving)
 policed-last card middle after octets left stride number [] [] next moment answer leaving each counted policed =
     let here : next ≡ number = omega arith in
-    let same : IsPoliced middle after (cell_in octets stride number) moment answer leaving =
-    subst (λ (n : ℕ). IsPoliced middle after (cell_in octets stride n) moment answer leaving) here
-    (subst (λ (xs : List ℕ). IsPoliced middle after (cell_in xs stride next) moment answer leaving) each.1 policed) in (
+    let same : IsPolicedCell middle after (cell_in octets stride number) moment answer leaving =
+    subst (λ (n : ℕ). IsPolicedCell middle after (cell_in octets stride n) moment answer leaving) here
+    (subst (λ (xs : List ℕ). IsPolicedCell middle after (cell_in xs stride next) moment answer leaving) each.1 policed) in (
       after,
       leaving,
       policed-from card middle after (cell_in octets stride number) leaving moment answer each.0 same,

@@ -23,7 +23,7 @@ pub record ArrivesAtCard (before after : UpcCard) (cell : List ℕ) (moment : �
   pub answers : AnswersArrival old 0 cell moment answer new
 
 -- The cell was judged with this answer, and these are the octets of the leaving cell.
-pub record IsPoliced (before after : UpcCard) (cell : List ℕ) (moment : ℕ) (answer : UpcAnswer) (leaving : List ℕ) : Type 0 where
+pub record IsPolicedCell (before after : UpcCard) (cell : List ℕ) (moment : ℕ) (answer : UpcAnswer) (leaving : List ℕ) : Type 0 where
   pub sized : length cell ≡ 52
   pub verdict : Verdict
   pub number : answer.verdict ≡ number_of_verdict verdict

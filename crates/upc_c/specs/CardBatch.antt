@@ -1,6 +1,6 @@
 -- Several cells that arrive at a card in one call.
 use Rattle.std.specs.Prelude.{◌≡◌, ◌⊎◌, ◌<◌, ◌≤◌, ◌+◌, ◌*◌, ◌++◌, ℕ, suc, List, [], ◌∷◌, length, take, drop, Some, slice_get}
-use Rattle.upc_c.specs.CardArrival.{IsArrivalFault, IsPoliced}
+use Rattle.upc_c.specs.CardArrival.{IsArrivalFault, IsPolicedCell}
 use Rattle.upc_c.specs.CardHandle.{card_in}
 use Rattle.upc_c.specs.Faults.{no_room}
 use Rattle.upc_c.specs.declared.arrival.UpcAnswer.{UpcAnswer}
@@ -24,7 +24,7 @@ PolicesEach card octets stride number [] [] after left = (card_in after ≡ card
 PolicesEach card octets stride number [] (answer ∷ answers) after left = ⊥
 PolicesEach card octets stride number (moment ∷ moments) [] after left = ⊥
 PolicesEach card octets stride number (moment ∷ moments) (answer ∷ answers) after left =
-    (next : UpcCard) × (leaving : List ℕ) × IsPoliced card next (cell_in octets stride number) moment answer leaving
+    (next : UpcCard) × (leaving : List ℕ) × IsPolicedCell card next (cell_in octets stride number) moment answer leaving
     × PolicesEach next (buffer_after octets stride number leaving) stride (suc number) moments answers after left
 
 -- The first cells, `count` of them, were judged in order. Their answers are the first of the buffer of answers, and the

@@ -5,7 +5,7 @@ ghost use Rattle.card_core.specs.Arrival.{AnswersArrival};
 ghost use Rattle.card_core.specs.Sections.{answer_to, unjudged_answer};
 ghost use Rattle.card_core.specs.Steps.{cell_after};
 ghost use Rattle.card_core.specs.declared.answer.Answer.TheVariants.{NoMemory};
-ghost use Rattle.upc_c.specs.CardArrival.{IsArrivalFault, IsPoliced, reason_of_answer};
+ghost use Rattle.upc_c.specs.CardArrival.{IsArrivalFault, IsPolicedCell, reason_of_answer};
 ghost use Rattle.upc_c.specs.CardHandle.{card_in, card_missing};
 ghost use Rattle.upc_c.specs.CellHeader.{IsCellFault};
 ghost use Rattle.upc_c.specs.Faults.{AnswersCall, out_of_memory};
@@ -144,7 +144,7 @@ pub extern "C" fn upc_card_arrive(
     fault: &mut UpcFault,
 ) -> u32
     ensures answers { AnswersCall result fault.new }
-    ensures judged { result ≡ 0 → IsPoliced card.old card.new octets.old moment answer.new octets.new }
+    ensures judged { result ≡ 0 → IsPolicedCell card.old card.new octets.old moment answer.new octets.new }
     ensures refused { result ≢ 0 → IsArrivalFault card.old card.new octets.old moment fault.new }
     ensures memory { fault.new ≢ out_of_memory }
     ensures left { result ≢ 0 → card_in card.new ≡ card_in card.old }

@@ -1,7 +1,7 @@
 -- Cells that are judged on the core of a card, while it is taken out.
 use Rattle.std.specs.Prelude.{◌≡◌, ℕ, List, length, Some, slice_get}
 use Rattle.card_core.specs.Agreement.{CoreView}
-use Rattle.upc_c.specs.CardArrival.{IsArrivalFault, IsPoliced}
+use Rattle.upc_c.specs.CardArrival.{IsArrivalFault, IsPolicedCell}
 use Rattle.upc_c.specs.CardBatch.{ArePoliced, buffer_after, cell_in}
 use Rattle.upc_c.specs.CardHandle.{card_in}
 use Rattle.upc_c.specs.declared.arrival.UpcAnswer.{UpcAnswer}
@@ -12,7 +12,7 @@ use Rattle.upc_c.specs.declared.fault.UpcFault.{UpcFault}
 pub record PolicesOn (old new : CoreView) (cell : List ℕ) (moment : ℕ) (answer : UpcAnswer) (leaving : List ℕ) : Type 0 where
   pub sized : length cell ≡ 52
   pub on : (before after : UpcCard) → card_in before ≡ Some old → card_in after ≡ Some new
-      → IsPoliced before after cell moment answer leaving
+      → IsPolicedCell before after cell moment answer leaving
 
 -- Cards with this core before and after the cell have refused it with this error.
 pub record RefusesOn (core : CoreView) (cell : List ℕ) (moment : ℕ) (fault : UpcFault) : Type 0 where
