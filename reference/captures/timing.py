@@ -31,7 +31,7 @@ class TimedScript:
 
     def __init__(self, script):
         self.falls, self.plain, self.before, self.later = None, b"", b"", []
-        present = None
+        present, plain, before = None, [], []
         for number, (line, is_fed) in enumerate(raw_lines(script), 1):
             own = own_time(words_of(without_return(line, is_fed)))
             if own is not None and present is not None and own < present:
@@ -41,11 +41,12 @@ class TimedScript:
                 line = FIRST_WORDS.sub(lambda it: b" " * len(it[0]), line, count=1)
             present = present if own is None else own
             octets = line + b"\n" * is_fed
-            self.plain += octets
+            plain.append(octets)
             if present is None:
-                self.before += octets
+                before.append(octets)
             elif not asks_nothing(words_of(without_return(line, is_fed))):
                 self.later.append((present, without_return(line, is_fed)))
+        self.plain, self.before = b"".join(plain), b"".join(before)
 
     def faulty(self):
         """Returns the script whose fault `upc-lab explain` explains, or None if there is none."""
