@@ -1,18 +1,18 @@
 -- The argument and the options of `upc-lab police`.
-use Rattle.std.specs.Prelude.{ℕ, List, [], ◌∷◌, Option, Some, None, codes, false, option_and_then, option_map, true}
+use Rattle.std.specs.Prelude.{Bool, ℕ, List, [], ◌∷◌, Option, Some, None, codes, false, option_and_then, option_map, true}
 use Rattle.std.specs.String.{string_bytes}
 use Rattle.captures.specs.declared.link.Link.{Link}
 use Rattle.captures.specs.declared.packet_time.TimeSource.{TimeSource}
 use Rattle.clap.specs.Simple.{App}
 use Rattle.clap.specs.Walk.{Rule, Text}
-use Rattle.text_command_line.specs.Arguments.{app_with_rules, argument_rule}
+use Rattle.text_command_line.specs.Arguments.{app_with_rules, argument_rule, flag_rule}
 use Rattle.text_command_line.specs.CommandLines.{argument_value}
 use Rattle.text_command_line.specs.declared.stop.Stop.{Stop}
 use Rattle.captures_text.specs.declared.cell_lines.CellLines.{CellLines}
 use Rattle.cmd_options.specs.CellsOptions.{link_rule, time_rule}
 use Rattle.cmd_options.specs.OptionAnswers.{Asks, IsOptionStop}
 use Rattle.cmd_options.specs.LinkOption.{link_of}
-use Rattle.cmd_options.specs.OptionValues.{asked_tick_of, cell_lines_of, every_of, file_name_of, threads_of, timing_of}
+use Rattle.cmd_options.specs.OptionValues.{asked_tick_of, cell_lines_of, every_of, file_name_of, is_given, threads_of, timing_of}
 use Rattle.cmd_options.specs.declared.police.PoliceOptions.{PoliceOptions}
 
 -- The argument SETUP, which must be given.
@@ -31,6 +31,10 @@ lines_rule = argument_rule (codes "lines") true (Some (codes "all")) false
 abbrev pub every_rule : Rule
 every_rule = argument_rule (codes "every") true None false
 
+-- The option `--why`.
+abbrev pub why_rule : Rule
+why_rule = flag_rule (codes "why")
+
 -- The option `--threads N`, whose value is 2 if it isn't given.
 abbrev pub threads_rule : Rule
 threads_rule = argument_rule (codes "threads") true (Some (codes "2")) false
@@ -38,10 +42,11 @@ threads_rule = argument_rule (codes "threads") true (Some (codes "2")) false
 -- The command `upc-lab police`: this argument and these options, the options `--link` and `--time` of `cells`, and that
 -- for help, which every command has.
 unfoldable pub police_app : App
-police_app = app_with_rules (codes "upc-lab police") (setup_rule ∷ asked_tick_rule ∷ link_rule ∷ time_rule ∷ lines_rule ∷ every_rule ∷ threads_rule ∷ [])
+police_app = app_with_rules (codes "upc-lab police") (setup_rule ∷ asked_tick_rule ∷ link_rule ∷ time_rule ∷ lines_rule ∷ every_rule ∷ why_rule ∷ threads_rule ∷ [])
 
 -- What is asked for: the name of the file with the setup script, the nanoseconds of a tick, if any, the link, if any,
--- which time of a record counts, which cells have lines, the nanoseconds of a span, if any, and the number of threads.
+-- which time of a record counts, which cells have lines, the nanoseconds of a span, if any, whether lines show rules, and the number of
+-- threads.
 pub record PoliceAsked : Type 0 where
   pub setup : Text
   pub nanoseconds : Option ℕ
@@ -49,6 +54,7 @@ pub record PoliceAsked : Type 0 where
   pub timing : TimeSource
   pub lines : CellLines
   pub every : Option ℕ
+  pub why : Bool
   pub threads : ℕ
 
 -- What options of `police` ask for.
@@ -60,12 +66,13 @@ police_asked_by options = record {
   timing = options.timing;
   lines = options.lines;
   every = options.every;
+  why = options.why;
   threads = options.threads;
 }
 
 -- What these values spell, if each spells something.
-abbrev pub police_values : Option Text → Option Text → Option Text → Option Text → Option Text → Option Text → Option Text → Option PoliceAsked
-police_values setup tick link timing lines every threads =
+abbrev pub police_values : Option Text → Option Text → Option Text → Option Text → Option Text → Option Text → Option Text → Option Text → Option PoliceAsked
+police_values setup tick link timing lines every why threads =
     option_and_then (λ name. option_and_then (λ nanoseconds. option_and_then (λ asked. option_and_then (λ source. option_and_then (λ which. option_and_then (λ span. option_map (λ number. record {
       setup = name;
       nanoseconds = nanoseconds;
@@ -73,6 +80,7 @@ police_values setup tick link timing lines every threads =
       timing = source;
       lines = which;
       every = span;
+      why = is_given why;
       threads = number;
     }) (threads_of threads)) (every_of every)) (cell_lines_of lines)) (timing_of timing)) (link_of link)) (asked_tick_of tick)) (file_name_of setup)
 
@@ -80,7 +88,7 @@ police_values setup tick link timing lines every threads =
 abbrev pub police_asked : List Text → Option PoliceAsked
 police_asked words = police_values (argument_value police_app words (codes "SETUP")) (argument_value police_app words (codes "tick"))
     (argument_value police_app words (codes "link")) (argument_value police_app words (codes "time")) (argument_value police_app words (codes "lines")) (argument_value police_app words (codes "every"))
-    (argument_value police_app words (codes "threads"))
+    (argument_value police_app words (codes "why")) (argument_value police_app words (codes "threads"))
 
 -- The words have no error for clap, and ask for this.
 abbrev pub AsksPolice : List Text → PoliceAsked → Type 0

@@ -9,7 +9,7 @@ ghost use Rattle.cmd_options.specs.inner.Answered.{AnswersValues, police_spelled
 use crate::link::link_of;
 use crate::values::{
     ASKED_TICK, LINK, SETUP, TIME, WRONG_LINK, WRONG_TICK, WRONG_TIME, asked_tick_of,
-    cell_lines_of, every_of, setup_name_of, threads_of, timing_of, wrong_value,
+    cell_lines_of, every_of, is_why_given, setup_name_of, threads_of, timing_of, wrong_value,
 };
 use captures::{Link, Tick, TimeSource};
 use captures_text::CellLines;
@@ -31,6 +31,8 @@ pub struct PoliceOptions {
     pub lines: CellLines,
     /// How many nanoseconds a span has, above 0, if the counts of each span of time are written.
     pub every: Option<u64>,
+    /// Whether lines show the rule that gave a cell its value.
+    pub why: bool,
     /// How many threads may work at once, 1 or 2.
     pub threads: u8,
 }
@@ -51,6 +53,14 @@ const EVERY: Argument = Argument {
     help: "Write the counts of each connection after each span of this length: a number with ns, us, ms or s",
 };
 
+const WHY: Argument = Argument {
+    name: "why",
+    form: Form::Flag,
+    default: None,
+    required: false,
+    help: "Add to the line of each cell the rule that gave it its value: the file of rules and the line in it",
+};
+
 const THREADS: Argument = Argument {
     name: "threads",
     form: Form::Valued("N"),
@@ -63,12 +73,12 @@ const POLICE: Options = Options {
     name: "upc-lab police",
     about: "Police the ATM cells of a capture by the contracts of a setup script",
     after_help: "Standard input is an ERF file, or pcap or pcapng with ERF records.\nExample: examples/make-capture | upc-lab police examples/police.setup",
-    arguments: &[SETUP, ASKED_TICK, LINK, TIME, LINES, EVERY, THREADS],
+    arguments: &[SETUP, ASKED_TICK, LINK, TIME, LINES, EVERY, WHY, THREADS],
 };
 
 /// Reads the words after `upc-lab police`: the name of a file, `--tick TIME`, `--link LINK`, `--time record|packet`,
-/// which is record if it isn't given, `--lines LINES`, which is all if it isn't given, `--every TIME`, and `--threads
-/// N`, which is 2 if it isn't given. The forms of help that `clap` has request help. Any other word is an error, and so
+/// which is record if it isn't given, `--lines LINES`, which is all if it isn't given, `--every TIME`, `--why`, and
+/// `--threads N`, which is 2 if it isn't given. The forms of help that `clap` has request help. Any other word is an error, and so
 /// are a wrong value, an empty name and words without a name.
 pub fn police_options(alloc: Global, words: Vec<String>) -> Result<PoliceOptions, Stop>
     ensures asked { IfOk result (λ options. AsksPolice (map string_bytes words.items) (police_asked_by options)) }
@@ -121,6 +131,7 @@ fn read(alloc: Global, values: &[Value]) -> Result<PoliceOptions, Stop>
         timing,
         lines,
         every,
+        why: is_why_given(values),
         threads,
     })
 }

@@ -283,6 +283,13 @@ pub(crate) fn is_record_given(values: &[Value]) -> bool
     is_given(values, "record")
 }
 
+/// Returns whether `--why` is given.
+pub(crate) fn is_why_given(values: &[Value]) -> bool
+    ensures { result ≡ is_given (text_named (texts_of values.now) (codes "why")) }
+{
+    is_given(values, "why")
+}
+
 /// Returns why the words give no options: a value is wrong, and this message says which and what is right.
 pub(crate) fn wrong_value(alloc: Global, message: &str) -> Stop
     ensures { IsWrongValue result }

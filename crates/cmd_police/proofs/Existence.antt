@@ -16,6 +16,7 @@ use Rattle.cmd_rules.specs.RulesAnswers.{most_rules_octets}
 use Rattle.text_words.specs.FaultLines.{too_long}
 use Rattle.cmd_rules.specs.AsmText.{whole_line}
 use Rattle.cmd_police.specs.FaultyRules.{HasFaultIn, rules_place}
+use Rattle.cmd_police.specs.LoadedRules.{shown_rules}
 use Rattle.cmd_police.specs.RulesFiles.{IsFaultOfRules, MayBeFaultOfRules, MayBeFaultOfText, TellsFault, later_texts, next_text, too_large_text}
 use Rattle.cmd_police.specs.RulesLines.{named_rules}
 use Rattle.cmd_police.specs.SetupLaws.{PolicesEachSetup}
@@ -80,7 +81,7 @@ polices : (scope : PoliceScope) (tick : ℕ) (setup : List ℕ) (times : List (O
     → (text : List ℕ) × (done : Done) × IsTimedPolicedBy MayBeFaultOfRules scope tick setup times texts octets text done
 polices scope tick setup times texts octets (inl faulty) = (faulty.0, Ended, inl (faulty.1, refl))
 polices scope tick setup times texts octets (inr made) =
-    let printed = some_police_text scope tick made.0 times octets in
+    let printed = some_police_text scope tick (shown_rules scope.why setup texts) made.0 times octets in
     (printed.0, printed.1, inr (made.0, made.1, printed.2))
 
 pub polices_timed : (scope : PoliceScope) (tick : ℕ) (setup : List ℕ) (times : List (Option ℕ)) (texts : List (List ℕ)) (octets : List ℕ)

@@ -15,6 +15,7 @@ pub mod LineTexts
 pub mod LeftExcess
 pub mod PoliceLemmas
 pub mod ScriptLines
+pub mod RulesSend
 pub mod Completing
 pub mod RulesTold
 pub mod Existence

@@ -11,6 +11,7 @@ use Rattle.captures_text.specs.RunLines.{closing_lines}
 use Rattle.captures_text.specs.declared.cell_lines.CellLines.{CellLines}
 use Rattle.captures_text.specs.declared.counted.CountedCell.{CountedCell}
 use Rattle.captures_text.specs.declared.passed.PassedOver.{PassedOver}
+use Rattle.gen_arena.specs.declared.id.Id.{Id}
 use Rattle.leaky.specs.declared.excess.Excess.{Excess}
 use Rattle.text_io.specs.Serving.{IsServed}
 use Rattle.text_io.specs.declared.device.Input.{Ghosts as InputView}
@@ -27,7 +28,9 @@ use Rattle.cmd_run.specs.RunText.{IsLed}
 use Rattle.cmd_police.specs.CommandsUnderTraffic.{CarriesOutWaiting, waiting_comment}
 use Rattle.cmd_police.specs.ConnectionCounts.{counts_heading, counts_lines}
 use Rattle.cmd_police.specs.NotJudgedCells.{not_judged_after, not_judged_lines}
-use Rattle.cmd_police.specs.PoliceLines.{excess_of_answer, has_line, police_line, verdict_heading}
+use Rattle.cmd_police.specs.PoliceLines.{excess_of_answer, has_line}
+use Rattle.cmd_police.specs.RuleColumn.{ShownRules}
+use Rattle.cmd_police.specs.StoredRules.{shown_stored}
 use Rattle.cmd_police.specs.RunComments.{run_comments}
 use Rattle.cmd_police.specs.PoliceText.{CarriesOutDue, PoliceWorld, PolicesArrived, after_cell, policed_text, connection_of_cell, has_lines_before, police_closes, police_gap, police_rules}
 use Rattle.cmd_police.specs.SpanCounts.{SpansWorld, ended_text, is_begun_after, present_text, spans_after, spans_at}
@@ -43,7 +46,7 @@ use Rattle.cmd_police.proofs.StartLemmas.{room_starts}
 use Rattle.cmd_police.proofs.CommandLemmas.{room_names}
 use Rattle.cmd_police.proofs.LeftLemmas.{room_leaves}
 use Rattle.cmd_police.specs.declared.spans.Spans.{Spans}
-use Rattle.cmd_police.specs.inner.PoliceShown.{AddsCell, ShowsPolice, lined}
+use Rattle.cmd_police.specs.inner.PoliceShown.{AddsCell, ShowsPolice, headed_line, lined}
 use Rattle.cmd_police.specs.inner.SpansShown.{ShowsSpans, own_begun_after, own_ended_text, own_text}
 use Rattle.cmd_police.proofs.SpanLemmas.{begun_same, ended_same, text_same}
 
@@ -57,10 +60,10 @@ abbrev pub SpansCount : Spans → Vc → Answer → Spans → Type 0
 SpansCount before vc given after = (spans : SpansWorld) → ShowsSpans before spans → ShowsSpans after (spans_after spans vc given)
 
 -- A text that has a line only if it is wanted depends on its excess only then.
-lined_same : (wanted : Bool) (front : List ℕ) (line : Option Excess → List ℕ) (one other : Option Excess) → (wanted ≡ true → one ≡ other)
-    → (if wanted then front ++ line one else []) ≡ (if wanted then front ++ line other else [])
-lined_same true front line one other same = ap (λ e. front ++ line e) (same refl)
-lined_same false front line one other same = refl
+lined_same : (wanted : Bool) (line : Option Excess → List ℕ) (one other : Option Excess) → (wanted ≡ true → one ≡ other)
+    → (if wanted then line one else []) ≡ (if wanted then line other else [])
+lined_same true line one other same = ap line (same refl)
+lined_same false line one other same = refl
 
 -- The answers grew by a text that answers a cell after the commands, from each state that was shown.
 abbrev pub FollowsArrived : (PoliceWorld → Type 0) → CountedCell → (PoliceWorld → Type 0) → List ℕ → List ℕ → Type 0
@@ -82,14 +85,14 @@ pub polices_by : (before : PoliceRun) (core : CoreView) (given : Answer) (vc : V
     (begun : Bool) (at_moment spans : Spans) (not_judged : NotJudged) (old ended new : List ℕ)
     → SpansGoOn before.spans counted.moment at_moment old ended
     → ArrivesWithRoom before.timed.card.core counted.cell counted.moment (Some given) core → vc ≡ vc_of before.timed.card.core.shape.side counted.cell
-    → AddsCell before.timed.card.core.shape.side before.lines before.begun counted.number counted.moment vc (has_low_priority counted.cell) given core ended new begun
+    → AddsCell before.timed.card.core.shape.side before.lines (shown_stored before.rules) before.begun counted vc given (record before.timed.card { core = core }) ended new begun
     → SpansCount at_moment vc given spans
     → not_judged ≡ not_judged_after before.not_judged counted.number given
     → FollowsArrived (ShowsPolice before) counted (ShowsPolice (run_after before core begun spans not_judged)) old new
 polices_by before core given vc counted begun at_moment spans not_judged old ended new goes arrives named adds more counts = (
-  own_ended_text before.spans counted.moment ++ lined before.timed.card.core.shape.side before.lines before.begun counted.number counted.moment vc (has_low_priority counted.cell) given adds.excess,
+  own_ended_text before.spans counted.moment ++ lined before.timed.card.core.shape.side before.lines (shown_stored before.rules) before.begun before.timed.card.names counted vc given adds.excess,
   adds.added
-      ∙ ap (λ xs. xs ++ lined before.timed.card.core.shape.side before.lines before.begun counted.number counted.moment vc (has_low_priority counted.cell) given adds.excess) goes.added
+      ∙ ap (λ xs. xs ++ lined before.timed.card.core.shape.side before.lines (shown_stored before.rules) before.begun before.timed.card.names counted vc given adds.excess) goes.added
       ∙ append_assoc old (own_ended_text before.spans counted.moment) _,
   λ world led shown.
       let number = counted.number in
@@ -103,20 +106,25 @@ polices_by before core given vc counted begun at_moment spans not_judged old end
       subst (λ (v : Vc). LeavesConnection world.card.world.connections on.2.world.connections v clp given) (sym here)
       (subst (λ (a : Answer). LeavesConnection world.card.world.connections on.2.world.connections (connection_of_cell world.card cell) clp a) (sym same)
       (room_leaves world.card on.2 cell moment on.0 led on.3)) in
-      let Text : Side → CellLines → Bool → Vc → Answer → List ℕ = λ side lines begun vc given.
-      lined side lines begun number moment vc clp given (excess_of_answer world.card.world vc clp given) in
-      let text : lined before.timed.card.core.shape.side before.lines before.begun number moment vc clp given adds.excess ≡ policed_text world counted on.0 =
-      lined_same (has_line before.lines given) (if before.begun then [] else verdict_heading) (λ excess. police_line before.timed.card.core.shape.side number moment vc clp given excess)
+      let rules = shown_stored before.rules in
+      let names = before.timed.card.names in
+      let Text : Side → CellLines → ShownRules → List Id → Bool → Vc → Answer → List ℕ = λ side lines rules names begun vc given.
+      lined side lines rules begun names counted vc given (excess_of_answer world.card.world vc clp given) in
+      let text : lined before.timed.card.core.shape.side before.lines rules before.begun names counted vc given adds.excess ≡ policed_text world counted on.0 =
+      lined_same (has_line before.lines given) (λ excess. headed_line before.timed.card.core.shape.side rules before.begun names counted vc given excess)
       adds.excess (excess_of_answer world.card.world vc clp given) (λ wanted. adds.right wanted world.card.world on.2.world on.4 leaves)
-      ∙ ap (λ (shape : Shape). Text shape.side before.lines before.begun vc given) shown.timed.held.agrees.shape
-      ∙ ap (λ (lines : CellLines). Text world.card.world.shape.side lines before.begun vc given) shown.lines
-      ∙ ap (λ b. Text world.card.world.shape.side world.lines b vc given) shown.begun
-      ∙ ap (λ (v : Vc). Text world.card.world.shape.side world.lines world.begun v given) here
-      ∙ ap (λ (a : Answer). Text world.card.world.shape.side world.lines world.begun (connection_of_cell world.card cell) a) same
+      ∙ ap (λ (shape : Shape). Text shape.side before.lines rules names before.begun vc given) shown.timed.held.agrees.shape
+      ∙ ap (λ (lines : CellLines). Text world.card.world.shape.side lines rules names before.begun vc given) shown.lines
+      ∙ ap (λ (rules : ShownRules). Text world.card.world.shape.side world.lines rules names before.begun vc given) shown.rules
+      ∙ ap (λ (names : List Id). Text world.card.world.shape.side world.lines world.rules names before.begun vc given) shown.timed.held.names
+      ∙ ap (λ b. Text world.card.world.shape.side world.lines world.rules world.card.names b vc given) shown.begun
+      ∙ ap (λ (v : Vc). Text world.card.world.shape.side world.lines world.rules world.card.names world.begun v given) here
+      ∙ ap (λ (a : Answer). Text world.card.world.shape.side world.lines world.rules world.card.names world.begun (connection_of_cell world.card cell) a) same
       in (
         after_cell world counted on.0 on.2,
         record {
           lines = shown.lines;
+          rules = shown.rules;
           tick = shown.tick;
           timed = record {
             held = record { agrees = on.4; names = shown.timed.held.names ∙ room_names world.card on.2 cell moment on.0 on.3 };
@@ -136,7 +144,7 @@ polices_by before core given vc counted begun at_moment spans not_judged old end
           given = on.0;
           card = on.2;
           taken = on.3;
-          written = ap (λ xs. xs ++ lined before.timed.card.core.shape.side before.lines before.begun number moment vc clp given adds.excess) (ended_same before.spans world.spans moment shown.spans)
+          written = ap (λ xs. xs ++ lined before.timed.card.core.shape.side before.lines rules before.begun names counted vc given adds.excess) (ended_same before.spans world.spans moment shown.spans)
               ∙ ap (λ xs. ended_text world.spans moment ++ xs) text;
           after = refl;
         },
@@ -163,6 +171,7 @@ commanded_state before timed moment carried commanded text world filled either s
       record world { card = to.after; waiting = left; commanded = world.commanded || is_filled text },
       record {
         lines = shown.lines;
+        rules = shown.rules;
         tick = shown.tick;
         timed = record { held = to.shown; starts = to.starts; waits = refl };
         commanded = either ∙ ap (λ b. before.commanded || b) filled ∙ ap (λ b. b || is_filled text) shown.commanded;

@@ -119,8 +119,8 @@ run_adds first last (counted ∷ cells) ticks (here, after, polices, leads) want
     }
 
 pub spans_add_up : SpansAddUp
-spans_add_up scope nanoseconds tick card cells last every led runs vc connection found =
-    let first = police_start scope tick card [] in
+spans_add_up scope nanoseconds tick rules card cells last every led runs vc connection found =
+    let first = police_start scope tick rules card [] in
     let wanted : first.spans.ticks ≡ Some (ticks_of_span nanoseconds tick) = ap (option_map (λ asked. ticks_of_span asked tick)) every in
     let adds = run_adds first last cells (ticks_of_span nanoseconds tick) runs wanted refl led vc connection found in
     (adds.connection, adds.found, λ verdict. let counts = adds.counts verdict in let none = no_cells vc verdict in omega (arith, counts, none))

@@ -1,4 +1,5 @@
 -- The cells of a captured link, policed by the contracts of a setup script. Read the modules in this order:
+pub mod RuleColumn
 pub mod PoliceLines
 pub mod NotJudgedCells
 pub mod ConnectionCounts
@@ -14,10 +15,12 @@ pub mod PoliceLaws
 pub mod SpanLaws
 pub mod RulesLines
 pub mod RulesFiles
+pub mod FileNames
+pub mod LoadedRules
+pub mod StoredRules
 pub mod SetupPrograms
 pub mod FaultyRules
 pub mod FilesRead
-pub mod FileNames
 pub mod SetupTick
 pub mod SetupText
 pub mod SetupLaws

@@ -14,14 +14,15 @@ use Rattle.line_record.specs.History.{buckets_after_cells, empty_buckets, last_m
 use Rattle.upc_cell.specs.declared.side.Side.{Side}
 use Rattle.upc_cell.specs.declared.vc.Vc.{Vc}
 use Rattle.text_script.specs.ReplyTexts.{channel_name}
+use Rattle.cmd_police.specs.RuleColumn.{ShownRules, heading_end}
 
 -- A column, with the tab after it.
 abbrev pub in_column : List ℕ → List ℕ
 in_column text = text ++ 9 ∷ []
 
 -- The heading of the lines about cells.
-abbrev pub verdict_heading : List ℕ
-verdict_heading = codes "record\tmoment\tvpi\tvci\tclp\tvalue\tverdict\tbucket\texcess\n"
+abbrev pub verdict_heading : ShownRules → List ℕ
+verdict_heading rules = codes "record\tmoment\tvpi\tvci\tclp\tvalue\tverdict\tbucket\texcess" ++ heading_end rules
 
 -- The word for a verdict, as `upc run` prints it.
 abbrev pub verdict_word : Verdict → List ℕ
@@ -47,29 +48,29 @@ excess_of_answer before vc clp _ = None
 
 -- The columns for an excess: the number of the bucket, and the ticks.
 abbrev pub excess_columns : Option Excess → List ℕ
-excess_columns None = codes "-\t-\n"
-excess_columns (Some excess) = in_column (decimal (bucket_number excess.bucket)) ++ (decimal excess.ticks ++ codes "\n")
+excess_columns None = codes "-\t-"
+excess_columns (Some excess) = in_column (decimal (bucket_number excess.bucket)) ++ decimal excess.ticks
 
 -- The columns for an answer: the value, the verdict or the reason why the cell isn't judged, and the excess.
 abbrev pub answer_columns : Answer → Option Excess → List ℕ
 answer_columns (answer.Judged line number moment value program verdict leaving) excess =
     in_column (decimal value) ++ (in_column (verdict_word verdict) ++ excess_columns excess)
-answer_columns answer.NoConnection excess = codes "-\tNoConnection\t-\t-\n"
-answer_columns answer.Released excess = codes "-\tReleased\t-\t-\n"
-answer_columns answer.Stale excess = codes "-\tStale\t-\t-\n"
-answer_columns (answer.MomentBack last) excess = codes "-\tMomentBack\t-\t-\n"
-answer_columns answer.MomentTooLate excess = codes "-\tMomentTooLate\t-\t-\n"
-answer_columns answer.JournalFull excess = codes "-\tJournalFull\t-\t-\n"
-answer_columns answer.NoMemory excess = codes "-\tNoMemory\t-\t-\n"
+answer_columns answer.NoConnection excess = codes "-\tNoConnection\t-\t-"
+answer_columns answer.Released excess = codes "-\tReleased\t-\t-"
+answer_columns answer.Stale excess = codes "-\tStale\t-\t-"
+answer_columns (answer.MomentBack last) excess = codes "-\tMomentBack\t-\t-"
+answer_columns answer.MomentTooLate excess = codes "-\tMomentTooLate\t-\t-"
+answer_columns answer.JournalFull excess = codes "-\tJournalFull\t-\t-"
+answer_columns answer.NoMemory excess = codes "-\tNoMemory\t-\t-"
 
 -- The digit for a cell loss priority.
 abbrev pub priority_digit : Bool → ℕ
 priority_digit clp = if clp then 1 else 0
 
--- The line of a cell whose record has this number, which arrived at this moment on this connection of a card of this
+-- The columns of a cell whose record has this number, which arrived at this moment on this connection of a card of this
 -- side with this cell loss priority.
-abbrev pub police_line : Side → ℕ → ℕ → Vc → Bool → Answer → Option Excess → List ℕ
-police_line side number moment vc clp given excess =
+abbrev pub cell_columns : Side → ℕ → ℕ → Vc → Bool → Answer → Option Excess → List ℕ
+cell_columns side number moment vc clp given excess =
     in_column (decimal number) ++ (in_column (decimal moment) ++ (in_column (decimal vc.vpi) ++ (in_column (channel_name side vc.vci)
     ++ (in_column (decimal (priority_digit clp)) ++ answer_columns given excess))))
 

@@ -23,22 +23,24 @@ use Rattle.upc_cell.specs.Connection.{vc_of}
 use Rattle.upc_cell.specs.Header.{has_low_priority}
 use Rattle.upc_cell.specs.declared.vc.Vc.{Vc}
 use Rattle.cmd_run.specs.RunText.{Arrives, Card, IsLed, TakesCommand, run_rules}
+use Rattle.text_card.specs.Replies.{number_of_judging}
 use Rattle.text_script.specs.ScriptCommands.{cut}
 use Rattle.cmd_police.specs.CommandsUnderTraffic.{CarriesOutWaiting, waiting_comment}
 use Rattle.cmd_police.specs.ConnectionCounts.{counts_heading, counts_lines}
 use Rattle.cmd_police.specs.NotJudgedCells.{all_judged, not_judged_after, not_judged_lines}
 use Rattle.cmd_police.specs.RunComments.{run_comments}
-use Rattle.cmd_police.specs.PoliceLines.{excess_of_answer, has_line, police_line, verdict_heading}
+use Rattle.cmd_police.specs.PoliceLines.{cell_columns, excess_of_answer, has_line, verdict_heading}
+use Rattle.cmd_police.specs.RuleColumn.{ShownRules, line_end}
 use Rattle.cmd_police.specs.SpanCounts.{SpansWorld, ended_text, is_begun_after, present_text, spans_after, spans_at, spans_start, ticks_of_span}
 use Rattle.cmd_police.specs.TimedLines.{WaitingCommand, octets_before_times, waiting_at}
 use Rattle.cmd_police.specs.declared.not_judged.NotJudged.{NotJudged}
 use Rattle.cmd_police.specs.declared.scope.PoliceScope.{PoliceScope}
 
--- The state of a run: which cells have lines, the nanoseconds of a tick, the card, the commands that wait, whether some
--- were carried out, whether the heading of the lines was written, the spans of time, and the cells that were not
--- judged.
+-- The state of a run: which cells have lines, the rules that these show, the nanoseconds of a tick, the card, the commands that wait,
+-- whether some were carried out, whether the heading of the lines was written, the spans of time, and the cells that were not judged.
 pub record PoliceWorld : Type 0 where
   pub lines : CellLines
+  pub rules : ShownRules
   pub tick : ℕ
   pub card : Card
   pub waiting : List WaitingCommand
@@ -47,10 +49,11 @@ pub record PoliceWorld : Type 0 where
   pub spans : SpansWorld
   pub not_judged : NotJudged
 
--- The state at first, where a tick has this many nanoseconds, and these commands wait.
-abbrev pub police_start : PoliceScope → ℕ → Card → List WaitingCommand → PoliceWorld
-police_start scope tick card waiting = record {
+-- The state at first, where a tick has this many nanoseconds, lines show these rules, and these commands wait.
+abbrev pub police_start : PoliceScope → ℕ → ShownRules → Card → List WaitingCommand → PoliceWorld
+police_start scope tick rules card waiting = record {
   lines = scope.lines;
+  rules = rules;
   tick = tick;
   card = card;
   waiting = waiting;
@@ -94,9 +97,10 @@ pub record TakesCellWithRoom (before : Card) (cell : List ℕ) (moment : ℕ) (g
 abbrev pub policed_text : PoliceWorld → CountedCell → Answer → List ℕ
 policed_text before counted given =
     if has_line before.lines given
-    then (if before.begun then [] else verdict_heading)
-    ++ police_line before.card.world.shape.side counted.number counted.moment (connection_of_cell before.card counted.cell) (has_low_priority counted.cell) given
+    then (if before.begun then [] else verdict_heading before.rules)
+    ++ (cell_columns before.card.world.shape.side counted.number counted.moment (connection_of_cell before.card counted.cell) (has_low_priority counted.cell) given
     (excess_of_answer before.card.world (connection_of_cell before.card counted.cell) (has_low_priority counted.cell) given)
+    ++ line_end before.rules (number_of_judging before.card.names given) counted.cell)
     else []
 
 -- The state after a cell with this answer.
@@ -177,12 +181,13 @@ abbrev pub IsFaultAtTimes : List ℕ → List (Option ℕ) → List ℕ → Type
 IsFaultAtTimes script times text = IsFaultOfEither script (octets_before_times times (lines_of script)) text
 
 -- The text for a whole capture that is policed by a setup script without a fault, whose lines have these times, and how the run ends.
-abbrev pub IsPoliced : PoliceScope → ℕ → List ℕ → List (Option ℕ) → List ℕ → List ℕ → Done → Type 0
-IsPoliced scope tick script times octets text done =
+-- Lines about cells show these rules.
+abbrev pub IsPoliced : PoliceScope → ℕ → ShownRules → List ℕ → List (Option ℕ) → List ℕ → List ℕ → Done → Type 0
+IsPoliced scope tick rules script times octets text done =
     (card : Card) × IsSetUpAtTimes script times card
-    × IsCaptureText police_rules (filter_start tick scope.link scope.timing) (police_start scope tick card (waiting_at tick times (lines_of script))) octets text done
+    × IsCaptureText police_rules (filter_start tick scope.link scope.timing) (police_start scope tick rules card (waiting_at tick times (lines_of script))) octets text done
 
 -- The text for a setup script whose lines have these times, and a whole capture, and how the run ends.
-abbrev pub IsPoliceText : PoliceScope → ℕ → List ℕ → List (Option ℕ) → List ℕ → List ℕ → Done → Type 0
-IsPoliceText scope tick script times octets text done =
-    (IsFaultAtTimes script times text × (done ≡ Ended)) ⊎ IsPoliced scope tick script times octets text done
+abbrev pub IsPoliceText : PoliceScope → ℕ → ShownRules → List ℕ → List (Option ℕ) → List ℕ → List ℕ → Done → Type 0
+IsPoliceText scope tick rules script times octets text done =
+    (IsFaultAtTimes script times text × (done ≡ Ended)) ⊎ IsPoliced scope tick rules script times octets text done

@@ -6,6 +6,7 @@ use Rattle.cmd_police.specs.PoliceText.{IsPoliceText}
 use Rattle.text_io.specs.declared.ending.Done.{Done}
 use Rattle.text_io.specs.declared.ending.Done.TheVariants.{Ended}
 use Rattle.cmd_police.specs.FaultyRules.{HasFaultyRules}
+use Rattle.cmd_police.specs.LoadedRules.{shown_rules}
 use Rattle.cmd_police.specs.RulesFiles.{IsFaultOfRules, MayBeFaultOfRules}
 use Rattle.cmd_police.specs.SetupPrograms.{HasPrograms}
 use Rattle.cmd_police.specs.SetupTick.{agreed_tick, ticks_differ}
@@ -17,7 +18,8 @@ use Rattle.cmd_police.specs.TimedLines.{falling_line, falling_text, line_times, 
 abbrev pub IsTimedPolicedBy : (List ℕ → List ℕ → List ℕ → Type 0) → PoliceScope → ℕ → List ℕ → List (Option ℕ) → List (List ℕ) → List ℕ → List ℕ → Done → Type 0
 IsTimedPolicedBy IsFault scope tick setup times texts octets text done =
     (HasFaultyRules IsFault setup texts text × (done ≡ Ended))
-    ⊎ ((script : List ℕ) × HasPrograms setup texts script × IsPoliceText scope tick script times octets text done)
+    ⊎ ((script : List ℕ) × HasPrograms setup texts script
+    × IsPoliceText scope tick (shown_rules scope.why setup texts) script times octets text done)
 
 -- The text for a setup script, the texts of its files of rules and a whole capture, and how the run ends. If the time
 -- of a line falls, the text names the line, and nothing is policed.

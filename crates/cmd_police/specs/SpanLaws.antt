@@ -15,6 +15,7 @@ use Rattle.cmd_run.specs.RunText.{Card, IsLed}
 use Rattle.cmd_police.specs.ConnectionCounts.{own_counts}
 use Rattle.cmd_police.specs.OrderNumber.{order_number}
 use Rattle.cmd_police.specs.PoliceText.{PoliceWorld, police_rules, police_start}
+use Rattle.cmd_police.specs.RuleColumn.{ShownRules}
 use Rattle.cmd_police.specs.SpanCounts.{JudgedCell, SpansWorld, TimeSpan, span_rows}
 use Rattle.cmd_police.specs.declared.scope.PoliceScope.{PoliceScope}
 
@@ -35,8 +36,8 @@ all_spans spans = spans.present ∷ spans.ended
 -- The spans of a run without commands add up: the counts of a connection after the run are those before, and those of
 -- all spans.
 abbrev pub SpansAddUp : Type 0
-SpansAddUp = (scope : PoliceScope) (nanoseconds tick : ℕ) (card : Card) (cells : List CountedCell) (last : PoliceWorld) → scope.every ≡ Some nanoseconds
-    → IsLed card → RunsThrough police_rules (police_start scope tick card []) cells last
+SpansAddUp = (scope : PoliceScope) (nanoseconds tick : ℕ) (rules : ShownRules) (card : Card) (cells : List CountedCell) (last : PoliceWorld) → scope.every ≡ Some nanoseconds
+    → IsLed card → RunsThrough police_rules (police_start scope tick rules card []) cells last
     → (vc : Vc) (connection : Connection) → connection_in last.card.world.connections vc ≡ Some connection
     → (before : Connection) × (connection_in card.world.connections vc ≡ Some before)
     × ((verdict : Verdict) → count_of (own_counts connection) verdict ≡ count_of (own_counts before) verdict + count_in_spans vc verdict (all_spans last.spans))

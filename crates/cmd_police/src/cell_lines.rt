@@ -3,8 +3,11 @@
 ghost use Rattle.std.specs.Prelude.{◌≡◌, ◌++◌, ℕ, List, [], None, OnOk, decimal, if◌then◌else◌};
 ghost use Rattle.card_core.specs.Sections.{answer_to, unjudged_answer};
 ghost use Rattle.text_script.specs.ReplyTexts.{channel_name};
-ghost use Rattle.cmd_police.specs.PoliceLines.{answer_columns, excess_columns, has_line, in_column, is_pass_answer, police_line, priority_digit, verdict_given, verdict_heading, verdict_word};
+ghost use Rattle.cmd_police.specs.PoliceLines.{answer_columns, cell_columns, excess_columns, has_line, in_column, is_pass_answer, priority_digit, verdict_given, verdict_heading, verdict_word};
+ghost use Rattle.cmd_police.specs.StoredRules.{shown_stored};
 
+use crate::program_rules::LoadedRules;
+use crate::rule_column::end_heading;
 use captures_text::CellLines;
 use card_core::{Judgement, Unjudged};
 use leaky::{Excess, Verdict};
@@ -13,14 +16,30 @@ use std::alloc::AllocError;
 use text_words::{add_number, add_text};
 use upc_cell::{Cell, Side, Vc};
 
-/// Appends the heading.
-fn add_verdict_heading(answers: &mut Vec<u8>) -> Result<(), AllocError>
-    ensures { OnOk result (answers.new.items ≡ answers.old.items ++ verdict_heading) }
+/// Appends the heading, where lines show these rules.
+#[tactic(auto, using(std::proofs::lemmas::List::append_assoc))]
+fn add_verdict_heading(answers: &mut Vec<u8>, rules: &Option<LoadedRules>) -> Result<(), AllocError>
+    ensures { OnOk result (answers.new.items ≡ answers.old.items ++ verdict_heading (shown_stored rules.now)) }
 {
     add_text(
         answers,
-        b"record\tmoment\tvpi\tvci\tclp\tvalue\tverdict\tbucket\texcess\n",
-    )
+        b"record\tmoment\tvpi\tvci\tclp\tvalue\tverdict\tbucket\texcess",
+    )?;
+    end_heading(answers, rules)
+}
+
+/// Appends the heading, if it isn't written yet.
+pub(crate) fn add_heading_once(
+    answers: &mut Vec<u8>,
+    begun: bool,
+    rules: &Option<LoadedRules>,
+) -> Result<(), AllocError>
+    ensures { OnOk result (answers.new.items ≡ answers.old.items ++ (if begun then [] else verdict_heading (shown_stored rules.now))) }
+{
+    if begun {
+        return Ok(());
+    }
+    add_verdict_heading(answers, rules)
 }
 
 /// Appends a number and a tab.
@@ -76,11 +95,10 @@ fn add_excess(answers: &mut Vec<u8>, excess: Option<Excess>) -> Result<(), Alloc
     ensures { OnOk result (answers.new.items ≡ answers.old.items ++ excess_columns excess) }
 {
     let Some(excess) = excess else {
-        return add_text(answers, b"-\t-\n");
+        return add_text(answers, b"-\t-");
     };
     add_number_column(answers, u64::from(excess.bucket.number()))?;
-    add_number(answers, excess.ticks)?;
-    add_text(answers, b"\n")
+    add_number(answers, excess.ticks)
 }
 
 /// Returns the columns for a cell that wasn't judged.
@@ -88,13 +106,13 @@ fn columns_without(reason: Unjudged) -> &'static [u8]
     ensures { result.now ≡ answer_columns (unjudged_answer reason) None }
 {
     match reason {
-        Unjudged::NoConnection => b"-\tNoConnection\t-\t-\n",
-        Unjudged::Released => b"-\tReleased\t-\t-\n",
-        Unjudged::Stale => b"-\tStale\t-\t-\n",
-        Unjudged::LineFault(LineFault::Back(_)) => b"-\tMomentBack\t-\t-\n",
-        Unjudged::LineFault(LineFault::TooLate) => b"-\tMomentTooLate\t-\t-\n",
-        Unjudged::LineFault(LineFault::Full) => b"-\tJournalFull\t-\t-\n",
-        Unjudged::LineFault(LineFault::NoMemory) => b"-\tNoMemory\t-\t-\n",
+        Unjudged::NoConnection => b"-\tNoConnection\t-\t-",
+        Unjudged::Released => b"-\tReleased\t-\t-",
+        Unjudged::Stale => b"-\tStale\t-\t-",
+        Unjudged::LineFault(LineFault::Back(_)) => b"-\tMomentBack\t-\t-",
+        Unjudged::LineFault(LineFault::TooLate) => b"-\tMomentTooLate\t-\t-",
+        Unjudged::LineFault(LineFault::Full) => b"-\tJournalFull\t-\t-",
+        Unjudged::LineFault(LineFault::NoMemory) => b"-\tNoMemory\t-\t-",
     }
 }
 
@@ -145,8 +163,8 @@ fn add_arrival(
     add_number_column(answers, digit_of(clp))
 }
 
-/// Appends the line of a cell.
-fn add_police_line(
+/// Appends the columns of a cell.
+pub(crate) fn add_cell_columns(
     answers: &mut Vec<u8>,
     side: Side,
     number: u64,
@@ -157,33 +175,10 @@ fn add_police_line(
     excess: Option<Excess>,
 ) -> Result<(), AllocError>
     ensures { (cell : List ℕ) → OnOk result (answers.new.items ≡ answers.old.items
-        ++ police_line side number moment vc clp (answer_to cell decision.now) excess) }
+        ++ cell_columns side number moment vc clp (answer_to cell decision.now) excess) }
 {
     add_arrival(answers, side, number, moment, vc, clp)?;
     add_answer(answers, decision, excess)
-}
-
-/// Appends the line of a cell, after the heading if that isn't written yet.
-#[tactic(auto, using(std::proofs::lemmas::List::append_assoc))]
-pub(crate) fn add_line(
-    answers: &mut Vec<u8>,
-    side: Side,
-    begun: bool,
-    number: u64,
-    moment: u64,
-    vc: Vc,
-    clp: bool,
-    decision: &Result<Judgement, Unjudged>,
-    excess: Option<Excess>,
-) -> Result<(), AllocError>
-    ensures { (cell : List ℕ) → OnOk result (answers.new.items ≡ answers.old.items
-        ++ ((if begun then [] else verdict_heading) ++ police_line side number moment vc clp (answer_to cell decision.now) excess)) }
-{
-    if begun {
-        return add_police_line(answers, side, number, moment, vc, clp, decision, excess);
-    }
-    add_verdict_heading(answers)?;
-    add_police_line(answers, side, number, moment, vc, clp, decision, excess)
 }
 
 /// Returns whether a cell with this result has a line.

@@ -25,7 +25,7 @@ pub(crate) enum Expanded {
 }
 
 /// Returns the first of the texts that are left, or an empty one if none is.
-fn next_text(texts: &[SharedText]) -> &[u8]
+pub(crate) fn next_text(texts: &[SharedText]) -> &[u8]
     ensures { result.now ≡ next_text (octets_of_texts texts.now) }
 {
     match texts {
@@ -35,7 +35,7 @@ fn next_text(texts: &[SharedText]) -> &[u8]
 }
 
 /// Returns the texts that are left after the first of them.
-fn later_texts(texts: &[SharedText]) -> &[SharedText]
+pub(crate) fn later_texts(texts: &[SharedText]) -> &[SharedText]
     ensures { octets_of_texts result.now ≡ later_texts (octets_of_texts texts.now) }
 {
     match texts {

@@ -12,13 +12,16 @@ ghost use Rattle.text_io.specs.Serving.{IsServed};
 ghost use Rattle.cmd_police.specs.PoliceLines.{excess_of_answer};
 ghost use Rattle.cmd_police.specs.PoliceText.{IsPoliceText, police_gap};
 ghost use Rattle.cmd_police.specs.inner.ExcessLeft.{IsKeptOnLine, LeavesConnection, excess_left, first_met};
+ghost use Rattle.cmd_police.specs.StoredRules.{shown_stored};
 ghost use Rattle.cmd_police.specs.SpanCounts.{spans_start, ticks_of_span};
 ghost use Rattle.cmd_police.specs.inner.PoliceShown.{AddsCell};
 ghost use Rattle.cmd_police.specs.inner.SpansShown.{ShowsSpans, own_begun_after};
 
-use crate::cell_lines::{add_line, has_line};
+use crate::cell_lines::{add_cell_columns, add_heading_once, has_line};
 use crate::connection_counts::add_counts;
 use crate::not_judged::{NotJudged, add_not_judged};
+use crate::program_rules::LoadedRules;
+use crate::rule_column::end_line;
 use crate::run_comments::add_run_comments;
 use crate::scope::PoliceScope;
 use crate::setting_up::{SetUp, set_up};
@@ -29,6 +32,7 @@ use crate::timed_card::TimedCard;
 use captures::{Fault, Tick};
 use captures_text::{CellFollower, CellLines, CountedCell, PassedOver, add_closing, follow_cells};
 use card_core::{Core, Judgement, Unjudged};
+use cmd_run::ScriptCard;
 use leaky::{Excess, Levels, Verdict, excess_at};
 use line_record::Line;
 use std::alloc::{AllocError, Global};
@@ -94,30 +98,40 @@ fn excess_of(
     excess_left(line, judged, clp)
 }
 
-/// Appends the text for a cell that arrived with this answer. Returns whether the heading is written then. The core is as the cell left it.
+/// Appends the text for a cell that arrived with this answer. Returns whether the heading is written then. The card is as the cell left it.
 #[inline(always)]
 fn add_cell(
     answers: &mut Vec<u8>,
     side: Side,
     lines: CellLines,
+    rules: &Option<LoadedRules>,
     begun: bool,
-    number: u64,
-    moment: u64,
+    counted: &CountedCell,
     vc: Vc,
-    clp: bool,
     decision: &Result<Judgement, Unjudged>,
-    core: &Core,
+    card: &ScriptCard,
 ) -> Result<bool, AllocError>
-    ensures { (cell : List ℕ) → IfOk result (AddsCell side lines begun number moment vc clp (answer_to cell decision.now) core.now
+    ensures { IfOk result (AddsCell side lines (shown_stored rules.now) begun counted.now vc (answer_to counted.now.cell decision.now) card.now
         answers.old.items answers.new.items) }
 {
     if !has_line(lines, decision) {
         return Ok(begun);
     }
-    let excess = excess_of(core, vc, clp, decision);
-    add_line(
-        answers, side, begun, number, moment, vc, clp, decision, excess,
+    let cell = &counted.cell;
+    let clp = cell.clp();
+    let excess = excess_of(card.core(), vc, clp, decision);
+    add_heading_once(answers, begun, rules)?;
+    add_cell_columns(
+        answers,
+        side,
+        counted.number,
+        counted.moment,
+        vc,
+        clp,
+        decision,
+        excess,
     )?;
+    end_line(answers, rules, card, decision, cell)?;
     Ok(true)
 }
 
@@ -160,6 +174,8 @@ pub struct PoliceChoice {
 pub(crate) struct PoliceRun {
     /// Which cells have lines.
     lines: CellLines,
+    /// The rules that these show, if they do.
+    rules: Option<LoadedRules>,
     /// How long a tick is.
     tick: Tick,
     timed: TimedCard,
@@ -202,13 +218,12 @@ impl CellFollower for PoliceRun {
             answers,
             side,
             self.lines,
+            &self.rules,
             self.begun,
-            counted.number,
-            moment,
+            counted,
             vc,
-            cell.clp(),
             &decision,
-            self.timed.core(),
+            &self.timed.card,
         )?;
         self.spans.count(vc, &decision)?;
         self.not_judged.count(counted.number, &decision);
@@ -265,7 +280,7 @@ pub fn write_faults<O: Output>(output: &mut O, mut text: Vec<u8>) -> Result<Done
 /// Polices the cells of a capture by a card that a setup script opens, whose lines have these times, one for each. Lines with a time are
 /// carried out before the first cell at or after it. A script with a fault is explained, and nothing is policed. Cells
 /// count, and have their moments, as in `upc-lab cells`. Long journals are dropped, so that any number of cells is judged.
-/// A table has the counts of each connection. If spans are asked for, so have lines for each span of time, after the last of its cells.
+/// A table has the counts of each connection. If rules are given, the line of each cell shows the one that gave it its value. If spans are asked for, so have lines for each span of time, after the last of its cells.
 /// docs/LAB.md has the format.
 ///
 /// With more than one thread, records are read on one thread while the cells of earlier ones are judged on another, as in
@@ -282,12 +297,13 @@ pub fn police_capture<R: Threads, I: Input + Send, O: Output>(
     alloc: Global,
     setup: &[u8],
     times: &[Option<u64>],
+    rules: Option<LoadedRules>,
     choice: PoliceChoice,
     tick: Tick,
     input: &mut I,
     output: &mut O,
 ) -> Result<Done, RunFault>
-    ensures { IsServed (IsPoliceText choice.scope tick.nanoseconds setup.now times.now) I.Input input.old input.new O.Output output.old output.new result }
+    ensures { IsServed (IsPoliceText choice.scope tick.nanoseconds (shown_stored rules) setup.now times.now) I.Input input.old input.new O.Output output.old output.new result }
 {
     match set_up(alloc, setup, times, tick) {
         Err(_) => Err(RunFault::NoMemory),
@@ -296,6 +312,7 @@ pub fn police_capture<R: Threads, I: Input + Send, O: Output>(
             let spans = spans_of(alloc, timed.core().shape().side, choice.scope, tick);
             let mut run = PoliceRun {
                 lines: choice.scope.lines,
+                rules,
                 tick,
                 timed,
                 commanded: false,

@@ -14,4 +14,6 @@ pub struct PoliceScope {
     pub lines: CellLines,
     /// How many nanoseconds a span has, if the counts of each span of time are written. A span has whole ticks, at least one.
     pub every: Option<u64>,
+    /// Whether lines show the rule that gave a cell its value.
+    pub why: bool,
 }

@@ -3,6 +3,8 @@
 ghost use Rattle.std.specs.Prelude.{IfOk, option_map};
 ghost use Rattle.text_io.specs.Devices.{Adds};
 ghost use Rattle.text_io.specs.Serving.{IsServed};
+ghost use Rattle.cmd_police.specs.LoadedRules.{shown_rules};
+ghost use Rattle.cmd_police.specs.PoliceText.{IsPoliceText};
 ghost use Rattle.cmd_police.specs.RulesFiles.{octets_of_texts};
 ghost use Rattle.cmd_police.specs.FaultyRules.{HasFaultyRules};
 ghost use Rattle.cmd_police.specs.RulesFiles.{IsFaultOfRules, MayBeFaultOfRules};
@@ -10,6 +12,7 @@ ghost use Rattle.cmd_police.specs.SetupText.{IsPolicedAsAgreed, IsSetupPoliced, 
 
 use crate::expanding::{Expanded, expand_setup};
 use crate::police::{PoliceChoice, police_capture, write_faults};
+use crate::program_rules::shown_rules;
 use crate::setup_tick::{add_ticks_differ, agreed_tick};
 use crate::shared_text::SharedText;
 use crate::timed_lines::{TimedScript, take_times};
@@ -17,6 +20,29 @@ use captures::Tick;
 use std::alloc::Global;
 use std::thread::Threads;
 use text_io::{Done, Input, Output, RunFault};
+
+/// Polices the cells of a capture by a script that has the programs of a setup script, whose rules lines about cells show if they are
+/// asked for.
+fn police_script<R: Threads, I: Input + Send, O: Output>(
+    rt: &R,
+    alloc: Global,
+    setup: &[u8],
+    script: &[u8],
+    times: &[Option<u64>],
+    texts: &[SharedText],
+    choice: PoliceChoice,
+    tick: Tick,
+    input: &mut I,
+    output: &mut O,
+) -> Result<Done, RunFault>
+    ensures { IsServed (IsPoliceText choice.scope tick.nanoseconds (shown_rules choice.scope.why setup.now (octets_of_texts texts.now)) script.now times.now)
+        I.Input input.old input.new O.Output output.old output.new result }
+{
+    match shown_rules(alloc, choice.scope.why, setup, texts) {
+        Err(_) => Err(RunFault::NoMemory),
+        Ok(rules) => police_capture(rt, alloc, script, times, rules, choice, tick, input, output),
+    }
+}
 
 /// Polices the cells of a capture, as [`police_setup`] does, by a setup script whose lines have these times, which are
 /// not in the script any more.
@@ -40,12 +66,12 @@ fn police_timed<R: Threads, I: Input + Send, O: Output>(
     match expand_setup(alloc, setup, texts) {
         Err(_) => Err(RunFault::NoMemory),
         Ok(Expanded::Faulty(text)) => write_faults(output, text),
-        Ok(Expanded::Itself) => {
-            police_capture(rt, alloc, setup, times, choice, tick, input, output)
-        }
-        Ok(Expanded::Replaced(script)) => {
-            police_capture(rt, alloc, &script, times, choice, tick, input, output)
-        }
+        Ok(Expanded::Itself) => police_script(
+            rt, alloc, setup, setup, times, texts, choice, tick, input, output,
+        ),
+        Ok(Expanded::Replaced(script)) => police_script(
+            rt, alloc, setup, &script, times, texts, choice, tick, input, output,
+        ),
     }
 }
 

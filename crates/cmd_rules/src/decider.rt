@@ -8,7 +8,7 @@ ghost use Rattle.rules_cells.specs.Fields.{IsCell};
 ghost use Rattle.rules_text.specs.DecisionsRead.{rules_decide};
 ghost use Rattle.rules_text.specs.NumberedText.{numbered_read};
 ghost use Rattle.rules_text.specs.RulesRead.{RulesRead, rules_read};
-ghost use Rattle.rules_text.specs.TextFaults.{IsCompilingFault};
+ghost use Rattle.rules_text.specs.TextFaults.{IsCompilingFault, IsFaultOf};
 ghost use Rattle.rules_text.specs.TextOfRules.{numbered_in, rules_in};
 ghost use Rattle.std.proofs.Props.{props};
 ghost use Rattle.cmd_rules.specs.WhyText.{HasCode};
@@ -147,7 +147,7 @@ fn value_on(program: &Program, cell: &Cell) -> u32
 
 /// Decides cells by the rules of a text.
 #[derive(Drop)]
-pub(crate) struct Decider {
+pub struct Decider {
     /// The rules, and the source lines that they are written in.
     pub numbered: NumberedRules,
     /// A program that gives the place of the line that decides a cell, counted from 1. There is none if it would be too long.
@@ -156,23 +156,36 @@ pub(crate) struct Decider {
 }
 
 impl Decider {
-    /// Reads a text of rules.
+    /// Reads a text of rules, whose code may be too long.
     ///
     /// # Errors
     ///
-    /// As `compile_text` has them, since a text of rules is one that can be compiled.
-    #[tactic(auto, using(crate::proofs::Places::has_code, crate::proofs::Places::places_kept))]
-    pub fn new(alloc: Global, text: &[u8]) -> Result<Decider, RuleFault>
+    /// The first fault of the text (`numbered_in` of `rules_text`), or `NoMemory` if an allocation failed.
+    #[tactic(auto, using(crate::proofs::Places::places_kept))]
+    pub fn read(alloc: Global, text: &[u8]) -> Result<Decider, RuleFault>
         ensures rules { IfOk result (λ decider. numbered_in text.now ≡ Ok (numbered_read decider.numbered)) }
-        ensures code { OnOk result (HasCode text.now) }
-        ensures fault { IfErr result (IsCompilingFault text.now) }
+        ensures fault { IfErr result (IsFaultOf (numbered_in text.now)) }
     {
-        compile_text(alloc, text)?;
         let numbered = read_numbered(alloc, text)?;
         match places_of_text(alloc, text) {
             Ok(places) => Ok(Decider { numbered, places }),
             Err(_) => Err(NO_MEMORY),
         }
+    }
+
+    /// Reads a text of rules.
+    ///
+    /// # Errors
+    ///
+    /// As `compile_text` has them, since a text of rules is one that can be compiled.
+    #[tactic(auto, using(crate::proofs::Places::has_code))]
+    pub(crate) fn new(alloc: Global, text: &[u8]) -> Result<Decider, RuleFault>
+        ensures rules { IfOk result (λ decider. numbered_in text.now ≡ Ok (numbered_read decider.numbered)) }
+        ensures code { OnOk result (HasCode text.now) }
+        ensures fault { IfErr result (IsCompilingFault text.now) }
+    {
+        compile_text(alloc, text)?;
+        Decider::read(alloc, text)
     }
 
     /// Decides a cell: returns the line that decides it, and its value.

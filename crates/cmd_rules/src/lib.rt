@@ -16,5 +16,6 @@ mod whole_text;
 pub use assembling::assemble_rules;
 pub use begins::{add_begin, add_decider, begin_at};
 pub use compiling::compile_rules;
+pub use decider::Decider;
 pub use deciding::decide_cells;
 pub use fault_lines::add_rule_fault;

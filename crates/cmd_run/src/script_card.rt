@@ -5,6 +5,7 @@ use bpf_code::Instr;
 use bpf_verify::Program;
 use card_core::{Answer, Ask, CardFault, Core, Judgement, Shape, Unjudged};
 use cmd_programs::read_code;
+use gen_arena::Id;
 use std::alloc::{AllocError, Global};
 use std::marker::Model;
 use text_card::{add_desk_fault, add_gcra_fault, add_judged, add_no_such_program, add_unjudged};
@@ -44,6 +45,7 @@ impl ScriptCard {
     ghost use Rattle.card_core.specs.Sections.{answer_to};
     ghost use Rattle.card_core.specs.Shapes.{shape_fault};
     ghost use Rattle.text_card.specs.CardLine.{card_line_shape};
+    ghost use Rattle.text_script.specs.ProgramNames.{number_of_program};
     ghost use Rattle.text_script.specs.ScriptCommands.{load, retire, setup, reload, release, cut, cell};
     ghost use Rattle.card_core.specs.declared.reply.Reply.TheVariants.{NotNow};
     ghost use Rattle.card_core.specs.declared.step.Step.TheVariants.{Enter, Load};
@@ -82,6 +84,13 @@ impl ScriptCard {
         ensures { result.now ≡ self.now.core }
     {
         &self.core
+    }
+
+    /// Returns the number in the name of a program, or 0 if it has no name.
+    pub fn number_of(&self, program: Id) -> usize
+        ensures { result ≡ number_of_program self.now.names program }
+    {
+        self.names.number_of(program)
     }
 
     /// Returns the side of the card's cells.

@@ -47,7 +47,7 @@ others_asked others = if others then Pass else Drop
 
 -- The scope that options of `police` ask for.
 abbrev pub scope_asked : PoliceOptions → PoliceScope
-scope_asked options = record { link = options.link; timing = options.timing; lines = options.lines; every = options.every }
+scope_asked options = record { link = options.link; timing = options.timing; lines = options.lines; every = options.every; why = options.why }
 
 -- What options of `fit` ask for, beside rules.
 abbrev pub fit_choice : FitOptions → FitChoice

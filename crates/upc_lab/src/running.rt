@@ -60,6 +60,7 @@ pub(crate) fn scope_asked(options: &PoliceOptions) -> PoliceScope
         timing: options.timing,
         lines: options.lines,
         every: options.every,
+        why: options.why,
     }
 }
 

@@ -36,7 +36,7 @@ fit_spelled texts = fit_values (text_named texts (codes "increment")) (text_name
 -- What named values of `police` spell.
 abbrev pub police_spelled : List (Text × Option Text) → Option PoliceAsked
 police_spelled texts = police_values (text_named texts (codes "SETUP")) (text_named texts (codes "tick")) (text_named texts (codes "link")) (text_named texts (codes "time"))
-    (text_named texts (codes "lines")) (text_named texts (codes "every")) (text_named texts (codes "threads"))
+    (text_named texts (codes "lines")) (text_named texts (codes "every")) (text_named texts (codes "why")) (text_named texts (codes "threads"))
 
 -- What named values of `differ` spell.
 abbrev pub differ_spelled : List (Text × Option Text) → Option DifferAsked

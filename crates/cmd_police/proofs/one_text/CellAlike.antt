@@ -16,12 +16,12 @@ use Rattle.card_core.specs.declared.reply.Reply.TheVariants.{Refused}
 use Rattle.card_core.specs.declared.shape.Shape.{Shape}
 use Rattle.card_core.specs.declared.step.Step.TheVariants.{Cut}
 use Rattle.leaky.specs.declared.verdict.Verdict.{Verdict}
-use Rattle.text_card.specs.Replies.{reply_text}
+use Rattle.text_card.specs.Replies.{number_of_judging, reply_text}
 use Rattle.text_script.specs.ScriptCommands.{cut}
 use Rattle.upc_cell.specs.Connection.{vc_of}
 use Rattle.upc_cell.specs.declared.vc.Vc.{Vc}
 use Rattle.line_record.specs.History.{last_moment}
-use Rattle.cmd_run.proofs.alike.CellsAlike.{CellKnown, HasRoom, cell-alike, shown_answer}
+use Rattle.cmd_run.proofs.alike.CellsAlike.{CellKnown, HasRoom, cell-alike, number_judging, number_shown, shown_answer}
 use Rattle.cmd_run.proofs.alike.LinesAlike.{CardsAlike}
 use Rattle.cmd_run.proofs.alike.SameConnections.{same-back, same-itself, unchanged-same}
 use Rattle.cmd_run.proofs.alike.ViewsAlike.{ViewsAlike, alike-back, alike-joined}
@@ -36,6 +36,7 @@ use Rattle.cmd_run.specs.RunText.{Card, IsLed, TakesCommand, id_loaded}
 use Rattle.cmd_run.specs.inner.RunLaws.{cut-led}
 use Rattle.cmd_police.specs.PoliceText.{IsCutOrWorn, MayBeCut, TakesCellWithRoom, connection_of_cell}
 use Rattle.cmd_police.specs.inner.PoliceTotal.{room_led}
+use Rattle.cmd_police.proofs.CommandLemmas.{room_names}
 use Rattle.cmd_police.proofs.LeftLemmas.{cut_shaped, put_found}
 
 -- ---- a cut
@@ -181,14 +182,22 @@ taken_after met most before after cell moment given led takes taken = record {
   counted = taken.step.counted most taken.ready_for.reached.counted;
 }
 
--- The answers are equal but for lines, numbers and ids, and the cards are alike after the cell.
-pub record CellTakenAlike (met most : ℕ) (given given' : Answer) (after after' : Card) : Type 0 where
+-- The number of the program that gave a cell its value, by the names before it, is that by the programs that were loaded.
+number_taken : (met most : ℕ) (before after : Card) (cell : List ℕ) (moment : ℕ) (given : Answer) (takes : TakesCellWithRoom before cell moment given after)
+    → IsAfterLines met most takes.ready → number_of_judging before.names given ≡ number_judging takes.ready.world.loaded given
+number_taken met most before after cell moment given takes reached =
+    ap (λ names. number_of_judging names given) (room_names before after cell moment given takes ∙ takes.taken.same ∙ reached.names)
+    ∙ number_shown takes.ready.world.loaded given
+
+-- The answers are equal but for lines, numbers and ids, programs with the same number gave the values, and the cards are alike after the cell.
+pub record CellTakenAlike (met most : ℕ) (given given' : Answer) (before before' after after' : Card) : Type 0 where
   pub answers : shown_answer given ≡ shown_answer given'
+  pub numbers : number_of_judging before.names given ≡ number_of_judging before'.names given'
   pub cards : CardsAlike met (most + 1) after after'
 
 pub room_alike : (met most : ℕ) → most < 2 ^ 62 → (before before' after after' : Card) → CardsAlike met most before before'
     → (cell : List ℕ) (moment : ℕ) (given given' : Answer) → TakesCellWithRoom before cell moment given after → TakesCellWithRoom before' cell moment given' after'
-    → CellTakenAlike met most given given' after after'
+    → CellTakenAlike met most given given' before before' after after'
 room_alike met most few before before' after after' cards cell moment given given' takes takes' =
     let one = taken_known met most few before after cell moment given cards.first takes in
     let other = taken_known met most few before' after' cell moment given' cards.second takes' in
@@ -199,6 +208,8 @@ room_alike met most few before before' after after' cards cell moment given give
     let done = cell-alike met most few takes.ready.world takes'.ready.world after.world after'.world moment cell given given' ready one.known other.known in
     record {
       answers = done.answers;
+      numbers = number_taken met most before after cell moment given takes one.ready_for.reached
+          ∙ done.numbers ∙ sym (number_taken met most before' after' cell moment given' takes' other.ready_for.reached);
       cards = record {
         first = taken_after met most before after cell moment given cards.first.led takes one;
         second = taken_after met most before' after' cell moment given' cards.second.led takes' other;

@@ -23,6 +23,7 @@ use Rattle.cmd_run.proofs.alike.SetUpAlike.{SetUpAlike, lines-few, set_up-alike}
 use Rattle.cmd_run.specs.RunText.{Card}
 use Rattle.cmd_police.specs.PoliceLaws.{PoliceTextsAreOne}
 use Rattle.cmd_police.specs.PoliceText.{IsFaultAtTimes, IsSetUpAtTimes, PoliceWorld, police_rules, police_start}
+use Rattle.cmd_police.specs.RuleColumn.{ShownRules}
 use Rattle.cmd_police.specs.TimedLines.{WaitingCommand, moment_of_time, octets_before_times, waiting_at, waiting_line}
 use Rattle.cmd_police.specs.declared.scope.PoliceScope.{PoliceScope}
 use Rattle.cmd_police.proofs.one_text.FramesFew.{cells_few}
@@ -67,10 +68,10 @@ set_up_alike script times one other p q =
     set_up-alike (lines_of (octets_before_times times (lines_of script))) p.before.answers q.before.answers one other p.before.reached q.before.reached
 
 -- The states at first, before this many cells.
-start_alike : (scope : PoliceScope) (tick : ℕ) (script : List ℕ) (times : List (Option ℕ)) (one other : Card) → IsSetUpAtTimes script times one → IsSetUpAtTimes script times other
+start_alike : (scope : PoliceScope) (tick : ℕ) (rules : ShownRules) (script : List ℕ) (times : List (Option ℕ)) (one other : Card) → IsSetUpAtTimes script times one → IsSetUpAtTimes script times other
     → (cells : ℕ) → cells < 2 ^ 61
-    → StatesAlike 2000000 (2 ^ 61 + 2000000) cells (police_start scope tick one (waiting_at tick times (lines_of script))) (police_start scope tick other (waiting_at tick times (lines_of script)))
-start_alike scope tick script times one other set_up set_up' cells few =
+    → StatesAlike 2000000 (2 ^ 61 + 2000000) cells (police_start scope tick rules one (waiting_at tick times (lines_of script))) (police_start scope tick rules other (waiting_at tick times (lines_of script)))
+start_alike scope tick rules script times one other set_up set_up' cells few =
     let waiting = waiting_few tick times (lines_of script) in
     let lines = script_few script times one set_up in
     let both = set_up_alike script times one other set_up set_up' in
@@ -82,8 +83,8 @@ start_alike scope tick script times one other set_up set_up' cells few =
       cards = both.cards;
       lines_left = omega (arith, waiting, lines, most);
       counts_left = omega (arith, waiting, lines, most, few);
-      rest = λ i. record (police_start scope tick other (waiting_at tick times (lines_of script))) {
-        spans = record (police_start scope tick other (waiting_at tick times (lines_of script))).spans { side = sides i };
+      rest = λ i. record (police_start scope tick rules other (waiting_at tick times (lines_of script))) {
+        spans = record (police_start scope tick rules other (waiting_at tick times (lines_of script))).spans { side = sides i };
       };
     }
 
@@ -94,10 +95,10 @@ start_near Erf = omega arith
 start_near (Pcap order times) = omega arith
 start_near (PcapNg section) = omega arith
 
-module _ (scope : PoliceScope) (tick : ℕ) (script : List ℕ) (times : List (Option ℕ)) (octets : List ℕ) (card card' : Card)
+module _ (scope : PoliceScope) (tick : ℕ) (rules : ShownRules) (script : List ℕ) (times : List (Option ℕ)) (octets : List ℕ) (card card' : Card)
     (set_up : IsSetUpAtTimes script times card) (set_up' : IsSetUpAtTimes script times card') where
   abbrev start : Card → PoliceWorld
-  start first = police_start scope tick first (waiting_at tick times (lines_of script))
+  start first = police_start scope tick rules first (waiting_at tick times (lines_of script))
 
   abbrev filter : FilterState
   filter = filter_start tick scope.link scope.timing
@@ -112,7 +113,7 @@ module _ (scope : PoliceScope) (tick : ℕ) (script : List ℕ) (times : List (O
       → IsTextOfCells police_rules (start card) cells end text done → IsTextOfCells police_rules (start card') cells' end' text' done' → (text ≡ text') × (done ≡ done')
   cells_one cells cells' end end' text text' done done' same ends few_cells p q =
       texts_alike 2000000 (2 ^ 61 + 2000000) few unworn cells end (start card) (start card') text text' done done'
-      (start_alike scope tick script times card card' set_up set_up' (length cells) few_cells) p
+      (start_alike scope tick rules script times card card' set_up set_up' (length cells) few_cells) p
       (subst (λ (xs : List CountedCell). IsTextOfCells police_rules (start card') xs end text' done') (sym same)
       (subst (λ (e : CellsEnd). IsTextOfCells police_rules (start card') cells' e text' done') (sym ends) q))
 
@@ -146,8 +147,8 @@ never_both script times text card (inr fault) set_up =
     let never = (explained_once (octets_before_times times (lines_of script)) text set_up.before.explanation Ended Whole fault.2 set_up.before.faultless).1 in absurd (cc)
 
 pub policed_once : PoliceTextsAreOne
-policed_once scope tick script times octets one other ends other_ends (inl p) (inl q) = (faults_once script times one other p.0 q.0, p.1 ∙ sym q.1)
-policed_once scope tick script times octets one other ends other_ends (inl p) (inr q) = absurd (never_both script times one q.0 p.0 q.1)
-policed_once scope tick script times octets one other ends other_ends (inr p) (inl q) = absurd (never_both script times other p.0 q.0 p.1)
-policed_once scope tick script times octets one other ends other_ends (inr p) (inr q) =
-    opened_one scope tick script times octets p.0 q.0 p.1 q.1 (file_opening octets) one other ends other_ends p.2 q.2
+policed_once scope tick rules script times octets one other ends other_ends (inl p) (inl q) = (faults_once script times one other p.0 q.0, p.1 ∙ sym q.1)
+policed_once scope tick rules script times octets one other ends other_ends (inl p) (inr q) = absurd (never_both script times one q.0 p.0 q.1)
+policed_once scope tick rules script times octets one other ends other_ends (inr p) (inl q) = absurd (never_both script times other p.0 q.0 p.1)
+policed_once scope tick rules script times octets one other ends other_ends (inr p) (inr q) =
+    opened_one scope tick rules script times octets p.0 q.0 p.1 q.1 (file_opening octets) one other ends other_ends p.2 q.2

@@ -14,6 +14,7 @@ use Rattle.text_io.specs.Words.{is_filled}
 use Rattle.text_io.specs.declared.ending.Done.{Done}
 use Rattle.text_io.specs.declared.ending.Done.TheVariants.{Ended}
 use Rattle.text_io.specs.inner.Alike.{LeadAlike}
+use Rattle.text_card.specs.Replies.{number_of_judging}
 use Rattle.text_script.specs.ReplyTexts.{channel_name}
 use Rattle.upc_cell.specs.Connection.{vc_of}
 use Rattle.upc_cell.specs.Header.{has_low_priority}
@@ -23,7 +24,8 @@ use Rattle.cmd_run.specs.RunText.{Card}
 use Rattle.cmd_police.specs.CommandsUnderTraffic.{waiting_comment}
 use Rattle.cmd_police.specs.ConnectionCounts.{counts_heading, counts_lines}
 use Rattle.cmd_police.specs.NotJudgedCells.{not_judged_lines}
-use Rattle.cmd_police.specs.PoliceLines.{excess_of_answer, has_line, in_column, police_line, priority_digit, verdict_heading}
+use Rattle.cmd_police.specs.PoliceLines.{cell_columns, excess_of_answer, has_line, in_column, priority_digit, verdict_heading}
+use Rattle.cmd_police.specs.RuleColumn.{line_end}
 use Rattle.cmd_police.specs.PoliceText.{PoliceWorld, PolicesArrived, PolicesCounted, after_cell, connection_of_cell, has_lines_before, police_closes, police_gap, police_rules, policed_text}
 use Rattle.cmd_police.specs.RunComments.{run_comments}
 use Rattle.cmd_police.specs.SpanCounts.{ended_text, judged_after, present_text, spans_after, spans_at}
@@ -48,23 +50,24 @@ pub record StatesAlike (lines counts left : ℕ) (one other : PoliceWorld) : Typ
 -- ---- a cell that arrives
 
 -- The text for a cell.
-text_alike : (world : PoliceWorld) (card : Card) (counted : CountedCell) (given given' : Answer) (vc vc' : Vc) → world.card.world.shape.side ≡ card.world.shape.side
+text_alike : (world : PoliceWorld) (card : Card) (counted : CountedCell) (given given' : Answer) → world.card.world.shape.side ≡ card.world.shape.side
     → connection_of_cell world.card counted.cell ≡ connection_of_cell card counted.cell
     → has_line world.lines given ≡ has_line world.lines given'
     → excess_of_answer world.card.world (connection_of_cell world.card counted.cell) (has_low_priority counted.cell) given
     ≡ excess_of_answer card.world (connection_of_cell card counted.cell) (has_low_priority counted.cell) given'
-    → ((excess : Option Excess) → police_line world.card.world.shape.side counted.number counted.moment (connection_of_cell world.card counted.cell) (has_low_priority counted.cell) given excess
-    ≡ police_line world.card.world.shape.side counted.number counted.moment (connection_of_cell world.card counted.cell) (has_low_priority counted.cell) given' excess)
+    → ((excess : Option Excess) → cell_columns world.card.world.shape.side counted.number counted.moment (connection_of_cell world.card counted.cell) (has_low_priority counted.cell) given excess
+    ≡ cell_columns world.card.world.shape.side counted.number counted.moment (connection_of_cell world.card counted.cell) (has_low_priority counted.cell) given' excess)
+    → number_of_judging world.card.names given ≡ number_of_judging card.names given'
     → policed_text world counted given ≡ policed_text (with_card card world) counted given'
-text_alike world card counted given given' vc vc' sides named wanted excess line =
+text_alike world card counted given given' sides named wanted excess line number =
     let clp = has_low_priority counted.cell in
     let own = excess_of_answer world.card.world (connection_of_cell world.card counted.cell) clp given in
     (λ i. if wanted i
-    then (if world.begun then [] else verdict_heading) ++ line own i
+    then (if world.begun then [] else verdict_heading world.rules) ++ (line own i ++ line_end world.rules (number i) counted.cell)
     else [])
     ∙ (λ i. if has_line world.lines given'
-    then (if world.begun then [] else verdict_heading)
-    ++ police_line (sides i) counted.number counted.moment (named i) clp given' (excess i)
+    then (if world.begun then [] else verdict_heading world.rules)
+    ++ (cell_columns (sides i) counted.number counted.moment (named i) clp given' (excess i) ++ line_end world.rules (number_of_judging card.names given') counted.cell)
     else [])
 
 module _ (lines counts : ℕ) (few : lines < greatest_generation) (unworn : counts < 2 ^ 62) (left : ℕ) where
@@ -83,9 +86,9 @@ module _ (lines counts : ℕ) (few : lines < greatest_generation) (unworn : coun
       ∙ (λ i. excess_of_answer card.world (named i) clp q.given) in
       let columns = columns_alike p.given q.given done.answers in
       let vc = connection_of_cell world.card counted.cell in
-      let text = text_alike world card counted p.given q.given vc vc sides named wanted excess
+      let text = text_alike world card counted p.given q.given sides named wanted excess
       (λ excess. ap (λ xs. in_column (decimal counted.number) ++ (in_column (decimal counted.moment) ++ (in_column (decimal vc.vpi) ++ (in_column (channel_name world.card.world.shape.side vc.vci)
-      ++ (in_column (decimal (priority_digit clp)) ++ xs))))) (columns excess)) in
+      ++ (in_column (decimal (priority_digit clp)) ++ xs))))) (columns excess)) done.numbers in
       let verdicts = verdicts_alike p.given q.given done.answers in
       let not_judged = not_judged_alike p.given q.given done.answers world.not_judged counted.number in
       let at_moment = spans_at world.spans counted.moment in

@@ -23,6 +23,7 @@ fn choice_of(threads: usize) -> PoliceChoice {
             timing: TimeSource::Record,
             lines: CellLines::All,
             every: None,
+            why: false,
         },
     }
 }

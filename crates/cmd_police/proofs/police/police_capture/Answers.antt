@@ -10,6 +10,7 @@ use Rattle.captures_text.specs.CaptureText.{IsCaptureText}
 use Rattle.captures_text.specs.CellFilter.{filter_start}
 use Rattle.upc_cell.specs.declared.side.Side.{Side}
 use Rattle.cmd_police.specs.PoliceText.{IsPoliceText, police_rules, police_start}
+use Rattle.cmd_police.specs.StoredRules.{shown_stored}
 use Rattle.cmd_police.specs.SpanCounts.{spans_start, ticks_of_span}
 use Rattle.cmd_police.specs.inner.SpansShown.{ShowsSpans}
 use Rattle.cmd_police.specs.declared.setting_up.SetUp.{SetUp}
@@ -18,15 +19,21 @@ use Rattle.cmd_police.specs.inner.SetUpCard.{IsTimedAs, LeadsScriptTo}
 use Rattle.text_io.specs.Lines.{lines_of}
 use Rattle.cmd_police.proofs.PoliceLemmas.{served_as}
 use Rattle.cmd_police.proofs.EachCapture.{some_police_text}
+use denote.Param.Send.{IsSend, sendable}
+use Rattle.std.proofs.Crossing.{crosses}
+use Rattle.cmd_police.specs.contracts.police.PoliceRun as PoliceRun
+use Rattle.cmd_police.proofs.spans.Spans.TheSendSync.{the_field_send as spans_send}
+use Rattle.cmd_police.proofs.timed_card.TimedCard.TheSendSync.{the_field_send as timed_sends}
+use Rattle.cmd_police.proofs.RulesSend.{loaded_sends}
 use Rattle.cmd_police.proofs.police.police_capture.Goals as goal
 
 pub returns-in-Err : goal.returns-in-Err
 returns-in-Err g c = record {
   text = λ ki ko. tt;
   front = λ ki ko.
-      nothing-begins (IsPoliceText c.args.choice.scope c.args.tick.nanoseconds c.args.setup.now c.args.times.now (g.I.Input.rest c.args.input.now))
+      nothing-begins (IsPoliceText c.args.choice.scope c.args.tick.nanoseconds (shown_stored c.args.rules) c.args.setup.now c.args.times.now (g.I.Input.rest c.args.input.now))
       (g.O.Output.held c.args.output.now)
-      (some_police_text c.args.choice.scope c.args.tick.nanoseconds c.args.setup.now c.args.times.now (g.I.Input.rest c.args.input.now));
+      (some_police_text c.args.choice.scope c.args.tick.nanoseconds (shown_stored c.args.rules) c.args.setup.now c.args.times.now (g.I.Input.rest c.args.input.now));
   left = λ ki. tt;
   whole = λ ki same. cc;
   reading = refl;
@@ -37,7 +44,7 @@ pub returns-in-Ok-Faulty : goal.returns-in-Ok-Faulty
 returns-in-Ok-Faulty g c =
     let all = g.I.Input.rest c.args.input.now in
     let line = c.in-Ok-Faulty.text.items in
-    let IsText = IsPoliceText c.args.choice.scope c.args.tick.nanoseconds c.args.setup.now c.args.times.now in
+    let IsText = IsPoliceText c.args.choice.scope c.args.tick.nanoseconds (shown_stored c.args.rules) c.args.setup.now c.args.times.now in
     let printed : (octets : List ℕ) → IsText octets line Ended = λ octets.
     inl (subst (λ (s : SetUp). LeadsScriptTo c.args.tick.nanoseconds c.args.setup.now c.args.times.now s) c.in-Ok-Faulty.field-0-is c.in-Ok-Faulty.ensures, refl) in
     record {
@@ -59,13 +66,19 @@ returns-in-Ok-Ready g c =
     let times = c.args.times.now in
     let set : IsTimedAs tick script times c.in-Ok-Ready.timed =
     subst (λ (s : SetUp). LeadsScriptTo tick script times s) c.in-Ok-Ready.field-0-is c.in-Ok-Ready.ensures in
-    let first = police_start c.args.choice.scope tick set.card (waiting_at tick times (lines_of script)) in
+    let first = police_start c.args.choice.scope tick (shown_stored c.args.rules) set.card (waiting_at tick times (lines_of script)) in
     let side : c.shape.result.side ≡ set.card.world.shape.side =
     ap (λ (shape : Shape). shape.side) (c.shape.ensures ∙ ap (λ (core : CoreView). core.shape) c.core.ensures ∙ set.shown.held.agrees.shape) in
     let spans : ShowsSpans c.spans_of-spans.result first.spans =
     subst (λ (side : Side). ShowsSpans c.spans_of-spans.result (spans_start side (option_map (λ nanoseconds. ticks_of_span nanoseconds tick) c.args.choice.scope.every)))
     side c.spans_of-spans.ensures in
     served_as g.I.Input g.O.Output c.args.input.now c.follow_cells.new.input c.args.output.now c.follow_cells.new.output c.follow_cells.result
-    (IsCaptureText police_rules (filter_start c.args.tick.nanoseconds c.args.choice.scope.link c.args.choice.scope.timing) first) (IsPoliceText c.args.choice.scope c.args.tick.nanoseconds c.args.setup.now c.args.times.now)
+    (IsCaptureText police_rules (filter_start c.args.tick.nanoseconds c.args.choice.scope.link c.args.choice.scope.timing) first) (IsPoliceText c.args.choice.scope c.args.tick.nanoseconds (shown_stored c.args.rules) c.args.setup.now c.args.times.now)
     (λ octets text done printed. inr (set.card, set.reached, printed))
-    (c.follow_cells.ensures first set.led (record { lines = refl; tick = refl; timed = set.shown; commanded = refl; begun = refl; spans = spans; not_judged = c.none.ensures }))
+    (c.follow_cells.ensures first set.led (record { lines = refl; rules = refl; tick = refl; timed = set.shown; commanded = refl; begun = refl; spans = spans; not_judged = c.none.ensures }))
+
+run_sends : IsSend PoliceRun.the_row
+run_sends = search (sendable, crosses, loaded_sends, timed_sends, spans_send) depth 40
+
+pub follow_cells-requires-send-F : goal.follow_cells-requires-send-F
+follow_cells-requires-send-F g c κs within = search (sendable, run_sends)

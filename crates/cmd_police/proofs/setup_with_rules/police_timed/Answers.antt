@@ -6,6 +6,7 @@ use Rattle.captures_text.proofs.Progresses.{if_done, if_given, on_fault}
 use Rattle.text_io.proofs.Public.{at-result, nothing-begins}
 use Rattle.text_io.specs.declared.ending.Done.TheVariants.{Ended, Whole}
 use Rattle.cmd_police.proofs.PoliceLemmas.{served_as}
+use Rattle.cmd_police.specs.LoadedRules.{shown_rules}
 use Rattle.cmd_police.specs.PoliceText.{IsPoliceText}
 use Rattle.cmd_police.proofs.Existence.{may_be_timed, polices_timed}
 use Rattle.cmd_police.specs.FaultyRules.{HasFaultyRules}
@@ -67,17 +68,17 @@ returns-in-Ok-Itself-clause-served g c =
     let texts = octets_of_texts c.args.texts.now in
     let made : HasPrograms c.args.setup.now texts c.args.setup.now =
     subst (λ (e : Expanded). ExpandsTo c.args.setup.now texts e) c.in-Ok-Itself.field-0-is c.in-Ok-Itself.ensures in
-    served_as g.I.Input g.O.Output c.args.input.now c.police_capture.new.input c.args.output.now c.police_capture.new.output c.police_capture.result
-    (IsPoliceText c.args.choice.scope c.args.tick.nanoseconds c.args.setup.now c.args.times.now)
+    served_as g.I.Input g.O.Output c.args.input.now c.police_script.new.input c.args.output.now c.police_script.new.output c.police_script.result
+    (IsPoliceText c.args.choice.scope c.args.tick.nanoseconds (shown_rules c.args.choice.scope.why c.args.setup.now texts) c.args.setup.now c.args.times.now)
     (IsTimedPolicedBy MayBeFaultOfRules c.args.choice.scope c.args.tick.nanoseconds c.args.setup.now c.args.times.now texts)
-    (λ octets text done printed. inr (c.args.setup.now, made, printed)) c.police_capture.ensures
+    (λ octets text done printed. inr (c.args.setup.now, made, printed)) c.police_script.ensures
 
 pub returns-in-Ok-Itself-clause-policed : goal.returns-in-Ok-Itself-clause-policed
 returns-in-Ok-Itself-clause-policed g c ki ko =
     let texts = octets_of_texts c.args.texts.now in
     let made : HasPrograms c.args.setup.now texts c.args.setup.now =
     subst (λ (e : Expanded). ExpandsTo c.args.setup.now texts e) c.in-Ok-Itself.field-0-is c.in-Ok-Itself.ensures in
-    IfOk-weaker c.police_capture.result _ _ (λ done adds. (adds.0, adds.1, inr (c.args.setup.now, made, adds.2))) (c.police_capture.ensures.text ki ko)
+    IfOk-weaker c.police_script.result _ _ (λ done adds. (adds.0, adds.1, inr (c.args.setup.now, made, adds.2))) (c.police_script.ensures.text ki ko)
 
 pub returns-in-Ok-Replaced-clause-served : goal.returns-in-Ok-Replaced-clause-served
 returns-in-Ok-Replaced-clause-served g c =
@@ -85,9 +86,9 @@ returns-in-Ok-Replaced-clause-served g c =
     let script = c.in-Ok-Replaced.script.items in
     let made : HasPrograms c.args.setup.now texts script =
     subst (λ (e : Expanded). ExpandsTo c.args.setup.now texts e) c.in-Ok-Replaced.field-0-is c.in-Ok-Replaced.ensures in
-    served_as g.I.Input g.O.Output c.args.input.now c.police_capture-in-Ok-Replaced.new.input c.args.output.now c.police_capture-in-Ok-Replaced.new.output
-    c.police_capture-in-Ok-Replaced.result
-    (IsPoliceText c.args.choice.scope c.args.tick.nanoseconds c.deref.result.now c.args.times.now)
+    served_as g.I.Input g.O.Output c.args.input.now c.police_script-in-Ok-Replaced.new.input c.args.output.now c.police_script-in-Ok-Replaced.new.output
+    c.police_script-in-Ok-Replaced.result
+    (IsPoliceText c.args.choice.scope c.args.tick.nanoseconds (shown_rules c.args.choice.scope.why c.args.setup.now texts) c.deref.result.now c.args.times.now)
     (IsTimedPolicedBy MayBeFaultOfRules c.args.choice.scope c.args.tick.nanoseconds c.args.setup.now c.args.times.now texts)
     (λ octets text done printed. inr (c.deref.result.now, subst (HasPrograms c.args.setup.now texts) (sym c.deref.ensures.value) made, printed))
-    c.police_capture-in-Ok-Replaced.ensures
+    c.police_script-in-Ok-Replaced.ensures

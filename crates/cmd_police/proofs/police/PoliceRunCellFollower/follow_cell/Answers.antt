@@ -8,6 +8,7 @@ use Rattle.upc_cell.specs.Connection.{vc_of}
 use Rattle.cmd_police.specs.declared.timed_card.TimedCard.{TimedCard}
 use Rattle.upc_cell.specs.Header.{has_low_priority}
 use Rattle.cmd_police.specs.inner.CardArrival.{ArrivesWithRoom}
+use Rattle.cmd_police.specs.StoredRules.{shown_stored}
 use Rattle.cmd_police.specs.inner.PoliceShown.{AddsCell, ShowsPolice}
 use Rattle.cmd_police.proofs.PoliceLemmas.{FollowsArrived, polices_after, polices_by, polices_never, run_commanded}
 use Rattle.cmd_police.proofs.police.PoliceRunCellFollower.follow_cell.Goals as goal
@@ -52,11 +53,9 @@ returns c =
     (subst (λ (o : Option (Result Judgement Unjudged)). ArrivesWithRoom timed.card.core cell counted.moment (option_map (λ decision. answer_to cell decision) o) core)
     c.in-Some.is c.arrive.ensures.arrives)
     (c.vc_at-vc.ensures.connection ∙ ap (λ (shape : Shape). vc_of shape.side cell) here)
-    (subst (λ (shape : Shape). AddsCell shape.side run.lines run.begun counted.number counted.moment c.vc_at-vc.result (has_low_priority cell) given core
+    (subst (λ (shape : Shape). AddsCell shape.side run.lines (shown_stored run.rules) run.begun counted c.vc_at-vc.result given (record timed.card { core = core })
     c.go_on.new.answers.items c.add_cell.new.answers.items c.in_ok-self.field-0) here
-    (subst (λ (clp : Bool). AddsCell c.shape-side.result.side run.lines run.begun counted.number counted.moment c.vc_at-vc.result clp given core
-    c.go_on.new.answers.items c.add_cell.new.answers.items c.in_ok-self.field-0) c.clp.ensures.test
-    (subst (λ (view : CoreView). AddsCell c.shape-side.result.side run.lines run.begun counted.number counted.moment c.vc_at-vc.result c.clp.result given view
-    c.go_on.new.answers.items c.add_cell.new.answers.items c.in_ok-self.field-0) c.core-2.ensures (c.in_ok-self.ensures cell))))
+    (subst (λ (after : TimedCard). AddsCell c.shape-side.result.side run.lines (shown_stored run.rules) run.begun counted c.vc_at-vc.result given after.card
+    c.go_on.new.answers.items c.add_cell.new.answers.items c.in_ok-self.field-0) c.arrive.ensures.rest c.in_ok-self.ensures))
     (λ spans shown. c.in_ok-count.ensures spans cell shown)
     (c.count-2.ensures cell)))
