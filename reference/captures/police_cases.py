@@ -12,7 +12,7 @@ from captures.making import in_pcapng
 from captures.policing import card_of, judged
 from captures.reading import link_for
 from policer.card import LAST_MOMENT
-from policer.cell import PATH_BITS, has_paths
+from policer.cell import PATH_BITS, channel_name, has_paths
 from policer.faults import Fault
 from policer.run_dialogue import RunDialogue
 from policer.text_lines import asks_nothing, words_of
@@ -30,15 +30,15 @@ LAST_TIME = 2**64 - 1
 PASS_ALL = "load 0006000000000001\n"
 
 
-def without_faults(lines):
-    """Returns the lines of a script that have no fault, and at least that of the card."""
+def without_faults(lines, before=()):
+    """Returns the lines of a script that have no fault, after those before them."""
     dialogue, good = RunDialogue(), []
-    for line in lines:
-        words = words_of(line)
+    for place, line in enumerate([*before, *lines]):
+        words = words_of(line.removesuffix(b"\r"))
         try:
             if not asks_nothing(words):
                 dialogue.answer(words)
-            good.append(line)
+            good += [line] * (place >= len(before))
         except Fault:
             pass
     return good
@@ -48,7 +48,7 @@ def usual_lines(random_):
     """Returns a script of a few connections, whose program returns the first octet of the payload, or 1."""
     side = random_.choice(list(PATH_BITS))
     most = (1 << PATH_BITS[side]) - 1
-    lines = [f"card 2 5 1 {random_.choice([1, 2, 7, 1000])} {side}", "load 00300000000000040016000000000000", "load 0006000000000001"]
+    lines = [f"card {random_.choice([2, 4])} 5 1 {random_.choice([1, 2, 7, 1000])} {side}", "load 00300000000000040016000000000000", "load 0006000000000001"]
     for number in range(random_.randint(1, 5)):
         contracts = " ".join(contract_of(random_) for _ in range(random_.randint(1, 4)))
         path, channel = random_.choice([0, 1, most]), random_.choice([number, 65535 - number])
@@ -165,28 +165,34 @@ def span_for(random_, tick):
     return ticks and max(1, near(random_, ticks * tick, 2**64 - 1) if random_.random() < 0.5 else ticks * tick)
 
 
+def command_for(random_, card):
+    """Returns a command for this card under traffic, or another line."""
+    path, channel = random_.choice([*card.connections, (0, 1)])
+    vc = b"%d %s" % (path, channel_name(channel, card.side).encode())
+    number = random_.choice([*card.programs, card.loaded + 1, card.loaded + 2])
+    return random_.choice([
+        *[b"reload %s p%d" % (vc, number)] * 5, b"load 00%02x%012x" % (random_.choice([6, 6, 6, 7]), random_.randint(0, 5)), b"load 00300000000000040016000000000000",
+        b"# a remark", b"", b"setup %d 7 p1 cbr1:3/2" % random_.randint(0, 3), b"retire p%d" % number, b"cut " + vc, b"release " + vc, b"cell 0 00000000", b"lod 1",
+    ])
+
+
 def with_times(random_, script, tick):
-    """Returns a script of which some of the last lines may be carried out while cells arrive, with more commands. Few have faults."""
-    lines = script.split(b"\n")
-    if random_.random() < 0.5 or len(lines) < 3:
+    """Returns a script of which some of the last lines may be carried out while cells arrive, with more commands. In one of five these may have
+    faults."""
+    lines, card = script.split(b"\n"), card_of(script)
+    if random_.random() < 0.5 or len(lines) < 3 or card is None:
         return script
-    more = [
-        random_.choice([
-            b"reload %d %d p%d" % (random_.choice([0, 0, 1]), random_.choice([0, 1, 2, 65535]), random_.randint(1, 4)),
-            b"load 00%02x%012x" % (random_.choice([6, 6, 6, 7]), random_.randint(0, 5)), b"load 00300000000000040016000000000000", b"# a remark", b"",
-            b"setup %d 7 p1 cbr1:3/2" % random_.randint(0, 3), b"retire p%d" % random_.randint(1, 3), b"cut 0 0", b"release 0 0", b"cell 0 00000000", b"lod 1",
-        ])
-        for _ in range(random_.randint(0, 6))
-    ]
-    first = random_.randint(1, len(lines))
-    present, made = 0, lines[:first]
-    for line in lines[first:] + more:
-        present += random_.choice([0, 1, 5, 20, 200, 10**6]) * tick + random_.choice([0, 0, 1, tick // 2])
+    first = max(random_.randint(1, len(lines)) for _ in range(3))
+    present, made, later = 0, lines[:first], lines[first:] + [command_for(random_, card) for _ in range(random_.randint(0, 9))]
+    for line in later if random_.random() < 0.2 else without_faults(later, made):
+        present += random_.choice([0, 0, 1, 5, 5, 20, 20, 200, 10**6]) * tick + random_.choice([0, 0, 1, tick // 2])
         present -= random_.choice([0] * 60 + [1])
         time = f"{max(0, present)}ns" if present % 1000 or random_.random() < 0.8 else f"{present // 1000}us"
         time = random_.choice([time] * 60 + ["5", "1 us"])
         before = random_.choice(["at {} "] * 8 + ["", " \tat\t {}  ", "at {}\t"]).format(time).encode()
-        made.append((before or b"at 0ns " * (len(made) == first)) + line)
+        # A time alone is a fault.
+        is_timed = line.strip() or random_.random() < 0.02
+        made.append((before or b"at 0ns " * (len(made) == first)) * bool(is_timed) + line)
     return b"\n".join(made)
 
 
