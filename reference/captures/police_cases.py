@@ -20,9 +20,10 @@ from trials import cells
 from trials.numbers_at_limits import near
 from trials.scripts import Script
 
-# What `police` is asked: the script, the capture, the tick in nanoseconds or None, the word of a link or None, which lines, and the nanoseconds of
-# a span or None. A tick of 100 isn't asked for, since it is the one without any.
-Case = namedtuple("Case", "script octets tick link lines every", defaults=[None])
+# What `police` is asked: the script, the capture, the tick in nanoseconds or None, the word of a link or None, which lines, the nanoseconds of
+# a span or None, whether lines say which rule gave a value, and the files of rules that the script names, or None if there are none. A tick of 100
+# isn't asked for, since it is the one without any.
+Case = namedtuple("Case", "script octets tick link lines every why files", defaults=[None, False, None])
 
 TICKS = [1, 100, 100, 333, 1000, 10**6]
 LINES = ["all", "all", "refused", "none"]
@@ -156,7 +157,7 @@ def case_of(seed, number):
     octets = capture_of(random_, script, tick, count)
     script, asked = with_tick(random_, with_times(random_, script, tick), tick)
     link, lines = link_for(random_, octets), random_.choice(LINES)
-    return Case(script, octets, asked, link, lines, span_for(random_, tick))
+    return Case(script, octets, asked, link, lines, span_for(random_, tick), random_.random() < 0.2)
 
 
 def span_for(random_, tick):
@@ -215,7 +216,7 @@ def long_case(seed, number):
     script, tick = b"\n".join(lines) + b"\n", random_.choice(TICKS)
     count = random_.choice([7_000, 7_800, 9_000, 16_000, 25_000])
     octets, link, lines = capture_of(random_, script, tick, count), random_.choice([None, "0"]), random_.choice(LINES)
-    return Case(script, octets, tick, link, lines, span_for(random_, tick))
+    return Case(script, octets, tick, link, lines, span_for(random_, tick), random_.random() < 0.2)
 
 
 def cell_at(ticks, header=0x00100640, flags=0, kind=3):
@@ -295,6 +296,9 @@ def edges():
     ]
     two = one.replace(b"setup", b"load 0006000000000000\nsetup", 1)
     cases += [Case(two + line, ones + cell_at(20), 1000, None, lines, every) for line in timed for lines, every in (("all", None), ("none", None), ("none", 4000))]
+    # Without files of rules the column of the rule has none.
+    cases += [Case(two + line, ones + cell_at(20), 1000, None, lines, 4000, True) for line in timed[:4] for lines in ("all", "refused", "none")]
+    cases += [Case(one, octets, 1000, None, "all", None, True) for octets in (b"", channels, apart, both, ones[:-1])]
     cases += [Case(b"at 0us " + one, ones, 1000, None, "all"), Case(b"tick 1us\nat 0us tick 1us\n" + one, ones, None, None, "all")]
     # Cells after a loss.
     cases += [Case(one, ones[:68] + lossy(cell_at(4)) + cell_at(5), 1000, None, lines) for lines in ("all", "none")]

@@ -1,20 +1,27 @@
 """What `upc-lab police` prints of a script and a capture, and its exit status.
 
-    python3 -m captures.policing SETUP [--tick NANOSECONDS] [--link LINK] [--lines all|refused|none] [--every NANOSECONDS] < CAPTURE
+    python3 -m captures.policing SETUP [--tick NANOSECONDS] [--link LINK] [--lines all|refused|none] [--every NANOSECONDS] [--why]
+        [--compiler UPC_LAB] < CAPTURE
 
-The first line of SETUP with words may be `tick TIME`. Lines `at TIME COMMAND` and those after them are carried out while cells arrive.
+The first line of SETUP with words may be `tick TIME`. Lines `at TIME COMMAND` and those after them are carried out while cells arrive. A line
+`rules NAME` loads the program that `UPC_LAB rules` makes of that file; without --compiler it is no command.
 """
 import argparse
+import os
+import subprocess
 import sys
 
 from captures.counting import Capture
-from captures.timing import Commands, TimedScript, dialogue_of
+from captures.rule_column import NONE, RulesFile, rules_by_number
+from captures.timing import Commands, TimedScript, command_of, dialogue_of, is_rules
 from policer.cell import channel_name, connection_of, priority_of
 from policer.faults import Fault
-from policer.text_lines import asks_nothing, raw_lines, without_return, words_of
+from policer.text_lines import asks_nothing, raw_lines, source_lines, without_return, words_of
 from sizes.contract import SizeFault, time
 
 HEADING = ("record", "moment", "vpi", "vci", "clp", "value", "verdict", "bucket", "excess")
+# The last column, if it is asked for.
+RULE = "rule"
 SPAN_HEADING = ("span", "moment", "vpi", "vci", "passed", "tagged", "discarded", "refused")
 TABLE = ("vpi", "vci", "passed", "tagged", "discarded", "refused")
 VERDICTS = ("pass", "tag", "discard", "refuse")
@@ -106,10 +113,12 @@ def spans_of(judged_cells, ticks, side):
 class Policed:
     """The cells of a capture on a card with commands: the lines of those that have one, and the records of those that aren't judged."""
 
-    def __init__(self, commands, lines, ticks=None):
+    def __init__(self, commands, lines, ticks=None, rules=None):
         self.commands = commands
         self.card = commands.card
         self.lines = lines
+        # The rules of programs by their numbers, or None if lines don't say which rule gave a value.
+        self.rules = rules
         # The lines of commands, each with the moment of the cell before it.
         self.of_commands = []
         # How many ticks a span has, or None.
@@ -134,7 +143,15 @@ class Policed:
         else:
             self.judged_cells.append((vc, counted.moment, verdict))
         if self.lines == "all" or self.lines == "refused" and verdict != "pass":
-            self.of_cells.append((counted.moment, (counted.number, counted.moment, *columns_of(vc, self.card.side), priority_of(counted.cell), value, verdict, bucket, excess)))
+            line = (counted.number, counted.moment, *columns_of(vc, self.card.side), priority_of(counted.cell), value, verdict, bucket, excess)
+            self.of_cells.append((counted.moment, line + self.rule(vc, counted.cell, value)))
+
+    def rule(self, vc, cell, value):
+        """Returns the last column of a cell to which its program gave this value, if that column is asked for."""
+        if self.rules is None:
+            return ()
+        rules = None if value == "-" else self.rules.get(self.card.connections[vc].program)
+        return (NONE if rules is None else rules.shown(cell, value),)
 
     def rows(self, is_whole):
         """Returns the lines of cells, of commands and of spans, each span after the cells before its end, and before the first cell and the first
@@ -145,7 +162,8 @@ class Policed:
         lines += [(begin + self.ticks, 0, line) for begin, its in spans.items() for line in its if is_whole or begin < latest]
         # Sorting keeps the order of lines at one place.
         rows = [line for _, _, line in sorted(lines, key=lambda it: it[:2])]
-        for heading, is_span in ((HEADING, False), (SPAN_HEADING, True)):
+        of_cells = HEADING if self.rules is None else (*HEADING, RULE)
+        for heading, is_span in ((of_cells, False), (SPAN_HEADING, True)):
             first = next((place for place, line in enumerate(rows) if line[0] != "command" and (line[0] == "span") == is_span), None)
             if first is not None:
                 rows.insert(first, heading)
@@ -163,14 +181,15 @@ class Policed:
         return "\n" * bool(self.rows(True)) + "".join(row(it) for it in [TABLE] + counts) + "".join(comments)
 
 
-def policed(script, octets, asked, link, lines, every=None):
+def policed(script, octets, asked, link, lines, every=None, why=False, files=None):
     """Returns the output and the exit status, or None if `upc-lab explain` has a fault line for the script without its tick and its times. Neither
-    a tick nor spans need be asked for."""
+    a tick nor spans need be asked for. `why` asks for the rule that gave each cell its value. `files` has the files of rules by their names; without
+    it lines `rules NAME` are no commands."""
     named, script = tick_of(script)
     if None not in (named, asked) and named != asked:
         return f"fault tick 1 Differs {named} {asked}\n".encode(), 1
     tick = named or asked or 100
-    timed = TimedScript(script)
+    timed = TimedScript(script, files)
     if timed.falls:
         return f"fault at 1 Falls {timed.falls}\nline {timed.falls}: {FALLS}\n".encode(), 1
     if timed.faulty() is not None:
@@ -178,13 +197,26 @@ def policed(script, octets, asked, link, lines, every=None):
     capture = Capture(octets, tick, link)
     if capture.refused:
         return capture.refused.encode(), 1
-    cells = Policed(Commands(timed, tick), lines, every and max(1, every // tick))
+    cells = Policed(Commands(timed, tick), lines, every and max(1, every // tick), rules_by_number(timed.loads, files) if why else None)
     for counted in capture.cells:
         cells.take(counted)
     # A cell of a second link ends the run at once.
     ended = capture.several or cells.table() + cells.commands.comment() + run_comments(tick, capture) + capture.closing()
     rows = "".join(row(it) for it in cells.rows(not capture.several))
     return (rows + ended).encode(), 1 if capture.several or capture.fault else 0
+
+
+def compiled_files(script, folder, compiler):
+    """Returns the files of rules that a script names, from this folder, with the programs that a compiler makes of them."""
+    files = {}
+    for line in source_lines(script):
+        words = command_of(words_of(line))
+        if is_rules(words):
+            with open(os.path.join(folder, os.fsdecode(words[1])), "rb") as it:
+                text = it.read()
+            answer = subprocess.run([compiler, "rules"], input=text, stdout=subprocess.PIPE, stderr=subprocess.DEVNULL, check=True).stdout
+            files[words[1]] = RulesFile(text, answer.split(b"\n")[1])
+    return files
 
 
 def main():
@@ -195,8 +227,12 @@ def main():
     reader.add_argument("--link")
     reader.add_argument("--lines", choices=("all", "refused", "none"), default="all")
     reader.add_argument("--every", type=int)
+    reader.add_argument("--why", action="store_true")
+    reader.add_argument("--compiler", metavar="UPC_LAB")
     asked = reader.parse_args()
-    given = policed(asked.setup.read(), sys.stdin.buffer.read(), asked.tick, asked.link, asked.lines, asked.every)
+    script = asked.setup.read()
+    files = asked.compiler and compiled_files(script, os.path.dirname(asked.setup.name), asked.compiler)
+    given = policed(script, sys.stdin.buffer.read(), asked.tick, asked.link, asked.lines, asked.every, asked.why, files)
     if given is None:
         print("a line of the script has a fault: upc-lab explain says where", file=sys.stderr)
         return 1

@@ -23,14 +23,26 @@ def own_time(words):
         return None
 
 
+def command_of(words):
+    """Returns the words of a line without its time."""
+    return words if own_time(words) is None else words[2:]
+
+
+def is_rules(words):
+    """Returns whether these are the words of a line `rules NAME`."""
+    return len(words) == 2 and words[0] == b"rules"
+
+
 class TimedScript:
     """A script without its times.
 
     `falls` is the number of the first line whose time is before one that an earlier line names, or None. `before` are the lines before the first
-    time, and `later` the nanoseconds and the line of each later one."""
+    time, and `later` the nanoseconds and the line of each later one. If there are files of rules, by their names, each line `rules NAME` is replaced by
+    the line that loads the program of the file. `loads` has for each line that loads a program the name of its file, or None."""
 
-    def __init__(self, script):
+    def __init__(self, script, files=None):
         self.falls, self.plain, self.before, self.later = None, b"", b"", []
+        self.files, self.loads = files, []
         present, plain, before = None, [], []
         for number, (line, is_fed) in enumerate(raw_lines(script), 1):
             own = own_time(words_of(without_return(line, is_fed)))
@@ -40,6 +52,7 @@ class TimedScript:
             if own is not None:
                 line = FIRST_WORDS.sub(lambda it: b" " * len(it[0]), line, count=1)
             present = present if own is None else own
+            line, is_fed = self.loading(line, is_fed)
             octets = line + b"\n" * is_fed
             plain.append(octets)
             if present is None:
@@ -47,6 +60,15 @@ class TimedScript:
             elif not asks_nothing(words_of(without_return(line, is_fed))):
                 self.later.append((present, without_return(line, is_fed)))
         self.plain, self.before = b"".join(plain), b"".join(before)
+
+    def loading(self, line, is_fed):
+        """Notes a line that loads a program. Returns it, or what replaces it, and whether a line feed follows."""
+        words = words_of(without_return(line, is_fed))
+        if self.files is not None and is_rules(words):
+            self.loads.append(words[1])
+            return b"load " + self.files[words[1]].digits, True
+        self.loads += [None] * (words[:1] == [b"load"])
+        return line, is_fed
 
     def faulty(self):
         """Returns the script whose fault `upc-lab explain` explains, or None if there is none."""
