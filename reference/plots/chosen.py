@@ -1,5 +1,6 @@
 """Which connections a picture shows, and in which time; and why there is no picture."""
 from captures.policing import card_of, tick_of
+from captures.timing import is_rules
 from plots.levels import OtherSetup, Plan
 from plots.verdicts import OTHER, WHOLE_PATH, NoVerdicts, read_verdicts
 from policer.cell import has_paths
@@ -10,11 +11,6 @@ NotDrawn = (NoVerdicts, OtherSetup)
 
 # A program that gives a value.
 PROGRAM = b"load 0006000000000001"
-
-
-def is_rules(words):
-    """Returns whether these are the words of a line `rules NAME`."""
-    return len(words) == 2 and words[0] == b"rules"
 
 
 def with_programs(script):

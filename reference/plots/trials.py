@@ -9,7 +9,7 @@ import sys
 from bisect import bisect_right
 from copy import deepcopy
 
-from captures.policing import HEADING, TABLE, row
+from captures.policing import HEADING, RULE, TABLE, row
 from plots.chosen import NotDrawn, drawn
 from plots.levels import Plan
 from plots.verdicts import NUMBERS, Cells
@@ -79,6 +79,8 @@ def is_drawn_right(random_):
 LINES = [row(HEADING), row((1, 5, 1, 100, 0, 1, "pass", "-", "-")), row((2, 9, 1, 101, 0, "-", "NoConnection", "-", "-"))]
 COUNTS = ["\n", row(TABLE), row((1, 100, 1, 0, 0, 0)), "# 1 not judged: no connection; first record 2\n"]
 SETUP = b"card 1 1 1 1\nrules any.rules\nsetup 1 100 p1 cbr1:10/5\n"
+# The same with the column of the rule.
+RULE_LINES = [f"{line[:-1]}\t{it}\n" for line, it in zip(LINES, (RULE, "any.rules:1", "-"))]
 # The same of a virtual path.
 PATH_LINES = [row(HEADING), row((1, 5, 1, "*", 0, 1, "pass", "-", "-"))]
 PATH_SETUP = b"card 1 1 1 1 uni paths\nrules any.rules\nsetup 1 * p1 cbr1:10/5\n"
@@ -86,6 +88,7 @@ PATH_SETUP = b"card 1 1 1 1 uni paths\nrules any.rules\nsetup 1 * p1 cbr1:10/5\n
 # Verdicts, a setup, connections, a time, and what is said of them; nothing of the first one.
 SAID = [
     (LINES + COUNTS, SETUP, None, None, None, None),
+    (RULE_LINES + COUNTS, SETUP, None, None, None, None),
     (LINES + COUNTS + ["fault capture 1 CutOff 40\n"], None, None, None, None, "fault capture 1 CutOff 40"),
     (LINES + ["fault capture 2 Several 0 1\n"], SETUP, None, None, None, "fault capture 2 Several 0 1"),
     (LINES + COUNTS, None, None, 6, 8, "no cell of 1/100 is from 6 to 8: the first is at 5, the last at 5"),

@@ -2,7 +2,7 @@
 import itertools
 from array import array
 
-from captures.policing import HEADING, TABLE
+from captures.policing import HEADING, RULE, TABLE
 
 # The verdicts in the order in which they are drawn; the last one is that of cells that weren't judged.
 VERDICTS = ("pass", "tag", "discard", "refuse", "other")
@@ -50,18 +50,19 @@ def connection_in(path, channel):
 
 def read_verdicts(lines, wanted):
     """Returns the cells of each connection that has some, or of those that are wanted, and the line at which policing ended, if it didn't
-    end with the capture. Lines about spans are passed over."""
+    end with the capture. Lines about spans are passed over, and so is the column of the rule."""
     lines = (line for line in lines if not line.startswith("span\t"))
     heading, cells, wanted = next(lines, ""), {}, wanted and set(wanted)
     # Spans alone have an empty line after them.
     heading = heading if heading != "\n" else next(lines, "")
     if heading.split("\t")[: len(TABLE)] == list(TABLE) or heading.rstrip("\n") == "\t".join(TABLE):
         raise NoVerdicts("no cell has a line: police the capture with --lines all")
-    if heading.rstrip("\n") != "\t".join(HEADING):
+    columns = heading.rstrip("\n").split("\t")
+    if columns not in ([*HEADING], [*HEADING, RULE]):
         raise NoVerdicts("the first line isn't the heading that upc-lab police prints")
     for line in lines:
         fields = line.rstrip("\n").split("\t")
-        if len(fields) != len(HEADING):
+        if len(fields) != len(columns):
             break
         vc = connection_in(*fields[2:4])
         if not wanted or vc in wanted:
