@@ -21,7 +21,13 @@ from captures.timing import TimedScript
 
 # A script and a capture, and words that are refused.
 ONE = Case(b"card 1 1 1 1\n", b"", 100, None, "all")
-WRONG_WORDS = ["", "''", "{} {}", "{} --lines", "{} --lines some", "{} --lines=", "{} --tick 0us", "{} --tick 10", "{} --link 8", "{} --link 0/1", "{} --link x:0", "{} --side nni", "{} --threads", "{} --threads 0", "{} --threads 3", "{} --time late", "{} --threads all", "{} --every", "{} --every 0s", "{} --every 1", "{} --every=", "{} --every 18446744074s", "--why", "{} --why=1", "{} --why rules", "{} --why --why", "{} --whys"]
+WRONG_WORDS = [
+    "", "''", "{} {}", "{} --lines", "{} --lines some", "{} --lines=", "{} --tick 0us", "{} --tick 10", "{} --link 8", "{} --link 0/1", "{} --link x:0", "{} --side nni",
+    "{} --threads", "{} --threads 0", "{} --threads 3", "{} --time late", "{} --threads all", "{} --every", "{} --every 0s", "{} --every 1", "{} --every=",
+    "{} --every 18446744074s", "--why", "{} --why=1", "{} --why rules", "{} --why --why", "{} --whys",
+]
+# Other subcommands, which have no `--why`.
+WITHOUT_WHY = [["cells"], ["fit", "--increment", "1"], ["forward", "a.setup"]]
 THREADS = [[], [], ["--threads", "1"], ["--threads=2"], ["--threads", "2"]]
 UNREADABLE = ["{}.missing", "/"]
 
@@ -143,6 +149,9 @@ def words_tried(program):
         for words in some:
             output, messages, ended = program.refused(words)
             yield None if not output and messages and ended == status else f"police {words} ends with {ended}: {messages}"
+    for words in WITHOUT_WHY:
+        output, messages, ended = program.ran([*words, "--why"], b"")
+        yield None if not output and messages and ended == 2 else f"{words} with --why ends with {ended}: {messages}"
     output, _, ended = program.ran(["police", "--help"], b"")
     is_whole = all(word in output for word in (b"--tick <TIME>", b"--link <LINK>", b"--lines <", b"[default: all]", b"`tick TIME`", b"--every <TIME>", b"--threads <N>", b"[default: 2]", b"--why"))
     yield None if is_whole and ended == 0 else f"police --help prints {output}"
