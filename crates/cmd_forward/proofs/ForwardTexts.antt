@@ -1,5 +1,5 @@
 -- What is forwarded for a setup script, and what is reported.
-use Rattle.std.proofs.Common.{◌≡◌, ◌++◌, inl, inr, ℕ, List, [], Option, Some, None, Result, Ok, Err, IfOk, refl, sym, subst, append-nil}
+use Rattle.std.proofs.Common.{◌≡◌, ◌++◌, inl, inr, ℕ, false, List, [], Option, Some, None, Result, Ok, Err, IfOk, refl, sym, subst, append-nil}
 use Rattle.std.proofs.lemmas.Result.{IfOk-weaker}
 use Rattle.std.specs.Global.{Vec}
 use Rattle.std.specs.Result.{OnErr, OnOk}
@@ -46,7 +46,7 @@ some_forwarded others tick link script times octets = forwards_some others tick 
 
 -- A scope without lines.
 abbrev silent : Option Link → PoliceScope
-silent link = record { link = link; timing = source.Record; lines = lines.Nothing; every = None }
+silent link = record { link = link; timing = source.Record; lines = lines.Nothing; every = None; why = false }
 
 timed_some : (others : Others) (tick : ℕ) (link : Option Link) (setup : List ℕ) (times : List (Option ℕ)) (texts : List (List ℕ)) (octets text : List ℕ) (done : Done)
     → IsTimedPolicedBy MayBeFaultOfRules (silent link) tick setup times texts octets text done
