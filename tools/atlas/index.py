@@ -3,8 +3,9 @@ import math
 import re
 from array import array
 
+from .outlines import modules, scripts
 from .parts import HEADER, all_parts, all_sections, cases, types_of
-from .words import IDLE, meanings_of, pairs_asked, searched_stems, stems_of
+from .words import IDLE, NAME as SPELLED, meanings_of, names_in, pairs_asked, searched_stems, stems_of
 
 # What a word counts in each field of an answer. REST is the text around the sentence that answers.
 NAME, SENTENCE, HEADING, TEXT, REST, CONTEXT = 3.0, 2.0, 1.5, 1.0, 0.6, 0.5
@@ -22,15 +23,21 @@ RULING = ("docs/FORMATS.md", "docs/RULES.md", "docs/CONTRACTS.md", "docs/LAB.md"
 DOING = ("docs/CONTRIBUTING.md", "README.md")
 REASONING = ("docs/ARCHITECTURE.md", "docs/DECISIONS.md")
 NAMING = ("docs/GLOSSARY.md",)
-RULES, CALLS, OTHERS, OF_CRATES, ASKED, SECTION = 1.3, 1.2, 0.75, 0.6, 1.8, 0.9
+OF_SCRIPTS = {"bin": 0.65, "tests": 0.35, "bench": 0.35, "reference": 0.35}
+RULES, CALLS, OTHERS, OF_CRATES, OF_FILES, ASKED, SECTION = 1.3, 1.2, 0.75, 0.6, 0.42, 1.8, 0.9
 HOW = re.compile(r"(how|where|what|which \w+) (do|can|should|must) (i|we|you)\b|how to\b|(add|adding|build|building|install|installing|run|running|change|changing|contribute)\b")
 WHY = re.compile(r"why\b|reasons?\b")
 WHAT = re.compile(r"what (is|are) (a|an|the)? ?\w+$|what does \w+ mean$|(definition|meaning) of\b")
 # How much more a section or a function counts whose name is what was asked for.
 TITLE = 1.0
-# A whole question is about pages first, and then about the header.
+# What a whole question is about first, by its form: where something is done about code, one of proofs about definitions and laws too,
+# and any other about pages, and then about the header.
 ASKS = re.compile(r"(how|what|where|when|which|why|who|whose|do|does|did|is|are|am|can|could|may|must|should|will|would|if|has|have)\b")
-ASKED_OF = {"page": 1.4, "declaration": 1.2}
+WHERE = re.compile(r"(where (is|are|does|do|was)|(in )?(which|what) (function|code|file|module|source|type|crate|script)s?)\b(?! (i|we|you)\b)")
+KIND = re.compile(r"(which|what) (functions?|code|files?|modules?|sources?|types?|scripts?|laws?|definitions?) ")
+PROOFS = re.compile(r"\b(laws?|lemmas?|theorems?|definitions?|defined|formal|formally|stated|premises?|specifications?|invariants?)\b")
+OF_ANY, OF_CODE = {"page": 1.4, "declaration": 1.2}, {"function": 1.8, "type": 1.8, "file": 2.5, "script": 2.5, "definition": 1.2}
+OF_PROOFS = {"page": 1.2, "definition": 1.5, "law": 1.5, "file": 1.2}
 # How much an answer counts for each better one of its section, or of its name.
 REPEATED = 0.8
 # What a question how something is done has besides its subject.
@@ -59,15 +66,17 @@ class Answer:
             for stem in stems:
                 self.words[stem] = self.words.get(stem, 0) + weight
                 self.length += weight
+            for name in names_in(text):
+                self.words[name] = self.words.get(name, 0) + weight
             said = [it for it in stems if it not in IDLE]
             self.pairs.update(zip(stems, stems[1:]))
             self.pairs.update(zip(said, said[1:]))
-        self.title = searched_stems(it.name) if kind == "function" or kind == "page" and not it.heading else ()
+        self.title = searched_stems(it.name) if kind in ("function", "law", "file") or kind == "page" and not it.heading else ()
 
     @property
     def is_code(self):
         """Returns whether programs are made of it. A law is a function without a body."""
-        return self.kind == "type" or self.kind == "function" and not self.it.is_law
+        return self.kind in ("type", "function")
 
     @property
     def kept(self):
@@ -171,16 +180,28 @@ class Index:
                 found[place] = max(found.get(place, 0), fit * (OTHER if k else 1))
         return found
 
+    def meanings(self, words):
+        """Returns what each part of a question may be called. A name of code that some answer has is one part."""
+        asked, found = " ".join(words), []
+        for name in SPELLED.findall(asked):
+            (whole,) = names_in(name)
+            if self.places.number_of(whole):
+                found.append([(whole,), searched_stems(name)])
+                asked = asked.replace(name, " ")
+        return found + (meanings_of(asked.split()) if asked.strip() else [])
+
     def search(self, words):
         """Returns the answers to a question, the best first: each by its sentence that fits best."""
         asked = " ".join(words).lower()
         favoured = DOING if HOW.match(asked) else REASONING if WHY.match(asked) else NAMING if WHAT.match(asked) else ()
         if favoured == DOING:
             words = [it for it in words if it.lower() not in ANOTHER] or words
-        meanings = meanings_of(words)
+        kind = KIND.match(asked)
+        words = words[:1] + words[2:] if kind else words
+        meanings = self.meanings(words)
         fits = [self.fits(it) for it in meanings]
         rarities = [math.log(1 + len(self.answers) / (1 + len(it))) for it in fits]
-        asked_of, best = ASKED_OF if ASKS.match(asked) else {}, {}
+        asked_of, best = kinds_asked(asked), {}
         for place in {place for it in fits for place in it}:
             answer, each = self.answers[place], [it.get(place, 0) for it in fits]
             covered = sum(rarity for rarity, fit in zip(rarities, each) if fit) / sum(rarities)
@@ -214,6 +235,13 @@ def titled(title, meanings):
     return len(met) / len(set(title)) * parts / len(meanings)
 
 
+def kinds_asked(asked):
+    """Returns how much more each kind of answer counts for a question of this form."""
+    if PROOFS.search(asked):
+        return OF_PROOFS
+    return OF_CODE if WHERE.match(asked) and not HOW.match(asked) else OF_ANY if ASKS.match(asked) else {}
+
+
 def is_identifier(name, words):
     """Returns whether one of these words is this name, as code spells names: of several words, or asked for alone."""
     return name in words and (len(words) == 1 or "_" in name or bool(re.search("[a-z][A-Z]", name)))
@@ -230,7 +258,8 @@ def answers(sources):
         strings, comments = " ".join(STRING.findall(it.body)), " ".join(COMMENT.findall(it.body))
         clauses = " ".join(f"{clause.name} {clause.sentence}" for clause in it.clauses)
         is_test = it.is_test or it.module.startswith("tests")
-        kind, counts = ("test", 0.8) if is_test else ("function", 0.9 if sources.is_open(it) else 0.6)
+        kind = "test" if is_test else "law" if it.is_law else "function"
+        counts = 0.8 if is_test else 0.9 if sources.is_open(it) else 0.6
         yield Answer(kind, it, counts, [(NAME, it.name), (CONTEXT, it.full), (SENTENCE, it.sentence), (TEXT, clauses), (TEXT, strings), (REST, comments)])
     for module in sources.specs.modules.values():
         for it in module.definitions.values():
@@ -240,6 +269,9 @@ def answers(sources):
         for it in types_of(crate):
             if "/src/tests" not in it.path:
                 yield Answer("type", it, 0.9, [(NAME, it.name), (SENTENCE, it.text), (TEXT, it.about), (CONTEXT, crate)])
+    for kind, found in (("file", modules()), ("script", scripts())):
+        for it in found:
+            yield Answer(kind, it, OF_SCRIPTS.get(it.heading, OF_FILES), [(NAME, it.name), (SENTENCE, it.text), (CONTEXT, f"{it.path} {it.heading}"), (REST, it.about)])
     for it in all_sections():
         yield Answer("page", it, counts_of(it.path) * SECTION, [(NAME, it.name), (CONTEXT, it.path), (REST, it.text)])
     for it in all_parts():

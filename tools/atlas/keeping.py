@@ -14,7 +14,7 @@ from .files import ROOT
 from .index import Index
 
 # What is read, below the repository's top.
-READ = ("crates", "docs", "include", "tests/worked", "tools/atlas", "README.md", "crates.txt")
+READ = ("bench", "bin", "crates", "docs", "examples", "include", "reference", "tests", "tools", "README.md", "crates.txt")
 KEPT = f"{ROOT}/out/find"
 # The form of what is kept, which an older Python or another machine can't read.
 FORM = f"{marshal.version} {sys.byteorder}"

@@ -15,6 +15,8 @@ IDLE = frozenset(
 )
 # Endings, the longest first, and what has to be left of a word without them.
 ENDINGS = re.compile(r"(?<=\w{4})(?:ations?|ments?|ness)$|(?<=\w{3}[^e]at)(?:ed|ing|es?|ors?)$|(?<=\w{3})(?:ings?|ions?|ers?|ors?|ed|ly)$")
+# A name as code spells it, of several words, or an option.
+NAME = re.compile(r"(?<![\w-])--[a-z][\w-]*|\b(?:[A-Za-z0-9]+_\w*[A-Za-z0-9]|[A-Za-z]?[a-z0-9]+(?:[A-Z][a-z0-9]+)+)\b")
 # What is left of `isolated`, whose noun is `isolation`.
 LEFT = re.compile(r"(?<=\w{3}[^e])at$")
 
@@ -38,6 +40,11 @@ def stem(word):
     if short != word and len(short) > 3 and short[-1] == short[-2] and short[-1] not in "sl":
         short = short[:-1]
     return re.sub(r"e$", "", re.sub(r"y$", "i", short))
+
+
+def names_in(text):
+    """Returns the names of code in a text, each as one word: `TooFast` is `toofast`, and `--every` stays as it is."""
+    return [it.replace("_", "").lower() for it in NAME.findall(text)]
 
 
 def stems_of(text):
