@@ -28,8 +28,8 @@ RULES, CALLS, OTHERS, OF_CRATES, OF_FILES, ASKED, SECTION = 1.3, 1.2, 0.75, 0.6,
 HOW = re.compile(r"(how|where|what|which \w+) (do|can|should|must) (i|we|you)\b|how to\b|(add|adding|build|building|install|installing|run|running|change|changing|contribute)\b")
 WHY = re.compile(r"why\b|reasons?\b")
 WHAT = re.compile(r"what (is|are) (a|an|the)? ?\w+$|what does \w+ mean$|(definition|meaning) of\b")
-# How much more a section or a function counts whose name is what was asked for.
-TITLE = 1.0
+# How much more an answer of these kinds, or a section, counts whose name is what was asked for.
+TITLE, TITLED = 1.0, ("function", "law", "file", "script")
 # What a whole question is about first, by its form: where something is done about code, one of proofs about definitions and laws too,
 # and any other about pages, and then about the header.
 ASKS = re.compile(r"(how|what|where|when|which|why|who|whose|do|does|did|is|are|am|can|could|may|must|should|will|would|if|has|have)\b")
@@ -37,7 +37,7 @@ WHERE = re.compile(r"(where (is|are|does|do|was)|(in )?(which|what) (function|co
 KIND = re.compile(r"(which|what) (functions?|code|files?|modules?|sources?|types?|scripts?|laws?|definitions?) ")
 PROOFS = re.compile(r"\b(laws?|lemmas?|theorems?|definitions?|defined|formal|formally|stated|premises?|specifications?|invariants?)\b")
 OF_ANY, OF_CODE = {"page": 1.4, "declaration": 1.2}, {"function": 1.8, "type": 1.8, "file": 2.5, "script": 2.5, "definition": 1.2}
-OF_PROOFS = {"page": 1.2, "definition": 1.5, "law": 1.5, "file": 1.2}
+OF_PROOFS = {"page": 1.2, "definition": 1.5, "law": 1.5, "file": 2.5}
 # How much an answer counts for each better one of its section, or of its name.
 REPEATED = 0.8
 # What a question how something is done has besides its subject.
@@ -71,7 +71,7 @@ class Answer:
             said = [it for it in stems if it not in IDLE]
             self.pairs.update(zip(stems, stems[1:]))
             self.pairs.update(zip(said, said[1:]))
-        self.title = searched_stems(it.name) if kind in ("function", "law", "file") or kind == "page" and not it.heading else ()
+        self.title = searched_stems(it.name) if kind in TITLED or kind == "page" and not it.heading else ()
 
     @property
     def is_code(self):

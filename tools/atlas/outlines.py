@@ -9,8 +9,9 @@ from .parts import Part, parts_of
 FOLDERS = ("bin", "tests", "tools", "bench", "reference", "examples")
 WRITTEN = re.compile(r"(?:/[\w-]+|\.(?:py|sh|c|rs|rt\.in|s|rules|run|setup|ports))$")
 LEFT_OUT = re.compile(r"__pycache__|__init__|^tests/passed$|/questions$")
-# The page that goes from file to file, and how it names them.
+# The page that goes from file to file and how it names them, and the page whose rows have links to them.
 WAYS = "docs/ARCHITECTURE.md"
+TERMS, LINK = "docs/GLOSSARY.md", re.compile(r"\]\(\.\./([\w./-]+)\)")
 FILE = re.compile(r"\b(\w+)/src/(\w+\.rt)?|\b(\w+\.rt)\b")
 # The name of a public item or of a definition.
 ITEM = re.compile(r"^ *pub (?:fn|struct|enum|trait|const|type) (\w+)|^abbrev pub (\w+)", re.M)
@@ -64,8 +65,12 @@ def modules():
 
 
 def said_of_files():
-    """Returns what docs/ARCHITECTURE.md says of each file that it names: also of one whose crate was named earlier."""
+    """Returns what pages say of each file: the rows of docs/GLOSSARY.md that lead to it, and the clauses of docs/ARCHITECTURE.md that name
+    it, perhaps after the path of another file of its crate."""
     found, named = {}, []
+    for row in text_of(TERMS).split("\n"):
+        for path in LINK.findall(row):
+            found.setdefault(path, []).append(re.sub(r"\[[^]]*\]\([^)]*\)", "", row))
     for part in parts_of(WAYS, text_of(WAYS)):
         for clause in re.split(r"(?<=[.;:]) ", part.text):
             for folder, name, alone in FILE.findall(clause):

@@ -12,7 +12,7 @@ TYPE = re.compile(r"(?:pub(?:\(\w+\))? )?(?:struct|enum|trait|type|const) (\w+)"
 MOST_OF_SECTION = 3
 # What begins a declaration of the header, and its name; and a constant of an enum with its comment.
 DECLARED = re.compile(r"(?:#define|typedef struct|enum|uint32_t|void|const char) \*?(?:(UPC_MOST_\w+|UPC_LAST_\w+|UPC_VERSION|UPC_\w*STACK|upc_\w+)\b|(?=\{))")
-MEMBER = re.compile(r"\s*(UPC_\w+)(?: = [^,/]*)?,?\s*/\*(.*)")
+MEMBER = re.compile(r"\s*(UPC_\w+)(?: = ([^,/]*))?,?\s*(?:/\*(.*))?$")
 
 
 class Part:
@@ -126,7 +126,8 @@ def declared(name, lines, line, heading, comment):
     for number, it in enumerate(lines, line):
         found = MEMBER.match(it)
         if found:
-            yield Part(HEADER, number, heading, found[1], found[2].removesuffix("*/").strip(), comment)
+            text = " ".join(filter(None, [found[2], (found[3] or "").removesuffix("*/").strip()]))
+            yield Part(HEADER, number, heading, found[1], text.strip(), comment)
 
 
 def types_of(crate):

@@ -7,9 +7,9 @@ from .parts import OTHERS, parts_of
 
 # Words that any question may have, whatever it is about.
 IDLE = frozenset(
-    "a about actually after again also am an and are arent as at be been before being between both by can cannot cant code could defined described did difference differences differ do documented does doesnt done dont during "
-    "each else ever exactly explained for from get gets going good had happen happened happens has have here how i if implemented in into is isnt it its itself just kind "
-    "kinds know made makes many matter matters may me mean means might much must my of often on one only or our per really said say says see shall should so some stated still "
+    "a about actually after again also am an and anybody anyone anything anywhere are arent as at be been before being between both by can cannot cant code could defined described did difference differences differ do documented does doesnt done dont during "
+    "each else ever everybody everyone everything exactly explained for from get gets going good had happen happened happens has have here how i if implemented in into is isnt it its itself just kind "
+    "kinds know made makes many matter matters may me mean means might much must my myself of often on one only or our per please really said say says see shall should so some somebody someone something stated still "
     "struct such tell tells than that the their them then there these they thing things this those to too two upon us use used uses using very via want wants was way ways well "
     "we were what when where whether which while who whose why will with work works would written yet you your".split()
 )
