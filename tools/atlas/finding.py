@@ -72,7 +72,7 @@ def about(sources, found):
         return [name_of(found), *wrapped(it.sentence), *(about_function(sources, it) if found.kind != "test" else [])]
     if found.kind == "definition":
         return [name_of(found), *wrapped(sentence(it.sentence) if it.sentence else ""), *about_definition(sources, it)]
-    if found.kind in ("page", "declaration", "type", "case", "file", "script"):
+    if found.kind in ("page", "declaration", "type", "case", "source", "module", "script"):
         return [name_of(found), *wrapped(it.text)]
     if found.kind == "planted bug":
         turned = next((function for function in sources.functions if function.crate == it.crate and it in sources.edits_of(function)), None)

@@ -3,7 +3,7 @@ import math
 import re
 from array import array
 
-from .outlines import modules, scripts
+from .outlines import scripts, sources_and_modules
 from .parts import HEADER, all_parts, all_sections, cases, types_of
 from .words import IDLE, NAME as SPELLED, meanings_of, names_in, pairs_asked, searched_stems, stems_of
 
@@ -29,15 +29,16 @@ HOW = re.compile(r"(how|where|what|which \w+) (do|can|should|must) (i|we|you)\b|
 WHY = re.compile(r"why\b|reasons?\b")
 WHAT = re.compile(r"what (is|are) (a|an|the)? ?\w+$|what does \w+ mean$|(definition|meaning) of\b")
 # How much more an answer of these kinds, or a section, counts whose name is what was asked for.
-TITLE, TITLED = 1.0, ("function", "law", "file", "script")
+TITLE, TITLED = 1.0, ("function", "law", "source", "module", "script")
 # What a whole question is about first, by its form: where something is done about code, one of proofs about definitions and laws too,
 # and any other about pages, and then about the header.
 ASKS = re.compile(r"(how|what|where|when|which|why|who|whose|do|does|did|is|are|am|can|could|may|must|should|will|would|if|has|have)\b")
 WHERE = re.compile(r"(where (is|are|does|do|was)|(in )?(which|what) (function|code|file|module|source|type|crate|script)s?)\b(?! (i|we|you)\b)")
 KIND = re.compile(r"(which|what) (functions?|code|files?|modules?|sources?|types?|scripts?|laws?|definitions?) ")
 PROOFS = re.compile(r"\b(laws?|lemmas?|theorems?|definitions?|defined|formal|formally|stated|premises?|specifications?|invariants?)\b")
-OF_ANY, OF_CODE = {"page": 1.4, "declaration": 1.2}, {"function": 1.8, "type": 1.8, "file": 2.5, "script": 2.5, "definition": 1.2}
-OF_PROOFS = {"page": 1.2, "definition": 1.5, "law": 1.5, "file": 2.5}
+OF_ANY = {"page": 1.4, "declaration": 1.2}
+OF_CODE = {"function": 1.8, "type": 1.8, "source": 2.5, "script": 2.5, "module": 1.5, "definition": 1.2}
+OF_PROOFS = {"page": 1.2, "definition": 1.5, "law": 1.5, "module": 2.5, "source": 1.2}
 # How much an answer counts for each better one of its section, or of its name.
 REPEATED = 0.8
 # What a question how something is done has besides its subject.
@@ -196,8 +197,7 @@ class Index:
         favoured = DOING if HOW.match(asked) else REASONING if WHY.match(asked) else NAMING if WHAT.match(asked) else ()
         if favoured == DOING:
             words = [it for it in words if it.lower() not in ANOTHER] or words
-        kind = KIND.match(asked)
-        words = words[:1] + words[2:] if kind else words
+        words = words[2:] if KIND.match(asked) and words[2:] else words
         meanings = self.meanings(words)
         fits = [self.fits(it) for it in meanings]
         rarities = [math.log(1 + len(self.answers) / (1 + len(it))) for it in fits]
@@ -269,9 +269,8 @@ def answers(sources):
         for it in types_of(crate):
             if "/src/tests" not in it.path:
                 yield Answer("type", it, 0.9, [(NAME, it.name), (SENTENCE, it.text), (TEXT, it.about), (CONTEXT, crate)])
-    for kind, found in (("file", modules()), ("script", scripts())):
-        for it in found:
-            yield Answer(kind, it, OF_SCRIPTS.get(it.heading, OF_FILES), [(NAME, it.name), (SENTENCE, it.text), (CONTEXT, f"{it.path} {it.heading}"), (REST, it.about)])
+    for kind, it in (*sources_and_modules(), *(("script", it) for it in scripts())):
+        yield Answer(kind, it, OF_SCRIPTS.get(it.heading, OF_FILES), [(NAME, it.name), (SENTENCE, it.text), (CONTEXT, f"{it.path} {it.heading}"), (REST, it.about)])
     for it in all_sections():
         yield Answer("page", it, counts_of(it.path) * SECTION, [(NAME, it.name), (CONTEXT, it.path), (REST, it.text)])
     for it in all_parts():

@@ -47,21 +47,22 @@ def items_of(path):
 
 
 def scripts():
-    """Yields the scripts, and the examples."""
+    """Yields the outlines of scripts and examples."""
     for folder in FOLDERS:
         for path in files_below(folder, ""):
             if WRITTEN.search(path) and not LEFT_OUT.search(path):
                 yield outline(path, folder, "")
 
 
-def modules():
-    """Yields the files of each crate with code and with definitions, but those that only list others."""
+def sources_and_modules():
+    """Yields for each file of a crate with code or with definitions its kind and its outline, but those that only list others."""
     ways = said_of_files()
     for crate in crates():
         about = first_comment(text_of(f"crates/{crate}/src/lib.rt")) if exists(f"crates/{crate}/src/lib.rt") else ""
-        for path in (*files_below(f"crates/{crate}/src", ".rt"), *files_below(f"crates/{crate}/specs", ".antt")):
-            if os.path.basename(path) not in ("Lib.antt", "inner.antt"):
-                yield outline(path, crate, " ".join([*ways.get(path, []), *items_of(path), about]))
+        for kind, folder, ending in (("source", "src", ".rt"), ("module", "specs", ".antt")):
+            for path in files_below(f"crates/{crate}/{folder}", ending):
+                if os.path.basename(path) not in ("Lib.antt", "inner.antt"):
+                    yield kind, outline(path, crate, " ".join([*ways.get(path, []), *items_of(path), about]))
 
 
 def said_of_files():

@@ -7,14 +7,14 @@ from .parts import OTHERS, parts_of
 
 # Words that any question may have, whatever it is about.
 IDLE = frozenset(
-    "a about actually after again also am an and anybody anyone anything anywhere are arent as at be been before being between both by can cannot cant code could defined described did difference differences differ do documented does doesnt done dont during "
+    "a about across actually after again against also am an and anybody anyone anything anywhere are arent around as at be been before being between both by can cannot cant code could defined described did difference differences differ do documented does doesnt done dont during "
     "each else ever everybody everyone everything exactly explained for from get gets going good had happen happened happens has have here how i if implemented in into is isnt it its itself just kind "
     "kinds know made makes many matter matters may me mean means might much must my myself of often on one only or our per please really said say says see shall should so some somebody someone something stated still "
-    "struct such tell tells than that the their them then there these they thing things this those to too two upon us use used uses using very via want wants was way ways well "
+    "struct such tell tells than that the their them then there these they thing things this those through to too toward towards two upon us use used uses using very via want wants was way ways well "
     "we were what when where whether which while who whose why will with work works would written yet you your".split()
 )
 # Endings, the longest first, and what has to be left of a word without them.
-ENDINGS = re.compile(r"(?<=\w{4})(?:ations?|ments?|ness)$|(?<=\w{3}[^e]at)(?:ed|ing|es?|ors?)$|(?<=\w{3})(?:ings?|ions?|ers?|ors?|ed|ly)$")
+ENDINGS = re.compile(r"(?<=\w{4})(?:ations?|ments?|ness)$|(?<=\w{3}[^e]at)(?:ed|ing|es?|ors?)$|(?<=\w{3})(?:ings?|ions?|ers?|ors?|(?<!ce)ed|ly)$")
 # A name as code spells it, of several words, or an option.
 NAME = re.compile(r"(?<![\w-])--[a-z][\w-]*|\b(?:[A-Za-z0-9]+_\w*[A-Za-z0-9]|[A-Za-z]?[a-z0-9]+(?:[A-Z][a-z0-9]+)+)\b")
 # What is left of `isolated`, whose noun is `isolation`.
