@@ -23,6 +23,7 @@ RULING = ("docs/FORMATS.md", "docs/RULES.md", "docs/CONTRACTS.md", "docs/LAB.md"
 DOING = ("docs/CONTRIBUTING.md", "README.md")
 REASONING = ("docs/ARCHITECTURE.md", "docs/DECISIONS.md")
 NAMING = ("docs/GLOSSARY.md",)
+# Files as wholes count little, unless code is asked for; of the scripts those that users call count most.
 OF_SCRIPTS = {"bin": 0.65, "tests": 0.35, "bench": 0.35, "reference": 0.35}
 RULES, CALLS, OTHERS, OF_CRATES, OF_FILES, ASKED, SECTION = 1.3, 1.2, 0.75, 0.6, 0.42, 1.8, 0.9
 HOW = re.compile(r"(how|where|what|which \w+) (do|can|should|must) (i|we|you)\b|how to\b|(add|adding|build|building|install|installing|run|running|change|changing|contribute)\b")
@@ -31,11 +32,12 @@ WHAT = re.compile(r"what (is|are) (a|an|the)? ?\w+$|what does \w+ mean$|(definit
 # How much more an answer of these kinds, or a section, counts whose name is what was asked for.
 TITLE, TITLED = 1.0, ("function", "law", "source", "module", "script")
 # What a whole question is about first, by its form: where something is done about code, one of proofs about definitions and laws too,
-# and any other about pages, and then about the header.
+# and any other about pages, and then about the header. The word for what is asked for, as in "which function", is no subject.
 ASKS = re.compile(r"(how|what|where|when|which|why|who|whose|do|does|did|is|are|am|can|could|may|must|should|will|would|if|has|have)\b")
-WHERE = re.compile(r"(where (is|are|does|do|was)|(in )?(which|what) (function|code|file|module|source|type|crate|script)s?)\b(?! (i|we|you)\b)")
-KIND = re.compile(r"(which|what) (functions?|code|files?|modules?|sources?|types?|scripts?|laws?|definitions?) ")
+CODE = "(functions?|methods?|code|files?|modules?|sources?|types?|structs?|traits?|enums?|constants?|scripts?)"
+WHERE = re.compile(rf"(where (is|are|does|do|was)|(in )?(which|what) ({CODE}|crates?))\b(?! (i|we|you)\b)")
 PROOFS = re.compile(r"\b(laws?|lemmas?|theorems?|definitions?|defined|formal|formally|stated|premises?|specifications?|invariants?)\b")
+KIND = re.compile(rf"(which|what) ({CODE}|laws?|definitions?) ")
 OF_ANY = {"page": 1.4, "declaration": 1.2}
 OF_CODE = {"function": 1.8, "type": 1.8, "source": 2.5, "script": 2.5, "module": 1.5, "definition": 1.2}
 OF_PROOFS = {"page": 1.2, "definition": 1.5, "law": 1.5, "module": 2.5, "source": 1.2}

@@ -16,7 +16,7 @@ FILE = re.compile(r"\b(\w+)/src/(\w+\.rt)?|\b(\w+\.rt)\b")
 # The name of a public item or of a definition.
 ITEM = re.compile(r"^ *pub (?:fn|struct|enum|trait|const|type) (\w+)|^abbrev pub (\w+)", re.M)
 # A line of a first comment without the sign of comments.
-SIGN = re.compile(r"^\s*(?://!|//|--|#|;|/?\*+/?)( ?)")
+SIGN = re.compile(r"^\s*(?:/?\*+|//!?|--|#|;) ?")
 
 
 def first_comment(text):

@@ -4,7 +4,7 @@ import unittest
 
 from atlas.index import Answer, Index, titled
 from atlas.parts import Part
-from atlas.words import meanings_of, stem, words_of
+from atlas.words import meanings_of, names_in, stem, words_of
 
 
 class Words(unittest.TestCase):
@@ -15,8 +15,11 @@ class Words(unittest.TestCase):
     def test_a_kind_of_contract_is_one_word(self):
         self.assertEqual(words_of("VBR.1 and vbr1."), ["vbr1", "and", "vbr1"])
 
+    def test_a_name_of_code_is_one_word(self):
+        self.assertEqual(names_in("TooFast or upc_card_new, --every pcap of VBR.1"), ["toofast", "upccardnew", "--every"])
+
     def test_endings_do_not_matter(self):
-        for words in (("divides", "divide"), ("released", "release", "releases"), ("dropping", "dropped", "drop"), ("entries", "entry"), ("faster", "fast"), ("isolated", "isolation", "isolates")):
+        for words in (("divides", "divide"), ("released", "release", "releases"), ("dropping", "dropped", "drop"), ("entries", "entry"), ("faster", "fast"), ("isolated", "isolation", "isolates"), ("exceeded", "exceed")):
             self.assertEqual(len({stem(it) for it in words}), 1, words)
 
     def test_words_that_tell_nothing(self):
