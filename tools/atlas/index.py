@@ -203,10 +203,10 @@ class Index:
         meanings = self.meanings(words)
         fits = [self.fits(it) for it in meanings]
         rarities = [math.log(1 + len(self.answers) / (1 + len(it))) for it in fits]
-        asked_of, best = kinds_asked(asked), {}
+        asked_of, whole, best = kinds_asked(asked), sum(rarities), {}
         for place in {place for it in fits for place in it}:
             answer, each = self.answers[place], [it.get(place, 0) for it in fits]
-            covered = sum(rarity for rarity, fit in zip(rarities, each) if fit) / sum(rarities)
+            covered = sum([rarity for rarity, fit in zip(rarities, each) if fit]) / whole
             answer.score = sum(each) * covered * answer.counts * (1 + TITLE * titled(answer.title, meanings))
             answer.score *= asked_of.get(answer.kind, 1)
             if answer.path in favoured:
