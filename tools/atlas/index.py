@@ -34,7 +34,7 @@ TITLE, TITLED = 1.0, ("function", "law", "source", "module", "script")
 # What a whole question is about first, by its form: where something is done about code, one of proofs about definitions and laws too,
 # and any other about pages, and then about the header. The word for what is asked for, as in "which function", is no subject.
 ASKS = re.compile(r"(how|what|where|when|which|why|who|whose|do|does|did|is|are|am|can|could|may|must|should|will|would|if|has|have)\b")
-CODE = "(functions?|methods?|code|files?|modules?|sources?|types?|structs?|traits?|enums?|constants?|scripts?)"
+CODE = "(functions?|methods?|code|files?|modules?|sources?|types?|structs?|enums?|constants?|scripts?)"
 WHERE = re.compile(rf"(where (is|are|does|do|was)|(in )?(which|what) ({CODE}|crates?))\b(?! (i|we|you)\b)")
 PROOFS = re.compile(r"\b(laws?|lemmas?|theorems?|definitions?|defined|formal|formally|stated|premises?|specifications?|invariants?)\b")
 KIND = re.compile(rf"(which|what) ({CODE}|laws?|definitions?) ")
