@@ -1,5 +1,5 @@
 -- The text of a whole capture, from what its first octets say.
-use Rattle.std.proofs.Common.{◌≡◌, ◌≢◌, ◌≤◌, ℕ, List, [], ◌++◌, Option, Some, Result, Ok, Err, length, drop, refl, ◌∙◌, sym, ap, ap₂, subst, arith, append_assoc, append-nil}
+use Rattle.std.proofs.Common.{◌≡◌, ◌≢◌, ◌≤◌, ℕ, List, [], ◌++◌, Option, Some, Result, Ok, Err, OnErr, length, drop, refl, ◌∙◌, sym, ap, ap₂, subst, arith, append_assoc, append-nil}
 use Rattle.std.proofs.lemmas.List.{drop-append-le}
 use Rattle.captures.proofs.Public.{file_decided, file_opened, header_within}
 use Rattle.captures.specs.Frames.{format_start, format_timed}
@@ -128,6 +128,13 @@ not_read (Ok done) before after none same = same
 not_read (Err ReadFailed) before after none same = absurd (none refl)
 not_read (Err WriteFailed) before after none same = same
 not_read (Err NoMemory) before after none same = same
+
+-- A run that ends by writing leaves the count of the input as it was.
+pub not_read_at_end : (result : Result Done RunFault) (before after : ℕ) → OnErr result (result ≡ Err WriteFailed) → after ≡ before → after ≡ read_failures result before
+not_read_at_end (Ok done) before after only same = same
+not_read_at_end (Err ReadFailed) before after only same = cc
+not_read_at_end (Err WriteFailed) before after only same = same
+not_read_at_end (Err NoMemory) before after only same = same
 
 -- By fixed rules, a file has one text.
 opened_one : {World : Type 0} (steps : World → CountedCell → List ℕ × Option World) (closes : World → PassedOver → Option Fault → List ℕ)

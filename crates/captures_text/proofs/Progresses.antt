@@ -1,6 +1,6 @@
 -- Each step of a run keeps its progress, and each end of it gives a text or a front of one.
 use Rattle.std.proofs.Common.{◌≡◌, ℕ, List, [], ◌∷◌, ◌++◌, Result, Ok, Err, IfOk, refl, ap, sym, ◌∙◌, subst, append_assoc, append-nil}
-use Rattle.std.specs.Result.{OnErr, OnOk}
+use Rattle.std.specs.Result.{OnOk}
 use Rattle.captures_text.specs.inner.Progress.{CaptureProgress, HasRead, Texts}
 use Rattle.text_io.specs.Devices.{Adds, IsPart, WritesPrefix}
 use Rattle.text_io.specs.Printing.{IsFront}

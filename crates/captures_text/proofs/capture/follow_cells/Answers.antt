@@ -3,7 +3,7 @@ use Rattle.std.proofs.Common.{Err, Some, ◌≡◌, ◌≤◌, ◌++◌, List, �
 use Rattle.std.proofs.lemmas.Result.{IfOk-weaker}
 use Rattle.captures.proofs.Public.{file_opened, file_undecided, header_within}
 use Rattle.captures.specs.Frames.{format_start, format_timed}
-use Rattle.captures.specs.Opening.{file_opening, opening_of}
+use Rattle.captures.specs.Opening.{file_opening}
 use Rattle.captures.specs.declared.opening.Opening.TheVariants.{Opened, Undecided, Refused}
 use Rattle.captures_text.specs.CaptureFaults.{file_fault_line}
 use Rattle.captures_text.specs.CaptureText.{IsCaptureText, short_fault}
