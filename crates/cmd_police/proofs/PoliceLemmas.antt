@@ -81,27 +81,32 @@ run_after before core begun spans not_judged = record before {
 }
 
 -- A cell that arrived, with the text for it.
-pub polices_by : (before : PoliceRun) (core : CoreView) (given : Answer) (vc : Vc) (counted : CountedCell)
+pub polices_by : (before : PoliceRun) (core : CoreView) (given : Answer) (counted : CountedCell)
     (begun : Bool) (at_moment spans : Spans) (not_judged : NotJudged) (old ended new : List ℕ)
     → SpansGoOn before.spans counted.moment at_moment old ended
-    → ArrivesWithRoom before.timed.card.core counted.cell counted.moment (Some given) core → vc ≡ vc_of before.timed.card.core.shape.side counted.cell
-    → AddsCell before.timed.card.core.shape.side before.lines (shown_stored before.rules) before.begun counted vc given (record before.timed.card { core = core }) ended new begun
-    → SpansCount at_moment vc given spans
+    → ArrivesWithRoom before.timed.card.core counted.cell counted.moment (Some given) core
+    → AddsCell before.timed.card.core.shape.side before.lines (shown_stored before.rules) before.begun counted (vc_of before.timed.card.core.shape.side counted.cell) given
+    (record before.timed.card { core = core }) ended new begun
+    → SpansCount at_moment (vc_of before.timed.card.core.shape.side counted.cell) given spans
     → not_judged ≡ not_judged_after before.not_judged counted.number given
     → FollowsArrived (ShowsPolice before) counted (ShowsPolice (run_after before core begun spans not_judged)) old new
-polices_by before core given vc counted begun at_moment spans not_judged old ended new goes arrives named adds more counts = (
-  own_ended_text before.spans counted.moment ++ lined before.timed.card.core.shape.side before.lines (shown_stored before.rules) before.begun before.timed.card.names counted vc given adds.excess,
+polices_by before core given counted begun at_moment spans not_judged old ended new goes arrives adds more counts = (
+  own_ended_text before.spans counted.moment
+      ++ lined before.timed.card.core.shape.side before.lines (shown_stored before.rules) before.begun before.timed.card.names counted
+      (vc_of before.timed.card.core.shape.side counted.cell) given adds.excess,
   adds.added
-      ∙ ap (λ xs. xs ++ lined before.timed.card.core.shape.side before.lines (shown_stored before.rules) before.begun before.timed.card.names counted vc given adds.excess) goes.added
+      ∙ ap (λ xs. xs ++ lined before.timed.card.core.shape.side before.lines (shown_stored before.rules) before.begun before.timed.card.names counted
+      (vc_of before.timed.card.core.shape.side counted.cell) given adds.excess) goes.added
       ∙ append_assoc old (own_ended_text before.spans counted.moment) _,
   λ world led shown.
       let number = counted.number in
       let moment = counted.moment in
       let cell = counted.cell in
+      let vc = vc_of before.timed.card.core.shape.side cell in
       let clp = has_low_priority cell in
       let on = arrives world.card led shown.timed.held.agrees in
       let same : given ≡ on.0 = let e : Some given ≡ Some on.0 = on.1 in cc in
-      let here : vc ≡ connection_of_cell world.card cell = named ∙ ap (λ (shape : Shape). vc_of shape.side cell) shown.timed.held.agrees.shape in
+      let here : vc ≡ connection_of_cell world.card cell = ap (λ (shape : Shape). vc_of shape.side cell) shown.timed.held.agrees.shape in
       let leaves : LeavesConnection world.card.world.connections on.2.world.connections vc clp given =
       subst (λ (v : Vc). LeavesConnection world.card.world.connections on.2.world.connections v clp given) (sym here)
       (subst (λ (a : Answer). LeavesConnection world.card.world.connections on.2.world.connections (connection_of_cell world.card cell) clp a) (sym same)

@@ -9,6 +9,7 @@ ghost use Rattle.line_record.specs.History.{numbered};
 ghost use Rattle.text_io.specs.Devices.{IsPart};
 ghost use Rattle.text_io.specs.Failures.{write_failures};
 ghost use Rattle.text_io.specs.Serving.{IsServed};
+ghost use Rattle.upc_cell.specs.Connection.{vc_of};
 ghost use Rattle.cmd_police.specs.PoliceLines.{excess_of_answer};
 ghost use Rattle.cmd_police.specs.PoliceText.{IsPoliceText, police_gap};
 ghost use Rattle.cmd_police.specs.inner.ExcessLeft.{IsKeptOnLine, LeavesConnection, excess_left, first_met};
@@ -107,17 +108,17 @@ fn add_cell(
     rules: &Option<LoadedRules>,
     begun: bool,
     counted: &CountedCell,
-    vc: Vc,
     decision: &Result<Judgement, Unjudged>,
     card: &ScriptCard,
 ) -> Result<bool, AllocError>
-    ensures { IfOk result (AddsCell side lines (shown_stored rules.now) begun counted.now vc (answer_to counted.now.cell decision.now) card.now
-        answers.old.items answers.new.items) }
+    ensures { IfOk result (AddsCell side lines (shown_stored rules.now) begun counted.now (vc_of side counted.now.cell)
+        (answer_to counted.now.cell decision.now) card.now answers.old.items answers.new.items) }
 {
     if !has_line(lines, decision) {
         return Ok(begun);
     }
     let cell = &counted.cell;
+    let vc = cell.vc_at(side);
     let clp = cell.clp();
     let excess = excess_of(card.core(), vc, clp, decision);
     add_heading_once(answers, begun, rules)?;
@@ -209,7 +210,6 @@ impl CellFollower for PoliceRun {
         let carried = self.timed.carry_out(moment, answers)?;
         self.commanded = either(self.commanded, carried);
         let side = self.timed.core().shape().side;
-        let vc = cell.vc_at(side);
         self.spans.go_on(moment, answers)?;
         let Some(decision) = self.timed.arrive(cell, moment) else {
             return Ok(Turn::GoesOn);
@@ -221,11 +221,10 @@ impl CellFollower for PoliceRun {
             &self.rules,
             self.begun,
             counted,
-            vc,
             &decision,
             &self.timed.card,
         )?;
-        self.spans.count(vc, &decision)?;
+        self.spans.count(side, cell, &decision)?;
         self.not_judged.count(counted.number, &decision);
         Ok(Turn::GoesOn)
     }

@@ -1,7 +1,8 @@
 //! The spans of time of a run.
 
-ghost use Rattle.std.specs.Prelude.{◌≡◌, ◌++◌, List, ℕ, OnOk, option_map};
+ghost use Rattle.std.specs.Prelude.{◌≡◌, ◌++◌, OnOk, option_map};
 ghost use Rattle.card_core.specs.Sections.{answer_to};
+ghost use Rattle.upc_cell.specs.Connection.{vc_of};
 ghost use Rattle.cmd_police.specs.SpanCounts.{SpansWorld, span_begin, next_span, spans_after, spans_at, spans_start};
 ghost use Rattle.cmd_police.specs.inner.SpansShown.{ShowsSpans, length_ticks, own_begun_after, own_ended_text, own_text};
 
@@ -11,7 +12,7 @@ use crate::span_rows::{SpanRows, add_rows, count_row};
 use card_core::{Judgement, Unjudged};
 use std::alloc::{AllocError, Global};
 use std::collections::BTreeMap;
-use upc_cell::{Side, Vc};
+use upc_cell::{Cell, Side};
 
 /// The spans of time of a run. Memory is that of the rows of one span, of which a connection has one.
 #[derive(Drop)]
@@ -92,21 +93,22 @@ impl Spans {
         self.begin_next(begin, answers)
     }
 
-    /// Counts a cell of this connection with this answer in the present span.
+    /// Counts a cell at this side with this answer in the present span.
     #[inline(always)]
     pub(crate) fn count(
         &mut self,
-        vc: Vc,
+        side: Side,
+        cell: &Cell,
         decision: &Result<Judgement, Unjudged>,
     ) -> Result<(), AllocError>
-        ensures { (spans : SpansWorld) (cell : List ℕ) → ShowsSpans self.old spans
-            → OnOk result (ShowsSpans self.new (spans_after spans vc (answer_to cell decision.now))) }
+        ensures { (spans : SpansWorld) → ShowsSpans self.old spans
+            → OnOk result (ShowsSpans self.new (spans_after spans (vc_of side cell.now) (answer_to cell.now decision.now))) }
     {
         if self.length.is_none() {
             return Ok(());
         }
         match verdict_in(decision) {
-            Some(verdict) => count_row(&mut self.rows, vc, verdict),
+            Some(verdict) => count_row(&mut self.rows, cell.vc_at(side), verdict),
             None => Ok(()),
         }
     }

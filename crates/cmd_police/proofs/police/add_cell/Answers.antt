@@ -1,11 +1,13 @@
-use Rattle.std.proofs.Common.{◌≡◌, ◌∙◌, ◌++◌, Bool, ap, sym, subst}
+use Rattle.std.proofs.Common.{◌≡◌, ◌∙◌, ◌++◌, true, ap, sym, subst}
 use Rattle.card_core.specs.Agreement.{CoreAgrees, CoreView}
 use Rattle.card_core.specs.Sections.{answer_to}
 use Rattle.card_core.specs.World.{World}
 use Rattle.upc_cell.specs.Header.{has_low_priority}
+use Rattle.upc_cell.specs.declared.vc.Vc.{Vc}
 use Rattle.cmd_police.specs.PoliceLines.{cell_columns, excess_of_answer}
 use Rattle.cmd_police.specs.StoredRules.{shown_stored}
 use Rattle.cmd_police.specs.inner.ExcessLeft.{LeavesConnection}
+use Rattle.cmd_police.specs.inner.PoliceShown.{AddsCell}
 use Rattle.cmd_police.proofs.LineTexts.{adds_line}
 use Rattle.cmd_police.proofs.police.add_cell.Goals as goal
 
@@ -13,17 +15,20 @@ pub returns : goal.returns
 returns c =
     let counted = c.args.counted.now in
     let given = answer_to counted.cell c.args.decision.now in
+    let vc = c.vc_at-vc.result in
     let clp : c.clp-clp.result ≡ has_low_priority counted.cell = c.clp-clp.ensures.test in
     let excess = c.excess_of-excess.result in
-    adds_line c.args.side c.args.lines (shown_stored c.args.rules.now) c.args.begun counted c.args.vc given c.args.card.now excess
+    subst (λ (named : Vc). AddsCell c.args.side c.args.lines (shown_stored c.args.rules.now) c.args.begun counted named given c.args.card.now
+    c.args.answers.now.items c.end_line.new.answers.items true) c.vc_at-vc.ensures.connection
+    (adds_line c.args.side c.args.lines (shown_stored c.args.rules.now) c.args.begun counted vc given c.args.card.now excess
     c.args.answers.now.items c.add_heading_once.new.answers.items c.add_cell_columns.new.answers.items c.end_line.new.answers.items
     (sym (c.has_line.ensures counted.cell) ∙ c.if-not-has_line.false)
     c.in_ok-add_heading_once.ensures
     (c.in_ok-add_cell_columns.ensures counted.cell
-    ∙ ap (λ b. c.add_heading_once.new.answers.items ++ cell_columns c.args.side counted.number counted.moment c.args.vc b given excess) clp)
+    ∙ ap (λ b. c.add_heading_once.new.answers.items ++ cell_columns c.args.side counted.number counted.moment vc b given excess) clp)
     c.in_ok-end_line.ensures
     (λ before after agrees leaves.
     let near : CoreAgrees c.core.result.now after = subst (λ (core : CoreView). CoreAgrees core after) (sym c.core.ensures) agrees in
-    let leaves_so : LeavesConnection before.connections after.connections c.args.vc c.clp-clp.result given =
-    subst (λ b. LeavesConnection before.connections after.connections c.args.vc b given) (sym clp) leaves in
-    c.excess_of-excess.ensures before after counted.cell near leaves_so ∙ ap (λ b. excess_of_answer before c.args.vc b given) clp)
+    let leaves_so : LeavesConnection before.connections after.connections vc c.clp-clp.result given =
+    subst (λ b. LeavesConnection before.connections after.connections vc b given) (sym clp) leaves in
+    c.excess_of-excess.ensures before after counted.cell near leaves_so ∙ ap (λ b. excess_of_answer before vc b given) clp))

@@ -9,7 +9,9 @@ use Rattle.cmd_police.specs.declared.timed_card.TimedCard.{TimedCard}
 use Rattle.upc_cell.specs.Header.{has_low_priority}
 use Rattle.cmd_police.specs.inner.CardArrival.{ArrivesWithRoom}
 use Rattle.cmd_police.specs.StoredRules.{shown_stored}
+use Rattle.cmd_police.specs.SpanCounts.{spans_after}
 use Rattle.cmd_police.specs.inner.PoliceShown.{AddsCell, ShowsPolice}
+use Rattle.cmd_police.specs.inner.SpansShown.{ShowsSpans}
 use Rattle.cmd_police.proofs.PoliceLemmas.{FollowsArrived, polices_after, polices_by, polices_never, run_commanded}
 use Rattle.cmd_police.proofs.police.PoliceRunCellFollower.follow_cell.Goals as goal
 
@@ -47,15 +49,14 @@ returns c =
     (ShowsPolice (record run { timed = c.arrive.new.self; begun = c.in_ok-self.field-0; spans = c.count.new.self; not_judged = c.count-2.new.self }))
     c.args.answers.now.items c.carry_out.new.answers.items c.add_cell.new.answers.items
     c.in_ok-carried.ensures c.either-self.ensures
-    (subst At (sym c.arrive.ensures.rest) (polices_by run core given c.vc_at-vc.result counted c.in_ok-self.field-0 c.go_on.new.self c.count.new.self c.count-2.new.self
+    (subst At (sym c.arrive.ensures.rest) (polices_by run core given counted c.in_ok-self.field-0 c.go_on.new.self c.count.new.self c.count-2.new.self
     c.carry_out.new.answers.items c.go_on.new.answers.items c.add_cell.new.answers.items
     (record { added = c.in_ok-go_on.ensures.text; spans = c.in_ok-go_on.ensures.spans })
     (subst (λ (o : Option (Result Judgement Unjudged)). ArrivesWithRoom timed.card.core cell counted.moment (option_map (λ decision. answer_to cell decision) o) core)
     c.in-Some.is c.arrive.ensures.arrives)
-    (c.vc_at-vc.ensures.connection ∙ ap (λ (shape : Shape). vc_of shape.side cell) here)
-    (subst (λ (shape : Shape). AddsCell shape.side run.lines (shown_stored run.rules) run.begun counted c.vc_at-vc.result given (record timed.card { core = core })
+    (subst (λ (shape : Shape). AddsCell shape.side run.lines (shown_stored run.rules) run.begun counted (vc_of shape.side cell) given (record timed.card { core = core })
     c.go_on.new.answers.items c.add_cell.new.answers.items c.in_ok-self.field-0) here
-    (subst (λ (after : TimedCard). AddsCell c.shape-side.result.side run.lines (shown_stored run.rules) run.begun counted c.vc_at-vc.result given after.card
+    (subst (λ (after : TimedCard). AddsCell c.shape-side.result.side run.lines (shown_stored run.rules) run.begun counted (vc_of c.shape-side.result.side cell) given after.card
     c.go_on.new.answers.items c.add_cell.new.answers.items c.in_ok-self.field-0) c.arrive.ensures.rest c.in_ok-self.ensures))
-    (λ spans shown. c.in_ok-count.ensures spans cell shown)
+    (λ spans shown. subst (λ (shape : Shape). ShowsSpans c.count.new.self (spans_after spans (vc_of shape.side cell) given)) here (c.in_ok-count.ensures spans shown))
     (c.count-2.ensures cell)))
