@@ -1,9 +1,13 @@
 -- Each turn of the loop keeps its invariant, and each exit returns a text or a prefix of one.
-use Rattle.std.proofs.Common.{◌≡◌, Ok, [], ◌++◌, List, ℕ, refl, ap, subst, sym, ◌∙◌, arith, append-nil, length}
+use Rattle.std.proofs.Common.{◌≡◌, Ok, Err, [], ◌++◌, List, ℕ, refl, ap, subst, sym, ◌∙◌, arith, append-nil, length}
 use Rattle.std.proofs.lemmas.List.{length-append}
 use Rattle.std.proofs.lemmas.Result.{IfOk-weaker}
-use Rattle.text_io.proofs.Public.{all-moved, at-err, at-ok}
-use Rattle.text_io.specs.declared.ending.Done.TheVariants.{Ended}
+use Rattle.text_io.proofs.Public.{all-moved, at-err, at-ok, at-result}
+use Rattle.text_io.specs.Devices.{one_more}
+use Rattle.text_io.specs.Failures.{read_failures, write_failures}
+use Rattle.text_io.specs.declared.ending.Done.{Done}
+use Rattle.text_io.specs.declared.ending.Done.TheVariants.{Ended, Whole}
+use Rattle.captures_text.proofs.CaptureTexts.{not_read, not_read_at_end}
 use Rattle.captures_text.proofs.Progresses.{if_done, if_given, on_fault}
 use Rattle.cmd_forward.specs.declared.stepping.ForwardReading.{ForwardReading}
 use Rattle.cmd_forward.specs.declared.stepping.Going.{Going}
@@ -164,3 +168,37 @@ returns-in-Ok-eq0-clause-left g c = λ ki.
     let end = said world sound is_shown in
     (end.0, subst (λ (xs : List ℕ). ForwardsHere j.rules c.args.others reading' world end.0 xs [] done) (sym (append-nil reading'.window)) end.2)))
     c.finish.ensures.said
+
+pub returns-in-Ok-Ended-clause-whole : goal.returns-in-Ok-Ended-clause-whole
+returns-in-Ok-Ended-clause-whole g c = λ ki whole.
+    let bad : Whole ≡ Ended = at-result c.give_last.result (λ done. done ≡ Ended) Whole whole c.give_last.ensures.done in cc
+
+pub returns-in-Ok-Ended-clause-read : goal.returns-in-Ok-Ended-clause-read
+returns-in-Ok-Ended-clause-read g c = not_read_at_end c.give_last.result _ _ c.give_last.ensures.fault c.loop-written.invariant.read
+
+pub returns-in-Ok-Ended-clause-written : goal.returns-in-Ok-Ended-clause-written
+returns-in-Ok-Ended-clause-written g c = c.give_last.ensures.writing ∙ ap (λ n. write_failures c.give_last.result n) c.loop-written.invariant.written
+
+pub returns-then-is_err-clause-written : goal.returns-then-is_err-clause-written
+returns-then-is_err-clause-written g c =
+    at-err c.give_if_enough.result _ (sym c.is_err.ensures.value ∙ c.if-is_err.true) c.give_if_enough.ensures.failed ∙ ap (λ n. one_more n) c.loop-written.invariant.written
+
+pub returns-in-Err-refill-clause-read : goal.returns-in-Err-refill-clause-read
+returns-in-Err-refill-clause-read g c =
+    c.in-Err-refill.ensures.reading ∙ ap (λ n. read_failures {T = Done} (Err c.in-Err-refill.fault) n) c.loop-written.invariant.read
+
+pub returns-in-Err-refill-clause-written : goal.returns-in-Err-refill-clause-written
+returns-in-Err-refill-clause-written g c =
+    c.in-Err-refill.ensures.writing ∙ ap (λ n. write_failures {T = Done} (Err c.in-Err-refill.fault) n) c.loop-written.invariant.written
+
+pub returns-in-Ok-eq0-clause-whole : goal.returns-in-Ok-eq0-clause-whole
+returns-in-Ok-eq0-clause-whole g c = λ ki whole.
+    let none : c.in-Ok-eq0.field-0 ≡ 0 = omega arith in
+    c.in-Ok-eq0.ensures.end ki (ap (λ n. Ok n) none)
+
+pub returns-in-Ok-eq0-clause-read : goal.returns-in-Ok-eq0-clause-read
+returns-in-Ok-eq0-clause-read g c = not_read c.finish.result _ _ c.finish.ensures.fault (c.in-Ok-eq0.ensures.reading ∙ c.loop-written.invariant.read)
+
+pub returns-in-Ok-eq0-clause-written : goal.returns-in-Ok-eq0-clause-written
+returns-in-Ok-eq0-clause-written g c =
+    c.finish.ensures.writing ∙ ap (λ n. write_failures c.finish.result n) (c.in-Ok-eq0.ensures.writing ∙ c.loop-written.invariant.written)
