@@ -2,6 +2,7 @@
 #![tactic(auto)]
 
 mod card_room;
+mod cell_columns;
 mod cell_lines;
 mod compiling;
 mod connection_counts;

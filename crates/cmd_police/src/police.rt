@@ -18,7 +18,8 @@ ghost use Rattle.cmd_police.specs.SpanCounts.{spans_start, ticks_of_span};
 ghost use Rattle.cmd_police.specs.inner.PoliceShown.{AddsCell};
 ghost use Rattle.cmd_police.specs.inner.SpansShown.{ShowsSpans, own_begun_after};
 
-use crate::cell_lines::{add_cell_columns, add_heading_once, has_line};
+use crate::cell_columns::add_cell_columns;
+use crate::cell_lines::{add_heading_once, has_line};
 use crate::connection_counts::add_counts;
 use crate::not_judged::{NotJudged, add_not_judged};
 use crate::program_rules::LoadedRules;
