@@ -7,14 +7,26 @@ from .parts import OTHERS, parts_of
 
 # Words that any question may have, whatever it is about.
 IDLE = frozenset(
-    "a about across actually after again against also am an and anybody anyone anything anywhere are arent around as at be been before being between both by can cannot cant code could defined described did difference differences differ do documented does doesnt done dont during "
-    "each else ever everybody everyone everything exactly explained for from get gets going good had happen happened happens has have here how i if implemented in into is isnt it its itself just kind "
-    "kinds know made makes many matter matters may me mean means might much must my myself of often on one only or our per please really said say says see shall should so some somebody someone something stated still "
-    "struct such tell tells than that the their them then there these they thing things this those through to too toward towards two upon us use used uses using very via want wants was way ways well "
+    "a able about across actually after again against also am an and another anybody anyone anything anywhere are arent around as at available be been before behave behaves being between both by can cannot cant code could defined described did difference differences differ do documented does doesnt done dont during "
+    "each else ever everybody everyone everything exactly explained for from get gets give gives giving going good had happen happened happens has have here how i if implemented in into is isnt it its itself just kind "
+    "kinds know like made makes maybe many matter matters may me mean means might much must my myself of often on one only or our per please possible possibly provide provided provides really said say says see shall should so some somebody someone something stated still support supported supports "
+    "struct such tell tells than that the their them then there these they thing things this those through to too toward towards treat treated treats two upon us use used uses using very via want wants was way ways well "
     "we were what when where whether which while who whose why will with work works would written yet you your".split()
 )
+# The least of them: a phrase may be asked without them.
+SMALL = frozenset("a an the to".split())
+# What a phrase asks for, where its words alone would ask for something else.
+PHRASES = {"how many": "number of", "find out": "know"}
+PHRASE = re.compile(rf"\b(?:{'|'.join(PHRASES)})\b", re.I)
+# A place in a file of the one who asks tells nothing.
+PLACE = re.compile(r"\b(line|column|record|instruction) \d+\b", re.I)
 # Endings, the longest first, and what has to be left of a word without them.
 ENDINGS = re.compile(r"(?<=\w{4})(?:ations?|ments?|ness)$|(?<=\w{3}[^e]at)(?:ed|ing|es?|ors?)$|(?<=\w{3})(?:ings?|ions?|ers?|ors?|(?<!ce)ed|ly)$")
+# Forms of a verb that no ending makes.
+IRREGULAR = dict(it.split(":") for it in (
+    "began:begin begun:begin broken:break built:build chose:choose chosen:choose drawn:draw found:find held:hold kept:keep lent:lend "
+    "lost:lose meant:mean ran:run sent:send shown:show spelt:spell thrown:throw told:tell wrote:write written:write"
+).split())
 # A name as code spells it, of several words, or an option.
 NAME = re.compile(r"(?<![\w-])--[a-z][\w-]*|\b(?:[A-Za-z0-9]+_\w*[A-Za-z0-9]|[A-Za-z]?[a-z0-9]+(?:[A-Z][a-z0-9]+)+)\b")
 # What is left of `isolated`, whose noun is `isolation`.
@@ -31,6 +43,7 @@ def words_of(text):
 @functools.lru_cache(maxsize=None)
 def stem(word):
     """Returns a word without its ending, so that `released` and `releases` are one word."""
+    word = IRREGULAR.get(word, word)
     if len(word) < 4 or word.isdigit():
         return word
     word = re.sub(r"(?<=\w\w)ies$", "y", word)
@@ -47,24 +60,32 @@ def names_in(text):
     return [it.replace("_", "").lower() for it in NAME.findall(text)]
 
 
+def plain(text):
+    """Returns a text with a word that tells something in place of each phrase."""
+    return PHRASE.sub(lambda it: PHRASES[it[0].lower()], text)
+
+
 def stems_of(text):
     """Returns the words of a text without their endings."""
-    return [stem(it) for it in words_of(text)]
+    return [stem(it) for it in words_of(plain(text))]
 
 
 @functools.lru_cache(maxsize=None)
 def others():
-    """Returns what docs/GLOSSARY.md has for words of other texts: for the stems of each the stems of those that are used here."""
+    """Returns what docs/GLOSSARY.md has for words of other texts: for the stems of each, and the idle words that a question has to have with
+    them, the stems of those that are used here. `link with` is no other word for a link."""
     found = {}
     for part in parts_of("docs/GLOSSARY.md", text_of("docs/GLOSSARY.md")):
         for it in part.name.split(",") if part.heading == OTHERS and part.name else []:
-            found.setdefault(searched_stems(it), []).extend(searched_stems(ours) for ours in part.text.split(","))
+            own, words = searched_stems(it), words_of(it)
+            beside = frozenset(words) & IDLE - SMALL if len(own) < len(words) else frozenset()
+            found.setdefault((own, beside), []).extend(searched_stems(ours) for ours in part.text.split(","))
     return found
 
 
 def pairs_asked():
     """Returns the pairs of stems that a part of a question may have."""
-    return {pair for own, ours in others().items() for stems in [own, *ours] for pair in zip(stems, stems[1:])}
+    return {pair for (own, _), ours in others().items() for stems in [own, *ours] for pair in zip(stems, stems[1:])}
 
 
 def searched_stems(text):
@@ -76,8 +97,12 @@ def searched_stems(text):
 def meanings_of(words):
     """Returns for each part of a question what it may be called: lists of stems, its own first. The words of a part may be apart in it,
     and in any order."""
-    left = list(dict.fromkeys(searched_stems(" ".join(words).replace("how many", "number of"))))
-    known, found = others(), []
+    asked = PLACE.sub(r"\1", plain(" ".join(words)))
+    left, said = list(dict.fromkeys(searched_stems(asked))), set(words_of(asked))
+    known, found = {}, []
+    for (own, beside), ours in others().items():
+        if beside <= said:
+            known.setdefault(own, {}).update(dict.fromkeys(ours))
     for own in sorted(known, key=lambda it: (-len(it), it)):
         if len(own) > 1 and all(it in left for it in own):
             found.append((min(left.index(it) for it in own), own))

@@ -4,7 +4,7 @@ import unittest
 
 from atlas.index import Answer, Index, titled
 from atlas.parts import Part
-from atlas.words import meanings_of, names_in, stem, words_of
+from atlas.words import meanings_of, names_in, stem, stems_of, words_of
 
 
 class Words(unittest.TestCase):
@@ -29,6 +29,22 @@ class Words(unittest.TestCase):
     def test_words_of_others(self):
         (meanings,) = meanings_of(["packets"])
         self.assertEqual(meanings, [("packet",), ("cell",)])
+
+    def test_forms_of_a_verb_are_one_word(self):
+        for words in (("sent", "sends", "sending"), ("lost", "lose", "loses"), ("written", "wrote", "writes"), ("found", "find")):
+            self.assertEqual(len({stem(it) for it in words}), 1, words)
+
+    def test_phrases(self):
+        self.assertEqual(stems_of("It says how many cells came."), stems_of("It says number of cells came."))
+        self.assertEqual(meanings_of("find out how many bits".split()), meanings_of("number of bits".split()))
+
+    def test_a_place_in_the_files_of_the_one_who_asks_tells_nothing(self):
+        self.assertEqual(meanings_of("a fault in line 12".split()), meanings_of("a fault in line".split()))
+
+    def test_a_phrase_of_others_is_met_with_its_small_words(self):
+        self.assertEqual(meanings_of(["link"]), [[("link",)]])
+        (meanings,) = meanings_of("link with".split())
+        self.assertIn(("pkg", "config"), meanings)
 
     def test_words_of_others_are_met_in_any_order(self):
         for question in ("it runs out of memory", "the memory runs out"):
