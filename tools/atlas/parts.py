@@ -4,7 +4,7 @@ import re
 from .files import crates, exists, files_below, text_of
 from .functions import comment_above
 
-HEADER = "include/upc.h"
+HEADER, RESULTS = "include/upc.h", "bench/RESULTS.md"
 # The table of docs/GLOSSARY.md with the words of others.
 OTHERS = "Other words for the same"
 TYPE = re.compile(r"(?:pub(?:\(\w+\))? )?(?:struct|enum|trait|type|const) (\w+)")
@@ -152,8 +152,8 @@ def cases():
 
 
 def all_sections():
-    """Yields the sections of all pages. The words of others are no answer: they lead to one."""
-    for path in pages():
+    """Yields the sections of all pages, and of the results, whose parts are figures. The words of others are no answer: they lead to one."""
+    for path in (*pages(), RESULTS):
         yield from (it for it in sections_of(path, text_of(path)) if it.name != OTHERS)
 
 
