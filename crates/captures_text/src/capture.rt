@@ -42,7 +42,7 @@ pub fn find_opening<I: Input>(
             Opening::Undecided => {}
             _ => return Ok(open_whole(window.octets())),
         }
-        if window.fill(input)? == 0 {
+        if window.fill(input, WINDOW_ROOM)? == 0 {
             return Ok(open_whole(window.octets()));
         }
     }

@@ -14,7 +14,7 @@ ghost use Rattle.text_io.specs.declared.ending.Done.{Done as TheDone};
 use crate::follower::{CellFollower, answers_each_cell};
 use crate::one_thread::{Going, advance};
 use crate::queue::Queue;
-use crate::reading_ahead::ReadingAhead;
+use crate::reading_ahead::{READING_OCTETS, ReadingAhead, WINDOW_ROOM};
 use crate::two_threads::give_and_go_ahead;
 use captures::Fault;
 use std::alloc::Global;
@@ -89,6 +89,8 @@ pub(crate) fn follow_on<R: Threads, I: Input + Send, O: Output, F: CellFollower 
     ensures written { O.failures output.new ≡ write_failures result (O.failures output.old) }
 {
     answers_each_cell(follower);
+    // A full window starts the second thread.
+    let most = if at_once { WINDOW_ROOM } else { READING_OCTETS };
     let mut queue = Queue::new(alloc);
     let mut answers = Vec::new(alloc);
     loop {
@@ -116,7 +118,13 @@ pub(crate) fn follow_on<R: Threads, I: Input + Send, O: Output, F: CellFollower 
                         return Err(RunFault::WriteFailed);
                     }
                 }
-                Ok(Going::Wants) => match refill(&mut reading.window, input, output, &mut answers) {
+                Ok(Going::Wants) => match refill(
+                    &mut reading.window,
+                    most,
+                    input,
+                    output,
+                    &mut answers,
+                ) {
                     Err(fault) => return Err(fault),
                     Ok(0) => return finish(output, follower, &reading, &mut answers),
                     Ok(_) => {}

@@ -34,6 +34,6 @@ pub use follower::CellFollower;
 pub use link_words::add_link;
 pub use marked::MarkTallies;
 pub use passed::PassedOver;
-pub use reading_ahead::WINDOW_ROOM;
+pub use reading_ahead::{READING_OCTETS, WINDOW_ROOM};
 pub use run_lines::{add_closing, add_several};
 pub use tally::PassedTally;

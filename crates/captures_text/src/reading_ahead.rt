@@ -17,6 +17,9 @@ use upc_cell::CELL_OCTETS;
 /// The room of the window, in octets. A frame has at most 131,072.
 pub const WINDOW_ROOM: usize = 524_288;
 
+/// One thread reads at most this number of octets at once: they stay in the second cache of the processor, and what is made of them too.
+pub const READING_OCTETS: usize = 131_072;
+
 /// The octets of a usual record: a header of 16 octets, and a cell.
 const USUAL_OCTETS: usize = 16 + CELL_OCTETS;
 
@@ -126,7 +129,7 @@ impl ReadingAhead {
         ensures fault { result ≢ Err RunFault.WriteFailed }
         ensures reading { I.failures input.new ≡ read_failures result (I.failures input.old) }
     {
-        match self.window.fill(input) {
+        match self.window.fill(input, WINDOW_ROOM) {
             Err(_) => Err(RunFault::ReadFailed),
             Ok(0) => Ok(None),
             Ok(_) => match self.read(cells, usize::MAX) {

@@ -12,7 +12,7 @@ use crate::link_lines::add_links;
 use crate::link_table::LinkTable;
 use crate::links_reading::{Going, LinksReading};
 use captures::Fault;
-use captures_text::done_at;
+use captures_text::{READING_OCTETS, done_at};
 use text_io::{Done, Input, RunFault};
 
 /// Appends the text after all records.
@@ -51,7 +51,7 @@ pub(crate) fn read_on<I: Input>(
             Err(_) => return Err(RunFault::NoMemory),
             Ok(Going::On) => {}
             Ok(Going::Broken(fault)) => return finish(answers, &reading.table, Some(fault)),
-            Ok(Going::Wants) => match reading.window.fill(input) {
+            Ok(Going::Wants) => match reading.window.fill(input, READING_OCTETS) {
                 Err(_) => return Err(RunFault::ReadFailed),
                 Ok(0) => {
                     let ending = reading.reader.end(reading.window.octets());

@@ -12,7 +12,7 @@ ghost use Rattle.cmd_forward.specs.inner.ForwardSteps.{ForwardsHere, ForwardsSom
 use crate::judge::{CellJudge, judges_each_cell};
 use crate::others::Others;
 use crate::stepping::{ForwardReading, Going};
-use captures_text::done_at;
+use captures_text::{READING_OCTETS, done_at};
 use std::alloc::Global;
 use text_io::{Done, Input, Output, RunFault, give_if_enough, give_last, refill};
 
@@ -76,7 +76,13 @@ pub(crate) fn forward_on<I: Input, O: Output, J: CellJudge>(
                     return Err(RunFault::WriteFailed);
                 }
             }
-            Ok(Going::Wants) => match refill(&mut reading.window, input, output, &mut written) {
+            Ok(Going::Wants) => match refill(
+                &mut reading.window,
+                READING_OCTETS,
+                input,
+                output,
+                &mut written,
+            ) {
                 Err(fault) => return Err(fault),
                 Ok(0) => return finish(others, output, judge, &reading, &mut written, report),
                 Ok(_) => {}

@@ -30,3 +30,8 @@ pub given-more : (xs start before after : List ℕ) (given count : ℕ) → befo
 given-more xs start before after given count was is =
     is ∙ ap (λ ys. before ++ take count ys) (take_rest xs given) ∙ ap (λ ys. ys ++ take count (drop given xs)) was
     ∙ append_assoc start (take given xs) (take count (drop given xs)) ∙ ap (λ ys. start ++ ys) (sym (take-add given count xs))
+
+-- Octets read into the front of a room are the first of the room.
+pub taken-front : (room post before after : List ℕ) (count : ℕ) → count ≤ length room
+    → before ≡ take count room ++ after → before ≡ take count (room ++ post) ++ after
+taken-front room post before after count fits came = rw (take-append-le count room post fits) came

@@ -190,7 +190,7 @@ pub fn answer_lines<I: Input, O: Output, M: Machine>(
                 if looked > 0 && is_over_limits(met, looked) {
                     return end_too_long(output, machine, &mut answers);
                 }
-                match refill(&mut window, input, output, &mut answers) {
+                match refill(&mut window, WINDOW_ROOM, input, output, &mut answers) {
                     Err(fault) => return Err(fault),
                     Ok(0) => return finish(output, machine, met, window.octets(), &mut answers),
                     Ok(_) => {}

@@ -6,7 +6,29 @@ ghost use Rattle.text_io.specs.Devices.{one_more};
 use crate::device::{Failed, Input};
 use std::mem;
 
-/// Reads octets into the room from place `end` on, and returns their number. It is 0 only at the end of the input.
+/// Reads at most `most` octets into the start of the room, and returns their number. It is 0 only at the end of the input.
+///
+/// # Errors
+///
+/// `Failed` if the input failed.
+fn read_some<I: Input>(input: &mut I, room: &mut [u8], most: usize) -> Result<usize, Failed>
+    requires some { 0 < most }
+    requires room { 0 < length room.old }
+    ensures within { IfOk result (λ count. count ≤ length room.new) }
+    ensures most { IfOk result (λ count. count ≤ most) }
+    ensures octets { I.is_known → IfOk result (λ count. I.rest input.old ≡ take count room.new ++ I.rest input.new) }
+    ensures end { I.is_known → result ≡ Ok 0 → I.rest input.new ≡ [] }
+    ensures kept { I.is_known → OnErr result (I.rest input.new ≡ I.rest input.old) }
+    ensures calm { OnOk result (I.failures input.new ≡ I.failures input.old) }
+    ensures failed { OnErr result (I.failures input.new ≡ one_more (I.failures input.old)) }
+{
+    let last = most.min(room.len());
+    let count = input.take(&mut room[..last])?;
+    Ok(count)
+}
+
+/// Reads at most `most` octets into the room from place `end` on, and returns their number. It is 0 only at the end of the
+/// input.
 ///
 /// # Errors
 ///
@@ -15,8 +37,11 @@ pub(crate) fn read_after<I: Input>(
     input: &mut I,
     room: &mut [u8],
     end: usize,
+    most: usize,
 ) -> Result<usize, Failed>
-    requires { end < length room.old }
+    requires within { end < length room.old }
+    requires some { 0 < most }
+    ensures most { IfOk result (λ count. count ≤ most) }
     ensures within { IfOk result (λ count. end + count ≤ length room.new) }
     ensures octets { I.is_known → IfOk result (λ count.
         take end room.old ++ I.rest input.old ≡ take (end + count) room.new ++ I.rest input.new) }
@@ -26,7 +51,7 @@ pub(crate) fn read_after<I: Input>(
     ensures calm { OnOk result (I.failures input.new ≡ I.failures input.old) }
     ensures failed { OnErr result (I.failures input.new ≡ one_more (I.failures input.old)) }
 {
-    let count = input.take(&mut room[end..])?;
+    let count = read_some(input, &mut room[end..], most)?;
     Ok(count)
 }
 

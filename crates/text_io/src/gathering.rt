@@ -50,7 +50,7 @@ fn take_more<I: Input>(
             return Err(RunFault::NoMemory);
         }
     }
-    read_after(input, room, end).map_err(|_| RunFault::ReadFailed)
+    read_after(input, room, end, usize::MAX).map_err(|_| RunFault::ReadFailed)
 }
 
 /// Reads all octets of an input. Returns none if there are more than `most`; then `most` + 1 octets were read.

@@ -9,8 +9,8 @@ use crate::device::{Input, Output};
 use crate::ending::RunFault;
 use crate::window::Window;
 
-/// Writes the collected answers and clears them, and then reads more input into the window. Returns the number of octets
-/// read. It is 0 only at the end of the input.
+/// Writes the collected answers and clears them, and then reads at most `most` more octets into the window. Returns
+/// their number. It is 0 only at the end of the input.
 ///
 /// # Errors
 ///
@@ -18,11 +18,14 @@ use crate::window::Window;
 /// written.
 pub fn refill<const ROOM: usize, I: Input, O: Output>(
     window: &mut Window<ROOM>,
+    most: usize,
     input: &mut I,
     output: &mut O,
     answers: &mut Vec<u8>,
 ) -> Result<usize, RunFault>
-    requires { length window.old < ROOM }
+    requires room { length window.old < ROOM }
+    requires some { 0 < most }
+    ensures most { IfOk result (λ count. count ≤ most) }
     ensures octets { I.is_known → IfOk result (λ _. window.old ++ I.rest input.old ≡ window.new ++ I.rest input.new) }
     ensures count { IfOk result (λ count. length window.new ≡ length window.old + count) }
     ensures front_octets { IfOk result (λ _. take (length window.old) window.new ≡ window.old) }
@@ -40,7 +43,7 @@ pub fn refill<const ROOM: usize, I: Input, O: Output>(
     if give_answers(output, answers).is_err() {
         return Err(RunFault::WriteFailed);
     }
-    match window.fill(input) {
+    match window.fill(input, most) {
         Ok(count) => Ok(count),
         Err(_) => Err(RunFault::ReadFailed),
     }

@@ -72,13 +72,15 @@ impl<const ROOM: usize> Window<ROOM> {
         self.end == self.buffer.len()
     }
 
-    /// Reads more octets after those that wait, and returns their number. It is 0 only at the end of the input.
+    /// Reads at most `most` more octets after those that wait, and returns their number. It is 0 only at the end of the input.
     ///
     /// # Errors
     ///
     /// `Failed` if the input failed; the waiting octets are kept.
-    pub fn fill<I: Input>(&mut self, input: &mut I) -> Result<usize, Failed>
-        requires { length self.old < ROOM }
+    pub fn fill<I: Input>(&mut self, input: &mut I, most: usize) -> Result<usize, Failed>
+        requires room { length self.old < ROOM }
+        requires some { 0 < most }
+        ensures most { IfOk result (λ count. count ≤ most) }
         ensures octets { I.is_known → IfOk result
             (λ _. self.old ++ I.rest input.old ≡ self.new ++ I.rest input.new) }
         ensures count { IfOk result (λ count. length self.new ≡ length self.old + count) }
@@ -96,7 +98,7 @@ impl<const ROOM: usize> Window<ROOM> {
             self.end -= self.start;
             self.start = 0;
         }
-        let count = read_after(input, &mut self.buffer, self.end)?;
+        let count = read_after(input, &mut self.buffer, self.end, most)?;
         self.end += count;
         Ok(count)
     }
