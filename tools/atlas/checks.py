@@ -189,6 +189,21 @@ def layered(sources):
     yield from drawn(layers, text_of("docs/ARCHITECTURE.md"))
 
 
+def twice(layers, texts):
+    """Yields each file with tests whose crate isn't of the layer of tests. `texts` has the text of each file, by its path, of each crate."""
+    for layer, crates in layers:
+        for crate, _ in crates:
+            for path, text in texts.get(crate, {}).items():
+                if layer != "tests" and "#[test]" in text:
+                    yield f"{path}: it has tests, so {crate} is proved twice; they belong in a crate of the layer tests"
+
+
+def proved_once(sources):
+    """Yields each file whose tests have the gate prove a crate twice."""
+    texts = {crate: {it: text_of(it) for it in files_below(f"crates/{crate}/src", ".rt")} for crate in sources.crates}
+    yield from twice(layers_of(text_of("crates.txt")), texts)
+
+
 def explained(sources):
     """Yields each commit that changes a contract or a figure without a word about it."""
     yield from history.silent()
@@ -239,7 +254,7 @@ def packaged(sources):
     yield from differing(listed, asked)
 
 
-CHECKS = (comments, turned, defined, meant, linked, named, placed, failed, coded, layered, explained, applied, caught, packaged)
+CHECKS = (comments, turned, defined, meant, linked, named, placed, failed, coded, layered, proved_once, explained, applied, caught, packaged)
 
 
 def checked(sources):

@@ -4,3 +4,4 @@ mod lines;
 mod ports;
 mod programs;
 mod scripts;
+mod subcommands;

@@ -4,8 +4,6 @@
 mod invocation;
 mod laws;
 mod subcommand;
-#[cfg(test)]
-mod tests;
 
 pub use cmd_ports::{run_ports, run_ports_with};
 pub use cmd_programs::{check_source, eval_bytes};

@@ -13,8 +13,6 @@ mod reporting;
 mod running;
 mod setup_file;
 mod setup_hints;
-#[cfg(test)]
-mod tests;
 
 pub use captures_text::cells_of_capture;
 pub use choice::{Asked, Subcommand, choose};

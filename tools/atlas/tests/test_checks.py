@@ -2,7 +2,7 @@
 import unittest
 from types import SimpleNamespace
 
-from atlas.checks import anchors_of, differing, drawn, layers_of, meant, rising
+from atlas.checks import anchors_of, differing, drawn, layers_of, meant, rising, twice
 
 
 def specs(**modules):
@@ -51,6 +51,19 @@ class Layers(unittest.TestCase):
         self.assertIn("docs/ARCHITECTURE.md: the table lacks bpf_code in layer base", wrong)
         self.assertIn("docs/ARCHITECTURE.md: the table has text_io in layer words, and crates.txt hasn't", wrong)
         self.assertEqual(len(wrong), 4)
+
+
+class ProvedOnce(unittest.TestCase):
+    LAYERS = [("base", [("leaky", [])]), ("tests", [("line_tests", ["leaky"])])]
+
+    def test_tests_in_a_crate_of_tests(self):
+        texts = {"leaky": {"crates/leaky/src/lib.rt": "fn f() {}\n"}, "line_tests": {"crates/line_tests/src/tests.rt": "#[test]\nfn t() {}\n"}}
+        self.assertEqual(list(twice(self.LAYERS, texts)), [])
+
+    def test_tests_in_another_crate(self):
+        texts = {"leaky": {"crates/leaky/src/tests.rt": "#[test]\nfn t() {}\n"}}
+        wrong = ["crates/leaky/src/tests.rt: it has tests, so leaky is proved twice; they belong in a crate of the layer tests"]
+        self.assertEqual(list(twice(self.LAYERS, texts)), wrong)
 
 
 class Packages(unittest.TestCase):
