@@ -20,14 +20,10 @@ mod reasons;
 mod rule_faults;
 mod rule_hints;
 mod rule_lines;
-#[cfg(test)]
-mod rule_tests;
 mod rule_tokens;
 mod rules_explained;
 mod source_faults;
 mod spots;
-#[cfg(test)]
-mod tests;
 mod token_parts;
 mod tokens;
 

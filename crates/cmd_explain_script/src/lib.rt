@@ -13,8 +13,6 @@ mod places;
 mod reasons;
 mod script_faults;
 mod setup_hints;
-#[cfg(test)]
-mod tests;
 mod wrong_words;
 
 pub use contract_numbers::NamesNone;

@@ -1,5 +1,6 @@
 //! One module for each group of crates.
 
+mod explained;
 mod lines;
 mod ports;
 mod programs;

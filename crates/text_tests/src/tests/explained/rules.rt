@@ -1,6 +1,6 @@
-//! Each sentence once.
+//! Each sentence about a text of rules, once.
 
-use crate::rules_explained::explain_text;
+use super::expect_answers;
 use std::test::Fail;
 
 /// Texts of rules, and the whole answer to each.
@@ -300,11 +300,6 @@ const ANSWERS: [(&[u8], &[u8]); 73] = [
 ];
 
 #[test]
-fn each_sentence_is_that_of_its_fault(rt: HostRuntime) -> Result<(), Fail> {
-    for (place, row) in ANSWERS.iter().enumerate() {
-        let mut answers = Vec::new(rt.alloc());
-        explain_text(rt.alloc(), row.0, &mut answers)?;
-        assert!(rt; answers.as_slice() == row.1, "at {place}");
-    }
-    Ok(())
+fn each_sentence_about_rules_is_that_of_its_fault(rt: HostRuntime) -> Result<(), Fail> {
+    expect_answers(&rt, rt.alloc(), b"rules\n", &ANSWERS)
 }
