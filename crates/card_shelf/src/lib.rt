@@ -20,6 +20,7 @@ mod sums;
 
 pub use arrival::{Arrival, Decision};
 pub use fault::{NoRoom, ProgramFault, ShelfFault};
+pub use gate::Gate;
 pub use room::Room;
 pub use shelf::{MOST_CARDS, Shelf};
 

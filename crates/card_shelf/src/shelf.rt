@@ -258,8 +258,12 @@ impl Shelf {
         self.police_at(rt, alloc, arrivals, threads, &NoWait)
     }
 
-    /// The same, with a gate before the arrivals of each card.
-    pub(crate) fn police_at<R: Threads + Sync, G: Gate + Sync>(
+    /// Polices arrivals as [`Shelf::police`] does, with a gate before the arrivals of each card.
+    ///
+    /// # Errors
+    ///
+    /// An allocation failed, and nothing has changed.
+    pub fn police_at<R: Threads + Sync, G: Gate + Sync>(
         &mut self,
         rt: &R,
         alloc: Global,
@@ -308,8 +312,12 @@ impl Shelf {
         self.police_in_at(rt, room, arrivals, threads, &NoWait)
     }
 
-    /// The same, with a gate before the arrivals of each card.
-    pub(crate) fn police_in_at<R: Threads + Sync, G: Gate + Sync>(
+    /// Polices arrivals in a room as [`Shelf::police_in`] does, with a gate before the arrivals of each card.
+    ///
+    /// # Errors
+    ///
+    /// Nothing has changed: `Arrivals`, if the room is for fewer arrivals. Then `Cards`, if it is for fewer cards.
+    pub fn police_in_at<R: Threads + Sync, G: Gate + Sync>(
         &mut self,
         rt: &R,
         room: &mut Room,
