@@ -12,6 +12,3 @@ pub use feeder::Feeder;
 pub use feeding::each_card;
 pub use lane::Lane;
 pub use queue::Queue;
-
-#[cfg(test)]
-mod tests;

@@ -23,6 +23,3 @@ pub use fault::{NoRoom, ProgramFault, ShelfFault};
 pub use gate::Gate;
 pub use room::Room;
 pub use shelf::{MOST_CARDS, Shelf};
-
-#[cfg(test)]
-mod tests;

@@ -1,3 +1,5 @@
-//! Tests of `card_core`.
+//! Tests of `card_core`, `card_shelf` and `card_feeds`.
 
 mod cards;
+mod feeds;
+mod shelf;

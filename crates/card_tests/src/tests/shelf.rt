@@ -7,11 +7,11 @@ mod faults;
 mod rooms;
 mod sizes;
 
-use crate::{Arrival, Decision, Shelf};
 use arrayvec::ArrayVec;
 use bpf_code::Instr;
 use bpf_verify::{Program, verify};
 use card_core::{Ask, Core, Reply, Shape, Step, Unjudged};
+use card_shelf::{Arrival, Decision, Shelf};
 use gen_arena::Id;
 use leaky::{Contract, Gcra, Verdict};
 use std::alloc::Global;

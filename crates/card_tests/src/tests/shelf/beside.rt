@@ -4,8 +4,8 @@ use super::{
     HEADERS, UNKNOWN, ask, cell, expect, id_for, load_all, open_all, open_on_card, outcome, shape,
     take, vc_at,
 };
-use crate::{Arrival, Decision, Shelf};
 use card_core::{Core, Reply, Step, Unjudged};
+use card_shelf::{Arrival, Decision, Shelf};
 use gen_arena::Id;
 use leaky::Verdict;
 use std::alloc::Global;

@@ -3,8 +3,8 @@
 use super::{
     HEADERS, ask, cell, constant, expect, id_for, load, open_shelf, outcome, set_up, shape, vc_at,
 };
-use crate::{Arrival, Decision, ProgramFault, Shelf, ShelfFault};
 use card_core::{CardFault, DeskFault, Reply, Unjudged};
+use card_shelf::{Arrival, Decision, ProgramFault, Shelf, ShelfFault};
 use gen_arena::Id;
 use std::alloc::Global;
 use std::process::Abort;

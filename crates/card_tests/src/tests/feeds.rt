@@ -2,11 +2,11 @@
 
 ghost use Rattle.std.specs.Prelude.{[], ⊤};
 
-use crate::{Feeder, Lane, Queue, each_card};
 use arrayvec::ArrayVec;
 use bpf_code::Instr;
 use bpf_verify::verify;
 use card_core::{Ask, Core, PortReply, Reply, Shape, Step, Unjudged};
+use card_feeds::{Feeder, Lane, Queue, each_card};
 use card_shelf::{Arrival, Decision};
 use gen_arena::Id;
 use leaky::{Contract, Gcra, Verdict};

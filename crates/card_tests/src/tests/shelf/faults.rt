@@ -1,8 +1,8 @@
 //! How the faults are printed.
 
 use super::expect;
-use crate::{NoRoom, ProgramFault, ShelfFault};
 use card_core::{CardFault, DeskFault};
+use card_shelf::{NoRoom, ProgramFault, ShelfFault};
 use std::alloc::Global;
 use std::fmt::Display;
 use std::process::Abort;

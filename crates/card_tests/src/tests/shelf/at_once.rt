@@ -1,8 +1,7 @@
 //! Cards police their arrivals at the same time. No clause can say this: a body that uses one thread gives the same answers.
 
 use super::{arrivals, expect, open_shelf};
-use crate::gate::Gate;
-use crate::{Arrival, Room, Shelf};
+use card_shelf::{Arrival, Gate, Room, Shelf};
 use std::alloc::Global;
 use std::process::Abort;
 use std::sync::atomic::{AtomicU64, Ordering};

@@ -3,10 +3,10 @@
 use super::beside::decides_all;
 use super::rooms::are_decided_so;
 use super::{HEADERS, cell, expect, id_of, set_up_all, set_up_all_on_card, shape, take};
-use crate::{Arrival, Decision, Room, Shelf};
 use bpf_code::Instr;
 use bpf_verify::{Program, verify};
 use card_core::{Core, Shape, Step};
+use card_shelf::{Arrival, Decision, Room, Shelf};
 use std::alloc::Global;
 use std::process::Abort;
 use std::test::Fail;

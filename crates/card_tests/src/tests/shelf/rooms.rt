@@ -2,8 +2,8 @@
 
 use super::beside::{decides_all, our_shelf, random_arrivals, their_card};
 use super::expect;
-use crate::{Arrival, Decision, NoRoom, Room, Shelf};
 use card_core::Core;
+use card_shelf::{Arrival, Decision, NoRoom, Room, Shelf};
 use std::alloc::Global;
 use std::process::Abort;
 use std::test::Fail;
