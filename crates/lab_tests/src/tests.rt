@@ -1,6 +1,7 @@
 //! One module for each crate, one for rules, and what they share.
 
 mod at_once;
+mod choices;
 mod devices;
 mod expecting;
 mod fit;
