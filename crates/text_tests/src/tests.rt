@@ -1,6 +1,8 @@
 //! One module for each group of crates.
 
-mod explained;
+mod at_once;
+mod choices;
+mod devices;
 mod lines;
 mod ports;
 mod programs;

@@ -3,9 +3,7 @@
 
 ghost use Rattle.std.specs.Prelude.{[]};
 
-use super::expecting::expect;
-use super::link::{record_of, tick_of};
-use captures::{Fault, TimeSource};
+use captures::{Fault, Tick, TimeSource};
 use captures_text::{CellFollower, CountedCell, PassedOver, follow_cells};
 use std::alloc::{AllocError, Global};
 use std::sync::atomic::{AtomicU64, Ordering};
@@ -133,18 +131,32 @@ impl CellFollower for Waiting<'_> {
     } };
 }
 
+/// A record with a cell of path 1 and channel 5, received after this many seconds.
+fn record_of(seconds: u8) -> [u8; 68] {
+    let mut octets = [0; 68];
+    octets[4] = seconds;
+    octets[8] = 3;
+    octets[11] = 68;
+    octets[15] = 52;
+    octets[17] = 0x10;
+    octets[19] = 0x50;
+    octets
+}
+
 /// A capture of 20,000 records, which takes three readings.
 fn three_readings(alloc: Global) -> Result<Vec<u8>, AllocError> {
     let mut capture = Vec::new(alloc);
     for number in 0..20_000u32 {
-        capture.extend_from_slice(&record_of((number / 100) as u8, 5, 0))?;
+        capture.extend_from_slice(&record_of((number / 100) as u8))?;
     }
     Ok(capture)
 }
 
 /// For how many readings a cell was answered meanwhile, as the input and as the follower saw it, and the number of cells.
 fn meetings(rt: &impl Threads, alloc: Global, capture: &[u8]) -> Result<[u64; 3], Fail> {
-    let tick = tick_of(1_000_000_000)?;
+    let Some(tick) = Tick::new(1_000_000_000) else {
+        return Err(Fail::new("no tick"));
+    };
     let stages = Stages {
         readings: AtomicU64::new(0),
         answered: AtomicU64::new(0),
@@ -182,6 +194,6 @@ fn meetings(rt: &impl Threads, alloc: Global, capture: &[u8]) -> Result<[u64; 3]
 fn records_are_read_while_cells_are_answered(rt: HostRuntime) -> Result<(), Fail> {
     let capture = three_readings(rt.alloc())?;
     let found = meetings(&rt, rt.alloc(), &capture)?;
-    expect(&rt, "meetings and cells", found, [2, 2, 20_000]);
+    assert_eq!(rt; found, [2, 2, 20_000]);
     Ok(())
 }
