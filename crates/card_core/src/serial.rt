@@ -191,7 +191,7 @@ impl Core {
             return PortReply::NotNow;
         };
         let side = self.shape.side;
-        match find_contract(&self.store, &self.directory, side, &came.cell, came.moment) {
+        match look_up_and_run(&self.store, &self.directory, side, &came.cell, came.moment) {
             Ok(found) => {
                 move_port(&mut self.ports, port, Port::Picked(found));
                 PortReply::Picked
@@ -243,7 +243,7 @@ impl Core {
         }
         // The port has no cell before and afterwards, and nothing reads it in between.
         let side = self.shape.side;
-        let picked = find_contract(&self.store, &self.directory, side, cell, moment);
+        let picked = look_up_and_run(&self.store, &self.directory, side, cell, moment);
         match picked {
             Ok(found) => Some(judge_line_without_cell(&mut self.lines, &found)),
             Err(reason) => Some(Err(reason)),
@@ -278,7 +278,7 @@ impl Core {
             return None;
         }
         let side = self.shape.side;
-        let picked = find_contract(&self.store, &self.directory, side, cell, moment);
+        let picked = look_up_and_run(&self.store, &self.directory, side, cell, moment);
         match picked {
             Ok(found) => {
                 drop_long_journal(&mut self.lines, found.vc, &found.seating, most);
@@ -413,7 +413,7 @@ ghost use Rattle.card_core.specs.inner.Parts.{IsFound, IsMissed, ChangesLine, Ju
 /// Returns the seating of the cell's connection, and the value that its program gives for the cell. Every cell runs
 /// this function and the next. They are inlined, since a call would copy the cell.
 #[inline(always)]
-fn find_contract(
+fn look_up_and_run(
     store: &Store,
     directory: &Directory,
     side: Side,

@@ -16,8 +16,8 @@ use leaky::{Contract, Levels, Verdict};
 pub(crate) fn judge_named(
     contracts: &[Contract],
     levels: &mut ArrayVec<Levels, 4>,
-    moment: u64,
     clp: bool,
+    moment: u64,
     number: u32,
 ) -> Verdict
     requires one_each { length levels.old.items ≡ length contracts.now }

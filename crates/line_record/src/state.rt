@@ -95,7 +95,7 @@ impl State {
         ensures run { IsJournalRun contracts.now self.old (result ∷ []) self.new }
         ensures unnamed { numbered contracts.now value ≡ None → result.verdict ≡ Verdict.Refuse }
     {
-        let verdict = judge_named(contracts, &mut self.levels, moment, clp, value);
+        let verdict = judge_named(contracts, &mut self.levels, clp, moment, value);
         self.last = moment;
         self.counts.count(verdict);
         Entry {

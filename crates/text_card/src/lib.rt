@@ -4,10 +4,10 @@
 
 mod card_faults;
 mod card_line;
-mod replies;
+mod cell_answers;
 
 pub use card_faults::{
     add_desk_fault, add_gcra_fault, add_no_card, add_no_such_program, add_shape_fault,
 };
 pub use card_line::{named_side, read_card};
-pub use replies::{add_answer, add_judged, add_unjudged};
+pub use cell_answers::{add_answer, add_judged, add_unjudged};

@@ -46,6 +46,7 @@ fn add_judged_line(
     ensures { OnOk result (answers.new.items ≡ answers.old.items
         ++ verdict_text verdict (judging_text side vc number value) (cell_after verdict cell.now)) }
 {
+    // With a constant verdict in each arm the compiler makes a copy of `add_verdict` for it.
     match verdict {
         Verdict::Tag => {
             let tagged = cell.tagged();

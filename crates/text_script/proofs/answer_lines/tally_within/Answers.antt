@@ -2,7 +2,7 @@
 use Rattle.std.proofs.Common.{ap, arith}
 use Rattle.line_record.specs.declared.tally.Tally.{Tally}
 use Rattle.text_script.proofs.PieceLemmas.{counts-between, counts-go_on, tally_in}
-use Rattle.text_script.proofs.reply_texts.tally_within.Goals as goal
+use Rattle.text_script.proofs.answer_lines.tally_within.Goals as goal
 
 pub overflow_sub-result : goal.overflow_sub-result
 overflow_sub-result c =
