@@ -18,6 +18,7 @@ use std::alloc::Global;
 use std::fmt::Debug;
 use std::process::Abort;
 use std::test::Fail;
+use std::thread::Threads;
 use upc_cell::{Cell, Side, Vc};
 
 /// The headers of 1/100, 1/101, 1/102, 2/100 and 2/101.
@@ -229,15 +230,60 @@ fn outcome(reply: &Reply) -> Option<usize> {
 fn a_shelf_decides_what_one_card_decides(rt: HostRuntime) -> Result<(), Fail> {
     let all = arrivals(rt.alloc())?;
     for cards in [1, 2, 3, 16] {
-        let mut alone = one_card(rt.alloc())?;
-        let mut shelf = Shelf::new(rt.alloc(), shape(), cards)?;
-        open_all(rt.alloc(), &mut shelf)?;
-        let decisions = shelf.police(&rt, rt.alloc(), all.as_slice(), 4)?;
-        assert_eq!(rt; decisions.len(), all.len());
-        for (arrival, ours) in all.iter().zip(&decisions) {
-            let theirs = alone.arrive(0, &arrival.cell, arrival.moment);
-            assert_eq!(rt; theirs.map(|decision| seen(&decision)), Some(seen(ours)));
-        }
+        expect_as_one_card(&rt, rt.alloc(), cards, &all)?;
     }
     Ok(())
+}
+
+/// Expects it of a new shelf of this many cards and these arrivals.
+fn expect_as_one_card<R: Threads + Sync + Abort>(
+    rt: &R,
+    alloc: Global,
+    cards: usize,
+    all: &[Arrival],
+) -> Result<(), Fail> {
+    let mut shelf = open_shelf(alloc, cards)?;
+    expect_as_new_card(rt, alloc, &mut shelf, all)
+}
+
+/// Expects that this shelf decides what a new card decides.
+fn expect_as_new_card<R: Threads + Sync + Abort>(
+    rt: &R,
+    alloc: Global,
+    shelf: &mut Shelf,
+    all: &[Arrival],
+) -> Result<(), Fail> {
+    let mut alone = one_card(alloc)?;
+    expect_as_card(rt, alloc, shelf, &mut alone, all)
+}
+
+/// Expects that this shelf decides what this card decides.
+fn expect_as_card<R: Threads + Sync + Abort>(
+    rt: &R,
+    alloc: Global,
+    shelf: &mut Shelf,
+    alone: &mut Core,
+    all: &[Arrival],
+) -> Result<(), Fail> {
+    let decisions = shelf.police(rt, alloc, all, 4)?;
+    let found = (all.len(), are_seen_alike(alone, all, &decisions));
+    expect(rt, "the same", found, (decisions.len(), true));
+    Ok(())
+}
+
+/// Whether the same is seen of the decisions about these arrivals and of those of a card.
+fn are_seen_alike(alone: &mut Core, all: &[Arrival], decisions: &[Decision]) -> bool {
+    let mut same = true;
+    for (arrival, ours) in all.iter().zip(decisions) {
+        same = is_seen_alike(alone, arrival, ours) && same;
+    }
+    same
+}
+
+/// Whether the same is seen of this decision about an arrival and of that of a card.
+fn is_seen_alike(alone: &mut Core, arrival: &Arrival, ours: &Decision) -> bool {
+    match alone.arrive(0, &arrival.cell, arrival.moment) {
+        Some(theirs) => seen(&theirs) == seen(ours),
+        None => false,
+    }
 }

@@ -4,6 +4,7 @@ mod parity;
 
 use parity::Parity;
 use std::alloc::Global;
+use std::process::Abort;
 use std::test::Fail;
 use text_io::{
     Done, FaultyInput, FaultyOutput, Input, LineWords, ReaderInput, RunFault, WriterOutput,
@@ -111,22 +112,26 @@ fn a_large_input_is_gathered_whole(rt: HostRuntime) -> Result<(), Fail> {
 
 #[test]
 fn words_are_parted_by_spaces_and_tabs_alone(rt: HostRuntime) {
-    assert_eq!(rt;
-        first_word(b" \tab\t cd"),
-        Some((b"ab".as_slice(), b" cd".as_slice()))
-    );
-    assert_eq!(rt;
-        first_word(b"a\x0cb"),
-        Some((b"a\x0cb".as_slice(), b"".as_slice()))
-    );
-    assert_eq!(rt; first_word(b" \t "), None);
-    for (line, asked) in [
-        (b"".as_slice(), 0),
-        (b"  # a remark".as_slice(), 0),
-        (b"#".as_slice(), 0),
-        (b"\tone ".as_slice(), 1),
-        (b"one #".as_slice(), 2),
-    ] {
+    let rows: [(&[u8], Option<(&[u8], &[u8])>); 3] = [
+        (b" \tab\t cd", Some((b"ab", b" cd"))),
+        (b"a\x0cb", Some((b"a\x0cb", b""))),
+        (b" \t ", None),
+    ];
+    for (line, found) in rows {
+        assert_eq!(rt; first_word(line), found);
+    }
+}
+
+#[test]
+fn a_line_has_no_word_one_or_several(rt: HostRuntime) {
+    let rows: [(&[u8], u8); 5] = [
+        (b"", 0),
+        (b"  # a remark", 0),
+        (b"#", 0),
+        (b"\tone ", 1),
+        (b"one #", 2),
+    ];
+    for (line, asked) in rows {
         let count = match line_words(line) {
             LineWords::Silent => 0,
             LineWords::One(_) => 1,
@@ -152,6 +157,13 @@ fn a_device_counts_its_failures(rt: HostRuntime) -> Result<(), Fail> {
     Ok(())
 }
 
+/// Expects this text of a failure.
+fn expect_text(rt: &impl Abort, alloc: Global, fault: RunFault, text: &str) -> Result<(), Fail> {
+    let printed = format!(in alloc; "{fault}")?;
+    assert_eq!(rt; printed.as_str(), text);
+    Ok(())
+}
+
 #[test]
 fn each_failure_of_a_run_has_its_text(rt: HostRuntime) -> Result<(), Fail> {
     for (fault, text) in [
@@ -159,8 +171,7 @@ fn each_failure_of_a_run_has_its_text(rt: HostRuntime) -> Result<(), Fail> {
         (RunFault::WriteFailed, "writing failed"),
         (RunFault::NoMemory, "out of memory"),
     ] {
-        let printed = format!(in rt.alloc(); "{fault}")?;
-        assert_eq!(rt; printed.as_str(), text);
+        expect_text(&rt, rt.alloc(), fault, text)?;
     }
     Ok(())
 }

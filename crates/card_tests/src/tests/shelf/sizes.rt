@@ -74,12 +74,13 @@ fn many_arrivals(alloc: Global, many: u32) -> Result<Vec<Arrival>, Fail> {
 /// A shelf with all connections under one program.
 fn large_shelf(alloc: Global, size: Size) -> Result<Shelf, Fail> {
     let mut shelf = Shelf::new(alloc, large_shape(size.lines), size.cards)?;
-    open_under(alloc, &mut shelf, long_program(alloc, size.instructions)?)?;
+    open_under(alloc, &mut shelf, size.instructions)?;
     Ok(shelf)
 }
 
-/// Sets up all connections under this program.
-fn open_under(alloc: Global, shelf: &mut Shelf, program: Program) -> Result<(), Fail> {
+/// Sets up all connections under a program of this number of instructions.
+fn open_under(alloc: Global, shelf: &mut Shelf, instructions: u32) -> Result<(), Fail> {
+    let program = long_program(alloc, instructions)?;
     let Ok(ids) = shelf.load(alloc, program) else {
         return Err(Fail::from("not loaded"));
     };
@@ -89,12 +90,13 @@ fn open_under(alloc: Global, shelf: &mut Shelf, program: Program) -> Result<(), 
 /// One card with all connections under one program.
 fn large_card(alloc: Global, size: Size) -> Result<Core, Fail> {
     let mut core = Core::new(alloc, large_shape(size.lines))?;
-    open_on_card(&mut core, long_program(alloc, size.instructions)?)?;
+    open_on_card(alloc, &mut core, size.instructions)?;
     Ok(core)
 }
 
-/// Sets up all connections under this program.
-fn open_on_card(core: &mut Core, program: Program) -> Result<(), Fail> {
+/// Sets up all connections under a program of this number of instructions.
+fn open_on_card(alloc: Global, core: &mut Core, instructions: u32) -> Result<(), Fail> {
+    let program = long_program(alloc, instructions)?;
     let id = id_of(take(core, Step::Load(program)))?;
     set_up_all_on_card(core, id)
 }
