@@ -6,7 +6,7 @@ use Rattle.rules_diagrams.specs.Cases.{IsCaseOf}
 use Rattle.rules_diagrams.specs.declared.case.Case.{Case}
 use Rattle.rules_cells.specs.declared.deciding.Decision.{Decision}
 use Rattle.cmd_rules.specs.RulesAnswers.{most_rules_octets}
-use Rattle.rules_text.specs.TextOfRules.{NumberedRead, numbered_in}
+use Rattle.rules_text.specs.TextOfRules.{PlacedRulesRead, placed_rules_in}
 use Rattle.rules_text.specs.declared.fault.RuleFault.{RuleFault}
 use Rattle.text_io.specs.Gathered.{gathered}
 use Rattle.cmd_programs.specs.Program.{is_program}
@@ -33,20 +33,20 @@ found_by false octets text e = cc
 found_is : (octets text : List ℕ) → gathered most_rules_octets octets ≡ Some text → octets ≡ text
 found_is octets text e = found_by (nat_lt most_rules_octets (length octets)) octets text e
 
-one_read : (one other : NumberedRead) (found : Result NumberedRead RuleFault) → found ≡ Ok one → found ≡ Ok other → one ≡ other
+one_read : (one other : PlacedRulesRead) (found : Result PlacedRulesRead RuleFault) → found ≡ Ok one → found ≡ Ok other → one ≡ other
 one_read one other found e f = cc
 
 -- The rules that were found are those of the text.
-pub read_is : (octets : List ℕ) (one other : NumberedRead) → FindsText (gathered most_rules_octets octets) one → numbered_in octets ≡ Ok other → one ≡ other
+pub read_is : (octets : List ℕ) (one other : PlacedRulesRead) → FindsText (gathered most_rules_octets octets) one → placed_rules_in octets ≡ Ok other → one ≡ other
 read_is octets one other finds read =
     let same = found_is octets finds.0 finds.1 in
-    one_read one other (numbered_in octets) (subst (λ (text : List ℕ). numbered_in text ≡ Ok one) (sym same) finds.2) read
+    one_read one other (placed_rules_in octets) (subst (λ (text : List ℕ). placed_rules_in text ≡ Ok one) (sym same) finds.2) read
 
 -- A side that was found is that of the text.
 side_found : (kind : TextKind) (octets : List ℕ) (side : SideRead) → FindsSide kind (gathered most_rules_octets octets) side → FindsSide kind (Some octets) side
 side_found OfRules octets side finds =
     let same = found_is octets finds.1.0 finds.1.1 in
-    (finds.0, (octets, refl, subst (λ (text : List ℕ). numbered_in text ≡ Ok finds.0) (sym same) finds.1.2), finds.2)
+    (finds.0, (octets, refl, subst (λ (text : List ℕ). placed_rules_in text ≡ Ok finds.0) (sym same) finds.1.2), finds.2)
 side_found OfProgram octets side finds =
     let same = found_is octets finds.1.0 finds.1.1 in
     (finds.0, (octets, refl, subst (λ (text : List ℕ). ReadsProgramText text (is_program finds.0)) (sym same) finds.1.2), finds.2)

@@ -9,7 +9,7 @@ use Rattle.rules_cells.specs.declared.rules.RuleLine.{RuleLine}
 use Rattle.rules_cells.specs.declared.rules.RuleLine.TheVariants.{Rule, Block, End}
 use Rattle.rules_cells.specs.declared.rules.Rules.{Rules}
 use Rattle.rules_text.specs.RulesRead.{RulesRead, TestRead, line_read, rule_line, rules_read, test_read}
-use Rattle.rules_text.specs.TextOfRules.{NumberedRead}
+use Rattle.rules_text.specs.TextOfRules.{PlacedRulesRead}
 use Rattle.rules_text.proofs.Public.{decision_same}
 use Rattle.cmd_differ.specs.UnusedLaws.{ExactlyTheUnusedAreNamed, IsRuleRead, NamesUnused, NeverDecides}
 use Rattle.cmd_differ.specs.UnusedText.{IsSearched}
@@ -43,8 +43,8 @@ module _ (rules : Rules) where
   pub rule_back : (place : ℕ) → IsRuleRead (rules_read rules) place → IsRuleAt rules place
   rule_back place is = rule_in rules.lines.items place is.0 is.1 is.2
 
-named_by : (numbered : NumberedRead) (answer : List ℕ) (finding : Finding) → IsSearched numbered answer finding → NamesUnused numbered answer
-named_by numbered answer finding searched =
+named_by : (placed_rules : PlacedRulesRead) (answer : List ℕ) (finding : Finding) → IsSearched placed_rules answer finding → NamesUnused placed_rules answer
+named_by placed_rules answer finding searched =
     let rules = searched.rules in
     let read : RulesRead = rules_read rules in
     let back = sym searched.read in
@@ -61,7 +61,7 @@ named_by numbered answer finding searched =
     }
 
 pub exactly_named : ExactlyTheUnusedAreNamed
-exactly_named octets answer numbered finding (inl faulty) said read = said_not_faulty finding said faulty.1
-exactly_named octets answer numbered finding (inr (one, finds, inr not_said)) said read = said_not_undecided finding said not_said.1
-exactly_named octets answer numbered finding (inr (one, finds, inl searched)) said read =
-    subst (λ (n : NumberedRead). NamesUnused n answer) (read_is octets one numbered finds read) (named_by one answer finding searched)
+exactly_named octets answer placed_rules finding (inl faulty) said read = said_not_faulty finding said faulty.1
+exactly_named octets answer placed_rules finding (inr (one, finds, inr not_said)) said read = said_not_undecided finding said not_said.1
+exactly_named octets answer placed_rules finding (inr (one, finds, inl searched)) said read =
+    subst (λ (n : PlacedRulesRead). NamesUnused n answer) (read_is octets one placed_rules finds read) (named_by one answer finding searched)

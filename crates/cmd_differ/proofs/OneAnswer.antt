@@ -12,7 +12,7 @@ use Rattle.rules_cells.specs.declared.deciding.Decision.{Decision}
 use Rattle.rules_cells.specs.declared.rules.Rules.{Rules}
 use Rattle.rules_text.specs.DecisionsRead.{rules_decide}
 use Rattle.rules_text.specs.RulesRead.{RulesRead, rules_read}
-use Rattle.rules_text.specs.TextOfRules.{NumberedRead, numbered_in}
+use Rattle.rules_text.specs.TextOfRules.{PlacedRulesRead, placed_rules_in}
 use Rattle.rules_text.specs.declared.fault.RuleFault.{RuleFault}
 use Rattle.rules_text.proofs.Public.{decision_same}
 use Rattle.cmd_rules.specs.RuleFaults.{rule_fault}
@@ -38,31 +38,31 @@ use Rattle.cmd_differ.proofs.SameLists.{IsAscendingBy, same_cell, same_lists}
 one_text : (one other : List ℕ) (found : Option (List ℕ)) → found ≡ Some one → found ≡ Some other → one ≡ other
 one_text one other found e f = cc
 
-one_reading : (one other : NumberedRead) (read : Result NumberedRead RuleFault) → read ≡ Ok one → read ≡ Ok other → one ≡ other
+one_reading : (one other : PlacedRulesRead) (read : Result PlacedRulesRead RuleFault) → read ≡ Ok one → read ≡ Ok other → one ≡ other
 one_reading one other read e f = cc
 
-one_fault : (one other : RuleFault) (read : Result NumberedRead RuleFault) → read ≡ Err one → read ≡ Err other → one ≡ other
+one_fault : (one other : RuleFault) (read : Result PlacedRulesRead RuleFault) → read ≡ Err one → read ≡ Err other → one ≡ other
 one_fault one other read e f = cc
 
-pub finds_same : (found : Option (List ℕ)) (one other : NumberedRead) → FindsText found one → FindsText found other → one ≡ other
+pub finds_same : (found : Option (List ℕ)) (one other : PlacedRulesRead) → FindsText found one → FindsText found other → one ≡ other
 finds_same found one other finds also =
     let text = one_text finds.0 also.0 found finds.1 also.1 in
-    one_reading one other (numbered_in finds.0) finds.2 (subst (λ (t : List ℕ). numbered_in t ≡ Ok other) (sym text) also.2)
+    one_reading one other (placed_rules_in finds.0) finds.2 (subst (λ (t : List ℕ). placed_rules_in t ≡ Ok other) (sym text) also.2)
 
 pub fault_same : (mark : List ℕ) (found : Option (List ℕ)) (answer other : List ℕ) → PrintsFaultAfter mark found answer → PrintsFaultAfter mark found other → answer ≡ other
 fault_same mark None answer other one two = one ∙ sym two
 fault_same mark (Some text) answer other one two =
-    let same = one_fault one.0 two.0 (numbered_in text) one.1 two.1 in
+    let same = one_fault one.0 two.0 (placed_rules_in text) one.1 two.1 in
     one.2 ∙ (ap (λ (f : RuleFault). mark ++ rule_fault f) same ∙ sym two.2)
 
-no_both : (text : List ℕ) (fault : RuleFault) (numbered : NumberedRead) → numbered_in text ≡ Err fault → numbered_in text ≡ Ok numbered → ⊥
-no_both text fault numbered e f = absurd (cc)
+no_both : (text : List ℕ) (fault : RuleFault) (placed_rules : PlacedRulesRead) → placed_rules_in text ≡ Err fault → placed_rules_in text ≡ Ok placed_rules → ⊥
+no_both text fault placed_rules e f = absurd (cc)
 
-pub fault_or_found : (mark : List ℕ) (found : Option (List ℕ)) (answer : List ℕ) (numbered : NumberedRead) → PrintsFaultAfter mark found answer → FindsText found numbered → ⊥
-fault_or_found mark None answer numbered faulty finds = let bad : None ≡ Some finds.0 = finds.1 in absurd (cc)
-fault_or_found mark (Some text) answer numbered faulty finds =
+pub fault_or_found : (mark : List ℕ) (found : Option (List ℕ)) (answer : List ℕ) (placed_rules : PlacedRulesRead) → PrintsFaultAfter mark found answer → FindsText found placed_rules → ⊥
+fault_or_found mark None answer placed_rules faulty finds = let bad : None ≡ Some finds.0 = finds.1 in absurd (cc)
+fault_or_found mark (Some text) answer placed_rules faulty finds =
     let same : text ≡ finds.0 = one_text text finds.0 (Some text) refl finds.1 in
-    no_both text faulty.0 numbered faulty.1 (subst (λ (t : List ℕ). numbered_in t ≡ Ok numbered) (sym same) finds.2)
+    no_both text faulty.0 placed_rules faulty.1 (subst (λ (t : List ℕ). placed_rules_in t ≡ Ok placed_rules) (sym same) finds.2)
 
 pub undecided_not : {A : Type 0} (finding : Finding) → IsDecisive finding → finding ≡ Undecided → A
 undecided_not finding said e = absurd (subst IsDecisive e said)

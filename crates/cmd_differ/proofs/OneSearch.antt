@@ -14,7 +14,7 @@ use Rattle.rules_cells.specs.declared.rules.Rules.{Rules}
 use Rattle.rules_cells.specs.declared.test.Test.{Test}
 use Rattle.rules_text.specs.declared.place.RulePlace.{RulePlace}
 use Rattle.rules_text.specs.RulesRead.{LineRead, RulesRead, TestRead, line_read, rule_line, rules_read, test_read}
-use Rattle.rules_text.specs.TextOfRules.{NumberedRead}
+use Rattle.rules_text.specs.TextOfRules.{PlacedRulesRead}
 use Rattle.rules_text.specs.ValuesRead.{test_holds}
 use Rattle.rules_text.proofs.Values.{test_same}
 use Rattle.cmd_rules.specs.RulesAnswers.{most_rules_octets}
@@ -174,30 +174,30 @@ lines_same begins rules others same (u ∷ more) (v ∷ rest) all also e =
     let whole = ap (λ t. t ++ unused_lines begins more) line ∙ ap (λ t. unused_line begins v.place v.takers.items ++ t) after.2 in
     (whole, refl, whole)
 
-searched_same : (numbered : NumberedRead) (answer other : List ℕ) (finding also : Finding) → IsSearched numbered answer finding → IsSearched numbered other also → (answer ≡ other) × (finding ≡ also)
-searched_same numbered answer other finding also one two =
+searched_same : (placed_rules : PlacedRulesRead) (answer other : List ℕ) (finding also : Finding) → IsSearched placed_rules answer finding → IsSearched placed_rules other also → (answer ≡ other) × (finding ≡ also)
+searched_same placed_rules answer other finding also one two =
     let same : rules_read one.rules ≡ rules_read two.rules = sym one.read ∙ two.read in
     let places = same_lists (λ n. n) (map (λ (u : Unused). u.place) one.unused) (map (λ (u : Unused). u.place) two.unused)
     (ascending_places one.unused one.are_unused.ascending) (ascending_places two.unused two.are_unused.ascending)
     (place_moved one.rules two.rules same one.unused two.unused one.are_unused two.are_unused)
     (place_moved two.rules one.rules (sym same) two.unused one.unused two.are_unused one.are_unused) in
-    let all = lines_same numbered.begins one.rules two.rules same one.unused two.unused one.are_unused.all two.are_unused.all places in
+    let all = lines_same placed_rules.begins one.rules two.rules same one.unused two.unused one.are_unused.all two.are_unused.all places in
     (one.prints ∙ (all.0 ∙ sym two.prints), one.finds ∙ (all.1 ∙ sym two.finds))
 
-search_same : (numbered : NumberedRead) (answer other : List ℕ) (finding also : Finding) → IsDecisive finding → IsDecisive also → PrintsSearch numbered answer finding
-    → PrintsSearch numbered other also → (answer ≡ other) × (finding ≡ also)
-search_same numbered answer other finding also said told (inl one) (inl two) = searched_same numbered answer other finding also one two
-search_same numbered answer other finding also said told (inr one) two = undecided_not finding said one.1
-search_same numbered answer other finding also said told (inl one) (inr two) = undecided_not also told two.1
+search_same : (placed_rules : PlacedRulesRead) (answer other : List ℕ) (finding also : Finding) → IsDecisive finding → IsDecisive also → PrintsSearch placed_rules answer finding
+    → PrintsSearch placed_rules other also → (answer ≡ other) × (finding ≡ also)
+search_same placed_rules answer other finding also said told (inl one) (inl two) = searched_same placed_rules answer other finding also one two
+search_same placed_rules answer other finding also said told (inr one) two = undecided_not finding said one.1
+search_same placed_rules answer other finding also said told (inl one) (inr two) = undecided_not also told two.1
 
 found_same : (found : Option (List ℕ)) (answer other : List ℕ) (finding also : Finding) → IsDecisive finding → IsDecisive also → PrintsUnused found answer finding → PrintsUnused found other also
     → (answer ≡ other) × (finding ≡ also)
 found_same found answer other finding also said told (inl one) (inl two) = (fault_same [] found answer other one.0 two.0, one.1 ∙ sym two.1)
 found_same found answer other finding also said told (inl one) (inr two) = absurd (fault_or_found [] found answer two.0 one.0 two.1)
 found_same found answer other finding also said told (inr one) (inl two) = absurd (fault_or_found [] found other one.0 two.0 one.1)
-found_same found answer other finding also said told (inr (numbered, finds, one)) (inr (numbered', finds', two)) =
-    let same = finds_same found numbered numbered' finds finds' in
-    search_same numbered answer other finding also said told one (subst (λ (n : NumberedRead). PrintsSearch n other also) (sym same) two)
+found_same found answer other finding also said told (inr (placed_rules, finds, one)) (inr (placed_rules', finds', two)) =
+    let same = finds_same found placed_rules placed_rules' finds finds' in
+    search_same placed_rules answer other finding also said told one (subst (λ (n : PlacedRulesRead). PrintsSearch n other also) (sym same) two)
 
 pub unused_same : ATextHasOneAnswer
 unused_same octets answer other finding also one two said told = found_same (gathered most_rules_octets octets) answer other finding also said told one two

@@ -28,7 +28,7 @@ same_decision one other line value =
     ap by_line line ∙ ap by_value value
 
 pub decides_once : (side : SideRead) (cell : List ℕ) (one other : Decision) → SideDecides side cell one → SideDecides side cell other → one ≡ other
-decides_once (side_rules numbered) cell one other e f = e ∙ sym f
+decides_once (side_rules placed_rules) cell one other e f = e ∙ sym f
 decides_once (side_program code) cell one other e f =
     same_decision one other (e.0 ∙ sym f.0) (Value-unique code cell one.value other.value e.1.0 f.1.0 e.1.1 f.1.1).0
 
@@ -49,9 +49,9 @@ one_value_from old new was is old_says new_says agree cell there = agree cell (w
 
 shown_decides : (side : SideText) (compared : Compared) (cell : List ℕ) (decision : Decision) → IsShownAs side compared → DecidesAs compared cell decision
     → SideDecides (side_read side) cell decision
-shown_decides (Rules numbered) (OfRules rules) cell decision same e =
-    e ∙ (ap (λ (r : Written). decision_of r cell) same ∙ decision_same numbered.rules cell)
-shown_decides (Rules numbered) (OfProgram code) cell decision same e = absurd same
+shown_decides (Rules placed_rules) (OfRules rules) cell decision same e =
+    e ∙ (ap (λ (r : Written). decision_of r cell) same ∙ decision_same placed_rules.rules cell)
+shown_decides (Rules placed_rules) (OfProgram code) cell decision same e = absurd same
 shown_decides (Program instrs) (OfRules rules) cell decision same e = absurd same
 shown_decides (Program instrs) (OfProgram code) cell decision same e =
     (e.0, (e.1.0, subst (λ (c : List Instr). Value c cell decision.value e.1.0) same e.1.1))

@@ -1,6 +1,6 @@
 -- Every input has an answer of `unused`.
 use Rattle.std.proofs.Common.{◌≡◌, ℕ, ◌≤◌, inl, inr, List, [], ◌++◌, Option, Some, None, Result, Ok, Err, length, refl, ap, sym, ◌∙◌, subst, arith, append-nil}
-use Rattle.rules_text.specs.TextOfRules.{NumberedRead, numbered_in}
+use Rattle.rules_text.specs.TextOfRules.{PlacedRulesRead, placed_rules_in}
 use Rattle.rules_text.specs.declared.fault.RuleFault.{RuleFault}
 use Rattle.text_io.specs.Devices.{TakesEnough}
 use Rattle.text_io.specs.Gathered.{gathered, LeavesAfter}
@@ -21,13 +21,13 @@ use Rattle.cmd_differ.proofs.WholeAnswers.{gathered_none}
 abbrev HasUnused : Option (List ℕ) → Type 0
 HasUnused found = (answer : List ℕ) × (finding : Finding) × PrintsUnused found answer finding
 
-text_read : (text : List ℕ) (read : Result NumberedRead RuleFault) → numbered_in text ≡ read → HasUnused (Some text)
-text_read text (Ok numbered) same = (not_decided, Undecided, inr (numbered, (text, refl, same), inr (refl, refl)))
+text_read : (text : List ℕ) (read : Result PlacedRulesRead RuleFault) → placed_rules_in text ≡ read → HasUnused (Some text)
+text_read text (Ok placed_rules) same = (not_decided, Undecided, inr (placed_rules, (text, refl, same), inr (refl, refl)))
 text_read text (Err fault) same = (rule_fault fault, Faulty, inl ((fault, same, refl), refl))
 
 one_found : (found : Option (List ℕ)) → HasUnused found
 one_found None = (too_long, Faulty, inl (refl, refl))
-one_found (Some text) = text_read text (numbered_in text) refl
+one_found (Some text) = text_read text (placed_rules_in text) refl
 
 pub some_unused : (octets : List ℕ) → (answer : List ℕ) × (done : Done) × IsAnswerWith IsUnusedText octets answer done
 some_unused octets = let has = one_found (gathered most_rules_octets octets) in (has.0, finding_done has.1, (has.1, has.2, refl))
@@ -50,4 +50,4 @@ pub unused_whole : (found : Option (List ℕ)) (octets left answer : List ℕ) (
     → LeavesAfter most_rules_octets found octets left → left ≡ []
 unused_whole (Some text) octets left answer finding whole prints after = after
 unused_whole None octets left answer finding whole (inl faulty) after = let bad : Ended ≡ Whole = sym (ap finding_done faulty.1) ∙ whole in absurd (cc)
-unused_whole None octets left answer finding whole (inr (numbered, found, prints)) after = let bad : None ≡ Some found.0 = found.1 in absurd (cc)
+unused_whole None octets left answer finding whole (inr (placed_rules, found, prints)) after = let bad : None ≡ Some found.0 = found.1 in absurd (cc)

@@ -1,7 +1,7 @@
 -- Every old text and every input have an answer.
 use Rattle.std.proofs.Common.{◌≡◌, ◌⊎◌, ℕ, ◌+◌, ◌≤◌, inl, inr, Bool, List, [], ◌++◌, Option, Some, None, Result, Ok, Err, length, refl, ap, sym, ◌∙◌, subst, arith, append-nil, nat_lt, if◌then◌else◌}
 use Rattle.bpf_asm.specs.SourceLines.{source_lines}
-use Rattle.rules_text.specs.TextOfRules.{NumberedRead, numbered_in}
+use Rattle.rules_text.specs.TextOfRules.{PlacedRulesRead, placed_rules_in}
 use Rattle.rules_text.specs.declared.fault.RuleFault.{RuleFault}
 use Rattle.text_io.specs.Devices.{TakesEnough}
 use Rattle.text_io.specs.Gathered.{gathered, LeavesAfter}
@@ -31,8 +31,8 @@ HasAnswer kinds lines old new = (answer : List ℕ) × (finding : Finding) × Pr
 abbrev IsRead : TextKind → List ℕ → Option (List ℕ) → Type 0
 IsRead kind mark found = ((side : SideRead) × FindsSide kind found side) ⊎ ((answer : List ℕ) × PrintsSideFault kind mark found answer)
 
-rules_read_as : (mark text : List ℕ) (read : Result NumberedRead RuleFault) → numbered_in text ≡ read → IsRead OfRules mark (Some text)
-rules_read_as mark text (Ok numbered) same = inl (side_rules numbered, (numbered, (text, refl, same), refl))
+rules_read_as : (mark text : List ℕ) (read : Result PlacedRulesRead RuleFault) → placed_rules_in text ≡ read → IsRead OfRules mark (Some text)
+rules_read_as mark text (Ok placed_rules) same = inl (side_rules placed_rules, (placed_rules, (text, refl, same), refl))
 rules_read_as mark text (Err fault) same = inr (mark ++ rule_fault fault, (fault, same, refl))
 
 program_read_as : (mark text : List ℕ) (reading : ProgramReading) → ReadsProgramText text reading → IsRead OfProgram mark (Some text)
@@ -41,7 +41,7 @@ program_read_as mark text (is_refused fault) reads = inr (mark ++ fault, (fault,
 
 side_read_as : (kind : TextKind) (mark : List ℕ) (found : Option (List ℕ)) → IsRead kind mark found
 side_read_as OfRules mark None = inr (mark ++ too_long, refl)
-side_read_as OfRules mark (Some text) = rules_read_as mark text (numbered_in text) refl
+side_read_as OfRules mark (Some text) = rules_read_as mark text (placed_rules_in text) refl
 side_read_as OfProgram mark None = inr (mark ++ too_long, refl)
 side_read_as OfProgram mark (Some text) = let read = spoken_read (spoken_lines (source_lines text)) in program_read_as mark text read.0 read.1
 

@@ -32,7 +32,7 @@ fields_text side cell =
 
 -- What decides a cell: a line of rules, or the program.
 abbrev pub side_decider : SideRead → Option ℕ → List ℕ
-side_decider (side_rules numbered) line = decider_text numbered.begins line
+side_decider (side_rules placed_rules) line = decider_text placed_rules.begins line
 side_decider (side_program code) line = codes "program"
 
 -- What a side gives a cell: what decides it, and the value.
@@ -49,8 +49,8 @@ cell_with_fields side cell = codes ": " ++ (fields_text side cell ++ line (codes
 
 -- The side of the link at which fields are shown: that of the new rules, or of the old ones. A program has none.
 abbrev pub shown_side : SideRead → SideRead → Side
-shown_side old (side_rules numbered) = numbered.rules.side
-shown_side (side_rules numbered) (side_program code) = numbered.rules.side
+shown_side old (side_rules placed_rules) = placed_rules.rules.side
+shown_side (side_rules placed_rules) (side_program code) = placed_rules.rules.side
 shown_side (side_program code) (side_program other) = Uni
 
 -- The line of a cell: what both sides give it, and the cell.

@@ -8,7 +8,7 @@ use Rattle.rules_cells.specs.Fields.{IsCell}
 use Rattle.rules_cells.specs.declared.deciding.Decision.{Decision}
 use Rattle.cmd_rules.specs.RuleFaults.{rule_fault}
 use Rattle.cmd_rules.specs.RulesAnswers.{most_rules_octets}
-use Rattle.rules_text.specs.TextOfRules.{NumberedRead, numbered_in}
+use Rattle.rules_text.specs.TextOfRules.{PlacedRulesRead, placed_rules_in}
 use Rattle.rules_text.specs.declared.fault.RuleFault.{RuleFault}
 use Rattle.text_io.specs.Gathered.{gathered}
 use Rattle.text_io.specs.declared.ending.Done.{Done}
@@ -35,11 +35,11 @@ new_mark = codes "new: "
 -- The answer is the fault of a text that was found, after this mark; otherwise the text is over the limit.
 abbrev pub PrintsFaultAfter : List ℕ → Option (List ℕ) → List ℕ → Type 0
 PrintsFaultAfter mark found answer = MatchOption found (answer ≡ mark ++ too_long)
-    (λ text. (fault : RuleFault) × (numbered_in text ≡ Err fault) × (answer ≡ mark ++ rule_fault fault))
+    (λ text. (fault : RuleFault) × (placed_rules_in text ≡ Err fault) × (answer ≡ mark ++ rule_fault fault))
 
 -- A text was found, and has these rules.
-abbrev pub FindsText : Option (List ℕ) → NumberedRead → Type 0
-FindsText found numbered = (text : List ℕ) × (found ≡ Some text) × (numbered_in text ≡ Ok numbered)
+abbrev pub FindsText : Option (List ℕ) → PlacedRulesRead → Type 0
+FindsText found placed_rules = (text : List ℕ) × (found ≡ Some text) × (placed_rules_in text ≡ Ok placed_rules)
 
 -- The same of a text with a program.
 abbrev pub PrintsProgramFault : List ℕ → Option (List ℕ) → List ℕ → Type 0
@@ -57,7 +57,7 @@ PrintsSideFault Program = PrintsProgramFault
 
 -- A text of this kind was found, and is this side.
 abbrev pub FindsSide : TextKind → Option (List ℕ) → SideRead → Type 0
-FindsSide Rules found side = (numbered : NumberedRead) × FindsText found numbered × (side ≡ side_rules numbered)
+FindsSide Rules found side = (placed_rules : PlacedRulesRead) × FindsText found placed_rules × (side ≡ side_rules placed_rules)
 FindsSide Program found side = (code : List Instr) × FindsProgram found code × (side ≡ side_program code)
 
 -- The answer if too much would have to be looked at. Nothing is said of any cell.

@@ -6,7 +6,7 @@ use Rattle.rules_cells.specs.declared.rules.Rules.{Rules}
 use Rattle.cmd_rules.specs.RulesAnswers.{most_rules_octets}
 use Rattle.cmd_rules.specs.CountText.{decider_text}
 use Rattle.rules_text.specs.RulesRead.{rules_read}
-use Rattle.rules_text.specs.TextOfRules.{NumberedRead}
+use Rattle.rules_text.specs.TextOfRules.{PlacedRulesRead}
 use Rattle.rules_text.specs.declared.place.RulePlace.{RulePlace}
 use Rattle.text_io.specs.Gathered.{gathered}
 use Rattle.text_io.specs.declared.ending.Done.{Done}
@@ -58,22 +58,22 @@ unused_finding [] = Nothing
 unused_finding (one ∷ more) = Something
 
 -- The rules in memory are those that were read, and the answer is by all of them that decide no cell.
-pub record IsSearched (numbered : NumberedRead) (answer : List ℕ) (finding : Finding) : Type 0 where
+pub record IsSearched (placed_rules : PlacedRulesRead) (answer : List ℕ) (finding : Finding) : Type 0 where
   pub rules : Rules
-  pub read : numbered.rules ≡ rules_read rules
+  pub read : placed_rules.rules ≡ rules_read rules
   pub unused : List Unused
   pub are_unused : AreUnused rules unused
-  pub prints : answer ≡ unused_text numbered.begins unused
+  pub prints : answer ≡ unused_text placed_rules.begins unused
   pub finds : finding ≡ unused_finding unused
 
 -- The answer to a text with these rules.
-abbrev pub PrintsSearch : NumberedRead → List ℕ → Finding → Type 0
-PrintsSearch numbered answer finding = IsSearched numbered answer finding ⊎ ((answer ≡ not_decided) × (finding ≡ Undecided))
+abbrev pub PrintsSearch : PlacedRulesRead → List ℕ → Finding → Type 0
+PrintsSearch placed_rules answer finding = IsSearched placed_rules answer finding ⊎ ((answer ≡ not_decided) × (finding ≡ Undecided))
 
 -- The answer to a text that was found: its fault, or the rules that decide no cell.
 abbrev pub PrintsUnused : Option (List ℕ) → List ℕ → Finding → Type 0
 PrintsUnused found answer finding =
-    (PrintsFaultAfter [] found answer × (finding ≡ Faulty)) ⊎ ((numbered : NumberedRead) × FindsText found numbered × PrintsSearch numbered answer finding)
+    (PrintsFaultAfter [] found answer × (finding ≡ Faulty)) ⊎ ((placed_rules : PlacedRulesRead) × FindsText found placed_rules × PrintsSearch placed_rules answer finding)
 
 -- The output for a whole input, and what was found.
 abbrev pub IsUnusedText : List ℕ → List ℕ → Finding → Type 0

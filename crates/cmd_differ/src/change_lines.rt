@@ -102,7 +102,7 @@ fn add_side_decider(
     ensures { OnOk result (answers.new.items ≡ answers.old.items ++ side_decider (side_read side.now) line) }
 {
     match side {
-        SideText::Rules(numbered) => add_decider(answers, &numbered.begins, line),
+        SideText::Rules(placed_rules) => add_decider(answers, &placed_rules.begins, line),
         SideText::Program(_) => add_text(answers, b"program"),
     }
 }
@@ -169,8 +169,8 @@ fn shown_side(old: &SideText, new: &SideText) -> Side
     ensures { result ≡ shown_side (side_read old.now) (side_read new.now) }
 {
     match (old, new) {
-        (_, SideText::Rules(numbered)) => numbered.rules.side,
-        (SideText::Rules(numbered), SideText::Program(_)) => numbered.rules.side,
+        (_, SideText::Rules(placed_rules)) => placed_rules.rules.side,
+        (SideText::Rules(placed_rules), SideText::Program(_)) => placed_rules.rules.side,
         (SideText::Program(_), SideText::Program(_)) => Side::Uni,
     }
 }

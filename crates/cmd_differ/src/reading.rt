@@ -11,7 +11,7 @@ use crate::kinds::TextKind;
 use crate::program_text::program_in;
 use crate::sides::SideText;
 use cmd_rules::add_rule_fault;
-use rules_text::{NumberedRules, RuleFault, RuleKind, read_numbered};
+use rules_text::{PlacedRules, RuleFault, RuleKind, read_with_places};
 use std::alloc::{AllocError, Global};
 use text_words::{add_text, add_too_long};
 
@@ -47,11 +47,11 @@ fn read_text(
     which: Which,
     text: &[u8],
     answers: &mut Vec<u8>,
-) -> Result<Option<NumberedRules>, AllocError>
+) -> Result<Option<PlacedRules>, AllocError>
     ensures { IfOk result (ReadsText which (Some text.now) answers.old.items answers.new.items) }
 {
-    match read_numbered(alloc, text) {
-        Ok(numbered) => Ok(Some(numbered)),
+    match read_with_places(alloc, text) {
+        Ok(placed_rules) => Ok(Some(placed_rules)),
         Err(
             RuleFault {
                 kind: RuleKind::NoMemory,
@@ -81,7 +81,7 @@ pub(crate) fn read_found(
     which: Which,
     found: Option<Vec<u8>>,
     answers: &mut Vec<u8>,
-) -> Result<Option<NumberedRules>, AllocError>
+) -> Result<Option<PlacedRules>, AllocError>
     ensures { IfOk result (ReadsText which (option_map (λ text. text.items) found) answers.old.items answers.new.items) }
 {
     match found {
@@ -127,7 +127,7 @@ fn read_side(
     match kind {
         TextKind::Program => read_program(alloc, which, text, answers),
         TextKind::Rules => match read_text(alloc, which, text, answers)? {
-            Some(numbered) => Ok(Some(SideText::Rules(numbered))),
+            Some(placed_rules) => Ok(Some(SideText::Rules(placed_rules))),
             None => Ok(None),
         },
     }

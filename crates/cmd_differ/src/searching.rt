@@ -2,7 +2,7 @@
 
 ghost use Rattle.std.specs.Prelude.{◌≡◌, IfOk, option_map};
 ghost use Rattle.rules_diagrams.specs.UnusedRules.{AreUnused};
-ghost use Rattle.rules_text.specs.NumberedText.{numbered_read};
+ghost use Rattle.rules_text.specs.RulesInMemory.{placed_rules_read};
 ghost use Rattle.text_io.specs.Devices.{Adds};
 ghost use Rattle.text_io.specs.Serving.{IsServed};
 ghost use Rattle.cmd_differ.specs.Findings.{ended_by};
@@ -13,7 +13,7 @@ use crate::giving::give_finding;
 use crate::reading::{MOST_RULES_OCTETS, Which, read_found};
 use crate::unused_lines::add_unused_text;
 use rules_diagrams::{Undecided, Unused, unused_rules};
-use rules_text::NumberedRules;
+use rules_text::PlacedRules;
 use std::alloc::{AllocError, Global};
 use text_io::{Input, Output, RunFault, gather};
 use text_words::add_text;
@@ -31,13 +31,13 @@ fn finding_of(unused: &[Unused]) -> Finding
 /// Appends the rules that decide no cell, or that there is none.
 fn add_searched(
     answers: &mut Vec<u8>,
-    numbered: &NumberedRules,
+    placed_rules: &PlacedRules,
     unused: &[Unused],
 ) -> Result<Finding, AllocError>
-    requires { AreUnused numbered.now.rules unused.now }
-    ensures { IfOk result (λ finding. Adds (λ answer. IsSearched (numbered_read numbered.now) answer finding) answers.old.items answers.new.items) }
+    requires { AreUnused placed_rules.now.rules unused.now }
+    ensures { IfOk result (λ finding. Adds (λ answer. IsSearched (placed_rules_read placed_rules.now) answer finding) answers.old.items answers.new.items) }
 {
-    add_unused_text(answers, &numbered.begins, unused)?;
+    add_unused_text(answers, &placed_rules.begins, unused)?;
     Ok(finding_of(unused))
 }
 
@@ -45,12 +45,12 @@ fn add_searched(
 fn add_search(
     alloc: Global,
     answers: &mut Vec<u8>,
-    numbered: &NumberedRules,
+    placed_rules: &PlacedRules,
 ) -> Result<Finding, AllocError>
-    ensures { IfOk result (λ finding. Adds (λ answer. PrintsSearch (numbered_read numbered.now) answer finding) answers.old.items answers.new.items) }
+    ensures { IfOk result (λ finding. Adds (λ answer. PrintsSearch (placed_rules_read placed_rules.now) answer finding) answers.old.items answers.new.items) }
 {
-    match unused_rules(alloc, &numbered.rules) {
-        Ok(unused) => add_searched(answers, numbered, &unused),
+    match unused_rules(alloc, &placed_rules.rules) {
+        Ok(unused) => add_searched(answers, placed_rules, &unused),
         Err(Undecided::TooLarge) => {
             add_text(answers, b"not decided: more than 4194304 cases\n")?;
             Ok(Finding::Undecided)
@@ -67,10 +67,10 @@ fn add_unused_of(
 ) -> Result<Finding, AllocError>
     ensures { IfOk result (λ finding. Adds (λ answer. PrintsUnused (option_map (λ text. text.items) found) answer finding) answers.old.items answers.new.items) }
 {
-    let Some(numbered) = read_found(alloc, Which::Only, found, answers)? else {
+    let Some(placed_rules) = read_found(alloc, Which::Only, found, answers)? else {
         return Ok(Finding::Faulty);
     };
-    add_search(alloc, answers, &numbered)
+    add_search(alloc, answers, &placed_rules)
 }
 
 /// Finds the rules of a text, the whole input, that decide no cell. The answer has a line for each, with the rules before it that decide

@@ -6,14 +6,14 @@ ghost use Rattle.cmd_differ.specs.inner.SidesRead.{IsShownAs, side_read};
 
 use bpf_code::Instr;
 use rules_diagrams::{Case, Compared, Uncompared, compare_sides};
-use rules_text::NumberedRules;
+use rules_text::PlacedRules;
 use std::alloc::Global;
 
 /// A text that was read.
 #[derive(Drop)]
 pub(crate) enum SideText {
     /// Its rules, and where their lines begin.
-    Rules(NumberedRules),
+    Rules(PlacedRules),
     /// The code of its program.
     Program(Vec<Instr>),
 }
@@ -23,7 +23,7 @@ fn shown(side: &SideText) -> Compared<'_>
     ensures { IsShownAs side.now result }
 {
     match side {
-        SideText::Rules(numbered) => Compared::Rules(&numbered.rules),
+        SideText::Rules(placed_rules) => Compared::Rules(&placed_rules.rules),
         SideText::Program(code) => Compared::Program(code.as_slice()),
     }
 }

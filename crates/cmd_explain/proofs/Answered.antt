@@ -18,7 +18,7 @@ use Rattle.cmd_explain.specs.InputKinds.{faults_after, rules_after, source_after
 use Rattle.cmd_explain.specs.inner.FaultsTotal.{faults-answered}
 use Rattle.cmd_explain.proofs.RulesAnswered.{ended-rules_explained}
 use Rattle.cmd_explain.specs.RulesExplained.{MayBeRulesExplained}
-use Rattle.cmd_explain.specs.Hints.{hints_of}
+use Rattle.cmd_explain.specs.SourceHints.{hints_of}
 use Rattle.cmd_explain.specs.LinesFound.{instruction_lines}
 use Rattle.cmd_explain.specs.SourceReasons.{source_explanation}
 use Rattle.cmd_explain_script.proofs.Public.{some-script_text}

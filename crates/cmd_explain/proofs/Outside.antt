@@ -5,7 +5,7 @@ use Rattle.bpf_code.specs.declared.instr.Instr.TheVariants as instr
 use Rattle.bpf_interp.specs.Packet.{number_at, octets_loaded}
 use Rattle.bpf_interp.specs.State.{State, Ended}
 use Rattle.bpf_interp.specs.Step.{LoadsNumber}
-use Rattle.cmd_explain.specs.Hints.{OutsideEndsProgram}
+use Rattle.cmd_explain.specs.SourceHints.{OutsideEndsProgram}
 
 pick-none : (b : Bool) → b ≡ false → (value : ℕ) → (if b then Some value else None) ≡ None
 pick-none true e value = let no = e in cc

@@ -11,7 +11,7 @@ use Rattle.bpf_verify.specs.Accepted.{IsAccepted}
 use Rattle.bpf_verify.specs.Faults.{FailsFirst}
 use Rattle.bpf_verify.specs.declared.fault.Fault.{Fault}
 use Rattle.cmd_explain.specs.CodeReasons.{IsCodeExplanation}
-use Rattle.cmd_explain.specs.Hints.{hints_of}
+use Rattle.cmd_explain.specs.SourceHints.{hints_of}
 use Rattle.cmd_explain.specs.FaultSentences.{IsFaultsText}
 use Rattle.cmd_explain.specs.InputKinds.{faults_after, rules_after, source_after}
 use Rattle.cmd_explain.specs.RulesExplained.{IsRulesExplained, MayBeRulesExplained}

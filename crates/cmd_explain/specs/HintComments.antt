@@ -4,18 +4,18 @@ use Rattle.cmd_explain.specs.RuleHints.{AreRuleHints}
 use Rattle.cmd_explain.specs.declared.hint_comments.Comments.{Comments}
 use Rattle.cmd_explain.specs.declared.hint_comments.Comments.TheVariants.{Made, NoMemory}
 use Rattle.cmd_rules.specs.RulesAnswers.{most_rules_octets}
-use Rattle.rules_text.specs.TextOfRules.{NumberedRead, numbered_in}
+use Rattle.rules_text.specs.TextOfRules.{PlacedRulesRead, placed_rules_in}
 use Rattle.rules_text.specs.declared.fault.RuleFault.{RuleFault}
 use Rattle.text_io.specs.Gathered.{gathered}
 
 -- The hints about what was read of a text. A text with a fault has none.
-abbrev pub AreHintsOn : List ℕ → Result NumberedRead RuleFault → List ℕ → Type 0
-AreHintsOn front (Ok numbered) hints = AreRuleHints front numbered hints
+abbrev pub AreHintsOn : List ℕ → Result PlacedRulesRead RuleFault → List ℕ → Type 0
+AreHintsOn front (Ok placed_rules) hints = AreRuleHints front placed_rules hints
 AreHintsOn front (Err fault) hints = hints ≡ []
 
 -- The hints about a text that was found. A text over the limit has none.
 abbrev pub AreHintsFound : List ℕ → Option (List ℕ) → List ℕ → Type 0
-AreHintsFound front found hints = MatchOption found (hints ≡ []) (λ text. AreHintsOn front (numbered_in text) hints)
+AreHintsFound front found hints = MatchOption found (hints ≡ []) (λ text. AreHintsOn front (placed_rules_in text) hints)
 
 -- The hints about a text of rules.
 abbrev pub AreHintsAbout : List ℕ → List ℕ → List ℕ → Type 0

@@ -6,7 +6,7 @@ pub mod BadLines
 pub mod SourceReasons
 pub mod CodePaths
 pub mod CodeReasons
-pub mod Hints
+pub mod SourceHints
 pub mod WordsFound
 pub mod Parts
 pub mod Spots

@@ -27,7 +27,7 @@ abbrev pub known_marks : List (List ℕ × Part)
 known_marks =
     (codes "->", part.Arrow) ∷ (codes "..", part.Dots) ∷ (codes "&&", part.And) ∷ (codes "||", part.Or)
     ∷ (codes "==", part.Equal) ∷ (codes "!=", part.Equal) ∷ (codes "<=", part.Order) ∷ (codes ">=", part.Order)
-    ∷ (codes "{", part.Open) ∷ (codes "}", part.Close) ∷ (codes "(", part.Left) ∷ (codes ")", part.Right)
+    ∷ (codes "{", part.LeftBrace) ∷ (codes "}", part.RightBrace) ∷ (codes "(", part.LeftParenthesis) ∷ (codes ")", part.RightParenthesis)
     ∷ (codes "&", part.Mask) ∷ (codes ",", part.Comma) ∷ (codes "/", part.Slash) ∷ (codes "*", part.Star) ∷ (codes "!", part.Not)
     ∷ (codes "=", part.Equal) ∷ (codes "<", part.Order) ∷ (codes ">", part.Order) ∷ []
 

@@ -59,7 +59,7 @@ joining_reason octets other =
 
 -- Why a token isn't in a list, or this.
 abbrev pub listing_reason : Part → List ℕ → List ℕ
-listing_reason part.Open other = codes "a list has no braces, as in `vci 1, 2`"
+listing_reason part.LeftBrace other = codes "a list has no braces, as in `vci 1, 2`"
 listing_reason _ other = other
 
 -- Why a token doesn't come at a place.

@@ -69,14 +69,14 @@ giving_line name begin (line ∷ lines) =
 
 -- How many parentheses are open after a token.
 abbrev pub depth_after : Part → ℕ → ℕ
-depth_after part.Left depth = depth + 1
-depth_after part.Right depth = depth - 1
+depth_after part.LeftParenthesis depth = depth + 1
+depth_after part.RightParenthesis depth = depth - 1
 depth_after _ depth = depth
 
 -- Whether a test ends before a token.
 abbrev pub ends_test : Part → Bool
 ends_test part.Arrow = true
-ends_test part.Open = true
+ends_test part.LeftBrace = true
 ends_test _ = false
 
 -- How many parentheses are open where the test of these tokens ends, if this many were before them.

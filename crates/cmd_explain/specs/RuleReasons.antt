@@ -46,8 +46,8 @@ outside_sentence spot = codes "a cell has the octets 0 to 51; " ++ offsets spot.
 
 -- The sentence about a parenthesis or a block without its other end. This many parentheses are open where the test of the line ends.
 abbrev pub unbalanced_sentence : Part → ℕ → List ℕ
-unbalanced_sentence part.Right depth = codes "no `(` is open here"
-unbalanced_sentence part.Close depth = codes "no block is open here"
+unbalanced_sentence part.RightParenthesis depth = codes "no `(` is open here"
+unbalanced_sentence part.RightBrace depth = codes "no block is open here"
 unbalanced_sentence _ depth =
     if nat_lt 0 depth then codes "this `(` isn't closed; its `)` comes before the test ends" else codes "this block isn't closed; a `}` ends it"
 

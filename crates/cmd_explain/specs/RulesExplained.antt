@@ -9,7 +9,7 @@ use Rattle.cmd_rules.specs.RulesAnswers.{IsAnswerBy}
 use Rattle.rules_text.specs.CodeOfText.{IsCodeOfText}
 use Rattle.rules_text.specs.RulesRead.{LineRead, rule_line, block_line, end_line}
 use Rattle.rules_text.specs.TextFaults.{IsTooLong}
-use Rattle.rules_text.specs.TextOfRules.{NumberedRead, numbered_in, placed_fault}
+use Rattle.rules_text.specs.TextOfRules.{PlacedRulesRead, placed_rules_in, placed_fault}
 use Rattle.rules_text.specs.declared.fault.RuleFault.{RuleFault}
 use Rattle.rules_text.specs.declared.fault.RuleKind.TheVariants.{TooLong}
 use Rattle.text_io.specs.declared.ending.Done.{Done}
@@ -17,13 +17,13 @@ use Rattle.text_io.specs.declared.ending.Done.TheVariants.{Whole, Ended}
 use Rattle.text_words.specs.FaultLines.{line}
 
 -- The fault of a text, as `upc-lab rules` has it: the one that reading it meets, or that the code of its rules is too long. (`rules_in` is
--- `numbered_in` without the places of lines, and has the same fault.)
+-- `placed_rules_in` without the places of lines, and has the same fault.)
 abbrev pub IsFaultOfText : List ℕ → RuleFault → Type 0
-IsFaultOfText text fault = (numbered_in text ≡ Err fault) ⊎ ((fault ≡ placed_fault 0 0 TooLong) × IsTooLong text)
+IsFaultOfText text fault = (placed_rules_in text ≡ Err fault) ⊎ ((fault ≡ placed_fault 0 0 TooLong) × IsTooLong text)
 
 -- The text has these rules, and their code is accepted.
-pub record HasNoFault (text : List ℕ) (numbered : NumberedRead) : Type 0 where
-  pub read : numbered_in text ≡ Ok numbered
+pub record HasNoFault (text : List ℕ) (placed_rules : PlacedRulesRead) : Type 0 where
+  pub read : placed_rules_in text ≡ Ok placed_rules
   pub code : List Instr
   pub of_text : IsCodeOfText text code
   pub accepted : IsAccepted code
@@ -40,8 +40,8 @@ abbrev pub rules_words : ℕ → List ℕ
 rules_words count = if count == 1 then codes "1 rule" else decimal count ++ codes " rules"
 
 -- The line that says that rules have no fault.
-abbrev pub no_fault_text : NumberedRead → List ℕ
-no_fault_text numbered = line (codes "no fault in " ++ rules_words (rules_count numbered.rules.lines))
+abbrev pub no_fault_text : PlacedRulesRead → List ℕ
+no_fault_text placed_rules = line (codes "no fault in " ++ rules_words (rules_count placed_rules.rules.lines))
 
 -- The answer to a text with this fault: the line of `upc-lab rules`, and an explanation.
 abbrev pub fault_answer : List ℕ → RuleFault → List ℕ
@@ -50,8 +50,8 @@ fault_answer text fault = rule_fault fault ++ rule_explanation text fault
 -- The answer to a text of rules, and how the run ends: its fault, or that there is none, with hints.
 abbrev pub ExplainsRules : List ℕ → List ℕ → Done → Type 0
 ExplainsRules text answer done =
-    ((numbered : NumberedRead) × HasNoFault text numbered
-    × ((hints : List ℕ) × AreRuleHints [] numbered hints × (answer ≡ no_fault_text numbered ++ hints)) × (done ≡ Whole))
+    ((placed_rules : PlacedRulesRead) × HasNoFault text placed_rules
+    × ((hints : List ℕ) × AreRuleHints [] placed_rules hints × (answer ≡ no_fault_text placed_rules ++ hints)) × (done ≡ Whole))
     ⊎ ((fault : RuleFault) × IsFaultOfText text fault × (answer ≡ fault_answer text fault) × (done ≡ Ended))
 
 -- The output for a whole input, and how the run ends.
@@ -63,7 +63,7 @@ IsRulesExplained = IsAnswerBy ExplainsRules
 abbrev pub MayExplain : List ℕ → List ℕ → Done → Type 0
 MayExplain text answer done =
     ExplainsRules text answer done
-    ⊎ (((numbered : NumberedRead) × (numbered_in text ≡ Ok numbered)) × (answer ≡ fault_answer text (placed_fault 0 0 TooLong)) × (done ≡ Ended))
+    ⊎ (((placed_rules : PlacedRulesRead) × (placed_rules_in text ≡ Ok placed_rules)) × (answer ≡ fault_answer text (placed_fault 0 0 TooLong)) × (done ≡ Ended))
 
 -- The output for a whole input with such an answer.
 abbrev pub MayBeRulesExplained : List ℕ → List ℕ → Done → Type 0

@@ -1,13 +1,13 @@
 //! The hints about a text of rules that a run has beside its answer, each after the same octets.
 
 ghost use Rattle.std.specs.Prelude.{◌≡◌, OnOk, option_map};
-ghost use Rattle.rules_text.specs.TextOfRules.{numbered_in};
+ghost use Rattle.rules_text.specs.TextOfRules.{placed_rules_in};
 ghost use Rattle.text_io.specs.Devices.{Adds};
 ghost use Rattle.cmd_explain.specs.HintComments.{AreHintsAbout, AreHintsOn, text_of_comments};
 ghost use Rattle.cmd_explain.specs.inner.CommentsFound.{MayBeCommentsFound};
 
 use crate::rule_hints::add_rule_hints;
-use rules_text::{RuleFault, RuleKind, read_numbered};
+use rules_text::{RuleFault, RuleKind, read_with_places};
 use std::alloc::{AllocError, Global};
 
 /// The maximum number of octets of a text of rules.
@@ -41,10 +41,10 @@ fn add_hints_on(
     front: &[u8],
     text: &[u8],
 ) -> Result<(), AllocError>
-    ensures { OnOk result (Adds (AreHintsOn front.now (numbered_in text.now)) answers.old.items answers.new.items) }
+    ensures { OnOk result (Adds (AreHintsOn front.now (placed_rules_in text.now)) answers.old.items answers.new.items) }
 {
-    match read_numbered(alloc, text) {
-        Ok(numbered) => add_rule_hints(alloc, answers, front, &numbered),
+    match read_with_places(alloc, text) {
+        Ok(placed_rules) => add_rule_hints(alloc, answers, front, &placed_rules),
         Err(
             RuleFault {
                 kind: RuleKind::NoMemory,

@@ -8,34 +8,10 @@ ghost use Rattle.text_io.specs.Serving.{IsServed};
 ghost use Rattle.cmd_explain.specs.HintComments.{MayBeHintComments, text_of_comments};
 
 use crate::hint_comments::{Comments, MOST_RULES_OCTETS, comments_found};
-use cmd_programs::add_program;
-use cmd_rules::add_rule_fault;
-use rules_text::{RuleFault, RuleKind, compile_text};
+use cmd_rules::answer_by_octets;
 use std::alloc::{AllocError, Global};
 use text_io::{Done, Input, Output, RunFault, gather, give_last};
 use text_words::add_too_long;
-
-/// Answers a text: the octets of the program of its rules, or its fault.
-fn answer_text(alloc: Global, text: &[u8], answers: &mut Vec<u8>) -> Result<Done, AllocError>
-    ensures { IfOk result (λ done. Adds (λ answer. PrintsRules text.now answer done) answers.old.items answers.new.items) }
-{
-    match compile_text(alloc, text) {
-        Ok(code) => {
-            add_program(alloc, answers, &code)?;
-            Ok(Done::Whole)
-        }
-        Err(
-            RuleFault {
-                kind: RuleKind::NoMemory,
-                ..
-            },
-        ) => Err(AllocError),
-        Err(fault) => {
-            add_rule_fault(answers, fault)?;
-            Ok(Done::Ended)
-        }
-    }
-}
 
 /// Answers a text within the limit, or one over it.
 fn answer_found(
@@ -47,7 +23,7 @@ fn answer_found(
         answers.old.items answers.new.items) }
 {
     match found {
-        Some(text) => answer_text(alloc, text, answers),
+        Some(text) => answer_by_octets(alloc, text, answers),
         None => {
             add_too_long(answers)?;
             Ok(Done::Ended)

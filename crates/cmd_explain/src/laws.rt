@@ -1,6 +1,6 @@
 //! Laws of the definitions. Each function does nothing; its contract is the law.
 
-ghost use Rattle.cmd_explain.specs.Hints.{OutsideEndsProgram};
+ghost use Rattle.cmd_explain.specs.SourceHints.{OutsideEndsProgram};
 ghost use Rattle.cmd_explain.specs.AsCheck.{NamesFaultsOfCheck};
 ghost use Rattle.cmd_explain.specs.FoundTokens.{FindsTokens};
 

@@ -108,7 +108,7 @@ fn listing_reason(part: Part, other: &'static [u8]) -> &'static [u8]
     ensures { result.now ≡ listing_reason part other.now }
 {
     match part {
-        Part::Open => b"a list has no braces, as in `vci 1, 2`",
+        Part::LeftBrace => b"a list has no braces, as in `vci 1, 2`",
         _ => other,
     }
 }

@@ -89,8 +89,8 @@ fn unbalanced_sentence(part: Part, depth: usize) -> &'static [u8]
     ensures { result.now ≡ unbalanced_sentence part depth }
 {
     match part {
-        Part::Right => b"no `(` is open here",
-        Part::Close => b"no block is open here",
+        Part::RightParenthesis => b"no `(` is open here",
+        Part::RightBrace => b"no block is open here",
         _ => {
             if depth > 0 {
                 b"this `(` isn't closed; its `)` comes before the test ends"

@@ -2,14 +2,14 @@
 
 ghost use Rattle.std.specs.Prelude.{◌≡◌, ◌++◌, OnOk};
 ghost use Rattle.rules_diagrams.specs.UnusedRules.{AreUnused};
-ghost use Rattle.rules_text.specs.NumberedText.{numbered_read};
+ghost use Rattle.rules_text.specs.RulesInMemory.{placed_rules_read};
 ghost use Rattle.text_io.specs.Devices.{Adds};
-ghost use Rattle.cmd_explain.specs.RuleHints.{AreAllHints, AreRuleHints, all_takers, hint_sentence, left_out, more_takers, rule_hint, rule_hints, rule_line_words, separator, take_words, taken_words, undecided_hint};
+ghost use Rattle.cmd_explain.specs.RuleHints.{AreAllHints, AreRuleHints, rule_list, hint_sentence, left_out, rules_after_first, rule_hint, rule_hints, rule_line_words, separator, takes_words, decides_no_cell_words, undecided_hint};
 
 use cmd_explain_script::add_place;
 use cmd_rules::{add_decider, begin_at};
 use rules_diagrams::{Undecided, Unused, unused_rules};
-use rules_text::{NumberedRules, RulePlace};
+use rules_text::{PlacedRules, RulePlace};
 use std::alloc::{AllocError, Global};
 use text_words::{add_number, add_text};
 
@@ -47,9 +47,9 @@ fn add_left_out(answers: &mut Vec<u8>, count: usize) -> Result<(), AllocError>
     add_text(answers, b" more")
 }
 
-/// Appends where a rule after the first begins, which these follow.
+/// Appends where a rule after the first begins, with the comma or `and` before it; these rules follow.
 #[tactic(auto, using(std::proofs::lemmas::List::append_assoc))]
-fn add_taker(
+fn add_separated_rule(
     answers: &mut Vec<u8>,
     begins: &[RulePlace],
     place: usize,
@@ -61,14 +61,14 @@ fn add_taker(
     add_rule_name(answers, begins, place)
 }
 
-/// Appends where the rules after the first begin.
+/// Appends where the rules after the first begin, each with the comma or `and` before it.
 #[tactic(auto, using(std::proofs::lemmas::List::append_assoc))]
-fn add_more_takers(
+fn add_rules_after_first(
     answers: &mut Vec<u8>,
     begins: &[RulePlace],
     takers: &[usize],
 ) -> Result<(), AllocError>
-    ensures { OnOk result (answers.new.items ≡ answers.old.items ++ more_takers begins.now 7 takers.now) }
+    ensures { OnOk result (answers.new.items ≡ answers.old.items ++ rules_after_first begins.now 7 takers.now) }
 {
     let mut left = takers;
     let mut room = MOST_NAMED;
@@ -76,7 +76,7 @@ fn add_more_takers(
         if room == 0 {
             return add_left_out(answers, left.len());
         }
-        add_taker(answers, begins, *place, more)?;
+        add_separated_rule(answers, begins, *place, more)?;
         room -= 1;
         left = more;
     }
@@ -84,8 +84,8 @@ fn add_more_takers(
 }
 
 /// Returns that one rule takes the cells, or that these others do too.
-fn take_words(more: &[usize]) -> &'static [u8]
-    ensures { result.now ≡ take_words more.now }
+fn takes_words(more: &[usize]) -> &'static [u8]
+    ensures { result.now ≡ takes_words more.now }
 {
     match more {
         [] => b" takes its cells",
@@ -93,46 +93,33 @@ fn take_words(more: &[usize]) -> &'static [u8]
     }
 }
 
-/// Appends the rules that take the cells of a rule: the first, and the others.
+/// Appends where the rules begin that take the cells of a rule: the first, and the others.
 #[tactic(auto, using(std::proofs::lemmas::List::append_assoc))]
-fn add_all_takers(
+fn add_rule_list(
     answers: &mut Vec<u8>,
     begins: &[RulePlace],
     first: usize,
     more: &[usize],
 ) -> Result<(), AllocError>
-    ensures { OnOk result (answers.new.items ≡ answers.old.items ++ all_takers begins.now first more.now) }
+    ensures { OnOk result (answers.new.items ≡ answers.old.items ++ rule_list begins.now first more.now) }
 {
     add_rule_name(answers, begins, first)?;
-    add_more_takers(answers, begins, more)
-}
-
-/// Appends that these rules take the cells of a rule.
-#[tactic(auto, using(std::proofs::lemmas::List::append_assoc))]
-fn add_taking(
-    answers: &mut Vec<u8>,
-    begins: &[RulePlace],
-    first: usize,
-    more: &[usize],
-) -> Result<(), AllocError>
-    ensures { OnOk result (answers.new.items ≡ answers.old.items ++ (all_takers begins.now first more.now ++ take_words more.now)) }
-{
-    add_all_takers(answers, begins, first, more)?;
-    add_text(answers, take_words(more))
+    add_rules_after_first(answers, begins, more)
 }
 
 /// Appends that a rule decides no cell, and that these rules take its cells.
 #[tactic(auto, using(std::proofs::lemmas::List::append_assoc))]
-fn add_taken(
+fn add_decides_no_cell(
     answers: &mut Vec<u8>,
     begins: &[RulePlace],
     first: usize,
     more: &[usize],
 ) -> Result<(), AllocError>
-    ensures { OnOk result (answers.new.items ≡ answers.old.items ++ taken_words begins.now first more.now) }
+    ensures { OnOk result (answers.new.items ≡ answers.old.items ++ decides_no_cell_words begins.now first more.now) }
 {
     add_text(answers, b"this rule decides no cell; ")?;
-    add_taking(answers, begins, first, more)?;
+    add_rule_list(answers, begins, first, more)?;
+    add_text(answers, takes_words(more))?;
     Ok(())
 }
 
@@ -146,7 +133,7 @@ fn add_hint_sentence(
 {
     match takers {
         [] => add_text(answers, b"this rule holds of no cell"),
-        [first, more @ ..] => add_taken(answers, begins, *first, more),
+        [first, more @ ..] => add_decides_no_cell(answers, begins, *first, more),
     }
 }
 
@@ -168,20 +155,9 @@ fn add_rule_hint(
     Ok(())
 }
 
-/// Appends the hint about one of the rules that decide no cell.
-fn add_unused(
-    answers: &mut Vec<u8>,
-    begins: &[RulePlace],
-    unused: &Unused,
-) -> Result<(), AllocError>
-    ensures { OnOk result (answers.new.items ≡ answers.old.items ++ rule_hint begins.now unused.now.place unused.now.takers.items) }
-{
-    add_rule_hint(answers, begins, unused.place, &unused.takers)
-}
-
 /// Appends a hint about one of the rules that decide no cell, after these octets.
 #[tactic(auto, using(std::proofs::lemmas::List::append_assoc))]
-fn add_unused_after(
+fn add_hint_after(
     answers: &mut Vec<u8>,
     front: &[u8],
     begins: &[RulePlace],
@@ -190,7 +166,7 @@ fn add_unused_after(
     ensures { OnOk result (answers.new.items ≡ answers.old.items ++ (front.now ++ rule_hint begins.now unused.now.place unused.now.takers.items)) }
 {
     add_text(answers, front)?;
-    add_unused(answers, begins, unused)
+    add_rule_hint(answers, begins, unused.place, &unused.takers)
 }
 
 /// Appends the hints about rules that decide no cell, each after these octets.
@@ -204,7 +180,7 @@ fn add_all_hints(
     ensures { OnOk result (answers.new.items ≡ answers.old.items ++ rule_hints front.now begins.now unused.now) }
 {
     for one in unused {
-        add_unused_after(answers, front, begins, one)?;
+        add_hint_after(answers, front, begins, one)?;
     }
     Ok(())
 }
@@ -213,13 +189,13 @@ fn add_all_hints(
 fn add_searched(
     answers: &mut Vec<u8>,
     front: &[u8],
-    numbered: &NumberedRules,
+    placed_rules: &PlacedRules,
     unused: &[Unused],
 ) -> Result<(), AllocError>
-    requires { AreUnused numbered.now.rules unused.now }
-    ensures { OnOk result (Adds (AreAllHints front.now (numbered_read numbered.now)) answers.old.items answers.new.items) }
+    requires { AreUnused placed_rules.now.rules unused.now }
+    ensures { OnOk result (Adds (AreAllHints front.now (placed_rules_read placed_rules.now)) answers.old.items answers.new.items) }
 {
-    add_all_hints(answers, front, &numbered.begins, unused)?;
+    add_all_hints(answers, front, &placed_rules.begins, unused)?;
     Ok(())
 }
 
@@ -237,12 +213,12 @@ pub(crate) fn add_rule_hints(
     alloc: Global,
     answers: &mut Vec<u8>,
     front: &[u8],
-    numbered: &NumberedRules,
+    placed_rules: &PlacedRules,
 ) -> Result<(), AllocError>
-    ensures { OnOk result (Adds (AreRuleHints front.now (numbered_read numbered.now)) answers.old.items answers.new.items) }
+    ensures { OnOk result (Adds (AreRuleHints front.now (placed_rules_read placed_rules.now)) answers.old.items answers.new.items) }
 {
-    match unused_rules(alloc, &numbered.rules) {
-        Ok(unused) => add_searched(answers, front, numbered, &unused),
+    match unused_rules(alloc, &placed_rules.rules) {
+        Ok(unused) => add_searched(answers, front, placed_rules, &unused),
         Err(Undecided::TooLarge) => {
             add_undecided(answers, front)?;
             Ok(())

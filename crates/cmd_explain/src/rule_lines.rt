@@ -158,7 +158,7 @@ fn ends_test(part: Part) -> bool
 {
     match part {
         Part::Arrow => true,
-        Part::Open => true,
+        Part::LeftBrace => true,
         _ => false,
     }
 }
@@ -175,8 +175,8 @@ pub(crate) fn depth_of(text: &[u8], words: &[RuleWord]) -> usize
             return depth;
         }
         match part {
-            Part::Left => depth += 1,
-            Part::Right => depth = depth.saturating_sub(1),
+            Part::LeftParenthesis => depth += 1,
+            Part::RightParenthesis => depth = depth.saturating_sub(1),
             _ => {}
         }
         left = rest;
@@ -195,8 +195,8 @@ pub(crate) fn depth_before(text: &[u8], column: usize, words: &[RuleWord]) -> us
             return depth;
         }
         match part_of(rule_word_octets(text, *word)) {
-            Part::Left => depth += 1,
-            Part::Right => depth = depth.saturating_sub(1),
+            Part::LeftParenthesis => depth += 1,
+            Part::RightParenthesis => depth = depth.saturating_sub(1),
             _ => {}
         }
         left = rest;

@@ -1,7 +1,7 @@
 //! A text of rules, explained.
 
 ghost use Rattle.std.specs.Prelude.{◌≡◌, ◌++◌, map, IfOk, OnOk};
-ghost use Rattle.rules_text.specs.NumberedText.{HasNumbered, numbered_read};
+ghost use Rattle.rules_text.specs.RulesInMemory.{HasPlacedRules, placed_rules_read};
 ghost use Rattle.rules_text.specs.RulesRead.{line_read};
 ghost use Rattle.text_io.specs.Devices.{Adds};
 ghost use Rattle.text_io.specs.Serving.{IsServed};
@@ -12,7 +12,7 @@ use crate::rule_faults::add_rule_explanation;
 use crate::rule_hints::add_rule_hints;
 use cmd_rules::add_rule_fault;
 use rules_cells::{CodeFault, RuleLine, compile};
-use rules_text::{NumberedRules, RuleFault, RuleKind, read_numbered};
+use rules_text::{PlacedRules, RuleFault, RuleKind, read_with_places};
 use std::alloc::{AllocError, Global};
 use text_io::{Answerer, Done, Input, Output, RunFault, answer_whole};
 use text_words::{add_number, add_text, add_too_long};
@@ -46,11 +46,11 @@ fn add_rules_count(answers: &mut Vec<u8>, count: usize) -> Result<(), AllocError
 
 /// Appends that rules have no fault.
 #[tactic(auto, using(std::proofs::lemmas::List::append_assoc))]
-fn add_no_fault(answers: &mut Vec<u8>, numbered: &NumberedRules) -> Result<(), AllocError>
-    ensures { OnOk result (answers.new.items ≡ answers.old.items ++ no_fault_text (numbered_read numbered.now)) }
+fn add_no_fault(answers: &mut Vec<u8>, placed_rules: &PlacedRules) -> Result<(), AllocError>
+    ensures { OnOk result (answers.new.items ≡ answers.old.items ++ no_fault_text (placed_rules_read placed_rules.now)) }
 {
     add_text(answers, b"no fault in ")?;
-    add_rules_count(answers, rules_count(&numbered.rules.lines))?;
+    add_rules_count(answers, rules_count(&placed_rules.rules.lines))?;
     answers.push(b'\n')?;
     Ok(())
 }
@@ -59,14 +59,14 @@ fn add_no_fault(answers: &mut Vec<u8>, numbered: &NumberedRules) -> Result<(), A
 fn explain_accepted(
     alloc: Global,
     text: &[u8],
-    numbered: &NumberedRules,
+    placed_rules: &PlacedRules,
     answers: &mut Vec<u8>,
 ) -> Result<Done, AllocError>
-    requires { HasNoFault text.now (numbered_read numbered.now) }
+    requires { HasNoFault text.now (placed_rules_read placed_rules.now) }
     ensures { IfOk result (λ done. Adds (λ answer. ExplainsRules text.now answer done) answers.old.items answers.new.items) }
 {
-    add_no_fault(answers, numbered)?;
-    add_rule_hints(alloc, answers, b"", numbered)?;
+    add_no_fault(answers, placed_rules)?;
+    add_rule_hints(alloc, answers, b"", placed_rules)?;
     Ok(Done::Whole)
 }
 
@@ -87,17 +87,17 @@ fn explain_fault(
 }
 
 /// Answers a text with these rules.
-fn explain_numbered(
+fn explain_placed_rules(
     alloc: Global,
     text: &[u8],
-    numbered: &NumberedRules,
+    placed_rules: &PlacedRules,
     answers: &mut Vec<u8>,
 ) -> Result<Done, AllocError>
-    requires { HasNumbered text.now numbered.now }
+    requires { HasPlacedRules text.now placed_rules.now }
     ensures { IfOk result (λ done. Adds (λ answer. ExplainsRules text.now answer done) answers.old.items answers.new.items) }
 {
-    match compile(alloc, &numbered.rules) {
-        Ok(_) => explain_accepted(alloc, text, numbered, answers),
+    match compile(alloc, &placed_rules.rules) {
+        Ok(_) => explain_accepted(alloc, text, placed_rules, answers),
         Err(CodeFault::TooLong) => explain_fault(
             alloc,
             text,
@@ -120,8 +120,8 @@ pub(crate) fn explain_text(
 ) -> Result<Done, AllocError>
     ensures { IfOk result (λ done. Adds (λ answer. ExplainsRules text.now answer done) answers.old.items answers.new.items) }
 {
-    match read_numbered(alloc, text) {
-        Ok(numbered) => explain_numbered(alloc, text, &numbered, answers),
+    match read_with_places(alloc, text) {
+        Ok(placed_rules) => explain_placed_rules(alloc, text, &placed_rules, answers),
         Err(
             RuleFault {
                 kind: RuleKind::NoMemory,

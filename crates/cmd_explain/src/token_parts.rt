@@ -56,13 +56,13 @@ pub enum Part {
     /// `->`
     Arrow,
     /// `{`
-    Open,
+    LeftBrace,
     /// `}`
-    Close,
+    RightBrace,
     /// `(`
-    Left,
+    LeftParenthesis,
     /// `)`
-    Right,
+    RightParenthesis,
     /// `&`
     Mask,
     /// `,`
@@ -139,10 +139,10 @@ const MARKS: [(&[u8], Part); 20] = [
     (b"!=", Part::Equal),
     (b"<=", Part::Order),
     (b">=", Part::Order),
-    (b"{", Part::Open),
-    (b"}", Part::Close),
-    (b"(", Part::Left),
-    (b")", Part::Right),
+    (b"{", Part::LeftBrace),
+    (b"}", Part::RightBrace),
+    (b"(", Part::LeftParenthesis),
+    (b")", Part::RightParenthesis),
     (b"&", Part::Mask),
     (b",", Part::Comma),
     (b"/", Part::Slash),

@@ -1,6 +1,6 @@
 -- Every setup script, texts and capture have a text.
 use Rattle.std.proofs.Common.{◌≡◌, ◌⊎◌, inl, inr, ℕ, ◌+◌, Bool, true, false, if◌then◌else◌, nat_lt, List, [], ◌∷◌, ◌++◌, length, Option, Some, None, Result, Ok, Err, refl, sym, subst, ◌∙◌}
-use Rattle.rules_text.specs.TextOfRules.{NumberedRead, numbered_in, placed_fault}
+use Rattle.rules_text.specs.TextOfRules.{PlacedRulesRead, placed_rules_in, placed_fault}
 use Rattle.rules_text.specs.declared.fault.RuleFault.{RuleFault}
 use Rattle.rules_text.specs.declared.fault.RuleKind.TheVariants.{TooLong}
 use Rattle.text_io.specs.Gathered.{gathered}
@@ -37,7 +37,7 @@ told_faulty text fault found is = (
   subst (λ (found : Option (List ℕ)). TellsFault MayBeFaultOfText found (rule_fault fault) (rule_explanation text fault)) (sym found) (fault, is, refl, refl),
 )
 
-read_faulty : (text : List ℕ) (read : Result NumberedRead RuleFault) → gathered most_rules_octets text ≡ Some text → numbered_in text ≡ read
+read_faulty : (text : List ℕ) (read : Result PlacedRulesRead RuleFault) → gathered most_rules_octets text ≡ Some text → placed_rules_in text ≡ read
     → (line : List ℕ) × (reason : List ℕ) × MayBeFaultOfRules text line reason
 read_faulty text (Ok numbered) found same = told_faulty text (placed_fault 0 0 TooLong) found (inr ((numbered, same), refl))
 read_faulty text (Err fault) found same = told_faulty text fault found (inl (inl same))
@@ -46,7 +46,7 @@ found_faulty : (text : List ℕ) (found : Option (List ℕ)) → gathered most_r
     → (line : List ℕ) × (reason : List ℕ) × MayBeFaultOfRules text line reason
 found_faulty text found same (inl none) =
     (too_long, too_large_text, subst (λ (found : Option (List ℕ)). TellsFault MayBeFaultOfText found too_long too_large_text) (sym (same ∙ none)) (refl, refl))
-found_faulty text found same (inr some) = read_faulty text (numbered_in text) (same ∙ some) refl
+found_faulty text found same (inr some) = read_faulty text (placed_rules_in text) (same ∙ some) refl
 
 gathered_or : (text : List ℕ) (over : Bool) → ((if over then None else Some text) ≡ None) ⊎ ((if over then None else Some text) ≡ Some text)
 gathered_or text true = inl refl

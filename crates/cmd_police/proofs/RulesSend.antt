@@ -7,7 +7,7 @@ use Rattle.rules_cells.specs.contracts.rules.Rules as Rules
 use Rattle.rules_cells.specs.contracts.test.Test as Test
 use Rattle.bpf_verify.proofs.program.Program.TheSendSync.{the_send as code_send}
 use Rattle.rules_text.specs.contracts.place.RulePlace as RulePlace
-use Rattle.rules_text.specs.contracts.reader.NumberedRules as NumberedRules
+use Rattle.rules_text.specs.contracts.reader.PlacedRules as PlacedRules
 use Rattle.cmd_rules.specs.contracts.decider.Decider as Decider
 use Rattle.cmd_police.specs.contracts.program_rules.LoadedRules as LoadedRules
 use Rattle.cmd_police.specs.contracts.program_rules.ProgramRules as ProgramRules
@@ -24,7 +24,7 @@ rules_send = search (sendable, crosses, line_sends) depth 40
 place_sends : IsSend RulePlace.the_row
 place_sends = search (sendable, crosses) depth 40
 
-numbered_sends : IsSend (NumberedRules.the_field).row
+numbered_sends : IsSend (PlacedRules.the_field).row
 numbered_sends = search (sendable, crosses, rules_send, place_sends) depth 40
 
 decider_sends : IsSend (Decider.the_field).row

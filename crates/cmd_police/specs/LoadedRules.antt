@@ -1,7 +1,7 @@
 -- The rules from which the programs of a setup script are compiled.
 use Rattle.std.specs.Prelude.{Bool, false, if◌then◌else◌, ℕ, List, [], ◌∷◌, codes, Option, Some, None, Result, Ok, Err}
 use Rattle.std.specs.Str.{bytes_eq}
-use Rattle.rules_text.specs.TextOfRules.{NumberedRead, numbered_in}
+use Rattle.rules_text.specs.TextOfRules.{PlacedRulesRead, placed_rules_in}
 use Rattle.rules_text.specs.declared.fault.RuleFault.{RuleFault}
 use Rattle.text_io.specs.Lines.{Line, line_content, lines_of}
 use Rattle.text_io.specs.Words.{words_of}
@@ -20,7 +20,7 @@ unfoldable pub is_load_line : List ℕ → Bool
 is_load_line content = begins_load (words_of content)
 
 -- What was read of the text of a file with this name, if it has no fault.
-abbrev pub rules_of_file : List ℕ → Result NumberedRead RuleFault → Option NamedRules
+abbrev pub rules_of_file : List ℕ → Result PlacedRulesRead RuleFault → Option NamedRules
 rules_of_file name (Ok numbered) = Some (record { name = escaped_name name; numbered = numbered })
 rules_of_file name (Err fault) = None
 
@@ -28,7 +28,7 @@ rules_of_file name (Err fault) = None
 -- left.
 abbrev pub with_line_rules : Option (List ℕ) → Line → List (List ℕ) → (List (List ℕ) → List (Option NamedRules)) → List (Option NamedRules)
 with_line_rules None line texts later = if is_load_line (line_content line) then None ∷ later texts else later texts
-with_line_rules (Some name) line texts later = rules_of_file name (numbered_in (next_text texts)) ∷ later (later_texts texts)
+with_line_rules (Some name) line texts later = rules_of_file name (placed_rules_in (next_text texts)) ∷ later (later_texts texts)
 
 -- The rules of each program that these lines load, in order. The first line `rules NAME` has the first of these texts, the next one the
 -- next. In a script without a fault each such line and each line `load` loads a program.

@@ -3,13 +3,13 @@ use Rattle.std.specs.Prelude.{ℕ, List, [], ◌∷◌, ◌++◌, codes, Option,
 use Rattle.cmd_rules.specs.RuleBegins.{begin_at, begin_text}
 use Rattle.line_record.specs.History.{numbered}
 use Rattle.rules_text.specs.DecisionsRead.{rules_decide}
-use Rattle.rules_text.specs.TextOfRules.{NumberedRead}
+use Rattle.rules_text.specs.TextOfRules.{PlacedRulesRead}
 use Rattle.rules_text.specs.declared.place.RulePlace.{RulePlace}
 
 -- The rules of a program: the name of their file, as it is printed, and what was read of their text.
 pub record NamedRules : Type 0 where
   pub name : List ℕ
-  pub numbered : NumberedRead
+  pub numbered : PlacedRulesRead
 
 -- If lines have the column, the rules of each program of the script, in the order in which they are loaded. A program that wasn't compiled
 -- from a file of rules has none.

@@ -10,7 +10,7 @@ use Rattle.cmd_explain.specs.RulesExplained.{IsFaultOfText}
 use Rattle.cmd_rules.specs.RuleFaults.{rule_fault}
 use Rattle.cmd_rules.specs.RulesAnswers.{most_rules_octets}
 use Rattle.rules_text.specs.CodeOfText.{IsCodeOfText}
-use Rattle.rules_text.specs.TextOfRules.{NumberedRead, numbered_in, placed_fault}
+use Rattle.rules_text.specs.TextOfRules.{PlacedRulesRead, placed_rules_in, placed_fault}
 use Rattle.rules_text.specs.ValuesRead.{FollowsText}
 use Rattle.rules_text.specs.declared.fault.RuleFault.{RuleFault}
 use Rattle.rules_text.specs.declared.fault.RuleKind.TheVariants.{TooLong}
@@ -54,7 +54,7 @@ IsFaultOfRules text line reason = TellsFault IsFaultOfText (gathered most_rules_
 -- The fault of a text, or that the code of its rules is too long, if it has rules.
 abbrev pub MayBeFaultOfText : List ℕ → RuleFault → Type 0
 MayBeFaultOfText text fault =
-    IsFaultOfText text fault ⊎ (((numbered : NumberedRead) × (numbered_in text ≡ Ok numbered)) × (fault ≡ placed_fault 0 0 TooLong))
+    IsFaultOfText text fault ⊎ (((numbered : PlacedRulesRead) × (placed_rules_in text ≡ Ok numbered)) × (fault ≡ placed_fault 0 0 TooLong))
 
 -- The same as `IsFaultOfRules`, but that the code of any rules may be reported as too long.
 abbrev pub MayBeFaultOfRules : List ℕ → List ℕ → List ℕ → Type 0

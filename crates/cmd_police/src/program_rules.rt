@@ -1,7 +1,7 @@
 //! The rules from which the programs of a setup script are compiled.
 
 ghost use Rattle.std.specs.Prelude.{◌≡◌, IfOk, option_map};
-ghost use Rattle.rules_text.specs.TextOfRules.{numbered_in};
+ghost use Rattle.rules_text.specs.TextOfRules.{placed_rules_in};
 ghost use Rattle.text_io.specs.Lines.{lines_of};
 ghost use Rattle.cmd_police.specs.LoadedRules.{is_load_line, loaded_rules, rules_of_file, shown_rules};
 ghost use Rattle.cmd_police.specs.RulesFiles.{octets_of_texts};
@@ -50,7 +50,7 @@ fn rules_of_file(
     name: &[u8],
     text: &[u8],
 ) -> Result<Option<ProgramRules>, AllocError>
-    ensures { IfOk result (λ found. option_map rules_stored found ≡ rules_of_file name.now (numbered_in text.now)) }
+    ensures { IfOk result (λ found. option_map rules_stored found ≡ rules_of_file name.now (placed_rules_in text.now)) }
 {
     match Decider::read(alloc, text) {
         Ok(decider) => {

@@ -67,7 +67,7 @@ fn add_deciding_rule(
     let decision = rules.decider.decide(cell);
     add_text(answers, &rules.name)?;
     answers.push(b':')?;
-    add_rule_begin(answers, &rules.decider.numbered.begins, decision.line)
+    add_rule_begin(answers, &rules.decider.placed_rules.begins, decision.line)
 }
 
 /// Appends the same, or a minus sign if there are no rules.

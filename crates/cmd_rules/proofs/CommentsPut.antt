@@ -8,11 +8,11 @@ use Rattle.bpf_asm.specs.Listing.{listing_of}
 use Rattle.bpf_asm.specs.Meaning.{IsMeaning}
 use Rattle.bpf_asm.specs.SourceLines.{source_lines}
 use Rattle.bpf_code.specs.declared.instr.Instr.{Instr}
-use Rattle.rules_text.specs.declared.compiler.NumberedCode.{NumberedCode}
+use Rattle.rules_text.specs.declared.compiler.CodeWithPlaces.{CodeWithPlaces}
 use Rattle.text_io.specs.Lines.{Line, begun_with, lines_of, line_content, without_return}
 use Rattle.rules_text.specs.declared.place.RulePlace.{RulePlace}
 use Rattle.cmd_rules.specs.RuleBegins.{begin_at, begin_text, column_text}
-use Rattle.cmd_rules.specs.AsmText.{asm_text, comment_at, comment_line, comments_from, from_column, line_after, lines_with, next_length, rule_comment, whole_line}
+use Rattle.cmd_rules.specs.AsmText.{asm_text, comment_at, comment_line, comments_from, from_column, line_after, lines_with, next_start_from_end, rule_comment, whole_line}
 use Rattle.cmd_rules.specs.CommentLines.{AddsComments, is_comment}
 use Rattle.cmd_rules.proofs.CommentsAdded.{comments_mean_nothing}
 
@@ -172,12 +172,12 @@ module _ (lines : List (List ℕ)) (begins : List RulePlace) (free : AllLinesFre
   puts_if true text p = p
   puts_if false text p = puts_nothing
 
-  puts_from : (left place : ℕ) (lengths : List ℕ) → PutsComments (comments_from lines begins left place lengths)
+  puts_from : (left place : ℕ) (starts_from_end : List ℕ) → PutsComments (comments_from lines begins left place starts_from_end)
   puts_from left place [] = puts_if (left == 1) (comment_line (codes "otherwise")) (puts_comment (codes "otherwise") (refl, (refl, (refl, (refl, (refl, (refl, (refl, (refl, (refl, tt))))))))))
-  puts_from left place (size ∷ lengths) =
-      puts_both (comment_at lines begins left place size (next_length lengths)) (comments_from lines begins left (place + 1) lengths)
-      (puts_if (size == left && not (size == next_length lengths)) (rule_comment lines (begin_at begins place)) (puts_rule (begin_at begins place)))
-      (puts_from left (place + 1) lengths)
+  puts_from left place (size ∷ starts_from_end) =
+      puts_both (comment_at lines begins left place size (next_start_from_end starts_from_end)) (comments_from lines begins left (place + 1) starts_from_end)
+      (puts_if (size == left && not (size == next_start_from_end starts_from_end)) (rule_comment lines (begin_at begins place)) (puts_rule (begin_at begins place)))
+      (puts_from left (place + 1) starts_from_end)
 
 -- ---- the whole
 
@@ -223,12 +223,12 @@ unfolding source_lines
 text_put put puts text = lines_put put puts 0 (lines_of text) (cut text)
 
 -- The listing with its comments means what the listing does.
-pub asm_means : (text : List ℕ) (made : NumberedCode) → IsMeaning (listing_of made.placed.code.items) made.placed.code.items → IsMeaning (asm_text (source_lines text) made) made.placed.code.items
+pub asm_means : (text : List ℕ) (made : CodeWithPlaces) → IsMeaning (listing_of made.placed.code.items) made.placed.code.items → IsMeaning (asm_text (source_lines text) made) made.placed.code.items
 asm_means text made means =
     let code = made.placed.code.items in
-    let put : ℕ → List ℕ = λ place. comments_from (source_lines text) made.begins.items (length code - place) 0 made.placed.lengths.items in
+    let put : ℕ → List ℕ = λ place. comments_from (source_lines text) made.begins.items (length code - place) 0 made.placed.starts_from_end.items in
     comments_mean_nothing (listing_of code) (asm_text (source_lines text) made) code
-    (text_put put (λ place. puts_from (source_lines text) made.begins.items (source_free text) (length code - place) 0 made.placed.lengths.items) (listing_of code)) means
+    (text_put put (λ place. puts_from (source_lines text) made.begins.items (source_free text) (length code - place) 0 made.placed.starts_from_end.items) (listing_of code)) means
 
 -- What holds always holds if a call succeeds.
 pub always_ok : {T E : Type 0} {P : Type 0} (result : Result T E) → P → OnOk result P

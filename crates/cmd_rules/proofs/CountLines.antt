@@ -1,7 +1,7 @@
 -- The lines about rules depend on their counts alone.
 use Rattle.std.proofs.Common.{◌≡◌, ◌+◌, ℕ, List, [], ◌∷◌, ◌++◌, Option, Some, None, refl, ap, ◌∙◌}
 use Rattle.rules_text.specs.RulesRead.{LineRead, block_line, end_line, rule_line}
-use Rattle.rules_text.specs.TextOfRules.{NumberedRead}
+use Rattle.rules_text.specs.TextOfRules.{PlacedRulesRead}
 use Rattle.rules_text.specs.declared.place.RulePlace.{RulePlace}
 use Rattle.cmd_rules.specs.CountText.{count_line, counts_by, rule_count, rule_counts}
 
@@ -20,8 +20,8 @@ module _ (begins : List RulePlace) (times others : Option ℕ → ℕ) (same : (
       ap (λ (text : List ℕ). text ++ rule_counts begins times (place + 1) rules) (rule_alike place rule)
       ∙ ap (λ (text : List ℕ). rule_count begins others place rule ++ text) (rules_alike (place + 1) rules)
 
-pub counts_alike : (numbered : NumberedRead) (times others : Option ℕ → ℕ) → ((place : Option ℕ) → times place ≡ others place)
-    → counts_by numbered times ≡ counts_by numbered others
-counts_alike numbered times others same =
-    ap (λ (text : List ℕ). text ++ count_line numbered.begins times None) (rules_alike numbered.begins times others same 0 numbered.rules.lines)
-    ∙ ap (λ (text : List ℕ). rule_counts numbered.begins others 0 numbered.rules.lines ++ text) (line_alike numbered.begins times others same None)
+pub counts_alike : (placed_rules : PlacedRulesRead) (times others : Option ℕ → ℕ) → ((place : Option ℕ) → times place ≡ others place)
+    → counts_by placed_rules times ≡ counts_by placed_rules others
+counts_alike placed_rules times others same =
+    ap (λ (text : List ℕ). text ++ count_line placed_rules.begins times None) (rules_alike placed_rules.begins times others same 0 placed_rules.rules.lines)
+    ∙ ap (λ (text : List ℕ). rule_counts placed_rules.begins others 0 placed_rules.rules.lines ++ text) (line_alike placed_rules.begins times others same None)

@@ -5,7 +5,7 @@ use Rattle.bpf_code.specs.declared.instr.Instr.{Instr}
 use Rattle.rules_text.specs.CodeOfText.{IsCodeOfText}
 use Rattle.rules_text.specs.RulesRead.{RulesRead}
 use Rattle.rules_text.specs.TextFaults.{IsTooLong}
-use Rattle.rules_text.specs.TextOfRules.{NumberedRead, numbered_in, rules_in}
+use Rattle.rules_text.specs.TextOfRules.{PlacedRulesRead, placed_rules_in, rules_in}
 use Rattle.rules_text.specs.declared.fault.RuleFault.{RuleFault}
 use Rattle.rules_text.proofs.Public.{one_code}
 use Rattle.text_io.specs.Gathered.{gathered}
@@ -73,14 +73,14 @@ functional = record {
   close = λ before here here' done done' x y. (x.0 ∙ sym y.0, x.1 ∙ sym y.1);
 }
 
-same_numbered : (one other : NumberedRead) (found : Result NumberedRead RuleFault) → found ≡ Ok one → found ≡ Ok other → one ≡ other
-same_numbered one other found e f = cc
+same_placed_rules : (one other : PlacedRulesRead) (found : Result PlacedRulesRead RuleFault) → found ≡ Ok one → found ≡ Ok other → one ≡ other
+same_placed_rules one other found e f = cc
 
 decisions_one : (counts : Bool) (cells : List Line) → IsOne (PrintsDecisions counts cells)
 decisions_one counts cells text answer other done finish (inl x) (inl y) =
-    let same : x.0 ≡ y.0 = same_numbered x.0 y.0 (numbered_in text) x.1 y.1 in
+    let same : x.0 ≡ y.0 = same_placed_rules x.0 y.0 (placed_rules_in text) x.1 y.1 in
     one-text why_rules functional cells 0 (first_world counts y.0) answer other done finish
-    (subst (λ (n : NumberedRead). Prints why_rules 0 (first_world counts n) cells answer done) same x.3) y.3
+    (subst (λ (n : PlacedRulesRead). Prints why_rules 0 (first_world counts n) cells answer done) same x.3) y.3
 decisions_one counts cells text answer other done finish (inl x) (inr y) = never_faulty text other finish x.2.code x.2.of_text x.2.within y
 decisions_one counts cells text answer other done finish (inr x) (inl y) = never_faulty text answer done y.2.code y.2.of_text y.2.within x
 decisions_one counts cells text answer other done finish (inr x) (inr y) = one_faulty text answer other done finish x y

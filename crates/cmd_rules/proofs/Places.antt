@@ -15,12 +15,12 @@ use Rattle.rules_cells.proofs.DecisionSteps.{first_decides}
 use Rattle.rules_text.specs.DecisionsRead.{rules_decide}
 use Rattle.rules_text.specs.RulesRead.{RulesRead, rules_read}
 use Rattle.rules_text.proofs.Public.{decision_same}
-use Rattle.rules_text.proofs.ReadingSteps.{without_numbers}
+use Rattle.rules_text.proofs.ReadingSteps.{without_places}
 use Rattle.rules_text.specs.CodeOfText.{IsCodeOfText}
-use Rattle.rules_text.specs.NumberedText.{numbered_read}
-use Rattle.rules_text.specs.TextOfRules.{numbered_in, rules_in}
+use Rattle.rules_text.specs.RulesInMemory.{placed_rules_read}
+use Rattle.rules_text.specs.TextOfRules.{placed_rules_in, rules_in}
 use Rattle.rules_text.specs.declared.fault.RuleFault.{RuleFault}
-use Rattle.rules_text.specs.declared.reader.NumberedRules.{NumberedRules}
+use Rattle.rules_text.specs.declared.reader.PlacedRules.{PlacedRules}
 use Rattle.bpf_verify.specs.Accepted.{IsAccepted}
 use Rattle.cmd_rules.specs.WhyText.{HasCode}
 use Rattle.upc_cell.specs.declared.side.Side.{Side}
@@ -116,8 +116,8 @@ has_code text code of_text accepted = record { code = code; of_text = of_text; w
 same_rules : (one other : RulesRead) (found : Result RulesRead RuleFault) → found ≡ Ok one → found ≡ Ok other → one ≡ other
 same_rules one other found e f = cc
 
-pub places_kept : (text : List ℕ) (numbered : NumberedRules) (found : Option (List Instr)) → numbered_in text ≡ Ok (numbered_read numbered)
-    → IfSome found (λ code. (rules : RulesRead) × (rules_in text ≡ Ok rules) × GivesPlaces rules code) → IfSome found (GivesPlaces (rules_read numbered.rules))
-places_kept text numbered None read finds = tt
-places_kept text numbered (Some code) read (rules, is, gives) =
-    subst (λ (r : RulesRead). GivesPlaces r code) (same_rules rules (rules_read numbered.rules) (rules_in text) is (without_numbers text (numbered_read numbered) read)) gives
+pub places_kept : (text : List ℕ) (placed_rules : PlacedRules) (found : Option (List Instr)) → placed_rules_in text ≡ Ok (placed_rules_read placed_rules)
+    → IfSome found (λ code. (rules : RulesRead) × (rules_in text ≡ Ok rules) × GivesPlaces rules code) → IfSome found (GivesPlaces (rules_read placed_rules.rules))
+places_kept text placed_rules None read finds = tt
+places_kept text placed_rules (Some code) read (rules, is, gives) =
+    subst (λ (r : RulesRead). GivesPlaces r code) (same_rules rules (rules_read placed_rules.rules) (rules_in text) is (without_places text (placed_rules_read placed_rules) read)) gives

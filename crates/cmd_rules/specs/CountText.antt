@@ -1,7 +1,7 @@
 -- What `upc-lab why --count` prints at the end of its input: how many of the cells each rule decided.
 use Rattle.std.specs.Prelude.{ℕ, ◌+◌, ◌-◌, ◌==◌, ◌^◌, min, Bool, true, false, if◌then◌else◌, List, [], ◌∷◌, ◌++◌, codes, decimal, Option, Some, None}
 use Rattle.rules_text.specs.RulesRead.{LineRead, block_line, end_line, rule_line}
-use Rattle.rules_text.specs.TextOfRules.{NumberedRead}
+use Rattle.rules_text.specs.TextOfRules.{PlacedRulesRead}
 use Rattle.rules_text.specs.declared.place.RulePlace.{RulePlace}
 use Rattle.text_words.specs.FaultLines.{line}
 use Rattle.cmd_rules.specs.RuleBegins.{begin_at, begin_text}
@@ -44,9 +44,9 @@ rule_counts begins times place [] = []
 rule_counts begins times place (rule ∷ rules) = rule_count begins times place rule ++ rule_counts begins times (place + 1) rules
 
 -- A line about each rule, in the order of the text, and one about `otherwise`.
-abbrev pub counts_by : NumberedRead → (Option ℕ → ℕ) → List ℕ
-counts_by numbered times = rule_counts numbered.begins times 0 numbered.rules.lines ++ count_line numbered.begins times None
+abbrev pub counts_by : PlacedRulesRead → (Option ℕ → ℕ) → List ℕ
+counts_by placed_rules times = rule_counts placed_rules.begins times 0 placed_rules.rules.lines ++ count_line placed_rules.begins times None
 
 -- How many cells each rule decided, by the rules that decided them.
-abbrev pub counts_text : NumberedRead → List (Option ℕ) → List ℕ
-counts_text numbered decided = counts_by numbered (λ place. times_decided place decided)
+abbrev pub counts_text : PlacedRulesRead → List (Option ℕ) → List ℕ
+counts_text placed_rules decided = counts_by placed_rules (λ place. times_decided place decided)

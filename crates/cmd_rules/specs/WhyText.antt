@@ -8,7 +8,7 @@ use Rattle.bpf_code.specs.declared.instr.Instr.{Instr}
 use Rattle.rules_cells.specs.declared.deciding.Decision.{Decision}
 use Rattle.rules_text.specs.CodeOfText.{IsCodeOfText}
 use Rattle.rules_text.specs.DecisionsRead.{rules_decide}
-use Rattle.rules_text.specs.TextOfRules.{NumberedRead, numbered_in}
+use Rattle.rules_text.specs.TextOfRules.{PlacedRulesRead, placed_rules_in}
 use Rattle.rules_text.specs.declared.place.RulePlace.{RulePlace}
 use Rattle.text_io.specs.Gathered.{gathered}
 use Rattle.text_io.specs.Limits.{most_line_octets}
@@ -96,33 +96,33 @@ cell_line_read words = if is_silent words then Err [] else cell_words_read words
 -- What the answers depend on: the rules, whether cells are counted, and the places of the rules that decided the cells so far, the last
 -- cell's first. They stay as they are but for these.
 pub record WhyWorld : Type 0 where
-  pub numbered : NumberedRead
+  pub placed_rules : PlacedRulesRead
   pub counts : Bool
   pub decided : List (Option ℕ)
 
 -- The world before the first cell.
-abbrev pub first_world : Bool → NumberedRead → WhyWorld
-first_world counts numbered = record { numbered = numbered; counts = counts; decided = [] }
+abbrev pub first_world : Bool → PlacedRulesRead → WhyWorld
+first_world counts placed_rules = record { placed_rules = placed_rules; counts = counts; decided = [] }
 
 -- The answer to a line after the line `cells`. A cell that is counted has none.
-abbrev pub why_text : NumberedRead → Bool → Result (List ℕ) (List ℕ) → List ℕ
-why_text numbered counts (Ok cell) = if counts then [] else decision_text numbered.begins (rules_decide numbered.rules cell)
-why_text numbered counts (Err answer) = answer
+abbrev pub why_text : PlacedRulesRead → Bool → Result (List ℕ) (List ℕ) → List ℕ
+why_text placed_rules counts (Ok cell) = if counts then [] else decision_text placed_rules.begins (rules_decide placed_rules.rules cell)
+why_text placed_rules counts (Err answer) = answer
 
 -- The world after such a line.
 abbrev pub world_after_line : WhyWorld → Result (List ℕ) (List ℕ) → WhyWorld
-world_after_line world (Ok cell) = record world { decided = (rules_decide world.numbered.rules cell).line ∷ world.decided }
+world_after_line world (Ok cell) = record world { decided = (rules_decide world.placed_rules.rules cell).line ∷ world.decided }
 world_after_line world (Err answer) = world
 
 -- The answer to a line after the line `cells`, and the next world.
 abbrev pub WhySteps : WhyWorld → List ℕ → List ℕ → Option WhyWorld → Type 0
 WhySteps world content here next =
-    (here ≡ why_text world.numbered world.counts (cell_line_read (words_of content)))
+    (here ≡ why_text world.placed_rules world.counts (cell_line_read (words_of content)))
     × (next ≡ Some (world_after_line world (cell_line_read (words_of content))))
 
 -- The answer to the end of the input: the counts, if cells are counted.
 abbrev pub counts_at_end : WhyWorld → List ℕ
-counts_at_end world = if world.counts then counts_text world.numbered world.decided else []
+counts_at_end world = if world.counts then counts_text world.placed_rules world.decided else []
 
 -- The end of the input.
 abbrev pub WhyCloses : WhyWorld → List ℕ → Done → Type 0
@@ -142,7 +142,7 @@ pub record HasCode (text : List ℕ) : Type 0 where
 -- of rules is one that can be compiled.
 abbrev pub PrintsDecisions : Bool → List Line → List ℕ → List ℕ → Done → Type 0
 PrintsDecisions counts cells text answer done =
-    ((numbered : NumberedRead) × (numbered_in text ≡ Ok numbered) × HasCode text × Prints why_rules 0 (first_world counts numbered) cells answer done)
+    ((placed_rules : PlacedRulesRead) × (placed_rules_in text ≡ Ok placed_rules) × HasCode text × Prints why_rules 0 (first_world counts placed_rules) cells answer done)
     ⊎ PrintsFault text answer done
 
 -- The text of the rules that come before the cells of an input, if it is within the limit of texts of rules.

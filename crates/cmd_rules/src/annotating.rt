@@ -5,13 +5,13 @@ ghost use Rattle.bpf_asm.specs.Listing.{listing_of};
 ghost use Rattle.bpf_asm.specs.Meaning.{IsMeaning};
 ghost use Rattle.bpf_asm.specs.SourceLines.{source_lines};
 ghost use Rattle.text_io.specs.Lines.{Line, lines_of};
-ghost use Rattle.cmd_rules.specs.AsmText.{asm_text, comment_line, comments_from, from_column, line_after, lines_with, next_length, whole_line};
+ghost use Rattle.cmd_rules.specs.AsmText.{asm_text, comment_line, comments_from, from_column, line_after, lines_with, next_start_from_end, whole_line};
 ghost use Rattle.cmd_rules.specs.RuleBegins.{begin_text};
 ghost use Rattle.cmd_rules.specs.inner.Comments.{comment_if, otherwise_comment, written_at};
 
 use crate::begins::{add_begin, begin_at};
 use bpf_asm::next_line;
-use rules_text::{NumberedCode, RulePlace};
+use rules_text::{CodeWithPlaces, RulePlace};
 use std::alloc::{AllocError, Global};
 use text_io::first_feed;
 use text_words::add_text;
@@ -113,10 +113,10 @@ fn rule_comment(alloc: Global, line: &[u8], begin: RulePlace) -> Result<Vec<u8>,
 }
 
 /// How many instructions the code has from the line of rules at a place on, or from the last return.
-fn length_at(lengths: &[usize], place: usize) -> usize
-    ensures { result ≡ next_length (drop place lengths.now) }
+fn start_from_end_at(starts_from_end: &[usize], place: usize) -> usize
+    ensures { result ≡ next_start_from_end (drop place starts_from_end.now) }
 {
-    match lengths.get(place) {
+    match starts_from_end.get(place) {
         Some(size) => *size,
         None => 1,
     }
@@ -139,18 +139,18 @@ fn comments_of(
     alloc: Global,
     text: &[u8],
     begins: &[RulePlace],
-    lengths: &[usize],
+    starts_from_end: &[usize],
 ) -> Result<Vec<Comment>, AllocError>
     ensures { IfOk result (λ comments. (left : ℕ) → written_at left comments.items ++ otherwise_comment left
-        ≡ comments_from (source_lines text.now) begins.now left 0 lengths.now) }
+        ≡ comments_from (source_lines text.now) begins.now left 0 starts_from_end.now) }
 {
     let mut comments = Vec::new(alloc);
     let mut rest = text;
     let mut passed = 0;
     let mut place = 0;
-    while place < lengths.len() {
-        let size = lengths[place];
-        if size == length_at(lengths, place + 1) {
+    while place < starts_from_end.len() {
+        let size = starts_from_end[place];
+        if size == start_from_end_at(starts_from_end, place + 1) {
             place += 1;
             continue;
         }
@@ -206,13 +206,13 @@ pub(crate) fn add_annotated(
     alloc: Global,
     answers: &mut Vec<u8>,
     text: &[u8],
-    made: &NumberedCode,
+    made: &CodeWithPlaces,
     listing: &[u8],
 ) -> Result<(), AllocError>
     requires { listing.now ≡ listing_of made.now.placed.code.items }
     ensures { OnOk result (answers.new.items ≡ answers.old.items ++ asm_text (source_lines text.now) made.now) }
 {
-    let comments = comments_of(alloc, text, &made.begins, &made.placed.lengths)?;
+    let comments = comments_of(alloc, text, &made.begins, &made.placed.starts_from_end)?;
     let mut rest = listing;
     let mut place = 0usize;
     while let Some((line, after)) = whole_line(rest) {

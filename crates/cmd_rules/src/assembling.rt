@@ -11,7 +11,7 @@ use crate::annotating::add_annotated;
 use crate::fault_lines::add_rule_fault;
 use crate::whole_text::{Printed, answer_rules};
 use bpf_asm::listing;
-use rules_text::{NumberedCode, RuleFault, RuleKind, compile_numbered};
+use rules_text::{CodeWithPlaces, RuleFault, RuleKind, compile_with_places};
 use std::alloc::{AllocError, Global};
 use text_io::{Done, Input, Output, RunFault};
 
@@ -20,7 +20,7 @@ fn add_source(
     alloc: Global,
     answers: &mut Vec<u8>,
     text: &[u8],
-    made: &NumberedCode,
+    made: &CodeWithPlaces,
 ) -> Result<(), AllocError>
     ensures source { OnOk result (answers.new.items ≡ answers.old.items ++ asm_text (source_lines text.now) made.now) }
     ensures meaning { OnOk result (IsMeaning (asm_text (source_lines text.now) made.now) made.now.placed.code.items) }
@@ -40,7 +40,7 @@ pub(crate) fn answer_by_source(
     ensures { IfOk result (λ done.
         Adds (λ answer. PrintsAsm text.now answer done) answers.old.items answers.new.items) }
 {
-    match compile_numbered(alloc, text) {
+    match compile_with_places(alloc, text) {
         Ok(made) => {
             add_source(alloc, answers, text, &made)?;
             Ok(Done::Whole)

@@ -12,8 +12,12 @@ use rules_text::{RuleFault, RuleKind, compile_text};
 use std::alloc::{AllocError, Global};
 use text_io::{Done, Input, Output, RunFault};
 
-/// Answers a text: the octets of the program of its rules, or its fault.
-pub(crate) fn answer_by_octets(
+/// Appends the answer to a text: the number of instructions and the octets of the program of its rules, or the fault of the text.
+///
+/// # Errors
+///
+/// An allocation failed.
+pub fn answer_by_octets(
     alloc: Global,
     text: &[u8],
     answers: &mut Vec<u8>,

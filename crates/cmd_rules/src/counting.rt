@@ -1,14 +1,14 @@
 //! How many cells each rule decided.
 
 ghost use Rattle.std.specs.Prelude.{◌≡◌, ◌<◌, ◌++◌, [], ◌∷◌, ℕ, List, Option, OnOk, get_or, length};
-ghost use Rattle.rules_text.specs.NumberedText.{numbered_read};
+ghost use Rattle.rules_text.specs.RulesInMemory.{placed_rules_read};
 ghost use Rattle.cmd_rules.specs.CountText.{count_line, counts_by, rule_count};
 ghost use Rattle.cmd_rules.specs.inner.Counted.{AreCounts, count_at};
 ghost use Rattle.rules_text.specs.RulesRead.{line_read};
 
 use crate::begins::add_decider;
 use rules_cells::RuleLine;
-use rules_text::{NumberedRules, RulePlace};
+use rules_text::{PlacedRules, RulePlace};
 use std::alloc::{AllocError, Global};
 use text_words::{add_number, add_text};
 
@@ -108,16 +108,20 @@ impl Counts {
 
     /// Appends a line about each rule, and one about `otherwise`.
     #[tactic(auto, using(std::proofs::lemmas::List::append_assoc))]
-    pub fn add_to(&self, answers: &mut Vec<u8>, numbered: &NumberedRules) -> Result<(), AllocError>
-        ensures { OnOk result (answers.new.items ≡ answers.old.items ++ counts_by (numbered_read numbered.now) (count_at self.now)) }
+    pub fn add_to(
+        &self,
+        answers: &mut Vec<u8>,
+        placed_rules: &PlacedRules,
+    ) -> Result<(), AllocError>
+        ensures { OnOk result (answers.new.items ≡ answers.old.items ++ counts_by (placed_rules_read placed_rules.now) (count_at self.now)) }
     {
-        let mut left = numbered.rules.lines.as_slice();
+        let mut left = placed_rules.rules.lines.as_slice();
         let mut place = 0;
         while let [line, rest @ ..] = left {
-            add_rule_count(answers, self, &numbered.begins, place, line)?;
+            add_rule_count(answers, self, &placed_rules.begins, place, line)?;
             place += 1;
             left = rest;
         }
-        add_count(answers, self, &numbered.begins, None)
+        add_count(answers, self, &placed_rules.begins, None)
     }
 }

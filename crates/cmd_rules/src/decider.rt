@@ -6,10 +6,10 @@ ghost use Rattle.bpf_interp.specs.Value.{Value};
 ghost use Rattle.rules_cells.specs.Decisions.{decision_of};
 ghost use Rattle.rules_cells.specs.Fields.{IsCell};
 ghost use Rattle.rules_text.specs.DecisionsRead.{rules_decide};
-ghost use Rattle.rules_text.specs.NumberedText.{numbered_read};
+ghost use Rattle.rules_text.specs.RulesInMemory.{placed_rules_read};
 ghost use Rattle.rules_text.specs.RulesRead.{RulesRead, rules_read};
 ghost use Rattle.rules_text.specs.TextFaults.{IsCompilingFault, IsFaultOf};
-ghost use Rattle.rules_text.specs.TextOfRules.{numbered_in, rules_in};
+ghost use Rattle.rules_text.specs.TextOfRules.{placed_rules_in, rules_in};
 ghost use Rattle.std.proofs.Props.{props};
 ghost use Rattle.cmd_rules.specs.WhyText.{HasCode};
 ghost use Rattle.cmd_rules.specs.inner.Places.{GivesPlaces, decision_by_place, line_by_place, lines_by_place, place_value, value_of_line};
@@ -17,7 +17,7 @@ ghost use Rattle.cmd_rules.specs.inner.Places.{GivesPlaces, decision_by_place, l
 use bpf_interp::run;
 use bpf_verify::Program;
 use rules_cells::{CodeFault, Decision, RuleLine, Rules, compile, decide};
-use rules_text::{NumberedRules, RuleFault, RuleKind, compile_text, read_numbered, read_rules};
+use rules_text::{PlacedRules, RuleFault, RuleKind, compile_text, read_rules, read_with_places};
 use std::alloc::{AllocError, Global};
 use upc_cell::Cell;
 
@@ -149,10 +149,10 @@ fn value_on(program: &Program, cell: &Cell) -> u32
 #[derive(Drop)]
 pub struct Decider {
     /// The rules, and the source lines that they are written in.
-    pub numbered: NumberedRules,
+    pub placed_rules: PlacedRules,
     /// A program that gives the place of the line that decides a cell, counted from 1. There is none if it would be too long.
     pub places: Option<Program>,
-    ghost gives: { IfSome places (GivesPlaces (rules_read numbered.rules)) } by { Prim.hlevel props },
+    ghost gives: { IfSome places (GivesPlaces (rules_read placed_rules.rules)) } by { Prim.hlevel props },
 }
 
 impl Decider {
@@ -160,15 +160,18 @@ impl Decider {
     ///
     /// # Errors
     ///
-    /// The first fault of the text (`numbered_in` of `rules_text`), or `NoMemory` if an allocation failed.
+    /// The first fault of the text (`placed_rules_in` of `rules_text`), or `NoMemory` if an allocation failed.
     #[tactic(auto, using(crate::proofs::Places::places_kept))]
     pub fn read(alloc: Global, text: &[u8]) -> Result<Decider, RuleFault>
-        ensures rules { IfOk result (λ decider. numbered_in text.now ≡ Ok (numbered_read decider.numbered)) }
-        ensures fault { IfErr result (IsFaultOf (numbered_in text.now)) }
+        ensures rules { IfOk result (λ decider. placed_rules_in text.now ≡ Ok (placed_rules_read decider.placed_rules)) }
+        ensures fault { IfErr result (IsFaultOf (placed_rules_in text.now)) }
     {
-        let numbered = read_numbered(alloc, text)?;
+        let placed_rules = read_with_places(alloc, text)?;
         match places_of_text(alloc, text) {
-            Ok(places) => Ok(Decider { numbered, places }),
+            Ok(places) => Ok(Decider {
+                placed_rules,
+                places,
+            }),
             Err(_) => Err(NO_MEMORY),
         }
     }
@@ -180,7 +183,7 @@ impl Decider {
     /// As `compile_text` has them, since a text of rules is one that can be compiled.
     #[tactic(auto, using(crate::proofs::Places::has_code))]
     pub(crate) fn new(alloc: Global, text: &[u8]) -> Result<Decider, RuleFault>
-        ensures rules { IfOk result (λ decider. numbered_in text.now ≡ Ok (numbered_read decider.numbered)) }
+        ensures rules { IfOk result (λ decider. placed_rules_in text.now ≡ Ok (placed_rules_read decider.placed_rules)) }
         ensures code { OnOk result (HasCode text.now) }
         ensures fault { IfErr result (IsCompilingFault text.now) }
     {
@@ -191,11 +194,11 @@ impl Decider {
     /// Decides a cell: returns the line that decides it, and its value.
     #[tactic(auto, using(crate::proofs::Places::decided_as_read))]
     pub fn decide(&self, cell: &Cell) -> Decision
-        ensures { result ≡ rules_decide (rules_read self.now.numbered.rules) cell.now }
+        ensures { result ≡ rules_decide (rules_read self.now.placed_rules.rules) cell.now }
     {
         match &self.places {
-            Some(places) => decision_by_place(&self.numbered.rules, value_on(places, cell)),
-            None => decide(&self.numbered.rules, cell),
+            Some(places) => decision_by_place(&self.placed_rules.rules, value_on(places, cell)),
+            None => decide(&self.placed_rules.rules, cell),
         }
     }
 }

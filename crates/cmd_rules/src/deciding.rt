@@ -1,8 +1,8 @@
 //! `upc-lab why`: the line of rules that decides each cell.
 
 ghost use Rattle.std.specs.Prelude.{◌≡◌, ◌++◌, [], IfOk, IfSome, MatchOption, OnOk, Ok, is_some, option_map};
-ghost use Rattle.rules_text.specs.NumberedText.{numbered_read};
-ghost use Rattle.rules_text.specs.TextOfRules.{numbered_in};
+ghost use Rattle.rules_text.specs.RulesInMemory.{placed_rules_read};
+ghost use Rattle.rules_text.specs.TextOfRules.{placed_rules_in};
 ghost use Rattle.text_io.specs.Devices.{Adds};
 ghost use Rattle.text_io.specs.Serving.{IsServed};
 ghost use Rattle.text_io.specs.Words.{words_of};
@@ -144,7 +144,7 @@ fn answer_cell(
     let decision = deciding.decider.decide(cell);
     match &mut deciding.counts {
         Some(counts) => counts.count(decision.line),
-        None => add_decision(answers, &deciding.decider.numbered.begins, decision),
+        None => add_decision(answers, &deciding.decider.placed_rules.begins, decision),
     }
 }
 
@@ -180,7 +180,7 @@ impl Machine for Deciding {
 
     fn close(&self, answers: &mut Vec<u8>) -> Result<Done, AllocError> {
         if let Some(counts) = &self.counts {
-            counts.add_to(answers, &self.decider.numbered)?;
+            counts.add_to(answers, &self.decider.placed_rules)?;
         }
         Ok(Done::Whole)
     }
@@ -200,7 +200,7 @@ fn decider_or_fault(
 ) -> Result<Option<Decider>, AllocError>
     ensures { IfOk result (λ found. MatchOption found
         (Adds (λ answer. PrintsFault text.now answer Ended) answers.old.items answers.new.items)
-        (λ decider. (answers.new.items ≡ answers.old.items) × (numbered_in text.now ≡ Ok (numbered_read decider.numbered)) × HasCode text.now)) }
+        (λ decider. (answers.new.items ≡ answers.old.items) × (placed_rules_in text.now ≡ Ok (placed_rules_read decider.placed_rules)) × HasCode text.now)) }
 {
     match Decider::new(alloc, text) {
         Ok(decider) => Ok(Some(decider)),
@@ -225,7 +225,7 @@ fn found_decider(
 ) -> Result<Option<Decider>, AllocError>
     ensures { IfOk result (λ made. MatchOption made
         (Adds (λ answer. AnswersBy PrintsFault (option_map (λ text. text.items) found) answer Ended) answers.old.items answers.new.items)
-        (λ decider. (answers.new.items ≡ answers.old.items) × FindsRules (option_map (λ text. text.items) found) (numbered_read decider.numbered))) }
+        (λ decider. (answers.new.items ≡ answers.old.items) × FindsRules (option_map (λ text. text.items) found) (placed_rules_read decider.placed_rules))) }
 {
     match found {
         Some(text) => decider_or_fault(alloc, &text, answers),

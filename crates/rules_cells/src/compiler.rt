@@ -3,7 +3,7 @@
 ghost use Rattle.std.specs.Prelude.{◌≡◌, ◌<◌, ◌≤◌, List, length, Err, IfOk};
 ghost use Rattle.bpf_verify.specs.Accepted.{IsAccepted};
 ghost use Rattle.rules_code.specs.LineCode.{lines_code};
-ghost use Rattle.rules_code.specs.LinePlaces.{line_lengths};
+ghost use Rattle.rules_code.specs.LinePlaces.{line_starts_from_end};
 ghost use Rattle.rules_code.specs.declared.lines.Line.{Line};
 ghost use Rattle.rules_cells.specs.Promise.{FollowsRules};
 ghost use Rattle.rules_cells.specs.PlainOf.{ArePlainLines};
@@ -56,7 +56,7 @@ pub fn compile_placed(alloc: Global, rules: &Rules) -> Result<PlacedCode, CodeFa
     ensures value { IfOk result (λ placed. FollowsRules rules.now placed.code.items) }
     ensures code { IfOk result (λ placed. (lines : List Line) × ArePlainLines rules.now.side rules.now.lines.items lines
         × (placed.code.items ≡ lines_code lines rules.now.otherwise)
-        × (placed.lengths.items ≡ line_lengths lines rules.now.otherwise)) }
+        × (placed.starts_from_end.items ≡ line_starts_from_end lines rules.now.otherwise)) }
     ensures too_long { result ≡ Err CodeFault.TooLong → (lines : List Line)
         × ArePlainLines rules.now.side rules.now.lines.items lines × (4096 < length (lines_code lines rules.now.otherwise)) }
 {

@@ -14,7 +14,7 @@ use crate::relation::Relation;
 use crate::rules::RuleLine;
 use crate::test::Test;
 use bpf_code::Size;
-use rules_code::{Line, Part, PlainTest, Span, all_of, compare, in_order};
+use rules_code::{Line, Part, PlainTest, Span, all_of, comparison_test, in_order};
 use std::alloc::{AllocError, Global};
 use upc_cell::Side;
 
@@ -134,7 +134,7 @@ fn among(
     let unit = unit_of(field);
     let others = placed_spans(alloc, most, unit, others)?;
     let first = placed_span(most, unit, first);
-    let test = compare(alloc, part_of(side, field, mask), first, others)?;
+    let test = comparison_test(alloc, part_of(side, field, mask), first, others)?;
     Ok(test)
 }
 

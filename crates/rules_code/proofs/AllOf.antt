@@ -2,7 +2,7 @@
 use Rattle.std.proofs.Common.{◌≡◌, ℕ, Bool, true, false, ◌&&◌, List, [], ◌∷◌, ◌++◌, length, take, drop, get_or, ◌<◌, Option, Some, None, Vec, Global, refl, sym, ap, subst, ◌∙◌, arith}
 use Rattle.std.specs.Option.{MatchOption}
 use Rattle.rules_code.specs.PlainTests.{holds}
-use Rattle.rules_code.specs.Neighbours.{AreParts, BeginsWith, IsAllOf, IsOfParts, IsSingle, joined_single}
+use Rattle.rules_code.specs.Neighbours.{AreOperands, BeginsWith, IsAllOf, IsOfOperands, IsSingle, joined_single}
 use Rattle.rules_code.specs.inner.Chains.{each_holds}
 use Rattle.rules_code.specs.declared.packet_part.Single.{Single}
 use Rattle.rules_code.specs.declared.plain_test.PlainTest.{PlainTest, AllOf}
@@ -20,8 +20,8 @@ and_grouped false y z = refl
 module _ (packet : List ℕ) where
   -- A test and the next, which is joined to it or kept as a part of its own.
   parts_by : (last test : PlainTest) (more parts : List PlainTest) (found : Option Single) → joined_single last test ≡ found
-      → ((one : PlainTest) (some : List PlainTest) → AreParts one more some → each_holds some packet ≡ (holds one packet && each_holds more packet))
-      → MatchOption found (BeginsWith last (AreParts test more) parts) (λ single. (joined : PlainTest) × IsSingle single joined × AreParts joined more parts)
+      → ((one : PlainTest) (some : List PlainTest) → AreOperands one more some → each_holds some packet ≡ (holds one packet && each_holds more packet))
+      → MatchOption found (BeginsWith last (AreOperands test more) parts) (λ single. (joined : PlainTest) × IsSingle single joined × AreOperands joined more parts)
       → each_holds parts packet ≡ (holds last packet && (holds test packet && each_holds more packet))
   parts_by last test more [] None e rest are = absurd are
   parts_by last test more (part ∷ parts) None e rest are =
@@ -30,11 +30,11 @@ module _ (packet : List ℕ) where
       rest are.0 parts are.2
       ∙ (ap (λ b. b && each_holds more packet) (joined_holds last test are.0 packet single e are.1) ∙ and_grouped (holds last packet) (holds test packet) (each_holds more packet))
 
-  parts_hold : (last : PlainTest) (more parts : List PlainTest) → AreParts last more parts → each_holds parts packet ≡ (holds last packet && each_holds more packet)
+  parts_hold : (last : PlainTest) (more parts : List PlainTest) → AreOperands last more parts → each_holds parts packet ≡ (holds last packet && each_holds more packet)
   parts_hold last [] parts are = ap (λ (ps : List PlainTest). each_holds ps packet) are
   parts_hold last (test ∷ more) parts are = parts_by last test more parts (joined_single last test) refl (λ one some a. parts_hold one more some a) are
 
-  of_parts : (parts : List PlainTest) (test : PlainTest) → IsOfParts parts test → holds test packet ≡ each_holds parts packet
+  of_parts : (parts : List PlainTest) (test : PlainTest) → IsOfOperands parts test → holds test packet ≡ each_holds parts packet
   of_parts [] test of = ap (λ (t : PlainTest). holds t packet) of.1 ∙ (holds_all of.0 packet ∙ ap (λ (ps : List PlainTest). each_holds ps packet) of.2)
   of_parts (part ∷ []) test of = ap (λ (t : PlainTest). holds t packet) of ∙ and_true (holds part packet)
   of_parts (part ∷ second ∷ more) test of = ap (λ (t : PlainTest). holds t packet) of.1 ∙ (holds_all of.0 packet ∙ ap (λ (ps : List PlainTest). each_holds ps packet) of.2)
@@ -48,7 +48,7 @@ module _ (packet : List ℕ) where
 
 -- What the parts so far and those of the rest are together.
 abbrev pub Completes : PlainTest → List PlainTest → List PlainTest → PlainTest → List PlainTest → Type 0
-Completes first others done last rest = (parts : List PlainTest) → AreParts last rest parts → AreParts first others (done ++ parts)
+Completes first others done last rest = (parts : List PlainTest) → AreOperands last rest parts → AreOperands first others (done ++ parts)
 
 -- ---- the whole test
 
@@ -56,12 +56,12 @@ pub removed : (tests : List PlainTest) (first : PlainTest) (others : List PlainT
 removed [] first others some is rest = absurd (omega arith)
 removed (test ∷ more) first others some is rest = ap (λ (t : PlainTest). t ∷ more) (sym is) ∙ ap (λ (ts : List PlainTest). first ∷ ts) (sym rest)
 
-more_parts : (done : List PlainTest) (last : PlainTest) (tests : Vec PlainTest Global) → 0 < length done → tests.items ≡ done ++ last ∷ [] → IsOfParts (done ++ last ∷ []) (AllOf tests)
+more_parts : (done : List PlainTest) (last : PlainTest) (tests : Vec PlainTest Global) → 0 < length done → tests.items ≡ done ++ last ∷ [] → IsOfOperands (done ++ last ∷ []) (AllOf tests)
 more_parts [] last tests some e = absurd (omega arith)
 more_parts (part ∷ []) last tests some e = (tests, refl, e)
 more_parts (part ∷ second ∷ more) last tests some e = (tests, refl, e)
 
 pub all_of_more : (tests : List PlainTest) (first : PlainTest) (others done : List PlainTest) (last : PlainTest) (parts : Vec PlainTest Global) → tests ≡ first ∷ others
-    → AreParts first others (done ++ last ∷ []) → parts.items ≡ done ++ last ∷ [] → 0 < length done → IsAllOf tests (AllOf parts)
+    → AreOperands first others (done ++ last ∷ []) → parts.items ≡ done ++ last ∷ [] → 0 < length done → IsAllOf tests (AllOf parts)
 all_of_more tests first others done last parts cut are added some =
     subst (λ (ts : List PlainTest). IsAllOf ts (AllOf parts)) (sym cut) (done ++ last ∷ [], are, more_parts done last parts some added)

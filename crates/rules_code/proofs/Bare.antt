@@ -11,13 +11,13 @@ use Rattle.bpf_interp.specs.Packet.{octets_loaded}
 use Rattle.rules_code.specs.BitTests.{bits_of}
 use Rattle.rules_code.specs.Bounds.{IsAtMost, IsBoundTest, IsComparison, IsNotOf, bound_of}
 use Rattle.rules_code.specs.Labels.{Tested}
-use Rattle.rules_code.specs.LineCode.{Coded, first_after, later_after, left_after, line_code, lines_code, lines_coded, with_entry_jump, with_test}
-use Rattle.rules_code.specs.Neighbours.{AreParts, BeginsWith, IsAllOf, IsOfParts, IsSingle, joined_single, joined_singles, single_in, single_of}
-use Rattle.rules_code.specs.TestCode.{among_code, before_parts, held_to_compare, known_after, known_after_chain, known_after_more, left_more, left_on, parts_code, test_code, turned, turned_left, turned_unless, whole_of}
+use Rattle.rules_code.specs.LineCode.{Coded, first_after, later_after, known_after_line, line_code, lines_code, lines_coded, with_entry_jump, with_test}
+use Rattle.rules_code.specs.Neighbours.{AreOperands, BeginsWith, IsAllOf, IsOfOperands, IsSingle, joined_single, joined_singles, single_in, single_of}
+use Rattle.rules_code.specs.TestCode.{among_code, before_operands, held_to_compare, known_after, known_after_chain, known_after_more, known_with_operand, turned_known_unless, operands_code, test_code, turned, turned_known, turned_unless, whole_of}
 use Rattle.rules_code.specs.declared.bounds.BoundTest.{BoundTest}
 use Rattle.rules_code.specs.declared.lines.Line.{Line}
 use Rattle.rules_code.specs.declared.lines.Line.TheVariants.{Rule, Block, End}
-use Rattle.rules_code.specs.declared.packet_part.Left.{Left}
+use Rattle.rules_code.specs.declared.packet_part.KnownOnBranches.{KnownOnBranches}
 use Rattle.rules_code.specs.declared.packet_part.Part.{Part}
 use Rattle.rules_code.specs.declared.packet_part.Single.{Single}
 use Rattle.rules_code.specs.declared.packet_part.Span.{Span}
@@ -53,40 +53,40 @@ abbrev mutual
 -- ---- what is known of A
 
 abbrev mutual
-  bare_known : Bare → Option Part → Left
+  bare_known : Bare → Option Part → KnownOnBranches
   bare_known bare_always held = record { met = held; unmet = held }
   bare_known (bare_among part first others) held =
       let left = held_to_compare (bits_of part.mask first others) held part in record { met = left; unmet = left }
-  bare_known (bare_not test) held = turned_left (bare_known test held)
+  bare_known (bare_not test) held = turned_known (bare_known test held)
   bare_known (bare_all tests) held = bare_known_chain true tests held
-  bare_known (bare_any tests) held = turned_left (bare_known_chain false tests held)
+  bare_known (bare_any tests) held = turned_known (bare_known_chain false tests held)
 
-  bare_known_chain : Bool → Bares → Option Part → Left
+  bare_known_chain : Bool → Bares → Option Part → KnownOnBranches
   bare_known_chain on no_bares held = record { met = held; unmet = held }
-  bare_known_chain on (more_bares test more) held = bare_known_more on more (left_on on (bare_known test held))
+  bare_known_chain on (more_bares test more) held = bare_known_more on more (turned_known_unless on (bare_known test held))
 
-  bare_known_more : Bool → Bares → Left → Left
+  bare_known_more : Bool → Bares → KnownOnBranches → KnownOnBranches
   bare_known_more on no_bares before = before
-  bare_known_more on (more_bares test more) before = bare_known_more on more (left_more before (left_on on (bare_known test before.met)))
+  bare_known_more on (more_bares test more) before = bare_known_more on more (known_with_operand before (turned_known_unless on (bare_known test before.met)))
 
 mutual
   known_bare : (test : PlainTest) (held : Option Part) → known_after test held ≡ bare_known (bare test) held
   known_bare plain.Always held = refl
   known_bare (plain.Among part first others) held = refl
-  known_bare (plain.Not' p test) held = ap turned_left (known_bare test held)
+  known_bare (plain.Not' p test) held = ap turned_known (known_bare test held)
   known_bare (plain.AllOf' shape tests) held = chain_bare true tests held
-  known_bare (plain.AnyOf' shape tests) held = ap turned_left (chain_bare false tests held)
+  known_bare (plain.AnyOf' shape tests) held = ap turned_known (chain_bare false tests held)
 
   chain_bare : {n : _} (on : Bool) (row : Row_of-PlainTest n) (held : Option Part) → known_after_chain on row held ≡ bare_known_chain on (bare_row row) held
   chain_bare on end_of-PlainTest held = refl
   chain_bare on (more_of-PlainTest test more) held =
-      ap (λ (left : Left). known_after_more on more (left_on on left)) (known_bare test held) ∙ more_bare on more (left_on on (bare_known (bare test) held))
+      ap (λ (left : KnownOnBranches). known_after_more on more (turned_known_unless on left)) (known_bare test held) ∙ more_bare on more (turned_known_unless on (bare_known (bare test) held))
 
-  more_bare : {n : _} (on : Bool) (row : Row_of-PlainTest n) (before : Left) → known_after_more on row before ≡ bare_known_more on (bare_row row) before
+  more_bare : {n : _} (on : Bool) (row : Row_of-PlainTest n) (before : KnownOnBranches) → known_after_more on row before ≡ bare_known_more on (bare_row row) before
   more_bare on end_of-PlainTest before = refl
   more_bare on (more_of-PlainTest test more) before =
-      ap (λ (left : Left). known_after_more on more (left_more before (left_on on left))) (known_bare test before.met)
-      ∙ more_bare on more (left_more before (left_on on (bare_known (bare test) before.met)))
+      ap (λ (left : KnownOnBranches). known_after_more on more (known_with_operand before (turned_known_unless on left))) (known_bare test before.met)
+      ∙ more_bare on more (known_with_operand before (turned_known_unless on (bare_known (bare test) before.met)))
 
 -- ---- the code
 
@@ -95,14 +95,14 @@ abbrev mutual
   bare_code bare_always held code met unmet = record { code = code; ways = record { entry = met; met = met; unmet = unmet } }
   bare_code (bare_among part first others) held code met unmet = among_code (bits_of part.mask first others) held part (first ∷ others) code met unmet
   bare_code (bare_not test) held code met unmet = turned (bare_code test held code unmet met)
-  bare_code (bare_all tests) held code met unmet = bare_parts_code true tests held code met unmet
-  bare_code (bare_any tests) held code met unmet = turned (bare_parts_code false tests held code unmet met)
+  bare_code (bare_all tests) held code met unmet = bare_operands_code true tests held code met unmet
+  bare_code (bare_any tests) held code met unmet = turned (bare_operands_code false tests held code unmet met)
 
-  bare_parts_code : Bool → Bares → Option Part → List Instr → ℕ → ℕ → Tested
-  bare_parts_code on no_bares held code next end = record { code = code; ways = record { entry = next; met = next; unmet = end } }
-  bare_parts_code on (more_bares test more) held code next end =
-      let later = bare_parts_code on more (left_on on (bare_known test held)).met code next end in
-      before_parts later (turned_unless on
+  bare_operands_code : Bool → Bares → Option Part → List Instr → ℕ → ℕ → Tested
+  bare_operands_code on no_bares held code next end = record { code = code; ways = record { entry = next; met = next; unmet = end } }
+  bare_operands_code on (more_bares test more) held code next end =
+      let later = bare_operands_code on more (turned_known_unless on (bare_known test held)).met code next end in
+      before_operands later (turned_unless on
       (bare_code test held later.code (if on then later.ways.entry else later.ways.unmet) (if on then later.ways.unmet else later.ways.entry)))
 
 mutual
@@ -116,14 +116,14 @@ mutual
   code_bare (plain.AnyOf' shape tests) held code met unmet = ap turned (parts_bare false tests held code unmet met)
 
   parts_bare : {n : _} (on : Bool) (row : Row_of-PlainTest n) (held : Option Part) (code : List Instr) (next end : ℕ)
-      → parts_code on row held code next end ≡ bare_parts_code on (bare_row row) held code next end
+      → operands_code on row held code next end ≡ bare_operands_code on (bare_row row) held code next end
   parts_bare on end_of-PlainTest held code next end = refl
   parts_bare on (more_of-PlainTest test more) held code next end =
-      let later = bare_parts_code on (bare_row more) (left_on on (bare_known (bare test) held)).met code next end in
-      let same : parts_code on more (left_on on (known_after test held)).met code next end ≡ later =
-      ap (λ (left : Left). parts_code on more (left_on on left).met code next end) (known_bare test held) ∙ parts_bare on more (left_on on (bare_known (bare test) held)).met code next end in
-      ap (λ (t : Tested). before_parts t (turned_unless on (test_code test held t.code (if on then t.ways.entry else t.ways.unmet) (if on then t.ways.unmet else t.ways.entry)))) same
-      ∙ ap (λ (t : Tested). before_parts later (turned_unless on t))
+      let later = bare_operands_code on (bare_row more) (turned_known_unless on (bare_known (bare test) held)).met code next end in
+      let same : operands_code on more (turned_known_unless on (known_after test held)).met code next end ≡ later =
+      ap (λ (left : KnownOnBranches). operands_code on more (turned_known_unless on left).met code next end) (known_bare test held) ∙ parts_bare on more (turned_known_unless on (bare_known (bare test) held)).met code next end in
+      ap (λ (t : Tested). before_operands t (turned_unless on (test_code test held t.code (if on then t.ways.entry else t.ways.unmet) (if on then t.ways.unmet else t.ways.entry)))) same
+      ∙ ap (λ (t : Tested). before_operands later (turned_unless on t))
       (code_bare test held later.code (if on then later.ways.entry else later.ways.unmet) (if on then later.ways.unmet else later.ways.entry))
 
 -- ---- lines
@@ -152,9 +152,9 @@ abbrev bare_coded : List BareLine → Option Part → ℕ → Coded
 bare_coded [] held otherwise = record { code = RetK otherwise ∷ []; entry = 1; after = [] }
 bare_coded (line ∷ lines) held otherwise = bare_line_code line held (bare_coded lines (bare_left line held) otherwise)
 
-left_bare : (line : Line) (held : Option Part) → left_after line held ≡ bare_left (line_bare line) held
-left_bare (Rule test value) held = ap (λ (left : Left). left.unmet) (known_bare test held)
-left_bare (Block test) held = ap (λ (left : Left). left.met) (known_bare test held)
+left_bare : (line : Line) (held : Option Part) → known_after_line line held ≡ bare_left (line_bare line) held
+left_bare (Rule test value) held = ap (λ (left : KnownOnBranches). left.unmet) (known_bare test held)
+left_bare (Block test) held = ap (λ (left : KnownOnBranches). left.met) (known_bare test held)
 left_bare End held = refl
 
 line_code_bare : (line : Line) (held : Option Part) (rest : Coded) → line_code line held rest ≡ bare_line_code (line_bare line) held rest
@@ -315,14 +315,14 @@ begins_bare last AreOthers others (part ∷ rest) each is =
     ap (λ (p : PlainTest). bare p ∷ map bare rest) is.0 ∙ ap (λ (bs : List Bare). bare last ∷ bs) (each rest is.1)
 
 parts_by : (joined : Option Single) (last test : PlainTest) (more parts : List PlainTest)
-    → ((last : PlainTest) (parts : List PlainTest) → AreParts last more parts → map bare parts ≡ bare_parts (bare last) (map bare more))
-    → MatchOption joined (BeginsWith last (AreParts test more) parts) (λ single. (one : PlainTest) × IsSingle single one × AreParts one more parts)
+    → ((last : PlainTest) (parts : List PlainTest) → AreOperands last more parts → map bare parts ≡ bare_parts (bare last) (map bare more))
+    → MatchOption joined (BeginsWith last (AreOperands test more) parts) (λ single. (one : PlainTest) × IsSingle single one × AreOperands one more parts)
     → map bare parts ≡ on_joined joined (bare last ∷ bare_parts (bare test) (map bare more)) (λ joined. bare_parts joined (map bare more))
-parts_by None last test more parts each are = begins_bare last (AreParts test more) (bare_parts (bare test) (map bare more)) parts (λ rest is. each test rest is) are
+parts_by None last test more parts each are = begins_bare last (AreOperands test more) (bare_parts (bare test) (map bare more)) parts (λ rest is. each test rest is) are
 parts_by (Some single) last test more parts each are =
     each are.0 parts are.2 ∙ ap (λ (b : Bare). bare_parts b (map bare more)) (single_bare single are.0 are.1)
 
-parts_are : (last : PlainTest) (tests parts : List PlainTest) → AreParts last tests parts → map bare parts ≡ bare_parts (bare last) (map bare tests)
+parts_are : (last : PlainTest) (tests parts : List PlainTest) → AreOperands last tests parts → map bare parts ≡ bare_parts (bare last) (map bare tests)
 parts_are last [] parts are = ap (map bare) are
 parts_are last (test ∷ more) parts are =
     parts_by (joined_single last test) last test more parts (λ last parts is. parts_are last more parts is) are
@@ -333,7 +333,7 @@ bare_of_parts (part ∷ []) = part
 bare_of_parts [] = bare_all no_bares
 bare_of_parts (part ∷ other ∷ more) = bare_all (bares (part ∷ other ∷ more))
 
-of_parts_bare : (parts : List PlainTest) (test : PlainTest) → IsOfParts parts test → bare test ≡ bare_of_parts (map bare parts)
+of_parts_bare : (parts : List PlainTest) (test : PlainTest) → IsOfOperands parts test → bare test ≡ bare_of_parts (map bare parts)
 of_parts_bare [] test is = ap bare is.1 ∙ all_bare is.0 ∙ ap (λ (ts : List PlainTest). bare_all (bares (map bare ts))) is.2
 of_parts_bare (part ∷ []) test is = ap bare is
 of_parts_bare (part ∷ other ∷ more) test is = ap bare is.1 ∙ all_bare is.0 ∙ ap (λ (ts : List PlainTest). bare_all (bares (map bare ts))) is.2

@@ -11,7 +11,7 @@ use Rattle.bpf_code.specs.declared.instr.Test.TheVariants.{Set}
 use Rattle.rules_code.specs.Labels.{Tested, branched}
 use Rattle.rules_code.specs.inner.Suffixes.{suffix_at}
 use Rattle.rules_code.specs.PlainTests.{is_in, is_among, kept_bits}
-use Rattle.rules_code.specs.BitTests.{above_unit, bits_in, bits_of}
+use Rattle.rules_code.specs.BitTests.{lowest_bit, bits_in, bits_of}
 use Rattle.rules_code.specs.TestCode.{turned, bits_code}
 use Rattle.rules_code.specs.declared.bits.BitTest.{BitTest}
 use Rattle.rules_code.specs.declared.packet_part.Span.{Span}
@@ -69,7 +69,7 @@ from_means : (b : Bool) (mask unit : ℕ) (span : Span) (n : ℕ) (test : BitTes
 from_means true mask unit span n test kept is = in_means mask unit span n test (kept refl) _ refl is
 from_means false mask unit span n test kept is = absurd cc
 
-kept_unit : (n mask : ℕ) → mask % above_unit mask ≡ 0 → (bit_and n mask ≡ 0) ⊎ (above_unit mask ≤ bit_and n mask)
+kept_unit : (n mask : ℕ) → mask % lowest_bit mask ≡ 0 → (bit_and n mask ≡ 0) ⊎ (lowest_bit mask ≤ bit_and n mask)
 kept_unit n mask e =
     let is = power mask in
     subst (λ u. (bit_and n mask ≡ 0) ⊎ (u ≤ bit_and n mask)) (sym is) (kept_or_none n mask (trailing_zeros w32 mask % 32) (subst (λ u. mask % u ≡ 0) is e))
@@ -80,7 +80,7 @@ bits_say None first others test is n = absurd cc
 bits_say (Some mask) first (second ∷ more) test is n = absurd cc
 bits_say (Some mask) first [] test is n =
     or_false (is_in first (bit_and n mask))
-    ∙ from_means (mask % above_unit mask == 0) mask (above_unit mask) first n test (λ e. kept_unit n mask (eqb-true (mask % above_unit mask) 0 e)) is
+    ∙ from_means (mask % lowest_bit mask == 0) mask (lowest_bit mask) first n test (λ e. kept_unit n mask (eqb-true (mask % lowest_bit mask) 0 e)) is
 
 -- ---- its code
 

@@ -12,7 +12,7 @@ use Rattle.byteorder.specs.Endian.{big_number}
 use Rattle.bpf_code.specs.declared.instr.Size.{Size}
 use Rattle.bpf_code.specs.declared.instr.Size.TheVariants.{Word, Half, Octet}
 use Rattle.bpf_interp.specs.Packet.{octets_loaded}
-use Rattle.rules_code.specs.BitTests.{above_unit}
+use Rattle.rules_code.specs.BitTests.{lowest_bit}
 use Rattle.rules_code.specs.Bounds.{most_in, is_upper, last_alike, bound_in, bound_of, IsAtMost, IsNotOf, IsBoundTest, IsComparison}
 use Rattle.rules_code.specs.PlainTests.{holds, is_in, is_among, kept_bits, number_of}
 use Rattle.rules_code.specs.declared.bounds.BoundTest.{BoundTest}
@@ -94,15 +94,15 @@ most_power Word n le = omega arith
 most_power Half n le = omega arith
 most_power Octet n le = omega arith
 
-mask_le : (size : Size) (mask n : ℕ) → is_upper size mask ≡ true → n ≤ most_in size → (most : ℕ) → nat_le (bit_and n mask) most ≡ nat_le n (last_alike (above_unit mask) most)
+mask_le : (size : Size) (mask n : ℕ) → is_upper size mask ≡ true → n ≤ most_in size → (most : ℕ) → nat_le (bit_and n mask) most ≡ nat_le n (last_alike (lowest_bit mask) most)
 mask_le size mask n e within most =
-    let parts = and_parts (nat_le mask (most_in size)) (most_in size - mask + 1 == above_unit mask) e in
+    let parts = and_parts (nat_le mask (most_in size)) (most_in size - mask + 1 == lowest_bit mask) e in
     let j = trailing_zeros w32 mask % 32 in
     let is = power mask in
     let w = bits_in_size size in
     let same = most_is size in
     let fits : mask ≤ 2 ^ w - 1 = subst (λ k. mask ≤ k) same (leb-true mask (most_in size) parts.0) in
-    let unit : 2 ^ w - 1 - mask + 1 ≡ 2 ^ j = ap (λ k. k - mask + 1) (sym same) ∙ (eqb-true (most_in size - mask + 1) (above_unit mask) parts.1 ∙ is) in
+    let unit : 2 ^ w - 1 - mask + 1 ≡ 2 ^ j = ap (λ k. k - mask + 1) (sym same) ∙ (eqb-true (most_in size - mask + 1) (lowest_bit mask) parts.1 ∙ is) in
     upper_le w mask n j most (size_le size) fits unit (most_power size n within) (most_whole size n within) ∙ ap (λ u. nat_le n (last_alike u most)) (sym is)
 
 -- ---- what a comparison asks
@@ -140,8 +140,8 @@ module _ (mask unit n : ℕ) (span : Span) (bound : BoundTest) (alike : (most : 
   bound_means false e is = lower_means _ refl is
 
 upper_means : (b : Bool) (size : Size) (mask n : ℕ) (span : Span) (bound : BoundTest) → is_upper size mask ≡ b → n ≤ most_in size
-    → (if b then bound_in mask (above_unit mask) span else None) ≡ Some bound → is_in span (bit_and n mask) ≡ is_bounded bound n
-upper_means true size mask n span bound e within is = bound_means mask (above_unit mask) n span bound (mask_le size mask n e within) _ refl is
+    → (if b then bound_in mask (lowest_bit mask) span else None) ≡ Some bound → is_in span (bit_and n mask) ≡ is_bounded bound n
+upper_means true size mask n span bound e within is = bound_means mask (lowest_bit mask) n span bound (mask_le size mask n e within) _ refl is
 upper_means false size mask n span bound e within is = absurd cc
 
 -- A comparison with one bound holds exactly if the octets are within it.

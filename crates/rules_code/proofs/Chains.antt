@@ -5,11 +5,11 @@ use mathlib.Core.Former.{Count}
 use Rattle.bpf_code.specs.declared.instr.Instr.{Instr}
 use Rattle.rules_code.specs.Labels.{Tested}
 use Rattle.rules_code.specs.PlainTests.{holds, all_hold, one_holds}
-use Rattle.rules_code.specs.TestCode.{turned, turned_left, left_more, known_after, known_after_chain, known_after_more, test_code, parts_code}
-use Rattle.rules_code.specs.inner.Chains.{each_holds, some_holds, known_after_part, left_by_more, left_by_chain, held_before, part_code, chain_code}
+use Rattle.rules_code.specs.TestCode.{turned, turned_known, known_with_operand, known_after, known_after_chain, known_after_more, test_code, operands_code}
+use Rattle.rules_code.specs.inner.Chains.{each_holds, some_holds, known_after_operand, known_after_more_tests, known_after_tests, held_before, operand_code, chain_code}
 use Rattle.rules_code.specs.inner.Making.{IsMade}
 use Rattle.rules_code.specs.declared.draft.Ways.{Ways}
-use Rattle.rules_code.specs.declared.packet_part.Left.{Left}
+use Rattle.rules_code.specs.declared.packet_part.KnownOnBranches.{KnownOnBranches}
 use Rattle.rules_code.specs.declared.packet_part.Part.{Part}
 use Rattle.rules_code.specs.declared.plain_test.PlainTest.{PlainTest, AllOf, AllOf', AnyOf, Row_of-PlainTest, end_of-PlainTest, more_of-PlainTest, items-the_row-PlainTest, items_hidden-the_row-PlainTest-0}
 use Rattle.rules_code.proofs.Made.{tested_is, ways_are}
@@ -21,31 +21,31 @@ row_of _ = (_, end_of-PlainTest)
 
 -- ---- what is known of A
 
-more_same : (on : Bool) (n : _) (row : Row_of-PlainTest n) (before : Left) → known_after_more on row before ≡ left_by_more on (items-the_row-PlainTest n row) before
+more_same : (on : Bool) (n : _) (row : Row_of-PlainTest n) (before : KnownOnBranches) → known_after_more on row before ≡ known_after_more_tests on (items-the_row-PlainTest n row) before
 more_same on n end_of-PlainTest before = refl
-more_same on n (more_of-PlainTest test more) before = more_same on _ more (left_more before (known_after_part on test before.met))
+more_same on n (more_of-PlainTest test more) before = more_same on _ more (known_with_operand before (known_after_operand on test before.met))
 
-chain_same : (on : Bool) (n : _) (row : Row_of-PlainTest n) (held : Option Part) → known_after_chain on row held ≡ left_by_chain on (items-the_row-PlainTest n row) held
+chain_same : (on : Bool) (n : _) (row : Row_of-PlainTest n) (held : Option Part) → known_after_chain on row held ≡ known_after_tests on (items-the_row-PlainTest n row) held
 chain_same on n end_of-PlainTest held = refl
-chain_same on n (more_of-PlainTest test more) held = more_same on _ more (known_after_part on test held)
+chain_same on n (more_of-PlainTest test more) held = more_same on _ more (known_after_operand on test held)
 
-pub known_all : (tests : Vec PlainTest Global) (held : Option Part) → known_after (AllOf tests) held ≡ left_by_chain true tests.items held
+pub known_all : (tests : Vec PlainTest Global) (held : Option Part) → known_after (AllOf tests) held ≡ known_after_tests true tests.items held
 known_all tests held =
     let row = row_of (AllOf tests) in
-    chain_same true row.0 row.1 held ∙ ap (λ (ts : List PlainTest). left_by_chain true ts held) (items_hidden-the_row-PlainTest-0 tests)
+    chain_same true row.0 row.1 held ∙ ap (λ (ts : List PlainTest). known_after_tests true ts held) (items_hidden-the_row-PlainTest-0 tests)
 
-pub known_any : (tests : Vec PlainTest Global) (held : Option Part) → known_after (AnyOf tests) held ≡ turned_left (left_by_chain false tests.items held)
+pub known_any : (tests : Vec PlainTest Global) (held : Option Part) → known_after (AnyOf tests) held ≡ turned_known (known_after_tests false tests.items held)
 known_any tests held =
     let row = row_of (AllOf tests) in
-    ap turned_left (chain_same false row.0 row.1 held ∙ ap (λ (ts : List PlainTest). left_by_chain false ts held) (items_hidden-the_row-PlainTest-0 tests))
+    ap turned_known (chain_same false row.0 row.1 held ∙ ap (λ (ts : List PlainTest). known_after_tests false ts held) (items_hidden-the_row-PlainTest-0 tests))
 
 -- ---- the code
 
-parts_same : (on : Bool) (n : _) (row : Row_of-PlainTest n) (held : Option Part) (code : List Instr) (next end : ℕ) → parts_code on row held code next end ≡ chain_code on (items-the_row-PlainTest n row) held code next end
-unfolding test_code part_code chain_code
+parts_same : (on : Bool) (n : _) (row : Row_of-PlainTest n) (held : Option Part) (code : List Instr) (next end : ℕ) → operands_code on row held code next end ≡ chain_code on (items-the_row-PlainTest n row) held code next end
+unfolding test_code operand_code chain_code
 parts_same on n end_of-PlainTest held code next end = refl
 parts_same on n (more_of-PlainTest test more) held code next end =
-    ap (part_code on test held) (parts_same on _ more (known_after_part on test held).met code next end)
+    ap (operand_code on test held) (parts_same on _ more (known_after_operand on test held).met code next end)
 
 pub code_all : (tests : Vec PlainTest Global) (held : Option Part) (code : List Instr) (met unmet : ℕ) → test_code (AllOf tests) held code met unmet ≡ chain_code true tests.items held code met unmet
 unfolding test_code
@@ -82,34 +82,34 @@ holds_any tests packet =
 -- ---- loops
 
 -- One more part of a chain.
-pub more_step : (on : Bool) (tests : List PlainTest) (at : ℕ) (d test : PlainTest) (first : Left) (before after : Left) → at < length tests → test ≡ get_or tests at d
-    → before ≡ left_by_more on (take at tests) first → after ≡ left_more before (known_after_part on test before.met) → after ≡ left_by_more on (take (at + 1) tests) first
+pub more_step : (on : Bool) (tests : List PlainTest) (at : ℕ) (d test : PlainTest) (first : KnownOnBranches) (before after : KnownOnBranches) → at < length tests → test ≡ get_or tests at d
+    → before ≡ known_after_more_tests on (take at tests) first → after ≡ known_with_operand before (known_after_operand on test before.met) → after ≡ known_after_more_tests on (take (at + 1) tests) first
 more_step on [] at d test first before after lt there was is = absurd (omega arith)
 more_step on (one ∷ more) zero d test first before after lt there was is =
-    is ∙ (ap (λ (l : Left). left_more l (known_after_part on test l.met)) was ∙ ap (λ (t : PlainTest). left_more first (known_after_part on t first.met)) there)
+    is ∙ (ap (λ (l : KnownOnBranches). known_with_operand l (known_after_operand on test l.met)) was ∙ ap (λ (t : PlainTest). known_with_operand first (known_after_operand on t first.met)) there)
 more_step on (one ∷ more) (suc at) d test first before after lt there was is =
     let next : suc at + 1 ≡ suc (at + 1) = omega arith in
-    more_step on more at d test (left_more first (known_after_part on one first.met)) before after (omega arith) there was is
-    ∙ ap (λ n. left_by_more on (take n (one ∷ more)) first) (sym next)
+    more_step on more at d test (known_with_operand first (known_after_operand on one first.met)) before after (omega arith) there was is
+    ∙ ap (λ n. known_after_more_tests on (take n (one ∷ more)) first) (sym next)
 
 pub held_step : (on : Bool) (tests : List PlainTest) (held : Option Part) (at : ℕ) (d : PlainTest) → at < length tests
-    → held_before on tests held (at + 1) ≡ (known_after_part on (get_or tests at d) (held_before on tests held at)).met
+    → held_before on tests held (at + 1) ≡ (known_after_operand on (get_or tests at d) (held_before on tests held at)).met
 unfolding held_before
 held_step on [] held at d lt = absurd (omega arith)
 held_step on (one ∷ more) held zero d lt = refl
 held_step on (one ∷ more) held (suc at) d lt =
     let next : suc at + 1 ≡ suc (at + 1) = omega arith in
-    ap (λ n. held_before on (one ∷ more) held n) next ∙ held_step on more (known_after_part on one held).met at d (omega arith)
+    ap (λ n. held_before on (one ∷ more) held n) next ∙ held_step on more (known_after_operand on one held).met at d (omega arith)
 
 pub held_first : (on : Bool) (tests : List PlainTest) (held : Option Part) → held ≡ held_before on tests held 0
 unfolding held_before
 held_first on tests held = refl
 
 pub held_next : (on : Bool) (tests : List PlainTest) (first : Option Part) (at : ℕ) (test : PlainTest) (held next : Option Part) → at < length tests → test ≡ get_or tests at test
-    → held ≡ held_before on tests first at → next ≡ (known_after_part on test held).met → next ≡ held_before on tests first (at + 1)
+    → held ≡ held_before on tests first at → next ≡ (known_after_operand on test held).met → next ≡ held_before on tests first (at + 1)
 held_next on tests first at test held next lt there here left =
-    left ∙ (ap (λ (h : Option Part). (known_after_part on test h).met) here
-    ∙ (ap (λ (t : PlainTest). (known_after_part on t (held_before on tests first at)).met) there ∙ sym (held_step on tests first at test lt)))
+    left ∙ (ap (λ (h : Option Part). (known_after_operand on test h).met) here
+    ∙ (ap (λ (t : PlainTest). (known_after_operand on t (held_before on tests first at)).met) there ∙ sym (held_step on tests first at test lt)))
 
 -- No part.
 pub made_none : (on : Bool) (tests : List PlainTest) (held : Option Part) (code : List Instr) (next end : ℕ) → tests ≡ []
@@ -123,7 +123,7 @@ made_none on tests held code next end e =
 pub made_part : (on : Bool) (tests : List PlainTest) (first : Option Part) (at left : ℕ) (test : PlainTest) (held : Option Part) (code : List Instr) (next end : ℕ) (c1 c2 : List Instr) (w1 w2 : Ways)
     → at < length tests → at + 1 ≡ left → test ≡ get_or tests at test → held ≡ held_before on tests first at
     → IsMade (chain_code on (drop left tests) (held_before on tests first left) code next end) c1 w1
-    → IsMade (part_code on test held (record { code = c1; ways = w1 })) c2 w2
+    → IsMade (operand_code on test held (record { code = c1; ways = w1 })) c2 w2
     → IsMade (chain_code on (drop at tests) (held_before on tests first at) code next end) c2 w2
 unfolding chain_code
 made_part on tests first at left test held code next end c1 c2 w1 w2 lt e there here before made =
@@ -132,10 +132,10 @@ made_part on tests first at left test held code next end c1 c2 w1 w2 lt e there 
     let cut = drop_more tests at test lt ∙ ap (λ n. one ∷ drop n tests) e in
     let same = tested_is (chain_code on (drop left tests) (held_before on tests first left) code next end) c1 w1 before
     ∙ ap (λ (h : Option Part). chain_code on (drop left tests) h code next end) known in
-    let placed = subst (λ (t : Tested). IsMade (part_code on test held t) c2 w2) same made in
-    let rest = chain_code on (drop left tests) (known_after_part on one (held_before on tests first at)).met code next end in
-    let found = subst (λ (h : Option Part). IsMade (part_code on test h rest) c2 w2) here placed in
-    let whole = subst (λ (t : PlainTest). IsMade (part_code on t (held_before on tests first at) rest) c2 w2) there found in
+    let placed = subst (λ (t : Tested). IsMade (operand_code on test held t) c2 w2) same made in
+    let rest = chain_code on (drop left tests) (known_after_operand on one (held_before on tests first at)).met code next end in
+    let found = subst (λ (h : Option Part). IsMade (operand_code on test h rest) c2 w2) here placed in
+    let whole = subst (λ (t : PlainTest). IsMade (operand_code on t (held_before on tests first at) rest) c2 w2) there found in
     subst (λ (ts : List PlainTest). IsMade (chain_code on ts (held_before on tests first at) code next end) c2 w2) (sym cut) whole
 
 -- The parts from the first on.

@@ -5,7 +5,7 @@ use Rattle.std.specs.List.{slice_get}
 use Rattle.std.proofs.lemmas.Bool.{eq-eqb, ne_eqb}
 use Rattle.bpf_code.specs.declared.instr.Instr.{Instr}
 use Rattle.bpf_code.specs.declared.instr.Instr.TheVariants.{Jump, RetK}
-use Rattle.rules_code.specs.LineCode.{Coded, left_after, line_code, lines_coded, with_entry_jump, lines_code}
+use Rattle.rules_code.specs.LineCode.{Coded, known_after_line, line_code, lines_coded, with_entry_jump, lines_code}
 use Rattle.rules_code.specs.inner.Held.{held_at}
 use Rattle.rules_code.specs.declared.lines.Line.{Line}
 use Rattle.rules_code.specs.declared.packet_part.Part.{Part}
@@ -19,13 +19,13 @@ pushed (y ∷ ys) x P n e all last (suc at) lt =
     let m : n ≡ suc (n - 1) = omega arith in
     pushed ys x (λ k. P (suc k)) (n - 1) (omega arith) (λ k l. all (suc k) (omega arith)) (last ∙ ap P m) at (omega arith)
 
-pub held_step : (lines : List Line) (held : Option Part) (at : ℕ) (d : Line) → at < length lines → held_at lines held (at + 1) ≡ left_after (get_or lines at d) (held_at lines held at)
+pub held_step : (lines : List Line) (held : Option Part) (at : ℕ) (d : Line) → at < length lines → held_at lines held (at + 1) ≡ known_after_line (get_or lines at d) (held_at lines held at)
 unfolding held_at
 held_step [] held at d lt = absurd (omega arith)
 held_step (line ∷ lines) held zero d lt = refl
 held_step (line ∷ lines) held (suc at) d lt =
     let more : suc at + 1 ≡ suc (at + 1) = omega arith in
-    ap (λ n. held_at (line ∷ lines) held n) more ∙ held_step lines (left_after line held) at d (omega arith)
+    ap (λ n. held_at (line ∷ lines) held n) more ∙ held_step lines (known_after_line line held) at d (omega arith)
 
 pub held_first : (lines : List Line) (held : Option Part) → held ≡ held_at lines held 0
 unfolding held_at
@@ -84,9 +84,9 @@ pub put_at : (lines : List Line) (parts : List (Option Part)) (i : ℕ) (d : Opt
 put_at lines parts i d line held before after at is = is ∙ ap (λ (h : Option Part). line_code line h before) (read_at parts i d held at)
 
 pub held_next : (lines : List Line) (first : Option Part) (at : ℕ) (line : Line) (held next : Option Part) → at < length lines → line ≡ get_or lines at line
-    → held ≡ held_at lines first at → next ≡ left_after line held → next ≡ held_at lines first (at + 1)
+    → held ≡ held_at lines first at → next ≡ known_after_line line held → next ≡ held_at lines first (at + 1)
 held_next lines first at line held next lt is here left =
-    left ∙ (ap (left_after line) here ∙ (ap (λ (l : Line). left_after l (held_at lines first at)) is ∙ sym (held_step lines first at line lt)))
+    left ∙ (ap (known_after_line line) here ∙ (ap (λ (l : Line). known_after_line l (held_at lines first at)) is ∙ sym (held_step lines first at line lt)))
 
 -- One more line, as the loop puts it.
 pub lines_put : (lines : List Line) (at left : ℕ) (line : Line) (held : Option Part) (otherwise : ℕ) (before after : Coded) → at < length lines → at + 1 ≡ left

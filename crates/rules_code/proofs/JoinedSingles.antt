@@ -9,7 +9,7 @@ use Rattle.byteorder.specs.Endian.{big_number}
 use Rattle.bpf_code.specs.declared.instr.Size.{Size}
 use Rattle.bpf_interp.specs.Packet.{octets_loaded}
 use Rattle.rules_code.specs.PlainTests.{holds, is_among, is_in, kept_bits, number_of}
-use Rattle.rules_code.specs.BitTests.{above_unit}
+use Rattle.rules_code.specs.BitTests.{lowest_bit}
 use Rattle.rules_code.specs.Neighbours.{IsSingle, are_neighbours, joined_by, joined_single, joined_singles, single_in, single_of}
 use Rattle.rules_code.specs.TestCode.{is_same_load}
 use Rattle.rules_code.specs.declared.packet_part.Part.{Part}
@@ -133,7 +133,7 @@ joined_number high low j n apart =
     let first : bit_or high.span.low low.span.low ≡ k * unit + low.span.low = ap (λ m. bit_or m low.span.low) number_is ∙ or_shifted k j low.span.low apart.least in
     let last : bit_or high.span.low low.span.high ≡ k * unit + low.span.high = ap (λ m. bit_or m low.span.high) number_is ∙ or_shifted k j low.span.high apart.most in
     let tests = digits_tests unit k x rest low.span.low low.span.high (pow_pos j) less apart.least apart.most in
-    let left_at_join : is_in (joined_by high low).span (bit_and n (bit_or high.mask low.mask)) ≡ (nat_le (k * unit + low.span.low) (x * unit + rest) && nat_le (x * unit + rest) (k * unit + low.span.high)) =
+    let known_at_join : is_in (joined_by high low).span (bit_and n (bit_or high.mask low.mask)) ≡ (nat_le (k * unit + low.span.low) (x * unit + rest) && nat_le (x * unit + rest) (k * unit + low.span.high)) =
     ap (λ m. nat_le (bit_or high.span.low low.span.low) m && nat_le m (bit_or high.span.low low.span.high)) all
     ∙ (ap (λ a. nat_le a (x * unit + rest) && nat_le (x * unit + rest) (bit_or high.span.low low.span.high)) first
     ∙ ap (λ b. nat_le (k * unit + low.span.low) (x * unit + rest) && nat_le (x * unit + rest) b) last) in
@@ -142,16 +142,16 @@ joined_number high low j n apart =
     ∙ (ap (λ b. nat_le high.span.low (x * unit) && nat_le (x * unit) b) (sym apart.one)
     ∙ ap (λ a. nat_le a (x * unit) && nat_le (x * unit) a) number_is) in
     let inside : is_in_single low n ≡ (nat_le low.span.low rest && nat_le rest low.span.high) = ap (λ m. nat_le low.span.low m && nat_le m low.span.high) lower in
-    left_at_join ∙ (tests ∙ sym (ap (λ b. b && is_in_single low n) exact ∙ ap (λ b. (nat_le (k * unit) (x * unit) && nat_le (x * unit) (k * unit)) && b) inside))
+    known_at_join ∙ (tests ∙ sym (ap (λ b. b && is_in_single low n) exact ∙ ap (λ b. (nat_le (k * unit) (x * unit) && nat_le (x * unit) (k * unit)) && b) inside))
 
 -- ---- from the tests of the code
 
-pub power : (mask : ℕ) → above_unit mask ≡ 2 ^ (trailing_zeros w32 mask % 32)
+pub power : (mask : ℕ) → lowest_bit mask ≡ 2 ^ (trailing_zeros w32 mask % 32)
 power mask = one_shl (trailing_zeros w32 mask % 32) 32 (mod_below (trailing_zeros w32 mask) 32 (omega arith))
 
 apart : (high low : Single) → are_neighbours high low ≡ true → (is_same_load high.part low.part ≡ true) × AreApart high low (trailing_zeros w32 high.mask % 32)
 apart high low e =
-    let unit = above_unit high.mask in
+    let unit = lowest_bit high.mask in
     let is = power high.mask in
     let a = and_parts _ _ e in
     let b = and_parts _ _ a.1 in

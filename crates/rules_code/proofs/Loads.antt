@@ -11,7 +11,7 @@ use Rattle.bpf_interp.specs.Packet.{octets_loaded, number_at}
 use Rattle.bpf_interp.specs.State.{State, At}
 use Rattle.bpf_interp.specs.Step.{LoadsNumber}
 use Rattle.rules_code.specs.PlainTests.{kept_bits, number_of}
-use Rattle.rules_code.specs.TestCode.{is_same_mask, is_same_load, is_same_part, is_held, is_covered, is_loaded, whole_of, held_for_bits, bits_loaded, left_at_join, masked, loaded}
+use Rattle.rules_code.specs.TestCode.{is_same_mask, is_same_load, is_same_part, is_held, is_covered, is_loaded, whole_of, held_for_bits, bits_loaded, known_at_join, masked, loaded}
 use Rattle.rules_code.specs.declared.packet_part.Part.{Part}
 use Rattle.rules_code.proofs.Suffixes.{Gives, gives_next}
 use Rattle.rules_code.proofs.Growing.{Extends, extends_self, extends_more, extends_one}
@@ -49,12 +49,12 @@ first_of_two : (b : Bool) (one : Part) (packet : List ℕ) (a : ℕ) → IsHeld 
 first_of_two true one packet a h = h
 first_of_two false one packet a h = tt
 
-pub joined_left : (one other : Option Part) (packet : List ℕ) (a : ℕ) → IsHeld packet one a → IsHeld packet (left_at_join one other) a
+pub joined_left : (one other : Option Part) (packet : List ℕ) (a : ℕ) → IsHeld packet one a → IsHeld packet (known_at_join one other) a
 joined_left None other packet a h = tt
 joined_left (Some one) None packet a h = tt
 joined_left (Some one) (Some other) packet a h = first_of_two (is_same_part one other) one packet a h
 
-pub joined_right : (one other : Option Part) (packet : List ℕ) (a : ℕ) → IsHeld packet other a → IsHeld packet (left_at_join one other) a
+pub joined_right : (one other : Option Part) (packet : List ℕ) (a : ℕ) → IsHeld packet other a → IsHeld packet (known_at_join one other) a
 joined_right None other packet a h = tt
 joined_right (Some one) None packet a h = tt
 joined_right (Some one) (Some other) packet a h = joined_by (is_same_part one other) one other packet a (number_is one other packet) h

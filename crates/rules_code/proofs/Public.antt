@@ -21,7 +21,7 @@ all_of_holds tests test packet is = all_of.all_of_holds packet tests test is
 pub any_of_holds : (tests : Vec PlainTest Global) (packet : List ℕ) → holds (AnyOf tests) packet ≡ some_holds tests.items packet
 any_of_holds = chains.holds_any
 
--- A comparison, as `compare` makes it, holds exactly if the part is in one of the spans, in a packet where no octets are greater than
+-- A comparison, as `comparison_test` makes it, holds exactly if the part is in one of the spans, in a packet where no octets are greater than
 -- they can be.
 pub comparison_holds : (part : Part) (first : Span) (others : List Span) (test : PlainTest) (packet : List ℕ) → big_number (octets_loaded part.size) (drop part.at packet) ≤ most_in part.size
     → IsComparison part first others test → holds test packet ≡ is_among (first ∷ others) (number_of part packet)

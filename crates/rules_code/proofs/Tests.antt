@@ -8,10 +8,10 @@ use Rattle.bpf_interp.specs.Packet.{octets_loaded}
 use Rattle.rules_code.specs.Labels.{Tested}
 use Rattle.rules_code.specs.inner.Suffixes.{suffix_at}
 use Rattle.rules_code.specs.PlainTests.{kept_bits, number_of, is_among, holds, all_hold, one_holds}
-use Rattle.rules_code.specs.TestCode.{turned, spans_code, left_on, left_more, known_after, known_after_chain, known_after_more, held_for_bits, held_to_compare, loaded, with_load, bits_code, bits_loaded, with_octets, among_code, turned_unless, before_parts, test_code, parts_code}
+use Rattle.rules_code.specs.TestCode.{turned, spans_code, turned_known_unless, known_with_operand, known_after, known_after_chain, known_after_more, held_for_bits, held_to_compare, loaded, with_load, bits_code, bits_loaded, with_octets, among_code, turned_unless, before_operands, test_code, operands_code}
 use Rattle.rules_code.specs.BitTests.{bits_of}
 use Rattle.rules_code.specs.declared.bits.BitTest.{BitTest}
-use Rattle.rules_code.specs.declared.packet_part.Left.{Left}
+use Rattle.rules_code.specs.declared.packet_part.KnownOnBranches.{KnownOnBranches}
 use Rattle.rules_code.specs.declared.packet_part.Part.{Part}
 use Rattle.rules_code.specs.declared.packet_part.Span.{Span}
 use Rattle.rules_code.specs.declared.plain_test.PlainTest.{PlainTest, Always, Among, Not', AllOf', AnyOf', Row_of-PlainTest, end_of-PlainTest, more_of-PlainTest}
@@ -149,7 +149,7 @@ module _ (test : PlainTest) (held : Option Part) (code : List Instr) (next end :
   part_right : (packet : List ℕ) (on : Bool)
       → ((met unmet : ℕ) → IsLabel code met → IsLabel code unmet
       → IsRight packet held (holds test packet) (if holds test packet then (known_after test held).met else (known_after test held).unmet) code met unmet (test_code test held code met unmet))
-      → IsRight packet held (outcome_on on (holds test packet)) (if outcome_on on (holds test packet) then (left_on on (known_after test held)).met else (left_on on (known_after test held)).unmet)
+      → IsRight packet held (outcome_on on (holds test packet)) (if outcome_on on (holds test packet) then (turned_known_unless on (known_after test held)).met else (turned_known_unless on (known_after test held)).unmet)
       code next end (turned_unless on (test_code test held code (if on then next else end) (if on then end else next)))
   part_right packet true r = r next end p q
   part_right packet false r =
@@ -168,7 +168,7 @@ module _ (code : List Instr) (next end : ℕ) (later first : Tested) (v : IsWell
         w.met_leads packet a value (subst (λ (label : ℕ). Gives packet (suffix_at later.code label) a value) (sym (e refl)) (v.met_leads packet a value given))
     met_leads_by false e packet a value given = gives_kept packet later.code first.code later.ways.met a value w.extends v.met_is (v.met_leads packet a value given)
 
-    before_well : IsWell code next end (before_parts later first)
+    before_well : IsWell code next end (before_operands later first)
     before_well = record {
       extends = extends_more code later.code first.code v.extends w.extends;
       entry = w.entry;
@@ -178,11 +178,11 @@ module _ (code : List Instr) (next end : ℕ) (later first : Tested) (v : IsWell
       unmet_leads = λ packet a value given. w.unmet_leads packet a value (v.unmet_leads packet a value given);
     }
 
-  before_right : (packet : List ℕ) (held : Option Part) (x y : Bool) (one : Left) (on out : Option Part)
+  before_right : (packet : List ℕ) (held : Option Part) (x y : Bool) (one : KnownOnBranches) (on out : Option Part)
       → IsRight packet one.met y (if y then on else out) code next end later
       → IsRight packet held x (if x then one.met else one.unmet) later.code later.ways.entry later.ways.unmet first
       → ((a : ℕ) → IsHeld packet one.unmet a → IsHeld packet out a)
-      → IsRight packet held (x && y) (if x && y then on else out) code next end (before_parts later first)
+      → IsRight packet held (x && y) (if x && y then on else out) code next end (before_operands later first)
   before_right packet held true y one on out r s kept = record {
     gives = λ a value h goes. s.gives a value h (λ b hb. r.gives b value hb goes);
   }
@@ -191,11 +191,11 @@ module _ (code : List Instr) (next end : ℕ) (later first : Tested) (v : IsWell
   }
 
 -- What A holds where a chain ends at a part, it holds where the chain ends at this part or a later one.
-kept_more : {n : _} (packet : List ℕ) (on : Bool) (row : Row_of-PlainTest n) (before : Left) (a : ℕ) → IsHeld packet before.unmet a → IsHeld packet (known_after_more on row before).unmet a
+kept_more : {n : _} (packet : List ℕ) (on : Bool) (row : Row_of-PlainTest n) (before : KnownOnBranches) (a : ℕ) → IsHeld packet before.unmet a → IsHeld packet (known_after_more on row before).unmet a
 kept_more packet on end_of-PlainTest before a h = h
 kept_more packet on (more_of-PlainTest test more) before a h =
-    let left = left_on on (known_after test before.met) in
-    kept_more packet on more (left_more before left) a (joined_left before.unmet left.unmet packet a h)
+    let left = turned_known_unless on (known_after test before.met) in
+    kept_more packet on more (known_with_operand before left) a (joined_left before.unmet left.unmet packet a h)
 
 -- ---- tests
 
@@ -215,9 +215,9 @@ mutual
       among_well part first others.items held code met unmet p q (bits_of part.mask first others.items)
   test_well (Not' at test) held code met unmet p q = turned_well code unmet met (test_code test held code unmet met) (test_well test held code unmet met q p)
   test_well (AllOf' shape tests) held code met unmet p q = parts_well true tests held code met unmet p q
-  test_well (AnyOf' shape tests) held code met unmet p q = turned_well code unmet met (parts_code false tests held code unmet met) (parts_well false tests held code unmet met q p)
+  test_well (AnyOf' shape tests) held code met unmet p q = turned_well code unmet met (operands_code false tests held code unmet met) (parts_well false tests held code unmet met q p)
 
-  parts_well : {n : _} (on : Bool) (row : Row_of-PlainTest n) (held : Option Part) (code : List Instr) (next end : ℕ) → IsLabel code next → IsLabel code end → IsWell code next end (parts_code on row held code next end)
+  parts_well : {n : _} (on : Bool) (row : Row_of-PlainTest n) (held : Option Part) (code : List Instr) (next end : ℕ) → IsLabel code next → IsLabel code end → IsWell code next end (operands_code on row held code next end)
   parts_well on end_of-PlainTest held code next end p q = record {
     extends = extends_self code;
     entry = p;
@@ -227,8 +227,8 @@ mutual
     unmet_leads = λ packet a value given. given;
   }
   parts_well on (more_of-PlainTest test more) held code next end p q =
-      let known = (left_on on (known_after test held)).met in
-      let later = parts_code on more known code next end in
+      let known = (turned_known_unless on (known_after test held)).met in
+      let later = operands_code on more known code next end in
       let v = parts_well on more known code next end p q in
       let t = test_code test held later.code (if on then later.ways.entry else later.ways.unmet) (if on then later.ways.unmet else later.ways.entry) in
       before_well code next end later (turned_unless on t) v
@@ -246,19 +246,19 @@ module _ (packet : List ℕ) (whole : length packet ≡ 52) where
     test_right (Not' at test) held code met unmet p q =
         turned_right packet held (holds test packet) (known_after test held).met (known_after test held).unmet code met unmet (test_code test held code unmet met) (test_right test held code unmet met q p)
     test_right (AllOf' shape tests) held code met unmet p q =
-        subst (λ (x : Bool). IsRight packet held x (if x then (known_after_chain true tests held).met else (known_after_chain true tests held).unmet) code met unmet (parts_code true tests held code met unmet))
+        subst (λ (x : Bool). IsRight packet held x (if x then (known_after_chain true tests held).met else (known_after_chain true tests held).unmet) code met unmet (operands_code true tests held code met unmet))
         (all_go _ tests packet) (chain_right true tests held code met unmet p q)
     test_right (AnyOf' shape tests) held code met unmet p q =
         let left = known_after_chain false tests held in
-        subst (λ (x : Bool). IsRight packet held x (if x then left.unmet else left.met) code met unmet (turned (parts_code false tests held code unmet met))) (one_stops _ tests packet)
-        (turned_right packet held (goes_on false tests packet) left.met left.unmet code met unmet (parts_code false tests held code unmet met) (chain_right false tests held code unmet met q p))
+        subst (λ (x : Bool). IsRight packet held x (if x then left.unmet else left.met) code met unmet (turned (operands_code false tests held code unmet met))) (one_stops _ tests packet)
+        (turned_right packet held (goes_on false tests packet) left.met left.unmet code met unmet (operands_code false tests held code unmet met) (chain_right false tests held code unmet met q p))
 
     chain_right : {n : _} (on : Bool) (row : Row_of-PlainTest n) (held : Option Part) (code : List Instr) (next end : ℕ) → IsLabel code next → IsLabel code end
-        → IsRight packet held (goes_on on row packet) (if goes_on on row packet then (known_after_chain on row held).met else (known_after_chain on row held).unmet) code next end (parts_code on row held code next end)
+        → IsRight packet held (goes_on on row packet) (if goes_on on row packet then (known_after_chain on row held).met else (known_after_chain on row held).unmet) code next end (operands_code on row held code next end)
     chain_right on end_of-PlainTest held code next end p q = record { gives = λ a value h goes. goes a h }
     chain_right on (more_of-PlainTest test more) held code next end p q =
-        let left = left_on on (known_after test held) in
-        let later = parts_code on more left.met code next end in
+        let left = turned_known_unless on (known_after test held) in
+        let later = operands_code on more left.met code next end in
         let v = parts_well on more left.met code next end p q in
         let t = test_code test held later.code (if on then later.ways.entry else later.ways.unmet) (if on then later.ways.unmet else later.ways.entry) in
         before_right code next end later (turned_unless on t) v packet held (outcome_on on (holds test packet)) (goes_on on more packet) left (known_after_more on more left).met (known_after_more on more left).unmet
@@ -266,13 +266,13 @@ module _ (packet : List ℕ) (whole : length packet ≡ 52) where
         (part_right test held later.code later.ways.entry later.ways.unmet v.entry v.unmet_is packet on (λ m u a b. test_right test held later.code m u a b))
         (λ a h. kept_more packet on more left a h)
 
-    more_right : {n : _} (on : Bool) (row : Row_of-PlainTest n) (before : Left) (code : List Instr) (next end : ℕ) → IsLabel code next → IsLabel code end
-        → IsRight packet before.met (goes_on on row packet) (if goes_on on row packet then (known_after_more on row before).met else (known_after_more on row before).unmet) code next end (parts_code on row before.met code next end)
+    more_right : {n : _} (on : Bool) (row : Row_of-PlainTest n) (before : KnownOnBranches) (code : List Instr) (next end : ℕ) → IsLabel code next → IsLabel code end
+        → IsRight packet before.met (goes_on on row packet) (if goes_on on row packet then (known_after_more on row before).met else (known_after_more on row before).unmet) code next end (operands_code on row before.met code next end)
     more_right on end_of-PlainTest before code next end p q = record { gives = λ a value h goes. goes a h }
     more_right on (more_of-PlainTest test more) before code next end p q =
-        let left = left_on on (known_after test before.met) in
-        let both = left_more before left in
-        let later = parts_code on more left.met code next end in
+        let left = turned_known_unless on (known_after test before.met) in
+        let both = known_with_operand before left in
+        let later = operands_code on more left.met code next end in
         let v = parts_well on more left.met code next end p q in
         let t = test_code test before.met later.code (if on then later.ways.entry else later.ways.unmet) (if on then later.ways.unmet else later.ways.entry) in
         before_right code next end later (turned_unless on t) v packet before.met (outcome_on on (holds test packet)) (goes_on on more packet) left (known_after_more on more both).met (known_after_more on more both).unmet

@@ -5,8 +5,8 @@ use Rattle.rules_code.specs.declared.bits.BitTest.{BitTest}
 use Rattle.rules_code.specs.declared.packet_part.Span.{Span}
 
 -- What the lowest bit of a mask counts.
-abbrev pub above_unit : ℕ → ℕ
-above_unit mask = (1 * 2 ^ (trailing_zeros w32 mask % 32)) % 2 ^ 32
+abbrev pub lowest_bit : ℕ → ℕ
+lowest_bit mask = (1 * 2 ^ (trailing_zeros w32 mask % 32)) % 2 ^ 32
 
 -- The test of bits that a comparison of masked bits with a span is, where the lowest bit of the mask counts this: that
 -- none is set, if of the numbers with bits of the mask only 0 is in the span; that one is set, if all but 0 are.
@@ -23,4 +23,4 @@ bits_from mask unit span = if mask % unit == 0 then bits_in mask unit span else 
 abbrev pub bits_of : Option ℕ → Span → List Span → Option BitTest
 bits_of None first others = None
 bits_of (Some mask) first (second ∷ more) = None
-bits_of (Some mask) first [] = bits_from mask (above_unit mask) first
+bits_of (Some mask) first [] = bits_from mask (lowest_bit mask) first

@@ -3,7 +3,7 @@ use Rattle.std.specs.Prelude.{◌≡◌, ℕ, ◌+◌, ◌-◌, ◌%◌, ◌^◌
 use Rattle.std.specs.Global.{Vec}
 use Rattle.bpf_code.specs.declared.instr.Size.{Size}
 use Rattle.bpf_code.specs.declared.instr.Size.TheVariants.{Word, Half, Octet}
-use Rattle.rules_code.specs.BitTests.{above_unit}
+use Rattle.rules_code.specs.BitTests.{lowest_bit}
 use Rattle.rules_code.specs.TestCode.{whole_of}
 use Rattle.rules_code.specs.declared.bounds.BoundTest.{BoundTest}
 use Rattle.rules_code.specs.declared.packet_part.Part.{Part}
@@ -19,7 +19,7 @@ most_in Octet = 255
 
 -- Whether a mask keeps the bits of these octets from some bit upwards, all of them.
 abbrev pub is_upper : Size → ℕ → Bool
-is_upper size mask = nat_le mask (most_in size) && (most_in size - mask + 1 == above_unit mask)
+is_upper size mask = nat_le mask (most_in size) && (most_in size - mask + 1 == lowest_bit mask)
 
 -- The largest number that has the same bits from a bit upwards, where that bit counts this.
 abbrev pub last_alike : ℕ → ℕ → ℕ
@@ -36,7 +36,7 @@ bound_in mask unit span =
 abbrev pub bound_of : Size → Option ℕ → Span → List Span → Option BoundTest
 bound_of size None first others = None
 bound_of size (Some mask) first (second ∷ more) = None
-bound_of size (Some mask) first [] = if is_upper size mask then bound_in mask (above_unit mask) first else None
+bound_of size (Some mask) first [] = if is_upper size mask then bound_in mask (lowest_bit mask) first else None
 
 -- The test is that the octets of a part are at most a number.
 abbrev pub IsAtMost : Part → ℕ → PlainTest → Type 0

@@ -9,10 +9,10 @@ use Rattle.rules_code.specs.declared.lines.Line.TheVariants.{Rule, Block, End}
 use Rattle.rules_code.specs.declared.packet_part.Part.{Part}
 
 -- What is known of A at the line after this one, if it is reached from this one.
-abbrev pub left_after : Line → Option Part → Option Part
-left_after (Rule test value) held = (known_after test held).unmet
-left_after (Block test) held = (known_after test held).met
-left_after End held = None
+abbrev pub known_after_line : Line → Option Part → Option Part
+known_after_line (Rule test value) held = (known_after test held).unmet
+known_after_line (Block test) held = (known_after test held).met
+known_after_line End held = None
 
 -- A code, the label where lines begin in it, and the labels after the ends of the blocks that those lines leave, that of
 -- the first end first.
@@ -46,7 +46,7 @@ line_code End held rest = record { code = rest.code; entry = rest.entry; after =
 -- The code of lines, where A holds this at the first if anything is known of it.
 unfoldable pub lines_coded : List Line → Option Part → ℕ → Coded
 lines_coded [] held otherwise = record { code = RetK otherwise ∷ []; entry = 1; after = [] }
-lines_coded (line ∷ lines) held otherwise = line_code line held (lines_coded lines (left_after line held) otherwise)
+lines_coded (line ∷ lines) held otherwise = line_code line held (lines_coded lines (known_after_line line held) otherwise)
 
 -- The code from its first instruction on: a jump to the place where it begins is put in front, if that isn't its front.
 abbrev pub with_entry_jump : Coded → List Instr

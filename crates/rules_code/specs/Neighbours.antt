@@ -2,7 +2,7 @@
 use Rattle.std.specs.Prelude.{◌≡◌, ℕ, ◌%◌, ◌==◌, Bool, ◌&&◌, nat_lt, bit_or, if◌then◌else◌, List, [], ◌∷◌, Option, Some, None}
 use Rattle.std.specs.Global.{Vec}
 use Rattle.std.specs.Option.{MatchOption}
-use Rattle.rules_code.specs.BitTests.{above_unit}
+use Rattle.rules_code.specs.BitTests.{lowest_bit}
 use Rattle.rules_code.specs.TestCode.{is_same_load}
 use Rattle.rules_code.specs.declared.packet_part.Part.{Part}
 use Rattle.rules_code.specs.declared.packet_part.Single.{Single}
@@ -26,11 +26,11 @@ abbrev pub are_neighbours : Single → Single → Bool
 are_neighbours high low =
     is_same_load high.part low.part
     && ((high.span.low == high.span.high)
-    && ((high.mask % above_unit high.mask == 0)
-    && ((high.span.low % above_unit high.mask == 0)
-    && (nat_lt low.mask (above_unit high.mask)
-    && (nat_lt low.span.low (above_unit high.mask)
-    && nat_lt low.span.high (above_unit high.mask))))))
+    && ((high.mask % lowest_bit high.mask == 0)
+    && ((high.span.low % lowest_bit high.mask == 0)
+    && (nat_lt low.mask (lowest_bit high.mask)
+    && (nat_lt low.span.low (lowest_bit high.mask)
+    && nat_lt low.span.high (lowest_bit high.mask))))))
 
 -- The comparison that the comparisons of neighbours are together.
 abbrev pub joined_by : Single → Single → Single
@@ -58,25 +58,25 @@ IsSingle single (plain.Among part first others) =
     (part.size ≡ single.part.size) × (part.at ≡ single.part.at) × (part.mask ≡ Some single.mask) × (first ≡ single.span) × (others.items ≡ [])
 IsSingle single _ = ⊥
 
--- The first of these parts is this test, and the others are as this says.
+-- The first of these operands is this test, and the others are as this says.
 abbrev pub BeginsWith : PlainTest → (List PlainTest → Type 0) → List PlainTest → Type 0
 BeginsWith test AreOthers [] = ⊥
-BeginsWith test AreOthers (part ∷ others) = (part ≡ test) × AreOthers others
+BeginsWith test AreOthers (operand ∷ others) = (operand ≡ test) × AreOthers others
 
--- These are the parts that this test and those after it make: a test that is a neighbour of what comes just before it
+-- These are the operands that this test and those after it make: a test that is a neighbour of what comes just before it
 -- is joined to that.
-abbrev pub AreParts : PlainTest → List PlainTest → List PlainTest → Type 0
-AreParts last [] parts = parts ≡ last ∷ []
-AreParts last (test ∷ more) parts =
-    MatchOption (joined_single last test) (BeginsWith last (AreParts test more) parts)
-    (λ single. (joined : PlainTest) × IsSingle single joined × AreParts joined more parts)
+abbrev pub AreOperands : PlainTest → List PlainTest → List PlainTest → Type 0
+AreOperands last [] operands = operands ≡ last ∷ []
+AreOperands last (test ∷ more) operands =
+    MatchOption (joined_single last test) (BeginsWith last (AreOperands test more) operands)
+    (λ single. (joined : PlainTest) × IsSingle single joined × AreOperands joined more operands)
 
--- The test is that each of these parts holds. One part alone is the test itself.
-abbrev pub IsOfParts : List PlainTest → PlainTest → Type 0
-IsOfParts (part ∷ []) test = test ≡ part
-IsOfParts parts test = (tests : Vec PlainTest) × (test ≡ plain.AllOf tests) × (tests.items ≡ parts)
+-- The test is that each of these operands holds. One operand alone is the test itself.
+abbrev pub IsOfOperands : List PlainTest → PlainTest → Type 0
+IsOfOperands (operand ∷ []) test = test ≡ operand
+IsOfOperands operands test = (tests : Vec PlainTest) × (test ≡ plain.AllOf tests) × (tests.items ≡ operands)
 
 -- The test is that each of these tests holds, where neighbours are one comparison.
 abbrev pub IsAllOf : List PlainTest → PlainTest → Type 0
 IsAllOf [] test = test ≡ plain.Always
-IsAllOf (first ∷ others) test = (parts : List PlainTest) × AreParts first others parts × IsOfParts parts test
+IsAllOf (first ∷ others) test = (operands : List PlainTest) × AreOperands first others operands × IsOfOperands operands test

@@ -9,7 +9,7 @@ use Rattle.bpf_interp.specs.Packet.{octets_loaded}
 use Rattle.rules_code.specs.Labels.{Tested, branched}
 use Rattle.rules_code.specs.BitTests.{bits_of}
 use Rattle.rules_code.specs.declared.bits.BitTest.{BitTest}
-use Rattle.rules_code.specs.declared.packet_part.Left.{Left}
+use Rattle.rules_code.specs.declared.packet_part.KnownOnBranches.{KnownOnBranches}
 use Rattle.rules_code.specs.declared.packet_part.Part.{Part}
 use Rattle.rules_code.specs.declared.packet_part.Span.{Span}
 use Rattle.rules_code.specs.declared.plain_test.PlainTest.{PlainTest, Row_of-PlainTest, end_of-PlainTest, more_of-PlainTest}
@@ -60,45 +60,45 @@ held_to_compare None held part = Some part
 held_to_compare (Some bits) held part = held_for_bits held part
 
 -- What is known of A where two ways join that leave this in it.
-abbrev pub left_at_join : Option Part → Option Part → Option Part
-left_at_join None other = None
-left_at_join (Some one) None = None
-left_at_join (Some one) (Some other) = if is_same_part one other then Some one else None
+abbrev pub known_at_join : Option Part → Option Part → Option Part
+known_at_join None other = None
+known_at_join (Some one) None = None
+known_at_join (Some one) (Some other) = if is_same_part one other then Some one else None
 
 -- What is known of A after a test, its two sides changed over.
-abbrev pub turned_left : Left → Left
-turned_left left = record { met = left.unmet; unmet = left.met }
+abbrev pub turned_known : KnownOnBranches → KnownOnBranches
+turned_known known = record { met = known.unmet; unmet = known.met }
 
--- What is known of A after a part of a chain: first where the chain goes on, then where it ends. A chain of `and` goes on
--- where a part is met, one of `or` where it isn't: `on` is that outcome.
-abbrev pub left_on : Bool → Left → Left
-left_on true left = left
-left_on false left = turned_left left
+-- What is known of A after an operand of a chain: first where the chain goes on, then where it ends. A chain of `and` goes on
+-- where an operand is met, one of `or` where it isn't: `on` is that outcome.
+abbrev pub turned_known_unless : Bool → KnownOnBranches → KnownOnBranches
+turned_known_unless true known = known
+turned_known_unless false known = turned_known known
 
--- What is known of A after one more part of a chain, where it goes on and where it ended at this part or before.
-abbrev pub left_more : Left → Left → Left
-left_more before left = record { met = left.met; unmet = left_at_join before.unmet left.unmet }
+-- What is known of A after one more operand of a chain, where it goes on and where it ended at this operand or before.
+abbrev pub known_with_operand : KnownOnBranches → KnownOnBranches → KnownOnBranches
+known_with_operand before known = record { met = known.met; unmet = known_at_join before.unmet known.unmet }
 
 abbrev mutual
   -- What is known of A after a test.
-  pub known_after : PlainTest → Option Part → Left
+  pub known_after : PlainTest → Option Part → KnownOnBranches
   known_after plain.Always held = record { met = held; unmet = held }
   known_after (plain.Among part first others) held =
-      let left = held_to_compare (bits_of part.mask first others.items) held part in record { met = left; unmet = left }
-  known_after (plain.Not' p test) held = turned_left (known_after test held)
+      let there = held_to_compare (bits_of part.mask first others.items) held part in record { met = there; unmet = there }
+  known_after (plain.Not' p test) held = turned_known (known_after test held)
   known_after (plain.AllOf' shape tests) held = known_after_chain true tests held
-  known_after (plain.AnyOf' shape tests) held = turned_left (known_after_chain false tests held)
+  known_after (plain.AnyOf' shape tests) held = turned_known (known_after_chain false tests held)
 
-  -- What is known of A after a chain of these parts.
-  pub known_after_chain : {n : _} → Bool → Row_of-PlainTest n → Option Part → Left
+  -- What is known of A after a chain of these operands.
+  pub known_after_chain : {n : _} → Bool → Row_of-PlainTest n → Option Part → KnownOnBranches
   known_after_chain on end_of-PlainTest held = record { met = held; unmet = held }
-  known_after_chain on (more_of-PlainTest test more) held = known_after_more on more (left_on on (known_after test held))
+  known_after_chain on (more_of-PlainTest test more) held = known_after_more on more (turned_known_unless on (known_after test held))
 
-  -- What is known of A after these further parts of a chain.
-  pub known_after_more : {n : _} → Bool → Row_of-PlainTest n → Left → Left
+  -- What is known of A after these further operands of a chain.
+  pub known_after_more : {n : _} → Bool → Row_of-PlainTest n → KnownOnBranches → KnownOnBranches
   known_after_more on end_of-PlainTest before = before
   known_after_more on (more_of-PlainTest test more) before =
-      known_after_more on more (left_more before (left_on on (known_after test before.met)))
+      known_after_more on more (known_with_operand before (turned_known_unless on (known_after test before.met)))
 
 -- The mask of a part put in front of code.
 abbrev pub masked : Option ℕ → List Instr → List Instr
@@ -188,14 +188,14 @@ unfoldable pub among_code : Option BitTest → Option Part → Part → List Spa
 among_code None held part spans code met unmet = with_load held part (spans_code part.mask spans code met unmet)
 among_code (Some test) held part spans code met unmet = with_octets held part (bits_code test code met unmet)
 
--- The test of a part of a chain: the side at which the chain goes on counts as met.
+-- The test of an operand of a chain: the side at which the chain goes on counts as met.
 abbrev pub turned_unless : Bool → Tested → Tested
 turned_unless true t = t
 turned_unless false t = turned t
 
--- A part of a chain in front of the parts after it.
-abbrev pub before_parts : Tested → Tested → Tested
-before_parts later first = record {
+-- An operand of a chain in front of the operands after it.
+abbrev pub before_operands : Tested → Tested → Tested
+before_operands later first = record {
   code = first.code;
   ways = record {
     entry = first.ways.entry;
@@ -212,14 +212,14 @@ unfoldable mutual
   test_code (plain.Among part first others) held code met unmet =
       among_code (bits_of part.mask first others.items) held part (first ∷ others.items) code met unmet
   test_code (plain.Not' p test) held code met unmet = turned (test_code test held code unmet met)
-  test_code (plain.AllOf' shape tests) held code met unmet = parts_code true tests held code met unmet
-  test_code (plain.AnyOf' shape tests) held code met unmet = turned (parts_code false tests held code unmet met)
+  test_code (plain.AllOf' shape tests) held code met unmet = operands_code true tests held code met unmet
+  test_code (plain.AnyOf' shape tests) held code met unmet = turned (operands_code false tests held code unmet met)
 
-  -- The code of the parts of a chain, with the label after its last part and the label of its end. Where the chain goes on
-  -- after a part, the next is tried.
-  pub parts_code : {n : _} → Bool → Row_of-PlainTest n → Option Part → List Instr → ℕ → ℕ → Tested
-  parts_code on end_of-PlainTest held code next end = record { code = code; ways = record { entry = next; met = next; unmet = end } }
-  parts_code on (more_of-PlainTest test more) held code next end =
-      let later = parts_code on more (left_on on (known_after test held)).met code next end in
-      before_parts later (turned_unless on
+  -- The code of the operands of a chain, with the label after its last operand and the label of its end. Where the chain goes on
+  -- after an operand, the next is tried.
+  pub operands_code : {n : _} → Bool → Row_of-PlainTest n → Option Part → List Instr → ℕ → ℕ → Tested
+  operands_code on end_of-PlainTest held code next end = record { code = code; ways = record { entry = next; met = next; unmet = end } }
+  operands_code on (more_of-PlainTest test more) held code next end =
+      let later = operands_code on more (turned_known_unless on (known_after test held)).met code next end in
+      before_operands later (turned_unless on
       (test_code test held later.code (if on then later.ways.entry else later.ways.unmet) (if on then later.ways.unmet else later.ways.entry)))

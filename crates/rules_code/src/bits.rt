@@ -1,7 +1,7 @@
 //! Comparisons that ask whether some bits are set.
 
 ghost use Rattle.std.specs.Prelude.{◌≡◌};
-ghost use Rattle.rules_code.specs.BitTests.{above_unit, bits_from, bits_in, bits_of};
+ghost use Rattle.rules_code.specs.BitTests.{lowest_bit, bits_from, bits_in, bits_of};
 
 use crate::packet_part::Span;
 
@@ -15,8 +15,8 @@ pub struct BitTest {
 }
 
 /// What the lowest bit of a mask counts.
-pub(crate) fn above_unit(mask: u32) -> u32
-    ensures { result ≡ above_unit mask }
+pub(crate) fn lowest_bit(mask: u32) -> u32
+    ensures { result ≡ lowest_bit mask }
 {
     1u32 << (mask.trailing_zeros() % 32)
 }
@@ -42,9 +42,9 @@ fn bits_in(mask: u32, unit: u32, span: Span) -> Option<BitTest>
 
 /// The equivalent bit test, if there is one.
 fn bits_from(mask: u32, span: Span) -> Option<BitTest>
-    ensures { result ≡ bits_from mask (above_unit mask) span }
+    ensures { result ≡ bits_from mask (lowest_bit mask) span }
 {
-    let unit = above_unit(mask);
+    let unit = lowest_bit(mask);
     if mask % unit == 0 {
         bits_in(mask, unit, span)
     } else {

@@ -1,10 +1,10 @@
 //! Comparisons with one bound, of the bits of octets from some bit upwards.
 
 ghost use Rattle.std.specs.Prelude.{◌≡◌, IfOk};
-ghost use Rattle.rules_code.specs.BitTests.{above_unit};
+ghost use Rattle.rules_code.specs.BitTests.{lowest_bit};
 ghost use Rattle.rules_code.specs.Bounds.{IsAtMost, IsBoundTest, IsComparison, IsNotOf, bound_in, bound_of, is_upper, most_in, last_alike};
 
-use crate::bits::above_unit;
+use crate::bits::lowest_bit;
 use crate::leaves::whole_of;
 use crate::packet_part::{Part, Span};
 use crate::plain_test::PlainTest;
@@ -36,22 +36,22 @@ fn is_upper(size: Size, mask: u32) -> bool
     ensures { result ≡ is_upper size mask }
 {
     let most = most_in(size);
-    mask <= most && u64::from(most - mask) + 1 == u64::from(above_unit(mask))
+    mask <= most && u64::from(most - mask) + 1 == u64::from(lowest_bit(mask))
 }
 
 /// The largest number that has the same bits from the lowest bit of a mask upwards.
 fn last_alike(mask: u32, number: u32) -> u32
-    ensures { result ≡ last_alike (above_unit mask) number }
+    ensures { result ≡ last_alike (lowest_bit mask) number }
 {
-    let unit = above_unit(mask);
+    let unit = lowest_bit(mask);
     (number - number % unit).saturating_add(unit - 1)
 }
 
 /// The bound that a comparison of masked bits with a span has.
 fn bound_in(mask: u32, span: Span) -> Option<BoundTest>
-    ensures { result ≡ bound_in mask (above_unit mask) span }
+    ensures { result ≡ bound_in mask (lowest_bit mask) span }
 {
-    let unit = above_unit(mask);
+    let unit = lowest_bit(mask);
     if span.low == 0 && unit <= span.high {
         Some(BoundTest {
             most: last_alike(mask, span.high),
@@ -116,7 +116,7 @@ fn bounded(alloc: Global, part: Part, bound: BoundTest) -> Result<PlainTest, All
 
 /// The test that a part is in one of these spans. One bound on upper bits needs no mask: no octet of a packet is more than
 /// 255.
-pub fn compare(
+pub fn comparison_test(
     alloc: Global,
     part: Part,
     first: Span,

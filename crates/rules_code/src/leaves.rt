@@ -4,7 +4,7 @@ ghost use Rattle.std.specs.Prelude.{◌≡◌, IfOk, OnOk, ◌∷◌};
 ghost use Rattle.bpf_interp.specs.Packet.{octets_loaded};
 ghost use Rattle.rules_code.specs.BitTests.{bits_of};
 ghost use Rattle.rules_code.specs.Labels.{Tested};
-ghost use Rattle.rules_code.specs.TestCode.{is_same_mask, is_same_load, is_same_part, is_held, is_covered, is_loaded, whole_of, held_for_bits, held_to_compare, left_at_join, loaded, masked, bits_loaded, is_top, span_code, spans_code, spans_from, bits_code, among_code};
+ghost use Rattle.rules_code.specs.TestCode.{is_same_mask, is_same_load, is_same_part, is_held, is_covered, is_loaded, whole_of, held_for_bits, held_to_compare, known_at_join, loaded, masked, bits_loaded, is_top, span_code, spans_code, spans_from, bits_code, among_code};
 ghost use Rattle.rules_code.specs.inner.Making.{IsMade};
 
 use crate::bits::{BitTest, bits_of};
@@ -118,8 +118,8 @@ pub(crate) fn held_to_compare(
 }
 
 /// What is known of A after two paths join, from what is known at the end of each.
-pub(crate) fn left_at_join(one: Option<Part>, other: Option<Part>) -> Option<Part>
-    ensures { result ≡ left_at_join one other }
+pub(crate) fn known_at_join(one: Option<Part>, other: Option<Part>) -> Option<Part>
+    ensures { result ≡ known_at_join one other }
 {
     match (one, other) {
         (Some(one), Some(other)) => {

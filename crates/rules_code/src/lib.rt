@@ -14,11 +14,11 @@ mod plain_test;
 mod tests_code;
 
 pub use bits::BitTest;
-pub use bounds::{BoundTest, compare};
+pub use bounds::{BoundTest, comparison_test};
 pub use draft::Ways;
 pub use fault::CodeFault;
 pub use lines::{Line, PlacedCode, generate, generate_placed};
 pub use neighbours::all_of;
 pub use order::in_order;
-pub use packet_part::{Left, Part, Single, Span};
+pub use packet_part::{KnownOnBranches, Part, Single, Span};
 pub use plain_test::PlainTest;

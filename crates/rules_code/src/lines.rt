@@ -1,8 +1,8 @@
 //! Lines, and their code.
 
 ghost use Rattle.std.specs.Prelude.{◌≡◌, ◌<◌, ◌≤◌, ℕ, [], ◌∷◌, length, Err, IfOk, OnOk, None, Some, slice_get};
-ghost use Rattle.rules_code.specs.LineCode.{Coded, left_after, first_after, later_after, line_code, lines_coded, with_entry_jump, lines_code};
-ghost use Rattle.rules_code.specs.LinePlaces.{lengths_from, line_lengths};
+ghost use Rattle.rules_code.specs.LineCode.{Coded, known_after_line, first_after, later_after, line_code, lines_coded, with_entry_jump, lines_code};
+ghost use Rattle.rules_code.specs.LinePlaces.{starts_where_held, line_starts_from_end};
 ghost use Rattle.rules_code.specs.inner.Held.{held_at};
 ghost use Rattle.rules_code.specs.Promise.{Classifies};
 ghost use Rattle.rules_code.specs.inner.Coding.{coded_of};
@@ -124,14 +124,14 @@ fn held_parts(alloc: Global, lines: &[Line]) -> Result<Vec<Option<Part>>, AllocE
     let mut held = None;
     for line in lines {
         parts.push(held)?;
-        held = left_after(line, held);
+        held = known_after_line(line, held);
     }
     Ok(parts)
 }
 
 /// What is known of A at the line after this one, if it is reached from this one.
-fn left_after(line: &Line, held: Option<Part>) -> Option<Part>
-    ensures { result ≡ left_after line.now held }
+fn known_after_line(line: &Line, held: Option<Part>) -> Option<Part>
+    ensures { result ≡ known_after_line line.now held }
 {
     match line {
         Line::Rule { test, .. } => known_after(test, held).unmet,
@@ -146,25 +146,28 @@ struct PlacedCoding {
     /// The code.
     coding: Coding,
     /// For each line, how many instructions the code has from its first on.
-    lengths: Vec<usize>,
+    starts_from_end: Vec<usize>,
 }
 
 /// The code of all lines, from the last to the first.
 fn put_lines(alloc: Global, lines: &[Line], otherwise: u32) -> Result<PlacedCoding, AllocError>
     ensures code { IfOk result (λ coded. coded_of coded.coding ≡ lines_coded lines.now None otherwise) }
-    ensures lengths { IfOk result (λ coded. coded.lengths.items ≡ line_lengths lines.now otherwise) }
+    ensures starts_from_end { IfOk result (λ coded. coded.starts_from_end.items ≡ line_starts_from_end lines.now otherwise) }
 {
     let parts = held_parts(alloc, lines)?;
     let mut coding = first_coding(alloc, otherwise)?;
-    let mut lengths = Vec::new(alloc);
+    let mut starts_from_end = Vec::new(alloc);
     let mut left = lines.len();
     while left > 0 {
         left -= 1;
         put_line(&mut coding, &lines[left], parts[left])?;
-        lengths.push(coding.draft.len())?;
+        starts_from_end.push(coding.draft.len())?;
     }
-    lengths.reverse();
-    Ok(PlacedCoding { coding, lengths })
+    starts_from_end.reverse();
+    Ok(PlacedCoding {
+        coding,
+        starts_from_end,
+    })
 }
 
 /// The code without lines: the last return.
@@ -183,13 +186,13 @@ fn first_coding(alloc: Global, otherwise: u32) -> Result<Coding, AllocError>
 /// The code of lines, however long it is.
 fn whole_code(alloc: Global, lines: &[Line], otherwise: u32) -> Result<PlacedCode, AllocError>
     ensures code { IfOk result (λ placed. placed.code.items ≡ lines_code lines.now otherwise) }
-    ensures lengths { IfOk result (λ placed. placed.lengths.items ≡ line_lengths lines.now otherwise) }
+    ensures starts_from_end { IfOk result (λ placed. placed.starts_from_end.items ≡ line_starts_from_end lines.now otherwise) }
 {
     let placed = put_lines(alloc, lines, otherwise)?;
     let code = with_entry_jump(placed.coding)?;
     Ok(PlacedCode {
         code,
-        lengths: placed.lengths,
+        starts_from_end: placed.starts_from_end,
     })
 }
 
@@ -217,11 +220,11 @@ pub struct PlacedCode {
     pub code: Vec<Instr>,
     /// For each line the number of instructions from the first of its own to the last of the code. A line without code has the
     /// number of the line after it, or 1, which is the return where no rule gives a value.
-    pub lengths: Vec<usize>,
+    pub starts_from_end: Vec<usize>,
 }
 
 /// Makes the code that gives the value of lines on every packet of 52 octets, with this value where no rule gives one, and says where
-/// the code of each line begins (`line_lengths`).
+/// the code of each line begins (`line_starts_from_end`).
 ///
 /// # Errors
 ///
@@ -235,7 +238,7 @@ pub fn generate_placed(
     ensures accepted { IfOk result (λ placed. IsAccepted placed.code.items) }
     ensures value { IfOk result (λ placed. Classifies lines.now otherwise placed.code.items) }
     ensures code { IfOk result (λ placed. placed.code.items ≡ lines_code lines.now otherwise) }
-    ensures lengths { IfOk result (λ placed. placed.lengths.items ≡ line_lengths lines.now otherwise) }
+    ensures starts_from_end { IfOk result (λ placed. placed.starts_from_end.items ≡ line_starts_from_end lines.now otherwise) }
     ensures too_long { result ≡ Err CodeFault.TooLong → 4096 < length (lines_code lines.now otherwise) }
     ensures short { IfOk result (λ placed. length (lines_code lines.now otherwise) ≤ 4096) }
 {
@@ -262,7 +265,12 @@ pub fn generate(alloc: Global, lines: &[Line], otherwise: u32) -> Result<Vec<Ins
     ensures short { IfOk result (λ code. length (lines_code lines.now otherwise) ≤ 4096) }
 {
     match generate_placed(alloc, lines, otherwise) {
-        Ok(PlacedCode { code, lengths: _ }) => Ok(code),
+        Ok(
+            PlacedCode {
+                code,
+                starts_from_end: _,
+            },
+        ) => Ok(code),
         Err(fault) => Err(fault),
     }
 }

@@ -1,9 +1,9 @@
 //! Merges comparisons of adjacent bits, and builds conjunctions.
 
 ghost use Rattle.std.specs.Prelude.{◌≡◌, [], ◌∷◌, ◌++◌, IfOk};
-ghost use Rattle.rules_code.specs.Neighbours.{AreParts, IsAllOf, IsSingle, are_neighbours, joined_by, joined_single, single_of};
+ghost use Rattle.rules_code.specs.Neighbours.{AreOperands, IsAllOf, IsSingle, are_neighbours, joined_by, joined_single, single_of};
 
-use crate::bits::above_unit;
+use crate::bits::lowest_bit;
 use crate::leaves::is_same_load;
 use crate::packet_part::{Part, Single, Span};
 use crate::plain_test::PlainTest;
@@ -41,7 +41,7 @@ fn single_of(test: &PlainTest) -> Option<Single>
 fn are_neighbours(high: Single, low: Single) -> bool
     ensures { result ≡ are_neighbours high low }
 {
-    let unit = above_unit(high.mask);
+    let unit = lowest_bit(high.mask);
     is_same_load(high.part, low.part)
         && high.span.low == high.span.high
         && high.mask % unit == 0
@@ -98,23 +98,23 @@ fn compared(alloc: Global, single: Single) -> PlainTest
     }
 }
 
-/// Merges adjacent comparisons, from left to right. The last part is returned by itself.
-fn parts_of(
+/// Merges adjacent comparisons, from left to right. The last operand is returned by itself.
+fn operands_of(
     alloc: Global,
     first: PlainTest,
     others: Vec<PlainTest>,
 ) -> Result<(Vec<PlainTest>, PlainTest), AllocError>
-    ensures { IfOk result (λ parts. AreParts first others.items (parts.0.items ++ parts.1 ∷ [])) }
+    ensures { IfOk result (λ operands. AreOperands first others.items (operands.0.items ++ operands.1 ∷ [])) }
 {
-    let mut parts = Vec::new(alloc);
+    let mut operands = Vec::new(alloc);
     let mut last = first;
     for test in others {
         match joined_single(&last, &test) {
             Some(single) => last = compared(alloc, single),
-            None => parts.push(mem::replace(&mut last, test))?,
+            None => operands.push(mem::replace(&mut last, test))?,
         }
     }
-    Ok((parts, last))
+    Ok((operands, last))
 }
 
 /// The conjunction of these tests, in which comparisons of adjacent bits, as those of a path and of a channel, are merged.
@@ -129,10 +129,10 @@ pub fn all_of(alloc: Global, tests: Vec<PlainTest>) -> Result<PlainTest, AllocEr
         return Ok(PlainTest::Always);
     }
     let first = tests.remove(0);
-    let (mut parts, last) = parts_of(alloc, first, tests)?;
-    if parts.is_empty() {
+    let (mut operands, last) = operands_of(alloc, first, tests)?;
+    if operands.is_empty() {
         return Ok(last);
     }
-    parts.push(last)?;
-    Ok(PlainTest::AllOf(parts))
+    operands.push(last)?;
+    Ok(PlainTest::AllOf(operands))
 }

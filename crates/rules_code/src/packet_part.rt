@@ -27,9 +27,9 @@ pub struct Span {
     pub high: u32,
 }
 
-/// What is known of A after a test, which definitions of the generated code name: the part that it holds, if any is known.
+/// What is known of A on the two branches of a test, which definitions of the generated code name: the part that it holds, if any is known.
 #[derive(Clone, Copy)]
-pub struct Left {
+pub struct KnownOnBranches {
     /// Where the test is met.
     pub met: Option<Part>,
     /// Where it isn't.

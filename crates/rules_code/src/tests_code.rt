@@ -1,43 +1,43 @@
 //! The code of tests.
 
 ghost use Rattle.std.specs.Prelude.{◌≡◌, ◌<◌, ℕ, length, slice_get, Some, IfOk};
-ghost use Rattle.rules_code.specs.TestCode.{known_after, left_more, left_on, test_code, turned_left};
-ghost use Rattle.rules_code.specs.inner.Chains.{chain_code, held_before, known_after_part, left_by_chain, part_code};
+ghost use Rattle.rules_code.specs.TestCode.{known_after, known_with_operand, turned_known_unless, test_code, turned_known};
+ghost use Rattle.rules_code.specs.inner.Chains.{chain_code, held_before, known_after_operand, known_after_tests, operand_code};
 ghost use Rattle.rules_code.specs.inner.Making.{IsMade};
 
 use crate::draft::{Draft, Ways};
-use crate::leaves::{held_to_compare, left_at_join, put_among};
-use crate::packet_part::{Left, Part};
+use crate::leaves::{held_to_compare, known_at_join, put_among};
+use crate::packet_part::{KnownOnBranches, Part};
 use crate::plain_test::PlainTest;
 use std::alloc::{AllocError, Global};
 
 /// What is known of A after a test, its two sides changed over.
-fn turned_left(left: Left) -> Left
-    ensures { result ≡ turned_left left }
+fn turned_known(known: KnownOnBranches) -> KnownOnBranches
+    ensures { result ≡ turned_known known }
 {
-    Left {
-        met: left.unmet,
-        unmet: left.met,
+    KnownOnBranches {
+        met: known.unmet,
+        unmet: known.met,
     }
 }
 
-/// What is known of A after one more part of a chain, where it goes on and where it ended at this part or before.
-fn left_more(before: Left, left: Left) -> Left
-    ensures { result ≡ left_more before left }
+/// What is known of A after one more operand of a chain, where it goes on and where it ended at this operand or before.
+fn known_with_operand(before: KnownOnBranches, known: KnownOnBranches) -> KnownOnBranches
+    ensures { result ≡ known_with_operand before known }
 {
-    Left {
-        met: left.met,
-        unmet: left_at_join(before.unmet, left.unmet),
+    KnownOnBranches {
+        met: known.met,
+        unmet: known_at_join(before.unmet, known.unmet),
     }
 }
 
 /// What is known of A after a test, where it held this before if anything is known.
 #[cycle(known_after)]
-pub(crate) fn known_after(test: &PlainTest, held: Option<Part>) -> Left
+pub(crate) fn known_after(test: &PlainTest, held: Option<Part>) -> KnownOnBranches
     ensures { result ≡ known_after test.now held }
 {
     match test {
-        PlainTest::Always => Left {
+        PlainTest::Always => KnownOnBranches {
             met: held,
             unmet: held,
         },
@@ -46,46 +46,46 @@ pub(crate) fn known_after(test: &PlainTest, held: Option<Part>) -> Left
             first,
             others,
         } => {
-            let left = held_to_compare(held, *part, *first, others);
-            Left {
-                met: left,
-                unmet: left,
+            let held = held_to_compare(held, *part, *first, others);
+            KnownOnBranches {
+                met: held,
+                unmet: held,
             }
         }
-        PlainTest::Not(test) => turned_left(known_after(test, held)),
-        PlainTest::AllOf(tests) => left_by_chain(true, tests, held),
-        PlainTest::AnyOf(tests) => turned_left(left_by_chain(false, tests, held)),
+        PlainTest::Not(test) => turned_known(known_after(test, held)),
+        PlainTest::AllOf(tests) => known_after_tests(true, tests, held),
+        PlainTest::AnyOf(tests) => turned_known(known_after_tests(false, tests, held)),
     }
 }
 
-/// What is known of A after a part of a chain that goes on where its parts have this outcome: first where it goes on.
+/// What is known of A after an operand of a chain that goes on where its operands have this outcome: first where it goes on.
 #[cycle(known_after)]
-fn known_after_part(on: bool, test: &PlainTest, held: Option<Part>) -> Left
-    ensures { result ≡ known_after_part on test.now held }
+fn known_after_operand(on: bool, test: &PlainTest, held: Option<Part>) -> KnownOnBranches
+    ensures { result ≡ known_after_operand on test.now held }
 {
-    let left = known_after(test, held);
-    if on { left } else { turned_left(left) }
+    let known = known_after(test, held);
+    if on { known } else { turned_known(known) }
 }
 
-/// What is known of A after a chain of these parts.
+/// What is known of A after a chain of these operands.
 #[cycle(known_after)]
-fn left_by_chain(on: bool, tests: &[PlainTest], held: Option<Part>) -> Left
-    ensures { result ≡ left_by_chain on tests.now held }
+fn known_after_tests(on: bool, tests: &[PlainTest], held: Option<Part>) -> KnownOnBranches
+    ensures { result ≡ known_after_tests on tests.now held }
 {
     let Some((first, others)) = tests.split_first() else {
-        return Left {
+        return KnownOnBranches {
             met: held,
             unmet: held,
         };
     };
-    let mut left = known_after_part(on, first, held);
+    let mut known = known_after_operand(on, first, held);
     for test in others {
-        left = left_more(left, known_after_part(on, test, left.met));
+        known = known_with_operand(known, known_after_operand(on, test, known.met));
     }
-    left
+    known
 }
 
-/// What is known of A at each part of a chain.
+/// What is known of A at each operand of a chain.
 fn held_parts_before(
     alloc: Global,
     on: bool,
@@ -99,7 +99,7 @@ fn held_parts_before(
     let mut held = held;
     for test in tests {
         parts.push(held)?;
-        held = known_after_part(on, test, held).met;
+        held = known_after_operand(on, test, held).met;
     }
     Ok(parts)
 }
@@ -152,17 +152,17 @@ fn turned_ways(ways: Ways) -> Ways
     }
 }
 
-/// Puts a part of a chain in front of the parts after it, whose labels are these.
+/// Puts an operand of a chain in front of the operands after it, whose labels are these.
 #[cycle(put_test)]
-#[tactic(auto, unfolding(crate::specs::inner::Chains::part_code))]
-fn put_part(
+#[tactic(auto, unfolding(crate::specs::inner::Chains::operand_code))]
+fn put_operand(
     draft: &mut Draft,
     on: bool,
     test: &PlainTest,
     held: Option<Part>,
     later: Ways,
 ) -> Result<Ways, AllocError>
-    ensures { IfOk result (IsMade (part_code on test.now held (record { code = draft.old; ways = later })) draft.new) }
+    ensures { IfOk result (IsMade (operand_code on test.now held (record { code = draft.old; ways = later })) draft.new) }
 {
     let first = if on {
         put_test(draft, test, held, later.entry, later.unmet)?
@@ -181,7 +181,7 @@ fn put_part(
     })
 }
 
-/// Puts the parts of a chain in front, with the label after its last part and the label of its end.
+/// Puts the operands of a chain in front, with the label after its last operand and the label of its end.
 #[cycle(put_test)]
 fn put_chain(
     draft: &mut Draft,
@@ -202,7 +202,7 @@ fn put_chain(
     let mut left = tests.len();
     while left > 0 {
         left -= 1;
-        ways = put_part(draft, on, &tests[left], parts[left], ways)?;
+        ways = put_operand(draft, on, &tests[left], parts[left], ways)?;
     }
     Ok(ways)
 }

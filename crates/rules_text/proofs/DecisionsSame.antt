@@ -13,7 +13,7 @@ use Rattle.rules_text.specs.ValuesRead.{lines_give, rules_give, test_holds}
 use Rattle.bpf_interp.specs.Value.{Value}
 use Rattle.rules_text.specs.TextOfRules.{rules_in}
 use Rattle.rules_text.specs.declared.fault.RuleFault.{RuleFault}
-use Rattle.rules_text.proofs.ReadingSteps.{without_numbers}
+use Rattle.rules_text.proofs.ReadingSteps.{without_places}
 use Rattle.rules_text.proofs.Values.{test_same}
 
 gives_same : (side : Side) (line : RuleLine) (passed : ℕ) (cell : List ℕ) → value_given side line passed cell ≡ line_gives side (line_read line) passed cell
@@ -76,10 +76,10 @@ same_rules : (one other : RulesRead) (found : Result RulesRead RuleFault) → fo
 same_rules one other found e f = cc
 
 pub code_decides : CodeGivesWhatIsDecided
-code_decides octets numbered code cell read follows is =
-    let same = same_rules follows.rules numbered.rules (rules_in octets) follows.read (without_numbers octets numbered read) in
-    let value : rules_give follows.rules cell ≡ (rules_decide numbered.rules cell).value =
-    ap (λ (rules : RulesRead). rules_give rules cell) same ∙ sym (decided_value numbered.rules cell) in
+code_decides octets placed_rules code cell read follows is =
+    let same = same_rules follows.rules placed_rules.rules (rules_in octets) follows.read (without_places octets placed_rules read) in
+    let value : rules_give follows.rules cell ≡ (rules_decide placed_rules.rules cell).value =
+    ap (λ (rules : RulesRead). rules_give rules cell) same ∙ sym (decided_value placed_rules.rules cell) in
     let given = follows.gives cell is in
     record {
       gives = (given.0, subst (λ (v : ℕ). Value code cell v given.0) value given.1);

@@ -3,7 +3,7 @@ use Rattle.std.proofs.Common.{◌≡◌, ◌+◌, nat_le, nat_lt, ℕ, Bool, tru
 use Rattle.bpf_code.specs.declared.instr.Size.{Size}
 use Rattle.upc_cell.specs.declared.side.Side.TheVariants.{Uni, Nni}
 use Rattle.rules_text.specs.Laws.{IsHeadWritten, IsRuleWritten}
-use Rattle.rules_text.specs.LineGrammar.{Awaited, field_of_list, LineContext, ListRead, field_list, denied_list, path_list, Reading, StatementRead, SubjectRead, awaits_start, awaits_unit, awaits_operator, awaits_offset, awaits_relation, awaits_mask, awaits_sign, awaits_constant, awaits_dots, awaits_high, awaits_comma, awaits_low, awaits_slash, awaits_channel, awaits_arrow, awaits_value, awaits_rest, awaits_side, awaits_end, blank_statement, group_after_or, group_test, group_with, lacks_room, line_statement, list_test, otherwise_statement, side_statement, may_be_name, negated_if, no_group, nothing_read, path_test, range_of_one, read_arrow, read_awaited, read_channel, read_comma, read_constant, read_dots, read_high, read_low, read_mask, read_offset, read_operator, read_relation, read_rest, read_side, read_sign, read_slash, read_start, read_token, read_value, statement_at_end, subject_of, whole_test, with_block, with_close, with_head, with_list, with_range, with_unit}
+use Rattle.rules_text.specs.LineGrammar.{Awaited, field_of_list, LineContext, ListRead, field_list, denied_list, path_list, Reading, StatementRead, SubjectRead, awaits_start, awaits_unit, awaits_operator, awaits_offset, awaits_relation, awaits_mask, awaits_sign, awaits_constant, awaits_dots, awaits_high, awaits_comma, awaits_low, awaits_slash, awaits_channel, awaits_arrow, awaits_value, awaits_only_value, awaits_side, awaits_end, blank_statement, group_after_or, group_test, group_with, lacks_room, line_statement, list_test, value_statement, side_statement, may_be_name, negated_if, no_group, nothing_read, path_test, range_of_one, read_arrow, read_awaited, read_channel, read_comma, read_constant, read_dots, read_high, read_low, read_mask, read_offset, read_operator, read_relation, read_only_value, read_side, read_sign, read_slash, read_start, read_token, read_value, statement_at_end, subject_of, whole_test, with_block, with_closed_parenthesis, with_head, with_list, with_range, with_unit}
 use Rattle.rules_text.specs.RuleGrammar.{HeadForm, bare_head, equal_head, unequal_head, path_head, OrderForm, less_order, at_most_order, greater_order, at_least_order, RangeForm, TestForm, order_unit, path_unit, list_unit, field_tokens, head_tokens, list_of_head, list_tokens, mask_tokens, order_sign, spans_written, subject_tokens, test_tokens, test_written, unit_tokens}
 use Rattle.rules_text.specs.RulesRead.{SignRead, any_cell, equal_sign, unequal_sign, less_sign, at_most_sign, greater_sign, at_least_sign, TestRead, block_line, comparing, compared, end_line, rule_line}
 use Rattle.rules_text.specs.RuleTokens.{RuleFound, RuleToken, and_word, arrow_mark, close_brace, close_parenthesis, comma_mark, dots_mark, mask_mark, number_word, open_brace, or_word, otherwise_word, side_word, sign_mark, size_word, slash_mark, star_mark, uni_word, nni_word}
@@ -15,7 +15,7 @@ use Rattle.rules_text.proofs.GrammarGroups.{after_and, after_or, parenthesis_clo
 
 operator_read : (context : LineContext) (tokens : List RuleToken) (reading next : Reading) (token : RuleToken)
     → read_operator context reading token ≡ Ok next → InClosed tokens reading → reading.spans ≡ [] → Explained (tokens ++ (token ∷ [])) next
-unfolding read_operator with_close with_block with_head
+unfolding read_operator with_closed_parenthesis with_block with_head
 operator_read context tokens reading next and_word e closed none =
     let made : Reading = record reading { awaited = awaits_unit } in
     made_by (tokens ++ (and_word ∷ [])) made next (Ok made) e refl (after_and tokens reading closed, none)
@@ -289,14 +289,14 @@ value_ok tokens reading next token e (test, same, is) =
 arrow_ok : (tokens : List RuleToken) (reading next : Reading) (token : RuleToken) → read_arrow reading token ≡ Ok next → Explained (tokens ++ (token ∷ [])) next
 unfolding read_arrow
 arrow_ok tokens reading next arrow_mark e =
-    let made : Reading = record reading { awaited = awaits_rest } in made_by (tokens ++ (arrow_mark ∷ [])) made next (Ok made) e refl tt
+    let made : Reading = record reading { awaited = awaits_only_value } in made_by (tokens ++ (arrow_mark ∷ [])) made next (Ok made) e refl tt
 arrow_ok tokens reading next _ e = absurd (cc)
 
-rest_ok : (tokens : List RuleToken) (reading next : Reading) (token : RuleToken) → read_rest reading token ≡ Ok next → Explained (tokens ++ (token ∷ [])) next
-unfolding read_rest
+rest_ok : (tokens : List RuleToken) (reading next : Reading) (token : RuleToken) → read_only_value reading token ≡ Ok next → Explained (tokens ++ (token ∷ [])) next
+unfolding read_only_value
 rest_ok tokens reading next token e =
-    let found = then_ok (value_read token) (λ value. Ok (record reading { statement = otherwise_statement value; awaited = awaits_end })) next e in
-    let made : Reading = record reading { statement = otherwise_statement found.0; awaited = awaits_end } in
+    let found = then_ok (value_read token) (λ value. Ok (record reading { statement = value_statement value; awaited = awaits_end })) next e in
+    let made : Reading = record reading { statement = value_statement found.0; awaited = awaits_end } in
     made_by (tokens ++ (token ∷ [])) made next (Ok made) found.2 refl tt
 
 side_ok : (tokens : List RuleToken) (reading next : Reading) (token : RuleToken) → read_side reading token ≡ Ok next → Explained (tokens ++ (token ∷ [])) next
@@ -313,7 +313,7 @@ no_tokens_open tokens reading none is = record {
   form = no_form;
   tokens_are = none;
   around_are = subst (λ (r : Reading). AreOpen [] r.around) (sym is) tt;
-  group_is = subst (λ (r : Reading). IsOpen no_form r.group) (sym is) (record { either = refl; both = refl; negated = refl });
+  group_is = subst (λ (r : Reading). IsOpen no_form r.group) (sym is) (record { alternatives = refl; last_alternative = refl; negated = refl });
 }
 
 start_read : (context : LineContext) (column : ℕ) (tokens : List RuleToken) (reading next : Reading) (token : RuleToken)
@@ -357,7 +357,7 @@ awaited_read (awaits_slash path) context column tokens reading next token waits 
 awaited_read (awaits_channel path) context column tokens reading next token waits e h = channel_read context tokens path reading next token e h.0 h.1
 awaited_read awaits_arrow context column tokens reading next token waits e h = arrow_ok tokens reading next token e
 awaited_read awaits_value context column tokens reading next token waits e h = value_ok tokens reading next token e h
-awaited_read awaits_rest context column tokens reading next token waits e h = rest_ok tokens reading next token e
+awaited_read awaits_only_value context column tokens reading next token waits e h = rest_ok tokens reading next token e
 awaited_read awaits_side context column tokens reading next token waits e h = side_ok tokens reading next token e
 awaited_read awaits_end context column tokens reading next token waits e h = absurd (cc)
 

@@ -1,26 +1,26 @@
 -- Parentheses that close, and tests after `and` and `or`, keep to the grammar.
 use Rattle.std.proofs.Common.{◌≡◌, ◌+◌, nat_lt, true, if◌then◌else◌, List, [], ◌∷◌, ◌++◌, length, Option, Some, None, option_map, Ok, Err, refl, sym, ap, ◌∙◌, subst, append_assoc, append-nil, arith}
 use Rattle.std.proofs.lemmas.Bool.{lt-ltb}
-use Rattle.rules_text.specs.LineGrammar.{GroupRead, Reading, awaits_unit, awaits_operator, either_of, group_after_or, group_test, group_with, some_test, unit_around, whole_test}
+use Rattle.rules_text.specs.LineGrammar.{GroupRead, Reading, awaits_unit, awaits_operator, or_with, group_after_or, group_test, group_with, some_test, unit_around, whole_test}
 use Rattle.rules_text.specs.RuleGrammar.{TestForm, parenthesis_unit, part_written, test_tokens, test_written, units_tokens}
 use Rattle.rules_text.specs.RulesRead.{TestRead}
 use Rattle.rules_text.specs.RuleTokens.{RuleToken, and_word, close_parenthesis, open_parenthesis, or_word}
 use Rattle.rules_text.specs.declared.fault.RuleKind.TheVariants.{Unbalanced}
-use Rattle.rules_text.proofs.TestBeginnings.{AreOpen, ClosedForm, Explained, InClosed, InOpen, IsClosed, OpenForm, around_tokens, closed_by, closed_by_group, closed_by_tokens, closed_test, closed_tokens, either_tokens, made_by, ok_is, open_tokens}
+use Rattle.rules_text.proofs.TestBeginnings.{AreOpen, ClosedForm, Explained, InClosed, InOpen, IsClosed, OpenForm, around_tokens, closed_by, closed_by_group, closed_by_tokens, closed_test, closed_tokens, alternatives_tokens, made_by, ok_is, open_tokens}
 
 -- ---- a token after a unit
 
 closed_test_tokens : (form : ClosedForm) → closed_tokens form ≡ test_tokens (closed_test form)
-closed_test_tokens form = by form.either refl
+closed_test_tokens form = by form.alternatives refl
   where
-    by : (either : Option TestForm) → form.either ≡ either → closed_tokens form ≡ test_tokens (closed_test form)
+    by : (alternatives : Option TestForm) → form.alternatives ≡ alternatives → closed_tokens form ≡ test_tokens (closed_test form)
     by None e = rw e refl
     by (Some test) e = rw e (append_assoc (test_tokens test) (or_word ∷ []) (units_tokens form.part))
 
 closed_test_written : (form : ClosedForm) (group : GroupRead) → IsClosed form group → group_test group ≡ Some (test_written (closed_test form))
-closed_test_written form group is = rw (is.either, is.both) (by form.either refl)
+closed_test_written form group is = rw (is.alternatives, is.last_alternative) (by form.alternatives refl)
   where
-    by : (either : Option TestForm) → form.either ≡ either → either_of (option_map test_written form.either) (Some (part_written form.part)) ≡ Some (test_written (closed_test form))
+    by : (alternatives : Option TestForm) → form.alternatives ≡ alternatives → or_with (option_map test_written form.alternatives) (Some (part_written form.part)) ≡ Some (test_written (closed_test form))
     by None e = rw e refl
     by (Some test) e = rw e refl
 
@@ -28,18 +28,18 @@ pub after_and : (tokens : List RuleToken) (reading : Reading) → InClosed token
 after_and tokens reading closed =
     let form = closed.form in
     let before = around_tokens closed.around in
-    let next : OpenForm = record { either = form.either; both = Some form.part; nots = 0 } in
+    let next : OpenForm = record { alternatives = form.alternatives; last_alternative = Some form.part; nots = 0 } in
     record {
       around = closed.around;
       form = next;
       tokens_are = ap (λ more. more ++ (and_word ∷ [])) closed.tokens_are
           ∙ append_assoc before (closed_tokens form) (and_word ∷ [])
           ∙ ap (λ more. before ++ more)
-          (append_assoc (either_tokens form.either) (units_tokens form.part) (and_word ∷ [])
-          ∙ ap (λ more. either_tokens form.either ++ more) (sym (append-nil (units_tokens form.part ++ (and_word ∷ [])))))
+          (append_assoc (alternatives_tokens form.alternatives) (units_tokens form.part) (and_word ∷ [])
+          ∙ ap (λ more. alternatives_tokens form.alternatives ++ more) (sym (append-nil (units_tokens form.part ++ (and_word ∷ [])))))
           ∙ sym (append-nil (before ++ open_tokens next));
       around_are = closed.around_are;
-      group_is = record { either = closed.group_is.either; both = closed.group_is.both; negated = closed.group_is.negated };
+      group_is = record { alternatives = closed.group_is.alternatives; last_alternative = closed.group_is.last_alternative; negated = closed.group_is.negated };
     }
 
 pub after_or : (tokens : List RuleToken) (reading : Reading) → InClosed tokens reading
@@ -48,7 +48,7 @@ after_or tokens reading closed =
     let form = closed.form in
     let test = closed_test form in
     let before = around_tokens closed.around in
-    let next : OpenForm = record { either = Some test; both = None; nots = 0 } in
+    let next : OpenForm = record { alternatives = Some test; last_alternative = None; nots = 0 } in
     record {
       around = closed.around;
       form = next;
@@ -58,7 +58,7 @@ after_or tokens reading closed =
           (ap (λ more. more ++ (or_word ∷ [])) (closed_test_tokens form) ∙ sym (append-nil (test_tokens test ++ (or_word ∷ []))))
           ∙ sym (append-nil (before ++ open_tokens next));
       around_are = closed.around_are;
-      group_is = record { either = closed_test_written form reading.group closed.group_is; both = refl; negated = closed.group_is.negated };
+      group_is = record { alternatives = closed_test_written form reading.group closed.group_is; last_alternative = refl; negated = closed.group_is.negated };
     }
 
 -- A parenthesis closes: the test in it is a unit of what is around it.

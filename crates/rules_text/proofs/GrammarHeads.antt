@@ -3,7 +3,7 @@ use Rattle.std.proofs.Common.{◌≡◌, ℕ, ◌+◌, ◌≤◌, ◌<◌, Bool,
 use Rattle.std.proofs.lemmas.Bool.{le-ltb, lt-leb}
 use Rattle.bpf_code.specs.declared.instr.Size.{Size}
 use Rattle.rules_code.specs.declared.packet_part.Span.{Span}
-use Rattle.rules_text.specs.LineGrammar.{Awaited, GroupRead, LineContext, ListRead, field_list, denied_list, path_list, Reading, SubjectRead, awaits_start, awaits_unit, awaits_operator, awaits_offset, awaits_relation, awaits_mask, awaits_sign, awaits_constant, awaits_dots, awaits_high, awaits_comma, awaits_low, awaits_slash, awaits_channel, group_test, group_with, no_group, field_of_list, list_test, path_test, read_awaited, read_channel, read_comma, read_constant, read_dots, read_high, read_low, read_mask, read_offset, read_operator, read_relation, read_sign, read_slash, read_start, read_token, read_unit, range_of_one, subject_of, with_close, with_list, with_open, with_range, with_unit}
+use Rattle.rules_text.specs.LineGrammar.{Awaited, GroupRead, LineContext, ListRead, field_list, denied_list, path_list, Reading, SubjectRead, awaits_start, awaits_unit, awaits_operator, awaits_offset, awaits_relation, awaits_mask, awaits_sign, awaits_constant, awaits_dots, awaits_high, awaits_comma, awaits_low, awaits_slash, awaits_channel, group_test, group_with, no_group, field_of_list, list_test, path_test, read_awaited, read_channel, read_comma, read_constant, read_dots, read_high, read_low, read_mask, read_offset, read_operator, read_relation, read_sign, read_slash, read_start, read_token, read_unit, range_of_one, subject_of, with_closed_parenthesis, with_list, with_open_parenthesis, with_range, with_unit}
 use Rattle.rules_text.specs.RuleGrammar.{FieldFits, HeadFits, HeadForm, bare_head, equal_head, unequal_head, path_head, OrderForm, less_order, at_most_order, greater_order, at_least_order, head_tokens, list_of_head, order_sign, HighFits, ListFits, MaskFits, RangeForm, SubjectFits, field_tokens, high_tokens, list_tokens, mask_tokens, span_from, spans_written, subject_tokens}
 use Rattle.rules_text.specs.RulesRead.{FieldRead, vpi_field, SignRead, equal_sign, unequal_sign, TestRead, comparing, compared, gfc_field, vci_field, pti_field, clp_field, octets_field}
 use Rattle.rules_text.specs.RuleTokens.{RuleToken, test_word, not_word, and_word, or_word, field_word, size_word, number_word, arrow_mark, open_brace, open_parenthesis, close_parenthesis, mask_mark, comma_mark, dots_mark, slash_mark, star_mark, sign_mark}
@@ -78,23 +78,23 @@ pub word_step : (context : LineContext) (column : ℕ) (reading : Reading) (test
 unfolding read_unit
 word_step context column reading test = refl
 
-pub not_step : (context : LineContext) (column : ℕ) (reading : Reading) (begin : Awaited) (either both : Option TestRead) (negated : Bool) (comparisons : ℕ)
-    → read_unit context column (at_state reading begin (record { either = either; both = both; negated = negated }) [] comparisons) not_word
-    ≡ Ok (at_state reading awaits_unit (record { either = either; both = both; negated = not negated }) [] comparisons)
+pub not_step : (context : LineContext) (column : ℕ) (reading : Reading) (begin : Awaited) (alternatives last_alternative : Option TestRead) (negated : Bool) (comparisons : ℕ)
+    → read_unit context column (at_state reading begin (record { alternatives = alternatives; last_alternative = last_alternative; negated = negated }) [] comparisons) not_word
+    ≡ Ok (at_state reading awaits_unit (record { alternatives = alternatives; last_alternative = last_alternative; negated = not negated }) [] comparisons)
 unfolding read_unit
-not_step context column reading begin either both negated comparisons = refl
+not_step context column reading begin alternatives last_alternative negated comparisons = refl
 
 pub open_step : (context : LineContext) (column : ℕ) (reading : Reading) (begin : Awaited) (group : GroupRead) (comparisons : ℕ) → context.blocks + length reading.around < 64
     → read_unit context column (at_state reading begin group [] comparisons) open_parenthesis
     ≡ Ok (at_state (record reading { around = group ∷ reading.around; outermost = (if nat_lt 0 (length reading.around) then reading.outermost else column) }) awaits_unit no_group [] comparisons)
-unfolding read_unit with_open
+unfolding read_unit with_open_parenthesis
 open_step context column reading begin group comparisons h = rw (lt-leb 64 (context.blocks + length reading.around) h) refl
 
 pub close_step : (context : LineContext) (column : ℕ) (reading : Reading) (group inner : GroupRead) (around : List GroupRead) (test : TestRead) (comparisons : ℕ)
     → group_test inner ≡ Some test
     → read_token context column (at_state (record reading { around = group ∷ around }) awaits_operator inner [] comparisons) close_parenthesis
     ≡ Ok (at_state (record reading { around = around }) awaits_operator (group_with group test) [] comparisons)
-unfolding read_awaited read_operator with_close
+unfolding read_awaited read_operator with_closed_parenthesis
 close_step context column reading group inner around test comparisons e = rw e refl
 
 -- A field of the header where a unit begins.

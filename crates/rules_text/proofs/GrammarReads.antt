@@ -1,7 +1,7 @@
 -- The reader of lines reads each test of the grammar as what it means.
 use Rattle.std.proofs.Common.{◌≡◌, ℕ, suc, ◌+◌, ◌≤◌, ◌<◌, Bool, false, not, nat_lt, if◌then◌else◌, List, [], ◌∷◌, ◌++◌, length, map, Option, Some, None, Ok, refl, sym, ◌∙◌, subst, arith}
 use Rattle.std.proofs.lemmas.Bool.{lt-leb}
-use Rattle.rules_text.specs.LineGrammar.{Awaited, GroupRead, LineContext, Reading, StatementRead, awaits_start, awaits_unit, awaits_operator, awaits_constant, awaits_slash, awaits_channel, awaits_value, awaits_end, both_of, group_after_or, group_test, group_with, no_group, nothing_read, path_test, read_awaited, read_operator, read_token, read_value, statement_at_end, line_statement, lacks_room, may_be_name, whole_test, with_block, with_head}
+use Rattle.rules_text.specs.LineGrammar.{Awaited, GroupRead, LineContext, Reading, StatementRead, awaits_start, awaits_unit, awaits_operator, awaits_constant, awaits_slash, awaits_channel, awaits_value, awaits_end, and_with, group_after_or, group_test, group_with, no_group, nothing_read, path_test, read_awaited, read_operator, read_token, read_value, statement_at_end, line_statement, lacks_room, may_be_name, whole_test, with_block, with_head}
 use Rattle.rules_text.specs.RuleGrammar.{head_tokens, list_of_head, order_sign, PartFits, PartForm, TestFits, TestForm, UnitFits, UnitForm, word_unit, order_unit, path_unit, list_unit, not_unit, parenthesis_unit, one_unit, and_unit, one_part, or_part, list_tokens, part_count, units_tokens, part_written, spans_written, subject_tokens, test_count, test_tokens, test_written, unit_count, unit_tokens, unit_written}
 use Rattle.rules_text.specs.RulesRead.{TestRead, any_cell, comparing, compared, block_line, rule_line}
 use Rattle.rules_text.specs.RuleTokens.{RuleFound, RuleToken, test_word, name_word, no_room, not_word, and_word, or_word, number_word, arrow_mark, open_brace, open_parenthesis, close_parenthesis, sign_mark}
@@ -16,14 +16,14 @@ after_moved context end reading group outermost count total equal h = subst (λ 
 
 -- The group after a test.
 abbrev group_written : TestForm → GroupRead
-group_written (one_part part) = record { either = None; both = Some (part_written part); negated = false }
-group_written (or_part test part) = record { either = Some (test_written test); both = Some (part_written part); negated = false }
+group_written (one_part part) = record { alternatives = None; last_alternative = Some (part_written part); negated = false }
+group_written (or_part test part) = record { alternatives = Some (test_written test); last_alternative = Some (part_written part); negated = false }
 
 written_test : (test : TestForm) → group_test (group_written test) ≡ Some (test_written test)
 written_test (one_part part) = refl
 written_test (or_part test part) = refl
 
-written_or : (test : TestForm) → group_after_or (group_written test) ≡ record { either = Some (test_written test); both = None; negated = false }
+written_or : (test : TestForm) → group_after_or (group_written test) ≡ record { alternatives = Some (test_written test); last_alternative = None; negated = false }
 written_or (one_part part) = refl
 written_or (or_part test part) = refl
 
@@ -38,12 +38,12 @@ unfolding read_awaited read_operator
 or_step context column reading group next outermost comparisons e = rw e refl
 
 mutual
-  unit_reads : (context : LineContext) (unit : UnitForm) (begin : Awaited) (reading : Reading) (either both : Option TestRead) (negated : Bool) (comparisons total : ℕ) (P : Reading → Type 0)
+  unit_reads : (context : LineContext) (unit : UnitForm) (begin : Awaited) (reading : Reading) (alternatives last_alternative : Option TestRead) (negated : Bool) (comparisons total : ℕ) (P : Reading → Type 0)
       → Begins context begin → UnitFits context (context.blocks + length reading.around) unit → total ≡ comparisons + unit_count unit → total ≤ 4096
-      → ((last : ℕ) (end : Reading) → Ended context end (after_unit reading (record { either = either; both = Some (both_of both (unit_written negated unit)); negated = false }) last total) → P end)
-      → Reads context (at_state reading begin (record { either = either; both = both; negated = negated }) [] comparisons) (unit_tokens unit) P
-  unit_reads context (word_unit test) begin reading either both negated comparisons total P begins fits count bound h =
-      let group : GroupRead = record { either = either; both = both; negated = negated } in
+      → ((last : ℕ) (end : Reading) → Ended context end (after_unit reading (record { alternatives = alternatives; last_alternative = Some (and_with last_alternative (unit_written negated unit)); negated = false }) last total) → P end)
+      → Reads context (at_state reading begin (record { alternatives = alternatives; last_alternative = last_alternative; negated = negated }) [] comparisons) (unit_tokens unit) P
+  unit_reads context (word_unit test) begin reading alternatives last_alternative negated comparisons total P begins fits count bound h =
+      let group : GroupRead = record { alternatives = alternatives; last_alternative = last_alternative; negated = negated } in
       let room : comparisons < 4096 = omega arith in
       λ column. (
         at_state reading awaits_operator (group_with group test) [] (comparisons + 1),
@@ -51,8 +51,8 @@ mutual
             ∙ with_unit-ok (at_state reading begin group [] comparisons) test room,
         h reading.outermost _ (after_moved context _ reading (group_with group test) reading.outermost (comparisons + 1) total (sym count) (λ column token is. refl)),
       )
-  unit_reads context (order_unit subject order k) begin reading either both negated comparisons total P begins fits count bound h =
-      let group : GroupRead = record { either = either; both = both; negated = negated } in
+  unit_reads context (order_unit subject order k) begin reading alternatives last_alternative negated comparisons total P begins fits count bound h =
+      let group : GroupRead = record { alternatives = alternatives; last_alternative = last_alternative; negated = negated } in
       let room : comparisons < 4096 = omega arith in
       let sign = order_sign order in
       let done = group_with group (comparing subject.field subject.mask (compared sign k)) in
@@ -67,14 +67,14 @@ mutual
           h reading.outermost _ (after_moved context _ reading done reading.outermost (comparisons + 1) total (sym count) (λ column token is. refl)),
         ),
       )))
-  unit_reads context (list_unit head ranges last) begin reading either both negated comparisons total P begins fits count bound h =
-      let group : GroupRead = record { either = either; both = both; negated = negated } in
+  unit_reads context (list_unit head ranges last) begin reading alternatives last_alternative negated comparisons total P begins fits count bound h =
+      let group : GroupRead = record { alternatives = alternatives; last_alternative = last_alternative; negated = negated } in
       reads_append context (head_tokens head) (list_tokens ranges last) (at_state reading begin group [] comparisons) P
       (head_reads context begin reading group comparisons (λ next. Reads context next (list_tokens ranges last) P) head begins fits.0 (λ next lows.
       list_reads context reading group (list_of_head head) P ranges last next [] (spans_written ranges last) comparisons total lows fits.1 refl count bound
       (λ end ended. h reading.outermost end ended)))
-  unit_reads context (path_unit path) begin reading either both negated comparisons total P begins fits count bound h =
-      let group : GroupRead = record { either = either; both = both; negated = negated } in
+  unit_reads context (path_unit path) begin reading alternatives last_alternative negated comparisons total P begins fits count bound h =
+      let group : GroupRead = record { alternatives = alternatives; last_alternative = last_alternative; negated = negated } in
       let room : comparisons < 4096 = omega arith in
       let done = group_with group (path_test path) in
       λ column. (
@@ -90,14 +90,14 @@ mutual
           ),
         ),
       )
-  unit_reads context (not_unit unit) begin reading either both negated comparisons total P begins fits count bound h =
+  unit_reads context (not_unit unit) begin reading alternatives last_alternative negated comparisons total P begins fits count bound h =
       λ column. (
-        at_state reading awaits_unit (record { either = either; both = both; negated = not negated }) [] comparisons,
-        begins column (at_state reading begin (record { either = either; both = both; negated = negated }) [] comparisons) not_word refl ∙ not_step context column reading begin either both negated comparisons,
-        unit_reads context unit awaits_unit reading either both (not negated) comparisons total P (begins_unit context) fits count bound h,
+        at_state reading awaits_unit (record { alternatives = alternatives; last_alternative = last_alternative; negated = not negated }) [] comparisons,
+        begins column (at_state reading begin (record { alternatives = alternatives; last_alternative = last_alternative; negated = negated }) [] comparisons) not_word refl ∙ not_step context column reading begin alternatives last_alternative negated comparisons,
+        unit_reads context unit awaits_unit reading alternatives last_alternative (not negated) comparisons total P (begins_unit context) fits count bound h,
       )
-  unit_reads context (parenthesis_unit test) begin reading either both negated comparisons total P begins fits count bound h =
-      let group : GroupRead = record { either = either; both = both; negated = negated } in
+  unit_reads context (parenthesis_unit test) begin reading alternatives last_alternative negated comparisons total P begins fits count bound h =
+      let group : GroupRead = record { alternatives = alternatives; last_alternative = last_alternative; negated = negated } in
       let deeper : context.blocks + length reading.around + 1 ≡ context.blocks + suc (length reading.around) = omega arith in
       λ column. (
         at_state (record reading { around = group ∷ reading.around; outermost = (if nat_lt 0 (length reading.around) then reading.outermost else column) }) awaits_unit no_group [] comparisons,
@@ -112,21 +112,21 @@ mutual
             ))),
       )
 
-  part_reads : (context : LineContext) (part : PartForm) (begin : Awaited) (reading : Reading) (either : Option TestRead) (comparisons total : ℕ) (P : Reading → Type 0)
+  part_reads : (context : LineContext) (part : PartForm) (begin : Awaited) (reading : Reading) (alternatives : Option TestRead) (comparisons total : ℕ) (P : Reading → Type 0)
       → Begins context begin → PartFits context (context.blocks + length reading.around) part → total ≡ comparisons + part_count part → total ≤ 4096
-      → ((last : ℕ) (end : Reading) → Ended context end (after_unit reading (record { either = either; both = Some (part_written part); negated = false }) last total) → P end)
-      → Reads context (at_state reading begin (record { either = either; both = None; negated = false }) [] comparisons) (units_tokens part) P
-  part_reads context (one_unit unit) begin reading either comparisons total P begins fits count bound h =
-      unit_reads context unit begin reading either None false comparisons total P begins fits count bound h
-  part_reads context (and_unit part unit) begin reading either comparisons total P begins fits count bound h =
+      → ((last : ℕ) (end : Reading) → Ended context end (after_unit reading (record { alternatives = alternatives; last_alternative = Some (part_written part); negated = false }) last total) → P end)
+      → Reads context (at_state reading begin (record { alternatives = alternatives; last_alternative = None; negated = false }) [] comparisons) (units_tokens part) P
+  part_reads context (one_unit unit) begin reading alternatives comparisons total P begins fits count bound h =
+      unit_reads context unit begin reading alternatives None false comparisons total P begins fits count bound h
+  part_reads context (and_unit part unit) begin reading alternatives comparisons total P begins fits count bound h =
       let equal : total ≡ comparisons + part_count part + unit_count unit = omega arith in
       let below : comparisons + part_count part ≤ 4096 = omega arith in
       reads_append context (units_tokens part) (and_word ∷ unit_tokens unit) _ P
-      (part_reads context part begin reading either comparisons (comparisons + part_count part) (λ next. Reads context next (and_word ∷ unit_tokens unit) P) begins fits.0 refl below (λ last end ended.
+      (part_reads context part begin reading alternatives comparisons (comparisons + part_count part) (λ next. Reads context next (and_word ∷ unit_tokens unit) P) begins fits.0 refl below (λ last end ended.
       λ column. (
-        at_state (record reading { outermost = last }) awaits_unit (record { either = either; both = Some (part_written part); negated = false }) [] (comparisons + part_count part),
-        ended column and_word refl ∙ and_step context column reading (record { either = either; both = Some (part_written part); negated = false }) last (comparisons + part_count part),
-        unit_reads context unit awaits_unit (record reading { outermost = last }) either (Some (part_written part)) false (comparisons + part_count part) total P (begins_unit context) fits.1 equal bound h,
+        at_state (record reading { outermost = last }) awaits_unit (record { alternatives = alternatives; last_alternative = Some (part_written part); negated = false }) [] (comparisons + part_count part),
+        ended column and_word refl ∙ and_step context column reading (record { alternatives = alternatives; last_alternative = Some (part_written part); negated = false }) last (comparisons + part_count part),
+        unit_reads context unit awaits_unit (record reading { outermost = last }) alternatives (Some (part_written part)) false (comparisons + part_count part) total P (begins_unit context) fits.1 equal bound h,
       )))
 
   test_reads : (context : LineContext) (test : TestForm) (begin : Awaited) (reading : Reading) (comparisons total : ℕ) (P : Reading → Type 0)
@@ -141,8 +141,8 @@ mutual
       reads_append context (test_tokens test) (or_word ∷ units_tokens part) _ P
       (test_reads context test begin reading comparisons (comparisons + test_count test) (λ next. Reads context next (or_word ∷ units_tokens part) P) begins fits.0 refl below (λ last end ended.
       λ column. (
-        at_state (record reading { outermost = last }) awaits_unit (record { either = Some (test_written test); both = None; negated = false }) [] (comparisons + test_count test),
-        ended column or_word refl ∙ or_step context column reading (group_written test) (record { either = Some (test_written test); both = None; negated = false }) last (comparisons + test_count test) (written_or test),
+        at_state (record reading { outermost = last }) awaits_unit (record { alternatives = Some (test_written test); last_alternative = None; negated = false }) [] (comparisons + test_count test),
+        ended column or_word refl ∙ or_step context column reading (group_written test) (record { alternatives = Some (test_written test); last_alternative = None; negated = false }) last (comparisons + test_count test) (written_or test),
         part_reads context part awaits_unit (record reading { outermost = last }) (Some (test_written test)) (comparisons + test_count test) total P (begins_unit context) fits.1 equal bound h,
       )))
 

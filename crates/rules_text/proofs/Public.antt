@@ -2,10 +2,10 @@
 use Rattle.std.proofs.Common.{◌≡◌, ℕ, List}
 use Rattle.bpf_code.specs.declared.instr.Instr.{Instr}
 use Rattle.rules_text.specs.CodeOfText.{IsCodeOfText}
-use Rattle.rules_text.specs.NumberedText.{numbered_read}
-use Rattle.rules_text.specs.PlacesOfText.{IsNumberedCode}
-use Rattle.rules_text.specs.declared.compiler.NumberedCode.{NumberedCode}
-use Rattle.rules_text.proofs.ReadingSteps.{without_numbers}
+use Rattle.rules_text.specs.RulesInMemory.{placed_rules_read}
+use Rattle.rules_text.specs.PlacesOfText.{IsCodeWithPlaces}
+use Rattle.rules_text.specs.declared.compiler.CodeWithPlaces.{CodeWithPlaces}
+use Rattle.rules_text.proofs.ReadingSteps.{without_places}
 use Rattle.rules_cells.specs.Decisions.{decision_of}
 use Rattle.rules_cells.specs.declared.rules.Rules.{Rules}
 use Rattle.rules_text.specs.DecisionsRead.{rules_decide}
@@ -18,10 +18,10 @@ pub decision_same : (rules : Rules) (cell : List ℕ) → decision_of rules cell
 decision_same = decisions.decision_same
 
 -- A code with numbers is the code of the text.
-pub code_of_numbered : (octets : List ℕ) (made : NumberedCode) → IsNumberedCode octets made → IsCodeOfText octets made.placed.code.items
-code_of_numbered octets made is = record {
-  rules = is.numbered.rules;
-  read = without_numbers octets (numbered_read is.numbered) is.read;
+pub code_of_code_with_places : (octets : List ℕ) (made : CodeWithPlaces) → IsCodeWithPlaces octets made → IsCodeOfText octets made.placed.code.items
+code_of_code_with_places octets made is = record {
+  rules = is.placed_rules.rules;
+  read = without_places octets (placed_rules_read is.placed_rules) is.read;
   lines = is.lines;
   plain = is.plain;
   code_is = is.code;

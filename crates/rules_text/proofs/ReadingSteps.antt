@@ -4,14 +4,14 @@ use Rattle.rules_text.specs.ContinuedLines.{line_begin, place_past, rule_lines}
 use Rattle.rules_text.specs.declared.place.TextPlace.{TextPlace}
 use Rattle.rules_text.specs.LineGrammar.{LineContext, Reading, StatementRead, read_token, statement_at_end}
 use Rattle.rules_text.specs.Names.{NameRead, rule_form}
-use Rattle.rules_text.specs.NumberedText.{numbered_read}
+use Rattle.rules_text.specs.RulesInMemory.{placed_rules_read}
 use Rattle.rules_text.specs.RuleTokens.{RuleFound, rule_tokens}
 use Rattle.rules_text.specs.TextFaults.{IsFaultOf}
-use Rattle.rules_text.specs.TextOfRules.{NumberedRead, TextReading, context_of, fault_column, fault_of_line, formed_statement, gives_name, name_given, no_text_read, placed_fault, numbered_at_end, numbered_from, numbered_in, read_then, rules_in, statement_from, text_with, text_with_line, text_with_name, text_with_room, text_with_tokens}
+use Rattle.rules_text.specs.TextOfRules.{PlacedRulesRead, TextReading, context_of, fault_column, fault_of_line, formed_statement, gives_name, name_given, no_text_read, placed_fault, placed_rules_at_end, placed_rules_from, placed_rules_in, read_then, rules_in, statement_from, text_with, text_with_line, text_with_name, text_with_room, text_with_tokens}
 use Rattle.rules_text.specs.declared.fault.RuleFault.{RuleFault}
 use Rattle.rules_text.specs.declared.fault.RuleKind.{RuleKind}
 use Rattle.rules_text.specs.declared.fault.RuleKind.TheVariants.{BadLine, BadNumber, TooLarge, OutsideCell, AfterOtherwise, Unbalanced, TooDeep, TooLong, NoMemory, UnknownName, NameTaken}
-use Rattle.rules_text.specs.declared.reader.NumberedRules.{NumberedRules}
+use Rattle.rules_text.specs.declared.reader.PlacedRules.{PlacedRules}
 use Rattle.rules_text.specs.inner.SeenFaults.{fault_seen}
 
 -- One more token.
@@ -42,19 +42,19 @@ statement_early context number column reading kind e = rw e refl
 
 -- One more line.
 pub rules_more : (text next : TextReading) (begin : TextPlace) (line : List ℕ) (rest : List (List ℕ))
-    → text_with_line text begin line ≡ Ok next → numbered_from text begin (line ∷ rest) ≡ numbered_from next (place_past begin line) rest
-unfolding numbered_from
+    → text_with_line text begin line ≡ Ok next → placed_rules_from text begin (line ∷ rest) ≡ placed_rules_from next (place_past begin line) rest
+unfolding placed_rules_from
 rules_more text next begin line rest e = rw e refl
 
 -- A line with a fault.
 pub rules_fault : (text : TextReading) (begin : TextPlace) (line : List ℕ) (rest : List (List ℕ)) (fault : RuleFault)
-    → text_with_line text begin line ≡ Err fault → numbered_from text begin (line ∷ rest) ≡ Err (fault_of_line begin line fault)
-unfolding numbered_from
+    → text_with_line text begin line ≡ Err fault → placed_rules_from text begin (line ∷ rest) ≡ Err (fault_of_line begin line fault)
+unfolding placed_rules_from
 rules_fault text begin line rest fault e = rw e refl
 
 -- The end of the text.
-pub rules_end : (text : TextReading) (begin : TextPlace) → numbered_from text begin [] ≡ numbered_at_end text
-unfolding numbered_from
+pub rules_end : (text : TextReading) (begin : TextPlace) → placed_rules_from text begin [] ≡ placed_rules_at_end text
+unfolding placed_rules_from
 rules_end text begin = refl
 
 -- A line without tokens.
@@ -165,28 +165,28 @@ early_same fault number column kind e bad =
     e ∙ seen ∙ ap (placed_fault number column) (sym bad)
 
 -- The rules of a text, from its first line on.
-pub rules_begun : (octets : List ℕ) → numbered_in octets ≡ numbered_from no_text_read (line_begin 1) (rule_lines octets)
-unfolding numbered_in
+pub rules_begun : (octets : List ℕ) → placed_rules_in octets ≡ placed_rules_from no_text_read (line_begin 1) (rule_lines octets)
+unfolding placed_rules_in
 rules_begun octets = refl
 
 -- The rules at the end of the text are those of the whole text.
-pub rules_at_last : (returned : Result NumberedRules RuleFault) (at_end whole : Result NumberedRead RuleFault) → whole ≡ at_end
-    → IfOk returned (λ numbered. at_end ≡ Ok (numbered_read numbered)) → IfOk returned (λ numbered. whole ≡ Ok (numbered_read numbered))
-rules_at_last (Ok numbered) at_end whole e h = e ∙ h
+pub rules_at_last : (returned : Result PlacedRules RuleFault) (at_end whole : Result PlacedRulesRead RuleFault) → whole ≡ at_end
+    → IfOk returned (λ placed_rules. at_end ≡ Ok (placed_rules_read placed_rules)) → IfOk returned (λ placed_rules. whole ≡ Ok (placed_rules_read placed_rules))
+rules_at_last (Ok placed_rules) at_end whole e h = e ∙ h
 rules_at_last (Err fault) at_end whole e h = tt
 
 -- A fault at the end of the text is one of the whole text.
-pub fault_at_last : (returned : Result NumberedRules RuleFault) (at_end whole : Result NumberedRead RuleFault) → whole ≡ at_end
+pub fault_at_last : (returned : Result PlacedRules RuleFault) (at_end whole : Result PlacedRulesRead RuleFault) → whole ≡ at_end
     → IfErr returned (λ fault. at_end ≡ Err fault) → IfErr returned (IsFaultOf whole)
-fault_at_last (Ok numbered) at_end whole e h = tt
+fault_at_last (Ok placed_rules) at_end whole e h = tt
 fault_at_last (Err fault) at_end whole e h = inr (e ∙ h)
 
 -- The rules of a text, without the numbers of their lines.
-pub without_numbers : (octets : List ℕ) (numbered : NumberedRead) → numbered_in octets ≡ Ok numbered → rules_in octets ≡ Ok numbered.rules
+pub without_places : (octets : List ℕ) (placed_rules : PlacedRulesRead) → placed_rules_in octets ≡ Ok placed_rules → rules_in octets ≡ Ok placed_rules.rules
 unfolding rules_in
-without_numbers octets numbered e = rw e refl
+without_places octets placed_rules e = rw e refl
 
--- A fault of a text is one whether or not lines are numbered.
-pub fault_without_numbers : (octets : List ℕ) (fault : RuleFault) → numbered_in octets ≡ Err fault → rules_in octets ≡ Err fault
+-- A fault of a text is one whether or not lines have places.
+pub fault_without_places : (octets : List ℕ) (fault : RuleFault) → placed_rules_in octets ≡ Err fault → rules_in octets ≡ Err fault
 unfolding rules_in
-fault_without_numbers octets fault e = rw e refl
+fault_without_places octets fault e = rw e refl

@@ -4,17 +4,17 @@ use Rattle.std.proofs.lemmas.Bool.{eqb-true}
 use Rattle.bpf_asm.specs.SourceLines.{source_lines}
 use Rattle.rules_text.specs.ContinuedLines.{feed_count, first_token_place, line_begin, place_next, place_past, rule_lines, rule_place}
 use Rattle.rules_text.specs.declared.place.TextPlace.{TextPlace}
-use Rattle.rules_text.specs.Laws.{AreLinesReadAt, IsLineReadAt, NumbersAreThoseOfTheLines, column_after}
-use Rattle.rules_text.specs.LineGrammar.{LineContext, StatementRead, blank_statement, side_statement, line_statement, otherwise_statement}
+use Rattle.rules_text.specs.Laws.{AreLinesReadAt, IsLineReadAt, PlacesAreThoseOfTheLines, column_after}
+use Rattle.rules_text.specs.LineGrammar.{LineContext, StatementRead, blank_statement, side_statement, line_statement, value_statement}
 use Rattle.rules_text.specs.Names.{NameRead, rule_form}
 use Rattle.rules_text.specs.RulesRead.{LineRead, rule_line, block_line, end_line}
 use Rattle.rules_text.specs.RuleTokens.{RuleFound, before_feed, first_cut, found_at, rule_tokens, separates, tokens_from}
-use Rattle.rules_text.specs.TextOfRules.{NumberedRead, TextReading, context_of, fault_in_text, fault_of_line, formed_statement, gives_name, name_given, no_text_read, numbered_from, placed_fault, read_then, text_with, text_with_line, text_with_tokens, text_with_name, text_with_room}
+use Rattle.rules_text.specs.TextOfRules.{PlacedRulesRead, TextReading, context_of, fault_in_text, fault_of_line, formed_statement, gives_name, name_given, no_text_read, placed_rules_from, placed_fault, read_then, text_with, text_with_line, text_with_tokens, text_with_name, text_with_room}
 use Rattle.rules_text.specs.declared.fault.RuleFault.{RuleFault}
 use Rattle.rules_text.specs.declared.fault.RuleKind.TheVariants.{AfterOtherwise, Unbalanced}
 use Rattle.rules_text.specs.declared.place.RulePlace.{RulePlace}
 use Rattle.rules_text.proofs.FeedCounts.{feeds_joined, lines_apart, lines_counted}
-use Rattle.rules_text.proofs.ReadingSteps.{rules_begun, without_numbers}
+use Rattle.rules_text.proofs.ReadingSteps.{rules_begun, without_places}
 use Rattle.rules_text.proofs.RuleLineCuts.{IsCutAt, cut_at}
 
 -- ---- places
@@ -150,7 +150,7 @@ module _ (octets : List ℕ) where
       → ((l : LineRead) → statement ≡ line_statement l → IsLineReadAt octets (rule_place begin column) l) → Holds next
   by_statement text next begin column blank_statement e held is = subst Holds e held
   by_statement text next begin column (side_statement side) e held is = subst Holds e held
-  by_statement text next begin column (otherwise_statement value) e held is = subst Holds e held
+  by_statement text next begin column (value_statement value) e held is = subst Holds e held
   by_statement text next begin column (line_statement (rule_line test value)) e held is =
       subst Holds e (statement_more text.begins text.lines (rule_place begin column) (rule_line test value) held (is (rule_line test value) refl))
   by_statement text next begin column (line_statement (block_line test)) e held is =
@@ -196,14 +196,14 @@ module _ (octets : List ℕ) where
   unfolding text_with_line
   by_line text next begin line e held is = by_tokens text next begin line (rule_tokens line) e held is
 
-  at_end : (unclosed : Bool) (text : TextReading) (numbered : NumberedRead)
+  at_end : (unclosed : Bool) (text : TextReading) (placed_rules : PlacedRulesRead)
       → (if unclosed then Err (fault_in_text text.head Unbalanced) else
-      Ok (record { rules = record { side = text.side; lines = text.lines; otherwise = text.otherwise }; begins = text.begins })) ≡ Ok numbered
-      → Holds text → AreLinesReadAt octets numbered.begins numbered.rules.lines
-  at_end true text numbered e held = cc
-  at_end false text numbered e held =
-      let same : ◌≡◌ {A = NumberedRead} (record { rules = record { side = text.side; lines = text.lines; otherwise = text.otherwise }; begins = text.begins }) numbered = cc in
-      subst (λ (n : NumberedRead). AreLinesReadAt octets n.begins n.rules.lines) same held
+      Ok (record { rules = record { side = text.side; lines = text.lines; otherwise = text.otherwise }; begins = text.begins })) ≡ Ok placed_rules
+      → Holds text → AreLinesReadAt octets placed_rules.begins placed_rules.rules.lines
+  at_end true text placed_rules e held = cc
+  at_end false text placed_rules e held =
+      let same : ◌≡◌ {A = PlacedRulesRead} (record { rules = record { side = text.side; lines = text.lines; otherwise = text.otherwise }; begins = text.begins }) placed_rules = cc in
+      subst (λ (n : PlacedRulesRead). AreLinesReadAt octets n.begins n.rules.lines) same held
 
   -- A line of rules that begins after these octets.
   record BeginsAfter (passed rest : List ℕ) (begin : TextPlace) : Type 0 where
@@ -217,19 +217,19 @@ module _ (octets : List ℕ) where
     place = octets_passed line passed begin begins.place;
   }
 
-  whole : (earlier lines : List (List ℕ)) (passed rest : List ℕ) (text : TextReading) (begin : TextPlace) (numbered : NumberedRead)
+  whole : (earlier lines : List (List ℕ)) (passed rest : List ℕ) (text : TextReading) (begin : TextPlace) (placed_rules : PlacedRulesRead)
       → rule_lines octets ≡ earlier ++ lines → rule_lines rest ≡ lines → BeginsAfter passed rest begin
-      → Holds text → numbered_from text begin lines ≡ Ok numbered → AreLinesReadAt octets numbered.begins numbered.rules.lines
-  unfolding numbered_from
-  whole earlier [] passed rest text begin numbered parts first begins held e = at_end (nat_lt 0 text.blocks) text numbered e held
-  whole earlier (line ∷ later) passed rest text begin numbered parts first begins held e =
+      → Holds text → placed_rules_from text begin lines ≡ Ok placed_rules → AreLinesReadAt octets placed_rules.begins placed_rules.rules.lines
+  unfolding placed_rules_from
+  whole earlier [] passed rest text begin placed_rules parts first begins held e = at_end (nat_lt 0 text.blocks) text placed_rules e held
+  whole earlier (line ∷ later) passed rest text begin placed_rules parts first begins held e =
       onward (text_with_line text begin line) refl e
-      (λ earlier_now passed_now rest_now next begin_now. whole earlier_now later passed_now rest_now next begin_now numbered)
+      (λ earlier_now passed_now rest_now next begin_now. whole earlier_now later passed_now rest_now next begin_now placed_rules)
     where
       Deep : Type 0
       Deep = (earlier_now : List (List ℕ)) (passed_now rest_now : List ℕ) (next : TextReading) (begin_now : TextPlace)
           → rule_lines octets ≡ earlier_now ++ later → rule_lines rest_now ≡ later → BeginsAfter passed_now rest_now begin_now
-          → Holds next → numbered_from next begin_now later ≡ Ok numbered → AreLinesReadAt octets numbered.begins numbered.rules.lines
+          → Holds next → placed_rules_from next begin_now later ≡ Ok placed_rules → AreLinesReadAt octets placed_rules.begins placed_rules.rules.lines
 
       is_read : Reads begin line (rule_tokens line)
       is_read token tokens same context names l statement =
@@ -255,8 +255,8 @@ module _ (octets : List ℕ) where
           }
 
       onward : (found : Result TextReading RuleFault) → text_with_line text begin line ≡ found
-          → read_then found (fault_of_line begin line) (λ next. numbered_from next (place_past begin line) later) ≡ Ok numbered
-          → Deep → AreLinesReadAt octets numbered.begins numbered.rules.lines
+          → read_then found (fault_of_line begin line) (λ next. placed_rules_from next (place_past begin line) later) ≡ Ok placed_rules
+          → Deep → AreLinesReadAt octets placed_rules.begins placed_rules.rules.lines
       onward (Ok next) is read go =
           let cut = cut_at rest line later first in
           go (earlier ++ line ∷ []) (passed ++ line) cut.rest next (place_past begin line)
@@ -268,8 +268,8 @@ none_before : (octets : List ℕ) → BeginsAfter octets [] octets (line_begin 1
 none_before octets = record { parts = refl; place = nothing_passed }
 
 -- For every text.
-pub statement_numbers : NumbersAreThoseOfTheLines
-statement_numbers octets numbered e = record {
-  rules = without_numbers octets numbered e;
-  places = whole octets [] (rule_lines octets) [] octets no_text_read (line_begin 1) numbered refl refl (none_before octets) tt (sym (rules_begun octets) ∙ e);
+pub statement_numbers : PlacesAreThoseOfTheLines
+statement_numbers octets placed_rules e = record {
+  rules = without_places octets placed_rules e;
+  places = whole octets [] (rule_lines octets) [] octets no_text_read (line_begin 1) placed_rules refl refl (none_before octets) tt (sym (rules_begun octets) ∙ e);
 }

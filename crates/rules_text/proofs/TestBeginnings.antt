@@ -5,7 +5,7 @@ use Rattle.rules_code.specs.declared.packet_part.Span.{Span}
 use Rattle.upc_cell.specs.declared.side.Side.{Side}
 use Rattle.upc_cell.specs.declared.side.Side.TheVariants.{Uni, Nni, UniPaths, NniPaths}
 use Rattle.rules_text.specs.Laws.{IsHeadWritten, IsRuleWritten}
-use Rattle.rules_text.specs.LineGrammar.{Awaited, GroupRead, LineContext, LineStep, ListRead, Reading, StatementRead, awaits_start, awaits_unit, awaits_operator, awaits_offset, awaits_relation, awaits_mask, awaits_sign, awaits_constant, awaits_dots, awaits_high, awaits_comma, awaits_low, awaits_slash, awaits_channel, awaits_arrow, awaits_value, awaits_rest, awaits_side, awaits_end, both_of, found_then, group_after_not, group_with, line_statement, negated_if, no_group, nothing_read, read_unit, subject_of, with_open, with_unit}
+use Rattle.rules_text.specs.LineGrammar.{Awaited, GroupRead, LineContext, LineStep, ListRead, Reading, StatementRead, awaits_start, awaits_unit, awaits_operator, awaits_offset, awaits_relation, awaits_mask, awaits_sign, awaits_constant, awaits_dots, awaits_high, awaits_comma, awaits_low, awaits_slash, awaits_channel, awaits_arrow, awaits_value, awaits_only_value, awaits_side, awaits_end, and_with, found_then, group_after_not, group_with, line_statement, negated_if, no_group, nothing_read, read_unit, subject_of, with_open_parenthesis, with_unit}
 use Rattle.rules_text.specs.RuleGrammar.{HeadForm, OrderForm, PartForm, RangeForm, TestForm, UnitForm, word_unit, not_unit, one_unit, and_unit, one_part, or_part, field_tokens, head_tokens, high_tokens, list_of_head, order_sign, part_written, span_from, subject_tokens, test_tokens, test_written, unit_tokens, unit_written, units_tokens}
 use Rattle.rules_text.specs.RulesRead.{FieldRead, gfc_field, vpi_field, vci_field, pti_field, clp_field, octets_field, TestRead, block_line, joined_by_and, rule_line}
 use Rattle.rules_text.specs.RuleTokens.{RuleToken, and_word, arrow_mark, comma_mark, dots_mark, field_word, mask_mark, not_word, number_word, open_parenthesis, or_word, sign_mark, size_word, slash_mark, test_word}
@@ -18,28 +18,28 @@ use Rattle.rules_text.specs.declared.fault.RuleKind.TheVariants.{OutsideCell, To
 
 -- What comes before a unit: alternatives with `or`, parts with `and`, and as many `not`.
 pub record OpenForm : Type 0 where
-  pub either : Option TestForm
-  pub both : Option PartForm
+  pub alternatives : Option TestForm
+  pub last_alternative : Option PartForm
   pub nots : ℕ
 
 -- Nothing.
 abbrev pub no_form : OpenForm
-no_form = record { either = None; both = None; nots = 0 }
+no_form = record { alternatives = None; last_alternative = None; nots = 0 }
 
 abbrev pub nots_tokens : ℕ → List RuleToken
 nots_tokens zero = []
 nots_tokens (suc n) = not_word ∷ nots_tokens n
 
-abbrev pub either_tokens : Option TestForm → List RuleToken
-either_tokens None = []
-either_tokens (Some test) = test_tokens test ++ (or_word ∷ [])
+abbrev pub alternatives_tokens : Option TestForm → List RuleToken
+alternatives_tokens None = []
+alternatives_tokens (Some test) = test_tokens test ++ (or_word ∷ [])
 
-abbrev pub both_tokens : Option PartForm → List RuleToken
-both_tokens None = []
-both_tokens (Some part) = units_tokens part ++ (and_word ∷ [])
+abbrev pub last_tokens : Option PartForm → List RuleToken
+last_tokens None = []
+last_tokens (Some part) = units_tokens part ++ (and_word ∷ [])
 
 abbrev pub open_tokens : OpenForm → List RuleToken
-open_tokens form = either_tokens form.either ++ (both_tokens form.both ++ nots_tokens form.nots)
+open_tokens form = alternatives_tokens form.alternatives ++ (last_tokens form.last_alternative ++ nots_tokens form.nots)
 
 -- Whether this many `not` deny a test that is denied so.
 abbrev pub denied_after : ℕ → Bool → Bool
@@ -48,8 +48,8 @@ denied_after (suc n) denied = denied_after n (not denied)
 
 -- The group is what was read of this.
 pub record IsOpen (form : OpenForm) (group : GroupRead) : Type 0 where
-  pub either : group.either ≡ option_map test_written form.either
-  pub both : group.both ≡ option_map part_written form.both
+  pub alternatives : group.alternatives ≡ option_map test_written form.alternatives
+  pub last_alternative : group.last_alternative ≡ option_map part_written form.last_alternative
   pub negated : group.negated ≡ denied_after form.nots false
 
 -- What comes before each open parenthesis, the innermost first.
@@ -73,15 +73,15 @@ pub record InOpen (tokens unit : List RuleToken) (reading : Reading) : Type 0 wh
 
 -- What ends with a unit: alternatives with `or`, and a part.
 pub record ClosedForm : Type 0 where
-  pub either : Option TestForm
+  pub alternatives : Option TestForm
   pub part : PartForm
 
 abbrev pub closed_tokens : ClosedForm → List RuleToken
-closed_tokens form = either_tokens form.either ++ units_tokens form.part
+closed_tokens form = alternatives_tokens form.alternatives ++ units_tokens form.part
 
 pub record IsClosed (form : ClosedForm) (group : GroupRead) : Type 0 where
-  pub either : group.either ≡ option_map test_written form.either
-  pub both : group.both ≡ Some (part_written form.part)
+  pub alternatives : group.alternatives ≡ option_map test_written form.alternatives
+  pub last_alternative : group.last_alternative ≡ Some (part_written form.part)
   pub negated : group.negated ≡ false
 
 -- The tokens are those up to the end of a unit.
@@ -94,7 +94,7 @@ pub record InClosed (tokens : List RuleToken) (reading : Reading) : Type 0 where
 
 -- The test that ends with such a unit.
 abbrev pub closed_test : ClosedForm → TestForm
-closed_test form = ended_by form.either
+closed_test form = ended_by form.alternatives
   where
     ended_by : Option TestForm → TestForm
     ended_by None = one_part form.part
@@ -144,7 +144,7 @@ ExplainedAt (awaits_slash path) tokens reading = InOpen tokens (number_word path
 ExplainedAt (awaits_channel path) tokens reading = InOpen tokens (number_word path ∷ slash_mark ∷ []) reading × (reading.spans ≡ [])
 ExplainedAt awaits_arrow tokens reading = Unit {0}
 ExplainedAt awaits_value tokens reading = (test : TestForm) × (tokens ≡ test_tokens test ++ (arrow_mark ∷ [])) × (reading.test ≡ test_written test)
-ExplainedAt awaits_rest tokens reading = Unit {0}
+ExplainedAt awaits_only_value tokens reading = Unit {0}
 ExplainedAt awaits_side tokens reading = Unit {0}
 ExplainedAt awaits_end tokens reading = StatementWritten tokens reading.statement
 
@@ -239,33 +239,33 @@ part_with None unit = one_unit unit
 part_with (Some part) unit = and_unit part unit
 
 abbrev pub closed_by : OpenForm → UnitForm → ClosedForm
-closed_by form unit = record { either = form.either; part = part_with form.both (denied_unit form.nots unit) }
+closed_by form unit = record { alternatives = form.alternatives; part = part_with form.last_alternative (denied_unit form.nots unit) }
 
-pub part_tokens : (both : Option PartForm) (unit : UnitForm) → both_tokens both ++ unit_tokens unit ≡ units_tokens (part_with both unit)
+pub part_tokens : (last_alternative : Option PartForm) (unit : UnitForm) → last_tokens last_alternative ++ unit_tokens unit ≡ units_tokens (part_with last_alternative unit)
 part_tokens None unit = refl
 part_tokens (Some part) unit = append_assoc (units_tokens part) (and_word ∷ []) (unit_tokens unit)
 
 pub closed_by_tokens : (form : OpenForm) (unit : UnitForm) → open_tokens form ++ unit_tokens unit ≡ closed_tokens (closed_by form unit)
 closed_by_tokens form unit =
-    append_assoc (either_tokens form.either) (both_tokens form.both ++ nots_tokens form.nots) (unit_tokens unit)
-    ∙ ap (λ tokens. either_tokens form.either ++ tokens)
-    (append_assoc (both_tokens form.both) (nots_tokens form.nots) (unit_tokens unit)
-    ∙ ap (λ tokens. both_tokens form.both ++ tokens) (denied_tokens form.nots unit)
-    ∙ part_tokens form.both (denied_unit form.nots unit))
+    append_assoc (alternatives_tokens form.alternatives) (last_tokens form.last_alternative ++ nots_tokens form.nots) (unit_tokens unit)
+    ∙ ap (λ tokens. alternatives_tokens form.alternatives ++ tokens)
+    (append_assoc (last_tokens form.last_alternative) (nots_tokens form.nots) (unit_tokens unit)
+    ∙ ap (λ tokens. last_tokens form.last_alternative ++ tokens) (denied_tokens form.nots unit)
+    ∙ part_tokens form.last_alternative (denied_unit form.nots unit))
 
-pub part_with_written : (both : Option PartForm) (unit : UnitForm) (test : TestRead) → test ≡ unit_written false unit
-    → both_of (option_map part_written both) test ≡ part_written (part_with both unit)
+pub part_with_written : (last_alternative : Option PartForm) (unit : UnitForm) (test : TestRead) → test ≡ unit_written false unit
+    → and_with (option_map part_written last_alternative) test ≡ part_written (part_with last_alternative unit)
 part_with_written None unit test e = e
 part_with_written (Some part) unit test e = ap (λ t. joined_by_and (part_written part) t) e
 
 pub closed_by_group : (form : OpenForm) (group : GroupRead) (unit : UnitForm) (test : TestRead) → IsOpen form group
     → ((denied : Bool) → unit_written denied unit ≡ negated_if denied test) → IsClosed (closed_by form unit) (group_with group test)
 closed_by_group form group unit test is written = record {
-  either = is.either;
-  both =
+  alternatives = is.alternatives;
+  last_alternative =
       let here : negated_if group.negated test ≡ unit_written false (denied_unit form.nots unit) =
       sym (written group.negated) ∙ ap (λ denied. unit_written denied unit) is.negated ∙ sym (denied_written form.nots unit false) in
-      ap Some (ap (λ both. both_of both (negated_if group.negated test)) is.both ∙ part_with_written form.both (denied_unit form.nots unit) _ here);
+      ap Some (ap (λ last_alternative. and_with last_alternative (negated_if group.negated test)) is.last_alternative ∙ part_with_written form.last_alternative (denied_unit form.nots unit) _ here);
   negated = refl;
 }
 
@@ -327,14 +327,14 @@ one_more_not tokens reading begun =
       tokens_are = ap (λ more. more ++ (not_word ∷ [])) (begun.tokens_are ∙ append-nil (before ++ open_tokens form))
           ∙ append_assoc before (open_tokens form) (not_word ∷ [])
           ∙ ap (λ more. before ++ more)
-          (append_assoc (either_tokens form.either) (both_tokens form.both ++ nots_tokens form.nots) (not_word ∷ [])
-          ∙ ap (λ more. either_tokens form.either ++ more)
-          (append_assoc (both_tokens form.both) (nots_tokens form.nots) (not_word ∷ []) ∙ ap (λ more. both_tokens form.both ++ more) (one_not_more form.nots)))
+          (append_assoc (alternatives_tokens form.alternatives) (last_tokens form.last_alternative ++ nots_tokens form.nots) (not_word ∷ [])
+          ∙ ap (λ more. alternatives_tokens form.alternatives ++ more)
+          (append_assoc (last_tokens form.last_alternative) (nots_tokens form.nots) (not_word ∷ []) ∙ ap (λ more. last_tokens form.last_alternative ++ more) (one_not_more form.nots)))
           ∙ sym (append-nil (before ++ open_tokens (record form { nots = suc form.nots })));
       around_are = begun.around_are;
       group_is = record {
-        either = begun.group_is.either;
-        both = begun.group_is.both;
+        alternatives = begun.group_is.alternatives;
+        last_alternative = begun.group_is.last_alternative;
         negated = ap not begun.group_is.negated ∙ not_denied form.nots false;
       };
     }
@@ -352,7 +352,7 @@ one_more_around tokens reading made begun around group =
           ∙ sym (append-nil (before ++ (open_tokens begun.form ++ (open_parenthesis ∷ []))))
           ∙ sym (append-nil ((before ++ (open_tokens begun.form ++ (open_parenthesis ∷ []))) ++ []));
       around_are = subst (AreOpen (begun.form ∷ begun.around)) (sym around) (begun.group_is, begun.around_are);
-      group_is = subst (IsOpen no_form) (sym group) (record { either = refl; both = refl; negated = refl });
+      group_is = subst (IsOpen no_form) (sym group) (record { alternatives = refl; last_alternative = refl; negated = refl });
     }
 
 pub path_begins : (context : LineContext) (most : ℕ) (tokens : List RuleToken) (reading next : Reading) (token : RuleToken)
@@ -370,7 +370,7 @@ path_begins context most tokens reading next token e begun none =
 
 pub unit_begins : (context : LineContext) (column : ℕ) (tokens : List RuleToken) (reading next : Reading) (token : RuleToken)
     → read_unit context column reading token ≡ Ok next → InOpen tokens [] reading → reading.spans ≡ [] → Explained (tokens ++ (token ∷ [])) next
-unfolding read_unit with_open
+unfolding read_unit with_open_parenthesis
 unit_begins context column tokens reading next not_word e begun none =
     let made : Reading = record reading { group = group_after_not reading.group; awaited = awaits_unit } in
     made_by (tokens ++ (not_word ∷ [])) made next (Ok made) e refl (one_more_not tokens reading begun, none)

@@ -18,7 +18,7 @@ use Rattle.rules_code.specs.PlainTests.{is_among, is_in, kept_bits}
 use Rattle.rules_code.specs.declared.packet_part.Span.{Span}
 use Rattle.upc_cell.specs.declared.side.Side.{Side}
 use Rattle.rules_text.specs.RulesRead.{field_read, line_read, relation_read, rules_read, test_read, tests_read}
-use Rattle.rules_text.specs.NumberedText.{HasRules}
+use Rattle.rules_text.specs.RulesInMemory.{HasRules}
 use Rattle.rules_text.specs.ValuesRead.{FollowsText, field_number, lines_give, one_test_holds, relation_holds, rules_give, test_holds, tests_all_hold}
 
 or_swap : (a b c : Bool) → a || (b || c) ≡ b || (a || c)

@@ -5,7 +5,7 @@ use Rattle.rules_cells.specs.PlainOf.{ArePlainLines}
 use Rattle.rules_cells.specs.declared.rules.Rules.{Rules}
 use Rattle.rules_code.specs.LineCode.{lines_code}
 use Rattle.rules_code.specs.declared.lines.Line.{Line}
-use Rattle.rules_text.specs.NumberedText.{HasRules}
+use Rattle.rules_text.specs.RulesInMemory.{HasRules}
 
 -- The text has rules, and this is the code of the lines that they become.
 pub record IsCodeOfText (octets : List ℕ) (code : List Instr) : Type 0 where

@@ -15,26 +15,26 @@ use Rattle.rules_text.specs.RuleGrammar.{TestFits, TestForm, test_count, test_to
 use Rattle.rules_text.specs.RulesRead.{LineRead, TestRead, block_line, rule_line}
 use Rattle.rules_text.specs.RuleTokens.{RuleFound, RuleToken, arrow_mark, open_brace, rule_tokens}
 use Rattle.rules_text.specs.Subjects.{value_read}
-use Rattle.rules_text.specs.TextOfRules.{NumberedRead, formed_statement, numbered_in, rules_in, statement_from}
+use Rattle.rules_text.specs.TextOfRules.{PlacedRulesRead, formed_statement, placed_rules_in, rules_in, statement_from}
 use Rattle.rules_text.specs.ValuesRead.{FollowsText}
 
 -- A line that has the tokens of a test of the grammar, `->` and a token that is a value is the rule with this test and value, wherever
 -- its tokens are, if the numbers fit and the limits are kept.
 abbrev pub RulesAreReadAsTheyAreWritten : Type 0
 RulesAreReadAsTheyAreWritten =
-    (context : LineContext) (number : ℕ) (found : List RuleFound) (test : TestForm) (token : RuleToken) (value : ℕ)
+    (context : LineContext) (source_line : ℕ) (found : List RuleFound) (test : TestForm) (token : RuleToken) (value : ℕ)
     → TestFits context context.blocks test → test_count test ≤ 4096 → value_read token ≡ Ok value
     → map (λ it. it.token) found ≡ test_tokens test ++ (arrow_mark ∷ token ∷ [])
-    → statement_from context number nothing_read 1 found ≡ Ok (line_statement (rule_line (test_written test) value))
+    → statement_from context source_line nothing_read 1 found ≡ Ok (line_statement (rule_line (test_written test) value))
 
 -- A line that has the tokens of a test of the grammar and `{` is the head of a block with this test, with the same limits
 -- and fewer than 64 open blocks.
 abbrev pub HeadsAreReadAsTheyAreWritten : Type 0
 HeadsAreReadAsTheyAreWritten =
-    (context : LineContext) (number : ℕ) (found : List RuleFound) (test : TestForm)
+    (context : LineContext) (source_line : ℕ) (found : List RuleFound) (test : TestForm)
     → TestFits context context.blocks test → test_count test ≤ 4096 → context.blocks < 64
     → map (λ it. it.token) found ≡ test_tokens test ++ (open_brace ∷ [])
-    → statement_from context number nothing_read 1 found ≡ Ok (line_statement (block_line (test_written test)))
+    → statement_from context source_line nothing_read 1 found ≡ Ok (line_statement (block_line (test_written test)))
 
 -- These tokens are those of a test of the grammar that means this test, `->` and a token that is this value.
 pub record IsRuleWritten (tokens : List RuleToken) (read : TestRead) (value : ℕ) : Type 0 where
@@ -54,15 +54,15 @@ pub record IsHeadWritten (tokens : List RuleToken) (read : TestRead) : Type 0 wh
 -- token that is its value.
 abbrev pub OnlyWrittenRulesAreRead : Type 0
 OnlyWrittenRulesAreRead =
-    (context : LineContext) (number : ℕ) (found : List RuleFound) (read : TestRead) (value : ℕ)
-    → statement_from context number nothing_read 1 found ≡ Ok (line_statement (rule_line read value))
+    (context : LineContext) (source_line : ℕ) (found : List RuleFound) (read : TestRead) (value : ℕ)
+    → statement_from context source_line nothing_read 1 found ≡ Ok (line_statement (rule_line read value))
     → IsRuleWritten (map (λ it. it.token) found) read value
 
 -- The same of the head of a block.
 abbrev pub OnlyWrittenHeadsAreRead : Type 0
 OnlyWrittenHeadsAreRead =
-    (context : LineContext) (number : ℕ) (found : List RuleFound) (read : TestRead)
-    → statement_from context number nothing_read 1 found ≡ Ok (line_statement (block_line read))
+    (context : LineContext) (source_line : ℕ) (found : List RuleFound) (read : TestRead)
+    → statement_from context source_line nothing_read 1 found ≡ Ok (line_statement (block_line read))
     → IsHeadWritten (map (λ it. it.token) found) read
 
 -- The column of the first of these tokens of a line of rules, before which these octets stand in its source line; none if no octet does.
@@ -103,13 +103,13 @@ AreLinesReadAt octets [] (read ∷ lines) = ⊥
 AreLinesReadAt octets (place ∷ places) [] = ⊥
 
 -- What is read with places are the rules of the text, each with the place where its line begins.
-pub record AreNumbered (octets : List ℕ) (numbered : NumberedRead) : Type 0 where
-  pub rules : rules_in octets ≡ Ok numbered.rules
-  pub places : AreLinesReadAt octets numbered.begins numbered.rules.lines
+pub record ArePlacedRules (octets : List ℕ) (placed_rules : PlacedRulesRead) : Type 0 where
+  pub rules : rules_in octets ≡ Ok placed_rules.rules
+  pub places : AreLinesReadAt octets placed_rules.begins placed_rules.rules.lines
 
 -- For every text.
-abbrev pub NumbersAreThoseOfTheLines : Type 0
-NumbersAreThoseOfTheLines = (octets : List ℕ) (numbered : NumberedRead) → numbered_in octets ≡ Ok numbered → AreNumbered octets numbered
+abbrev pub PlacesAreThoseOfTheLines : Type 0
+PlacesAreThoseOfTheLines = (octets : List ℕ) (placed_rules : PlacedRulesRead) → placed_rules_in octets ≡ Ok placed_rules → ArePlacedRules octets placed_rules
 
 -- On this cell the machine gives the value that was decided, and no other.
 pub record GivesDecided (code : List Instr) (cell : List ℕ) (decision : Decision) : Type 0 where
@@ -119,8 +119,8 @@ pub record GivesDecided (code : List Instr) (cell : List ℕ) (decision : Decisi
 -- A code that follows a text gives each cell the value that the text's rules decide.
 abbrev pub CodeGivesWhatIsDecided : Type 0
 CodeGivesWhatIsDecided =
-    (octets : List ℕ) (numbered : NumberedRead) (code : List Instr) (cell : List ℕ) → numbered_in octets ≡ Ok numbered → FollowsText octets code → IsCell cell
-    → GivesDecided code cell (rules_decide numbered.rules cell)
+    (octets : List ℕ) (placed_rules : PlacedRulesRead) (code : List Instr) (cell : List ℕ) → placed_rules_in octets ≡ Ok placed_rules → FollowsText octets code → IsCell cell
+    → GivesDecided code cell (rules_decide placed_rules.rules cell)
 
 -- Each text has one code.
 abbrev pub TextsHaveOneCode : Type 0

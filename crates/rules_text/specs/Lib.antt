@@ -6,7 +6,7 @@ pub mod Subjects
 pub mod LineGrammar
 pub mod Names
 pub mod TextOfRules
-pub mod NumberedText
+pub mod RulesInMemory
 pub mod CodeOfText
 pub mod TextFaults
 pub mod ValuesRead

@@ -27,7 +27,7 @@ pub data StatementRead : Type 0 where
   blank_statement : StatementRead
   side_statement : Side → StatementRead
   line_statement : LineRead → StatementRead
-  otherwise_statement : ℕ → StatementRead
+  value_statement : ℕ → StatementRead
 
 -- A field with a mask, if there is one.
 pub record SubjectRead : Type 0 where
@@ -43,8 +43,8 @@ pub data ListRead : Type 0 where
 -- What was read of a test, or of what is in a parenthesis: the alternatives before the last `or`, the parts after it
 -- that are joined by `and`, and whether a `not` applies to the next part.
 pub record GroupRead : Type 0 where
-  pub either : Option TestRead
-  pub both : Option TestRead
+  pub alternatives : Option TestRead
+  pub last_alternative : Option TestRead
   pub negated : Bool
 
 -- What comes next in a line.
@@ -81,8 +81,8 @@ pub data Awaited : Type 0 where
   awaits_arrow : Awaited
   -- the value of a rule
   awaits_value : Awaited
-  -- the value after `otherwise ->`
-  awaits_rest : Awaited
+  -- a value, and nothing after it: that after `otherwise ->`, or the number of a contract
+  awaits_only_value : Awaited
   -- the name of the side
   awaits_side : Awaited
   -- nothing more
@@ -118,7 +118,7 @@ found_then (Err kind) next = Err kind
 
 -- Nothing of a test was read.
 abbrev pub no_group : GroupRead
-no_group = record { either = None; both = None; negated = false }
+no_group = record { alternatives = None; last_alternative = None; negated = false }
 
 -- Nothing of a line was read.
 abbrev pub nothing_read : Reading
@@ -139,31 +139,31 @@ negated_if true test = negation test
 negated_if false test = test
 
 -- The parts of an alternative with one more.
-abbrev pub both_of : Option TestRead → TestRead → TestRead
-both_of None test = test
-both_of (Some parts) test = joined_by_and parts test
+abbrev pub and_with : Option TestRead → TestRead → TestRead
+and_with None test = test
+and_with (Some parts) test = joined_by_and parts test
 
 -- The alternatives with one more.
-abbrev pub either_of : Option TestRead → Option TestRead → Option TestRead
-either_of None both = both
-either_of (Some either) None = Some either
-either_of (Some either) (Some both) = Some (joined_by_or either both)
+abbrev pub or_with : Option TestRead → Option TestRead → Option TestRead
+or_with None last_alternative = last_alternative
+or_with (Some alternatives) None = Some alternatives
+or_with (Some alternatives) (Some last_alternative) = Some (joined_by_or alternatives last_alternative)
 
 -- The group with one more part.
 abbrev pub group_with : GroupRead → TestRead → GroupRead
-group_with group test = record { either = group.either; both = Some (both_of group.both (negated_if group.negated test)); negated = false }
+group_with group test = record { alternatives = group.alternatives; last_alternative = Some (and_with group.last_alternative (negated_if group.negated test)); negated = false }
 
 -- The group after `or`.
 abbrev pub group_after_or : GroupRead → GroupRead
-group_after_or group = record { either = either_of group.either group.both; both = None; negated = group.negated }
+group_after_or group = record { alternatives = or_with group.alternatives group.last_alternative; last_alternative = None; negated = group.negated }
 
 -- The group after `not`.
 abbrev pub group_after_not : GroupRead → GroupRead
-group_after_not group = record { either = group.either; both = group.both; negated = not group.negated }
+group_after_not group = record { alternatives = group.alternatives; last_alternative = group.last_alternative; negated = not group.negated }
 
 -- The test of a group.
 abbrev pub group_test : GroupRead → Option TestRead
-group_test group = either_of group.either group.both
+group_test group = or_with group.alternatives group.last_alternative
 
 -- One more comparison is read. A test has at most 4096.
 unfoldable pub with_unit : Reading → TestRead → LineStep
@@ -178,8 +178,8 @@ with_range reading awaited =
     Ok (record reading { comparisons = reading.comparisons + 1; awaited = awaited })
 
 -- A parenthesis is opened at this column. At most 64 parentheses and blocks are open together.
-unfoldable pub with_open : LineContext → ℕ → Reading → LineStep
-with_open context column reading =
+unfoldable pub with_open_parenthesis : LineContext → ℕ → Reading → LineStep
+with_open_parenthesis context column reading =
     if nat_le 64 (context.blocks + length reading.around) then Err TooDeep else
     Ok (record reading {
       around = reading.group ∷ reading.around;
@@ -196,8 +196,8 @@ unit_around reading (group ∷ around) (Some test) =
     Ok (record reading { around = around; group = group_with group test; awaited = awaits_operator })
 
 -- A parenthesis is closed.
-unfoldable pub with_close : Reading → LineStep
-with_close reading = unit_around reading reading.around (group_test reading.group)
+unfoldable pub with_closed_parenthesis : Reading → LineStep
+with_closed_parenthesis reading = unit_around reading reading.around (group_test reading.group)
 
 -- The test of the group, if there is one.
 abbrev pub some_test : Option TestRead → Result TestRead RuleKind
@@ -225,7 +225,7 @@ with_head reading = found_then (whole_test reading) (λ test. Ok (record reading
 unfoldable pub read_operator : LineContext → Reading → RuleToken → LineStep
 read_operator context reading and_word = Ok (record reading { awaited = awaits_unit })
 read_operator context reading or_word = Ok (record reading { group = group_after_or reading.group; awaited = awaits_unit })
-read_operator context reading close_parenthesis = with_close reading
+read_operator context reading close_parenthesis = with_closed_parenthesis reading
 read_operator context reading open_brace = with_block context reading
 read_operator context reading arrow_mark = with_head reading
 read_operator context reading _ = Err BadLine
@@ -237,7 +237,7 @@ subject_of field = record { field = field; mask = None }
 -- A token where a unit of a test begins.
 unfoldable pub read_unit : LineContext → ℕ → Reading → RuleToken → LineStep
 read_unit context column reading not_word = Ok (record reading { group = group_after_not reading.group; awaited = awaits_unit })
-read_unit context column reading open_parenthesis = with_open context column reading
+read_unit context column reading open_parenthesis = with_open_parenthesis context column reading
 read_unit context column reading (test_word test) = with_unit reading test
 read_unit context column reading (field_word name) =
     found_then (header_read context.side name) (λ field. Ok (record reading { awaited = awaits_relation (subject_of field) }))
@@ -343,7 +343,7 @@ read_high context of low reading token =
 
 -- `->` after `otherwise`.
 unfoldable pub read_arrow : Reading → RuleToken → LineStep
-read_arrow reading arrow_mark = Ok (record reading { awaited = awaits_rest })
+read_arrow reading arrow_mark = Ok (record reading { awaited = awaits_only_value })
 read_arrow reading _ = Err BadLine
 
 -- The value of a rule.
@@ -351,10 +351,10 @@ unfoldable pub read_value : Reading → RuleToken → LineStep
 read_value reading token = found_then (value_read token) (λ value.
     Ok (record reading { test = any_cell; statement = line_statement (rule_line reading.test value); awaited = awaits_end }))
 
--- The value after `otherwise ->`.
-unfoldable pub read_rest : Reading → RuleToken → LineStep
-read_rest reading token =
-    found_then (value_read token) (λ value. Ok (record reading { statement = otherwise_statement value; awaited = awaits_end }))
+-- A value, and nothing after it: that after `otherwise ->`, or the number of a contract.
+unfoldable pub read_only_value : Reading → RuleToken → LineStep
+read_only_value reading token =
+    found_then (value_read token) (λ value. Ok (record reading { statement = value_statement value; awaited = awaits_end }))
 
 -- The name of the side.
 unfoldable pub read_side : Reading → RuleToken → LineStep
@@ -380,7 +380,7 @@ read_awaited (awaits_slash path) context column reading token = read_slash path 
 read_awaited (awaits_channel path) context column reading token = read_channel context path reading token
 read_awaited awaits_arrow context column reading token = read_arrow reading token
 read_awaited awaits_value context column reading token = read_value reading token
-read_awaited awaits_rest context column reading token = read_rest reading token
+read_awaited awaits_only_value context column reading token = read_only_value reading token
 read_awaited awaits_side context column reading token = read_side reading token
 read_awaited awaits_end context column reading token = Err BadLine
 

@@ -2,7 +2,7 @@
 use Rattle.std.specs.Prelude.{ℕ, ◌-◌, Bool, true, false, if◌then◌else◌, nat_lt, slice_range, length, map, List, [], ◌∷◌, ◌++◌, Option, Some, None}
 use Rattle.std.specs.Str.{bytes_eq}
 use Rattle.bpf_code.specs.declared.instr.Size.TheVariants.{Word}
-use Rattle.rules_text.specs.LineGrammar.{Awaited, Reading, awaits_start, awaits_low, awaits_rest, awaits_unit, field_list, may_be_name, nothing_read, subject_of}
+use Rattle.rules_text.specs.LineGrammar.{Awaited, Reading, awaits_start, awaits_low, awaits_only_value, awaits_unit, field_list, may_be_name, nothing_read, subject_of}
 use Rattle.rules_text.specs.RulesRead.{octets_field}
 use Rattle.rules_text.specs.RuleTokens.{RuleFound, RuleToken, name_word, no_room, refuse_word, number_word, bad_number, arrow_mark, open_brace, open_parenthesis, close_parenthesis, comma_mark, dots_mark, slash_mark, no_token}
 
@@ -30,7 +30,7 @@ pub data FormRead : Type 0 where
 -- What comes first. The numbers of a list are those that four octets can have.
 abbrev pub first_awaited : FormRead → Awaited
 first_awaited rule_form = awaits_start
-first_awaited value_form = awaits_rest
+first_awaited value_form = awaits_only_value
 first_awaited test_form = awaits_unit
 first_awaited list_form = awaits_low (field_list (subject_of (octets_field Word 0)))
 

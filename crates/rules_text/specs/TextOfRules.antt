@@ -10,7 +10,7 @@ use Rattle.rules_text.specs.declared.place.TextPlace.{TextPlace}
 use Rattle.rules_text.specs.declared.place.RulePlace.{RulePlace}
 use Rattle.rules_text.specs.RulesRead.{LineRead, RulesRead, equal_sign, rule_line, block_line, end_line}
 use Rattle.rules_text.specs.RuleTokens.{RuleFound, RuleToken, contract_value, contract_word, define_word, rule_tokens, sign_mark}
-use Rattle.rules_text.specs.LineGrammar.{LineContext, Reading, StatementRead, blank_statement, side_statement, line_statement, otherwise_statement, may_be_name, read_token, statement_at_end}
+use Rattle.rules_text.specs.LineGrammar.{LineContext, Reading, StatementRead, blank_statement, side_statement, line_statement, value_statement, may_be_name, read_token, statement_at_end}
 use Rattle.rules_text.specs.Names.{FormRead, rule_form, value_form, NameRead, defined_as, expanded, definition_form, form_start, letters_of, most_added, name_meaning, room_left}
 use Rattle.rules_text.specs.declared.fault.RuleFault.{RuleFault}
 use Rattle.rules_text.specs.declared.fault.RuleKind.{RuleKind}
@@ -32,17 +32,17 @@ placed_fault line column kind = record { line = line; column = column; kind = ki
 
 -- The statement of the tokens, read on from here. The column is the one after the last token. Lines and columns count from 1.
 unfoldable pub statement_from : LineContext → ℕ → Reading → ℕ → List RuleFound → Result StatementRead RuleFault
-statement_from context number reading column [] =
-    read_then (statement_at_end reading.awaited reading.statement) (λ kind. placed_fault number column kind) (λ statement. Ok statement)
-statement_from context number reading column (found ∷ rest) =
+statement_from context source_line reading column [] =
+    read_then (statement_at_end reading.awaited reading.statement) (λ kind. placed_fault source_line column kind) (λ statement. Ok statement)
+statement_from context source_line reading column (found ∷ rest) =
     read_then (read_token context found.column reading found.token)
-    (λ kind. placed_fault number (fault_column reading kind found.column) kind)
-    (λ next. statement_from context number next found.after rest)
+    (λ kind. placed_fault source_line (fault_column reading kind found.column) kind)
+    (λ next. statement_from context source_line next found.after rest)
 
 -- The statement of the tokens of a line from this column on, or what is read there in this form, where names mean this.
 abbrev pub formed_statement : LineContext → List NameRead → FormRead → ℕ → List ℕ → ℕ → List RuleFound → Result StatementRead RuleFault
-formed_statement context names form number line column tokens =
-    statement_from context number (form_start form) column (expanded names context.room form line column tokens)
+formed_statement context names form source_line line column tokens =
+    statement_from context source_line (form_start form) column (expanded names context.room form line column tokens)
 
 -- What was read of a text.
 pub record TextReading : Type 0 where
@@ -104,7 +104,7 @@ with_line text end_line begin column = record text {
 abbrev pub text_with : TextReading → TextPlace → ℕ → StatementRead → TextReading
 text_with text begin column blank_statement = text
 text_with text begin column (side_statement side) = record text { side = side; begun = true }
-text_with text begin column (otherwise_statement value) = record text { otherwise = value; closed = true; begun = true }
+text_with text begin column (value_statement value) = record text { otherwise = value; closed = true; begun = true }
 text_with text begin column (line_statement statement) = with_line text statement begin column
 
 -- What a line must know of the text before it.
@@ -136,28 +136,28 @@ is_equal _ = false
 
 -- The `=` after a name.
 abbrev pub name_with_sign : ℕ → List ℕ → ℕ → ℕ → List RuleFound → Result NameFound RuleFault
-name_with_sign number letters column after [] = Err (placed_fault number after BadLine)
-name_with_sign number letters column after (sign ∷ rest) =
+name_with_sign source_line letters column after [] = Err (placed_fault source_line after BadLine)
+name_with_sign source_line letters column after (sign ∷ rest) =
     if is_equal sign.token
     then Ok (record { letters = letters; column = column; after = sign.after; tokens = rest })
-    else Err (placed_fault number sign.column BadLine)
+    else Err (placed_fault source_line sign.column BadLine)
 
 -- The name that these tokens give, which come after `define` or `contract`.
 abbrev pub name_found : List NameRead → ℕ → List ℕ → ℕ → List RuleFound → Result NameFound RuleFault
-name_found names number line after [] = Err (placed_fault number after BadLine)
-name_found names number line after (name ∷ rest) =
-    read_then (new_name names (letters_of line name) name.token) (λ kind. placed_fault number name.column kind)
-    (λ letters. name_with_sign number letters name.column name.after rest)
+name_found names source_line line after [] = Err (placed_fault source_line after BadLine)
+name_found names source_line line after (name ∷ rest) =
+    read_then (new_name names (letters_of line name) name.token) (λ kind. placed_fault source_line name.column kind)
+    (λ letters. name_with_sign source_line letters name.column name.after rest)
 
 -- The value of a contract.
 abbrev pub contract_number : StatementRead → ℕ
-contract_number (otherwise_statement value) = value
+contract_number (value_statement value) = value
 contract_number _ = 0
 
 -- The name of a contract, whose number is read as the value of `otherwise` is.
 abbrev pub contract_given : LineContext → List NameRead → ℕ → List ℕ → NameFound → Result NameRead RuleFault
-contract_given context names number line name =
-    read_then (formed_statement context names value_form number line name.after name.tokens) (λ fault. fault)
+contract_given context names source_line line name =
+    read_then (formed_statement context names value_form source_line line name.after name.tokens) (λ fault. fault)
     (λ statement. Ok (record { letters = name.letters; tokens = contract_value (contract_number statement) ∷ [] }))
 
 -- The tokens of a definition, with those that names in it mean.
@@ -166,15 +166,15 @@ definition_tokens names room line name = map (λ found. found.token) (expanded n
 
 -- The name of a test or of a list of these tokens, of which there are at most 4096.
 abbrev pub definition_given : LineContext → List NameRead → ℕ → List ℕ → NameFound → List RuleToken → Result NameRead RuleFault
-definition_given context names number line name tokens =
-    if nat_lt 4096 (length tokens) then Err (placed_fault number name.column TooLong) else (
-    read_then (formed_statement context names (definition_form tokens) number line name.after name.tokens) (λ fault. fault)
+definition_given context names source_line line name tokens =
+    if nat_lt 4096 (length tokens) then Err (placed_fault source_line name.column TooLong) else (
+    read_then (formed_statement context names (definition_form tokens) source_line line name.after name.tokens) (λ fault. fault)
     (λ statement. Ok (record { letters = name.letters; tokens = defined_as tokens })))
 
 -- What a line that begins with this word gives a name.
 abbrev pub given_by : RuleToken → LineContext → List NameRead → ℕ → List ℕ → NameFound → Result NameRead RuleFault
-given_by contract_word context names number line name = contract_given context names number line name
-given_by _ context names number line name = definition_given context names number line name (definition_tokens names context.room line name)
+given_by contract_word context names source_line line name = contract_given context names source_line line name
+given_by _ context names source_line line name = definition_given context names source_line line name (definition_tokens names context.room line name)
 
 -- Whether lines that begin with the token give names.
 abbrev pub gives_name : RuleToken → Bool
@@ -184,10 +184,10 @@ gives_name _ = false
 
 -- The name that a line of these tokens gives. Names are given before the rules.
 abbrev pub name_given : TextReading → ℕ → List ℕ → RuleFound → List RuleFound → Result NameRead RuleFault
-name_given text number line first rest =
-    if nat_lt 0 (length text.lines) then Err (placed_fault number first.column BadLine) else (
-    read_then (name_found text.names number line first.after rest) (λ fault. fault)
-    (λ name. given_by first.token (context_of text) text.names number line name))
+name_given text source_line line first rest =
+    if nat_lt 0 (length text.lines) then Err (placed_fault source_line first.column BadLine) else (
+    read_then (name_found text.names source_line line first.after rest) (λ fault. fault)
+    (λ name. given_by first.token (context_of text) text.names source_line line name))
 
 -- What was read, with one more name.
 abbrev pub text_with_name : TextReading → NameRead → TextReading
@@ -223,26 +223,26 @@ fault_of_line begin line fault =
     if fault.column == 0 then fault else fault_in_text (place_past begin (take (fault.column - 1) line)) fault.kind
 
 -- Rules, and where each of their lines begins.
-pub record NumberedRead : Type 0 where
+pub record PlacedRulesRead : Type 0 where
   pub rules : RulesRead
   pub begins : List RulePlace
 
 -- The rules, where the text ends. Each block must be closed.
-abbrev pub numbered_at_end : TextReading → Result NumberedRead RuleFault
-numbered_at_end text =
+abbrev pub placed_rules_at_end : TextReading → Result PlacedRulesRead RuleFault
+placed_rules_at_end text =
     if nat_lt 0 text.blocks then Err (fault_in_text text.head Unbalanced) else
     Ok (record { rules = record { side = text.side; lines = text.lines; otherwise = text.otherwise }; begins = text.begins })
 
 -- The rules of the lines, read on from here. The first of them begins at this place.
-unfoldable pub numbered_from : TextReading → TextPlace → List (List ℕ) → Result NumberedRead RuleFault
-numbered_from text begin [] = numbered_at_end text
-numbered_from text begin (line ∷ rest) =
-    read_then (text_with_line text begin line) (fault_of_line begin line) (λ next. numbered_from next (place_past begin line) rest)
+unfoldable pub placed_rules_from : TextReading → TextPlace → List (List ℕ) → Result PlacedRulesRead RuleFault
+placed_rules_from text begin [] = placed_rules_at_end text
+placed_rules_from text begin (line ∷ rest) =
+    read_then (text_with_line text begin line) (fault_of_line begin line) (λ next. placed_rules_from next (place_past begin line) rest)
 
 -- The rules of a text and where their lines begin, or its first fault.
-unfoldable pub numbered_in : List ℕ → Result NumberedRead RuleFault
-numbered_in octets = numbered_from no_text_read (line_begin 1) (rule_lines octets)
+unfoldable pub placed_rules_in : List ℕ → Result PlacedRulesRead RuleFault
+placed_rules_in octets = placed_rules_from no_text_read (line_begin 1) (rule_lines octets)
 
 -- The rules of a text, or its first fault.
 unfoldable pub rules_in : List ℕ → Result RulesRead RuleFault
-rules_in octets = read_then (numbered_in octets) (λ fault. fault) (λ numbered. Ok numbered.rules)
+rules_in octets = read_then (placed_rules_in octets) (λ fault. fault) (λ placed_rules. Ok placed_rules.rules)

@@ -54,16 +54,16 @@ pub(crate) fn test_of(alloc: Global, class: Class) -> Result<Test, AllocError>
         Class::User => Ok(Test::User),
         Class::Oam => any_of_two(alloc, f4(alloc), Test::Oam),
         Class::F4 => Ok(f4(alloc)),
-        Class::F4Segment => Ok(of_channel(3)),
-        Class::F4End => Ok(of_channel(4)),
+        Class::F4Segment => Ok(vci_is(3)),
+        Class::F4End => Ok(vci_is(4)),
         Class::F5 => Ok(Test::Oam),
-        Class::F5Segment => Ok(of_type(4)),
-        Class::F5End => Ok(of_type(5)),
-        Class::Rm => Ok(of_type(6)),
-        Class::MetaSignalling => Ok(of_channel(1)),
-        Class::Broadcast => Ok(of_channel(2)),
-        Class::Signalling => Ok(of_channel(5)),
-        Class::Ilmi => Ok(of_channel(16)),
+        Class::F5Segment => Ok(pti_is(4)),
+        Class::F5End => Ok(pti_is(5)),
+        Class::Rm => Ok(pti_is(6)),
+        Class::MetaSignalling => Ok(vci_is(1)),
+        Class::Broadcast => Ok(vci_is(2)),
+        Class::Signalling => Ok(vci_is(5)),
+        Class::Ilmi => Ok(vci_is(16)),
         Class::Idle => Ok(idle()),
     }
 }
@@ -83,7 +83,7 @@ fn f4(alloc: Global) -> Test
 }
 
 /// The test of the cells with this VCI.
-fn of_channel(vci: u32) -> Test
+fn vci_is(vci: u32) -> Test
     ensures { test_read result ≡ cell_of_channel vci }
 {
     Test::Compare {
@@ -94,7 +94,7 @@ fn of_channel(vci: u32) -> Test
 }
 
 /// The test of the cells with this PTI.
-fn of_type(pti: u32) -> Test
+fn pti_is(pti: u32) -> Test
     ensures { test_read result ≡ cell_of_type pti }
 {
     Test::Compare {

@@ -4,15 +4,15 @@ ghost use Rattle.std.specs.Prelude.{List, IfOk, IfErr};
 ghost use Rattle.bpf_verify.specs.Accepted.{IsAccepted};
 ghost use Rattle.rules_cells.specs.Promise.{FollowsRules};
 ghost use Rattle.rules_cells.specs.declared.rules.Rules.{Rules};
-ghost use Rattle.rules_text.specs.PlacesOfText.{IsNumberedCode};
+ghost use Rattle.rules_text.specs.PlacesOfText.{IsCodeWithPlaces};
 ghost use Rattle.rules_text.specs.CodeOfText.{IsCodeOfText};
-ghost use Rattle.rules_text.specs.NumberedText.{HasRules};
+ghost use Rattle.rules_text.specs.RulesInMemory.{HasRules};
 ghost use Rattle.rules_text.specs.TextFaults.{IsCompilingFault};
 ghost use Rattle.rules_text.specs.ValuesRead.{FollowsText};
 
 use crate::fault::{RuleFault, RuleKind, fault_at};
 use crate::place::RulePlace;
-use crate::reader::{read_numbered, read_rules};
+use crate::reader::{read_rules, read_with_places};
 use bpf_code::Instr;
 use rules_cells::{CodeFault, PlacedCode, compile, compile_placed};
 use std::alloc::Global;
@@ -41,7 +41,7 @@ pub fn compile_text(alloc: Global, text: &[u8]) -> Result<Vec<Instr>, RuleFault>
 
 /// The code of a text of rules, and which line of rules each part of it is of.
 #[derive(Debug, Drop)]
-pub struct NumberedCode {
+pub struct CodeWithPlaces {
     /// The code, and where that of each line of rules begins.
     pub placed: PlacedCode,
     /// For each line of rules where it begins.
@@ -54,17 +54,17 @@ pub struct NumberedCode {
 /// # Errors
 ///
 /// As [`compile_text`] has them.
-pub fn compile_numbered(alloc: Global, text: &[u8]) -> Result<NumberedCode, RuleFault>
+pub fn compile_with_places(alloc: Global, text: &[u8]) -> Result<CodeWithPlaces, RuleFault>
     ensures accepted { IfOk result (λ made. IsAccepted made.placed.code.items) }
     ensures text { IfOk result (λ made. FollowsText text.now made.placed.code.items) }
-    ensures places { IfOk result (IsNumberedCode text.now) }
+    ensures places { IfOk result (IsCodeWithPlaces text.now) }
     ensures fault { IfErr result (IsCompilingFault text.now) }
 {
-    let numbered = read_numbered(alloc, text)?;
-    match compile_placed(alloc, &numbered.rules) {
-        Ok(placed) => Ok(NumberedCode {
+    let placed_rules = read_with_places(alloc, text)?;
+    match compile_placed(alloc, &placed_rules.rules) {
+        Ok(placed) => Ok(CodeWithPlaces {
             placed,
-            begins: numbered.begins,
+            begins: placed_rules.begins,
         }),
         Err(CodeFault::TooLong) => Err(fault_at(RuleKind::TooLong, 0, 0)),
         Err(CodeFault::NoMemory) => Err(fault_at(RuleKind::NoMemory, 0, 0)),

@@ -66,6 +66,7 @@ impl Around {
             b'#' => return self.commented(true),
             b'(' => self.parentheses + 1,
             b')' => self.parentheses.saturating_sub(1),
+            // `->` ends a test, so no parenthesis is open after it.
             b'-' => 0,
             _ => return self,
         };

@@ -2,7 +2,7 @@
 
 ghost use Rattle.std.specs.Prelude.{◌≡◌, [], ◌∷◌, ◌++◌, IfOk};
 ghost use Rattle.rules_cells.specs.declared.test.Test.{AllOf, AnyOf};
-ghost use Rattle.rules_text.specs.LineGrammar.{both_of, either_of, group_after_not, group_after_or, group_test, group_with, negated_if, no_group};
+ghost use Rattle.rules_text.specs.LineGrammar.{and_with, or_with, group_after_not, group_after_or, group_test, group_with, negated_if, no_group};
 ghost use Rattle.rules_text.specs.RulesRead.{conjunction, disjunction, joined_by_and, joined_by_or, test_read, two_tests};
 ghost use Rattle.rules_text.specs.inner.SeenReading.{group_seen, some_test_seen};
 
@@ -13,9 +13,9 @@ use std::alloc::{AllocError, Global};
 #[derive(Drop)]
 pub(crate) struct Group {
     /// The alternatives before the last.
-    pub either: Option<Test>,
+    pub alternatives: Option<Test>,
     /// The parts of the last alternative.
-    pub both: Option<Test>,
+    pub last_alternative: Option<Test>,
     /// Whether `not` comes before the next part.
     pub negated: bool,
 }
@@ -26,8 +26,8 @@ impl Group {
         ensures { group_seen result ≡ no_group }
     {
         Group {
-            either: None,
-            both: None,
+            alternatives: None,
+            last_alternative: None,
             negated: false,
         }
     }
@@ -37,8 +37,8 @@ impl Group {
         ensures { IfOk result (λ _. group_seen self.new ≡ group_with (group_seen self.old) (test_read test)) }
     {
         let part = negated(alloc, self.negated, test)?;
-        let both = self.both.take();
-        self.both = Some(conjoined(alloc, both, part)?);
+        let last_alternative = self.last_alternative.take();
+        self.last_alternative = Some(and_with(alloc, last_alternative, part)?);
         self.negated = false;
         Ok(())
     }
@@ -47,9 +47,9 @@ impl Group {
     pub(crate) fn alternate(&mut self, alloc: Global) -> Result<(), AllocError>
         ensures { IfOk result (λ _. group_seen self.new ≡ group_after_or (group_seen self.old)) }
     {
-        let either = self.either.take();
-        let both = self.both.take();
-        self.either = disjoined(alloc, either, both)?;
+        let alternatives = self.alternatives.take();
+        let last_alternative = self.last_alternative.take();
+        self.alternatives = or_with(alloc, alternatives, last_alternative)?;
         Ok(())
     }
 
@@ -64,7 +64,7 @@ impl Group {
     pub(crate) fn whole(self, alloc: Global) -> Result<Option<Test>, AllocError>
         ensures { IfOk result (λ test. some_test_seen test ≡ group_test (group_seen self)) }
     {
-        disjoined(alloc, self.either, self.both)
+        or_with(alloc, self.alternatives, self.last_alternative)
     }
 }
 
@@ -127,17 +127,17 @@ fn one_more_of_any(tests: Vec<Test>, test: Test) -> Result<Test, AllocError>
 }
 
 /// `parts and test`, or `test` if there are no parts. A chain of `and` is one list, however long it is.
-fn conjoined(alloc: Global, parts: Option<Test>, test: Test) -> Result<Test, AllocError>
-    ensures { IfOk result (λ both. test_read both ≡ both_of (some_test_seen parts) (test_read test)) }
+fn and_with(alloc: Global, parts: Option<Test>, test: Test) -> Result<Test, AllocError>
+    ensures { IfOk result (λ both. test_read both ≡ and_with (some_test_seen parts) (test_read test)) }
 {
     match parts {
         None => Ok(test),
-        Some(parts) => joined(alloc, parts, test),
+        Some(parts) => joined_by_and(alloc, parts, test),
     }
 }
 
 /// `parts and test`. An `AllOf` gets one more test; any other test becomes the first of a list of two.
-fn joined(alloc: Global, parts: Test, test: Test) -> Result<Test, AllocError>
+fn joined_by_and(alloc: Global, parts: Test, test: Test) -> Result<Test, AllocError>
     ensures { IfOk result (λ both. test_read both ≡ joined_by_and (test_read parts) (test_read test)) }
 {
     match parts {
@@ -164,29 +164,37 @@ fn joined(alloc: Global, parts: Test, test: Test) -> Result<Test, AllocError>
 }
 
 /// The test that one of the alternatives holds, and one more. It is one list too.
-fn disjoined(
+fn or_with(
     alloc: Global,
-    either: Option<Test>,
-    both: Option<Test>,
+    alternatives: Option<Test>,
+    last_alternative: Option<Test>,
 ) -> Result<Option<Test>, AllocError>
-    ensures { IfOk result (λ test. some_test_seen test ≡ either_of (some_test_seen either) (some_test_seen both)) }
+    ensures { IfOk result (λ test. some_test_seen test ≡ or_with (some_test_seen alternatives) (some_test_seen last_alternative)) }
 {
-    match (either, both) {
-        (None, both) => Ok(both),
-        (Some(either), None) => Ok(Some(either)),
-        (Some(either), Some(both)) => Ok(Some(alternated(alloc, either, both)?)),
+    match (alternatives, last_alternative) {
+        (None, last_alternative) => Ok(last_alternative),
+        (Some(alternatives), None) => Ok(Some(alternatives)),
+        (Some(alternatives), Some(last_alternative)) => Ok(Some(joined_by_or(
+            alloc,
+            alternatives,
+            last_alternative,
+        )?)),
     }
 }
 
 /// The test that one of the alternatives holds, or one more does.
-fn alternated(alloc: Global, either: Test, both: Test) -> Result<Test, AllocError>
-    ensures { IfOk result (λ test. test_read test ≡ joined_by_or (test_read either) (test_read both)) }
+fn joined_by_or(
+    alloc: Global,
+    alternatives: Test,
+    last_alternative: Test,
+) -> Result<Test, AllocError>
+    ensures { IfOk result (λ test. test_read test ≡ joined_by_or (test_read alternatives) (test_read last_alternative)) }
 {
-    match either {
-        Test::AnyOf(tests) => one_more_of_any(tests, both),
-        Test::Any => any_of_two(alloc, Test::Any, both),
-        Test::Oam => any_of_two(alloc, Test::Oam, both),
-        Test::User => any_of_two(alloc, Test::User, both),
+    match alternatives {
+        Test::AnyOf(tests) => one_more_of_any(tests, last_alternative),
+        Test::Any => any_of_two(alloc, Test::Any, last_alternative),
+        Test::Oam => any_of_two(alloc, Test::Oam, last_alternative),
+        Test::User => any_of_two(alloc, Test::User, last_alternative),
         Test::Compare {
             field,
             mask,
@@ -198,9 +206,9 @@ fn alternated(alloc: Global, either: Test, both: Test) -> Result<Test, AllocErro
                 mask,
                 relation,
             },
-            both,
+            last_alternative,
         ),
-        Test::Not(denied) => any_of_two(alloc, Test::Not(denied), both),
-        Test::AllOf(tests) => any_of_two(alloc, Test::AllOf(tests), both),
+        Test::Not(denied) => any_of_two(alloc, Test::Not(denied), last_alternative),
+        Test::AllOf(tests) => any_of_two(alloc, Test::AllOf(tests), last_alternative),
     }
 }

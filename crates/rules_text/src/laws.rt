@@ -1,7 +1,7 @@
 //! Laws of the definition of texts of rules. Each is the contract of a function that does nothing.
 
 ghost use Rattle.rules_text.specs.NameLaws.{LinesAddWhatNamesMean, RoomIsNoLimitWithin};
-ghost use Rattle.rules_text.specs.Laws.{CodeGivesWhatIsDecided, HeadsAreReadAsTheyAreWritten, NumbersAreThoseOfTheLines, OnlyWrittenHeadsAreRead, OnlyWrittenRulesAreRead, RulesAreReadAsTheyAreWritten, TextsHaveOneCode};
+ghost use Rattle.rules_text.specs.Laws.{CodeGivesWhatIsDecided, HeadsAreReadAsTheyAreWritten, PlacesAreThoseOfTheLines, OnlyWrittenHeadsAreRead, OnlyWrittenRulesAreRead, RulesAreReadAsTheyAreWritten, TextsHaveOneCode};
 
 /// A line with the tokens of a test of the grammar, `->` and a token that is a value is read as this rule.
 pub fn rules_are_read_as_they_are_written()
@@ -24,8 +24,8 @@ pub fn only_written_heads_are_read()
 {}
 
 /// The place of a line of rules is that in which it begins.
-pub fn numbers_are_those_of_the_lines()
-    ensures { NumbersAreThoseOfTheLines }
+pub fn places_are_those_of_the_lines()
+    ensures { PlacesAreThoseOfTheLines }
 {}
 
 /// A code that follows a text gives each cell the value that the text's rules decide.

@@ -63,13 +63,13 @@ pub(crate) enum Token {
     /// `->`
     Arrow,
     /// `{`
-    Open,
+    LeftBrace,
     /// `}`
-    Close,
+    RightBrace,
     /// `(`
-    Left,
+    LeftParenthesis,
     /// `)`
-    Right,
+    RightParenthesis,
     /// `&`
     Mask,
     /// `,`
@@ -178,10 +178,10 @@ const LONG_MARKS: [(&[u8], Token); 8] = [
 
 /// The marks of one octet.
 const SHORT_MARKS: [(&[u8], Token); 12] = [
-    (b"{", Token::Open),
-    (b"}", Token::Close),
-    (b"(", Token::Left),
-    (b")", Token::Right),
+    (b"{", Token::LeftBrace),
+    (b"}", Token::RightBrace),
+    (b"(", Token::LeftParenthesis),
+    (b")", Token::RightParenthesis),
     (b"&", Token::Mask),
     (b",", Token::Comma),
     (b"/", Token::Slash),

@@ -20,9 +20,9 @@ mod statement_reader;
 mod subject;
 mod test_reader;
 
-pub use compiler::{NumberedCode, compile_numbered, compile_text};
+pub use compiler::{CodeWithPlaces, compile_text, compile_with_places};
 pub use continued_lines::next_rule_line;
 pub use fault::{RuleFault, RuleKind};
 pub use lexer::after_blanks;
 pub use place::{RulePlace, TextPlace, place_after};
-pub use reader::{NumberedRules, read_numbered, read_rules};
+pub use reader::{PlacedRules, read_rules, read_with_places};

@@ -1,7 +1,7 @@
 //! The reader of a line, token by token.
 
 ghost use Rattle.std.specs.Prelude.{◌≡◌, ◌≢◌, Ok, Err, IfOk, IfErr};
-ghost use Rattle.rules_text.specs.LineGrammar.{read_arrow, read_awaited, read_rest, read_side, read_start, read_token, read_value, statement_at_end};
+ghost use Rattle.rules_text.specs.LineGrammar.{read_arrow, read_awaited, read_only_value, read_side, read_start, read_token, read_value, statement_at_end};
 ghost use Rattle.rules_text.specs.Names.{first_awaited, form_start};
 ghost use Rattle.rules_text.specs.TextOfRules.{fault_column};
 ghost use Rattle.rules_text.specs.declared.fault.RuleKind.TheVariants.{BadLine, NoMemory, Unbalanced};
@@ -54,8 +54,8 @@ pub(crate) enum Wants {
     Arrow,
     /// The value of a rule.
     Value,
-    /// The value of `otherwise`.
-    Rest,
+    /// A value, and nothing after it: that of `otherwise`, or the number of a contract.
+    OnlyValue,
     /// The side.
     Side,
     /// Nothing more.
@@ -71,8 +71,8 @@ pub(crate) enum Statement {
     Side(Side),
     /// A line of rules.
     Line(RuleLine),
-    /// The value where no rule gives one.
-    Otherwise(u32),
+    /// A value: that where no rule gives one, or the number of a contract.
+    Value(u32),
 }
 
 /// What was read before a line.
@@ -115,8 +115,9 @@ fn first_wants(form: Form) -> Wants
 {
     match form {
         Form::Rule => Wants::Start,
-        Form::Value => Wants::Rest,
+        Form::Value => Wants::OnlyValue,
         Form::Test => Wants::Unit,
+        // The widest field, so that every number fits; its real field is known where the name is used.
         Form::List => Wants::Low(ListOf::Field(Subject {
             field: Field::Octets(Octets {
                 size: Size::Word,
@@ -193,7 +194,7 @@ impl LineReader {
             Wants::Channel(path) => self.channel(alloc, context, path, token),
             Wants::Arrow => self.arrow(token),
             Wants::Value => self.value(token),
-            Wants::Rest => self.rest(token),
+            Wants::OnlyValue => self.only_value(token),
             Wants::Side => self.side_name(token),
             Wants::End => Err(RuleKind::BadLine),
         }
@@ -248,7 +249,7 @@ impl LineReader {
                 self.wants = Wants::Side;
                 Ok(())
             }
-            Token::Close => {
+            Token::RightBrace => {
                 if context.blocks == 0 {
                     return Err(RuleKind::Unbalanced);
                 }
@@ -268,7 +269,7 @@ impl LineReader {
     {
         match token {
             Token::Arrow => {
-                self.wants = Wants::Rest;
+                self.wants = Wants::OnlyValue;
                 Ok(())
             }
             _ => Err(RuleKind::BadLine),
@@ -288,14 +289,14 @@ impl LineReader {
         Ok(())
     }
 
-    /// Reads the value of `otherwise`.
-    #[tactic(auto, unfolding(crate::specs::LineGrammar::read_rest))]
-    fn rest(&mut self, token: Token) -> Result<(), RuleKind>
-        ensures ok { IfOk result (λ _. read_rest (reading_seen self.old) (rule_token_seen token) ≡ Ok (reading_seen self.new)) }
-        ensures err { IfErr result (λ kind. read_rest (reading_seen self.old) (rule_token_seen token) ≡ Err kind) }
+    /// Reads the value of `otherwise`, or the number of a contract.
+    #[tactic(auto, unfolding(crate::specs::LineGrammar::read_only_value))]
+    fn only_value(&mut self, token: Token) -> Result<(), RuleKind>
+        ensures ok { IfOk result (λ _. read_only_value (reading_seen self.old) (rule_token_seen token) ≡ Ok (reading_seen self.new)) }
+        ensures err { IfErr result (λ kind. read_only_value (reading_seen self.old) (rule_token_seen token) ≡ Err kind) }
     {
         let value = value_of(token)?;
-        self.statement = Statement::Otherwise(value);
+        self.statement = Statement::Value(value);
         self.wants = Wants::End;
         Ok(())
     }

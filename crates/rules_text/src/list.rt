@@ -32,7 +32,7 @@ pub(crate) fn field_of(of: ListOf) -> Field
 }
 
 /// The test of the cells of a path.
-pub(crate) fn of_path(path: u32) -> Test
+pub(crate) fn vpi_is(path: u32) -> Test
     ensures { test_read result ≡ path_test path }
 {
     Test::Compare {
@@ -63,7 +63,7 @@ pub(crate) fn test_of_list(
                 field: Field::Vci,
                 mask: None,
             };
-            all_of_two(alloc, of_path(path), compared(channels, relation))
+            all_of_two(alloc, vpi_is(path), compared(channels, relation))
         }
     }
 }

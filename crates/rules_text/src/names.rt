@@ -37,7 +37,7 @@ pub(crate) fn admit(form: Form, token: Token) -> Token
     match form {
         Form::Rule | Form::Value => token,
         Form::Test => match token {
-            Token::Arrow | Token::Open => Token::Unknown,
+            Token::Arrow | Token::LeftBrace => Token::Unknown,
             _ => token,
         },
         Form::List => match token {
@@ -66,8 +66,8 @@ pub(crate) fn meaning(alloc: Global, tokens: Vec<Token>) -> Result<Vec<Token>, A
         return Ok(tokens);
     }
     let mut enclosed = Vec::new(alloc);
-    enclosed.push(Token::Left)?;
+    enclosed.push(Token::LeftParenthesis)?;
     enclosed.extend_from_slice(tokens.as_slice())?;
-    enclosed.push(Token::Right)?;
+    enclosed.push(Token::RightParenthesis)?;
     Ok(enclosed)
 }

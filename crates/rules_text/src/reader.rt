@@ -4,9 +4,9 @@ ghost use Rattle.std.specs.Prelude.{◌≡◌, ◌+◌, ◌≤◌, ◌<◌, ◌^
 ghost use Rattle.rules_text.specs.RulesRead.{line_read};
 ghost use Rattle.rules_text.specs.Names.{name_meaning, rule_form};
 ghost use Rattle.rules_text.specs.RuleTokens.{rule_tokens, tokens_from};
-ghost use Rattle.rules_text.specs.NumberedText.{HasNumbered, HasRules, numbered_read};
+ghost use Rattle.rules_text.specs.RulesInMemory.{HasPlacedRules, HasRules, placed_rules_read};
 ghost use Rattle.rules_text.specs.TextFaults.{IsFaultOf};
-ghost use Rattle.rules_text.specs.TextOfRules.{context_of, formed_statement, name_given, numbered_at_end, numbered_in, placed_fault, rules_in, text_with, text_with_line, text_with_room, with_line, text_with_name};
+ghost use Rattle.rules_text.specs.TextOfRules.{context_of, formed_statement, name_given, placed_rules_at_end, placed_rules_in, placed_fault, rules_in, text_with, text_with_line, text_with_room, with_line, text_with_name};
 ghost use Rattle.rules_text.specs.declared.fault.RuleKind.TheVariants.{NoMemory};
 ghost use Rattle.rules_text.specs.inner.Seen.{found_seen};
 ghost use Rattle.rules_text.specs.inner.SeenNameTable.{IsFoundByLetters};
@@ -30,7 +30,7 @@ const MOST_ADDED: usize = 262_144;
 
 /// Rules, and where they begin.
 #[derive(Debug, Drop)]
-pub struct NumberedRules {
+pub struct PlacedRules {
     /// The rules.
     pub rules: Rules,
     /// For each line of the rules where it begins.
@@ -107,7 +107,7 @@ impl TextReader {
                 self.begun = true;
                 Ok(())
             }
-            Statement::Otherwise(value) => {
+            Statement::Value(value) => {
                 self.rules.otherwise = value;
                 self.closed = true;
                 self.begun = true;
@@ -133,27 +133,27 @@ impl TextReader {
     fn name_in(
         &self,
         alloc: Global,
-        number: usize,
+        source_line: usize,
         line: &[u8],
         first: Found,
     ) -> Result<Name, RuleFault>
         requires names { IsFoundByLetters self.now.names }
         requires start { first.start < first.end }
         requires end { first.end ≤ length line.now }
-        ensures ok { IfOk result (λ name. name_given (text_seen self.now) number line.now (found_seen first) (tokens_from (first.end + 1) 0 (drop first.end line.now)) ≡ Ok (name_seen name)) }
+        ensures ok { IfOk result (λ name. name_given (text_seen self.now) source_line line.now (found_seen first) (tokens_from (first.end + 1) 0 (drop first.end line.now)) ≡ Ok (name_seen name)) }
         ensures new { IfOk result (λ name. name_meaning (names_seen self.now.names) name.letters.items ≡ None) }
-        ensures err { IfErr result (IsFaultOf (name_given (text_seen self.now) number line.now (found_seen first) (tokens_from (first.end + 1) 0 (drop first.end line.now)))) }
+        ensures err { IfErr result (IsFaultOf (name_given (text_seen self.now) source_line line.now (found_seen first) (tokens_from (first.end + 1) 0 (drop first.end line.now)))) }
     {
         if !self.rules.lines.is_empty() {
-            return Err(fault_at(RuleKind::BadLine, number, first.start + 1));
+            return Err(fault_at(RuleKind::BadLine, source_line, first.start + 1));
         }
         let names = &self.names;
-        let place = name_place(names, number, line, first.end)?;
+        let place = name_place(names, source_line, line, first.end)?;
         name_at(
             alloc,
             self.context(),
             names,
-            number,
+            source_line,
             line,
             first.token,
             place,
@@ -161,17 +161,22 @@ impl TextReader {
     }
 
     /// The statement of a line.
-    fn statement(&self, alloc: Global, number: usize, line: &[u8]) -> Result<Statement, RuleFault>
+    fn statement(
+        &self,
+        alloc: Global,
+        source_line: usize,
+        line: &[u8],
+    ) -> Result<Statement, RuleFault>
         requires { IsFoundByLetters self.now.names }
-        ensures ok { IfOk result (λ statement. formed_statement (context_of (text_seen self.now)) (text_seen self.now).names rule_form number line.now 1 (rule_tokens line.now) ≡ Ok (line_statement_seen statement)) }
-        ensures err { IfErr result (IsFaultOf (formed_statement (context_of (text_seen self.now)) (text_seen self.now).names rule_form number line.now 1 (rule_tokens line.now))) }
+        ensures ok { IfOk result (λ statement. formed_statement (context_of (text_seen self.now)) (text_seen self.now).names rule_form source_line line.now 1 (rule_tokens line.now) ≡ Ok (line_statement_seen statement)) }
+        ensures err { IfErr result (IsFaultOf (formed_statement (context_of (text_seen self.now)) (text_seen self.now).names rule_form source_line line.now 1 (rule_tokens line.now))) }
     {
         statement_in(
             alloc,
             self.context(),
             &self.names,
             Form::Rule,
-            number,
+            source_line,
             line,
             0,
         )
@@ -211,52 +216,52 @@ impl TextReader {
         ensures blocks { self.new.blocks ≤ self.old.blocks + 1 }
         ensures err { IfErr result (IsFaultOf (text_with_line (text_seen self.old) begin line.now)) }
     {
-        let number = begin.line;
+        let source_line = begin.line;
         let Some(first) = next_token(line, 0) else {
             return Ok(());
         };
         let column = first.start + 1;
         if self.closed {
-            return Err(fault_at(RuleKind::AfterOtherwise, number, column));
+            return Err(fault_at(RuleKind::AfterOtherwise, source_line, column));
         }
         if is_giving(first.token) {
-            let name = self.name_in(alloc, number, line, first)?;
+            let name = self.name_in(alloc, source_line, line, first)?;
             self.spend(line);
             return self.take_name(alloc, name);
         }
-        let statement = self.statement(alloc, number, line)?;
+        let statement = self.statement(alloc, source_line, line)?;
         self.spend(line);
         match self.take(statement, begin, column) {
             Ok(()) => Ok(()),
-            Err(kind) => Err(fault_at(kind, number, column)),
+            Err(kind) => Err(fault_at(kind, source_line, column)),
         }
     }
 
     /// The rules, once the whole text was read.
-    fn finish(self) -> Result<NumberedRules, RuleFault>
-        ensures ok { IfOk result (λ numbered. numbered_at_end (text_seen self) ≡ Ok (numbered_read numbered)) }
-        ensures err { IfErr result (λ fault. numbered_at_end (text_seen self) ≡ Err fault) }
+    fn finish(self) -> Result<PlacedRules, RuleFault>
+        ensures ok { IfOk result (λ placed_rules. placed_rules_at_end (text_seen self) ≡ Ok (placed_rules_read placed_rules)) }
+        ensures err { IfErr result (λ fault. placed_rules_at_end (text_seen self) ≡ Err fault) }
     {
         if self.blocks > 0 {
             return Err(fault_at(RuleKind::Unbalanced, self.head.line, self.head.column));
         }
-        Ok(NumberedRules {
+        Ok(PlacedRules {
             rules: self.rules,
             begins: self.begins,
         })
     }
 }
 
-/// Reads a text of rules: returns the rules that are defined for it, with the places where their lines begin (`numbered_in`).
+/// Reads a text of rules: returns the rules that are defined for it, with the places where their lines begin (`placed_rules_in`).
 ///
 /// # Errors
 ///
 /// The first fault that a reader meets who goes through the text from left to right. A parenthesis or a block that isn't
 /// closed is met at the end of its test or of the text, and has the place of its beginning. `NoMemory` if an allocation
 /// failed; it has no place.
-pub fn read_numbered(alloc: Global, text: &[u8]) -> Result<NumberedRules, RuleFault>
-    ensures rules { IfOk result (HasNumbered text.now) }
-    ensures fault { IfErr result (IsFaultOf (numbered_in text.now)) }
+pub fn read_with_places(alloc: Global, text: &[u8]) -> Result<PlacedRules, RuleFault>
+    ensures rules { IfOk result (HasPlacedRules text.now) }
+    ensures fault { IfErr result (IsFaultOf (placed_rules_in text.now)) }
 {
     let mut reader = TextReader {
         rules: Rules {
@@ -288,11 +293,11 @@ pub fn read_numbered(alloc: Global, text: &[u8]) -> Result<NumberedRules, RuleFa
 ///
 /// # Errors
 ///
-/// As [`read_numbered`] has them.
+/// As [`read_with_places`] has them.
 pub fn read_rules(alloc: Global, text: &[u8]) -> Result<Rules, RuleFault>
     ensures rules { IfOk result (HasRules text.now) }
     ensures fault { IfErr result (IsFaultOf (rules_in text.now)) }
 {
-    let numbered = read_numbered(alloc, text)?;
-    Ok(numbered.rules)
+    let placed_rules = read_with_places(alloc, text)?;
+    Ok(placed_rules.rules)
 }

@@ -23,18 +23,22 @@ impl LineReader {
         &mut self,
         alloc: Global,
         context: Context,
-        number: usize,
+        source_line: usize,
         column: usize,
         token: Token,
     ) -> Result<(), RuleFault>
-        ensures ok { IfOk result (λ _. token_read (context_seen context) number column (reading_seen self.old) (rule_token_seen token) ≡ Ok (reading_seen self.new)) }
-        ensures err { IfErr result (IsFaultOf (token_read (context_seen context) number column (reading_seen self.old) (rule_token_seen token))) }
+        ensures ok { IfOk result (λ _. token_read (context_seen context) source_line column (reading_seen self.old) (rule_token_seen token) ≡ Ok (reading_seen self.new)) }
+        ensures err { IfErr result (IsFaultOf (token_read (context_seen context) source_line column (reading_seen self.old) (rule_token_seen token))) }
     {
         let unbalanced = self.unbalanced_at(column);
         match self.read(alloc, context, column, token) {
             Ok(()) => Ok(()),
-            Err(RuleKind::Unbalanced) => Err(fault_at(RuleKind::Unbalanced, number, unbalanced)),
-            Err(kind) => Err(fault_at(kind, number, column)),
+            Err(RuleKind::Unbalanced) => Err(fault_at(
+                RuleKind::Unbalanced,
+                source_line,
+                unbalanced,
+            )),
+            Err(kind) => Err(fault_at(kind, source_line, column)),
         }
     }
 
@@ -43,16 +47,16 @@ impl LineReader {
         &mut self,
         alloc: Global,
         context: Context,
-        number: usize,
+        source_line: usize,
         column: usize,
         tokens: &[Token],
     ) -> Result<(), RuleFault>
-        ensures ok { IfOk result (λ _. all_tokens_read (context_seen context) number column (reading_seen self.old) (map rule_token_seen tokens.now) ≡ Ok (reading_seen self.new)) }
-        ensures err { IfErr result (IsFaultOf (all_tokens_read (context_seen context) number column (reading_seen self.old) (map rule_token_seen tokens.now))) }
+        ensures ok { IfOk result (λ _. all_tokens_read (context_seen context) source_line column (reading_seen self.old) (map rule_token_seen tokens.now) ≡ Ok (reading_seen self.new)) }
+        ensures err { IfErr result (IsFaultOf (all_tokens_read (context_seen context) source_line column (reading_seen self.old) (map rule_token_seen tokens.now))) }
     {
         let mut left = tokens;
         while let [token, rest @ ..] = left {
-            self.read_at(alloc, context, number, column, *token)?;
+            self.read_at(alloc, context, source_line, column, *token)?;
             left = rest;
         }
         Ok(())
@@ -64,20 +68,20 @@ impl LineReader {
         alloc: Global,
         context: Context,
         form: Form,
-        number: usize,
+        source_line: usize,
         found: Found,
         meant: &[Token],
     ) -> Result<(), RuleFault>
         requires { found.start < found.end }
-        ensures ok { IfOk result (λ _. all_tokens_read (context_seen context) number (found.start + 1) (reading_seen self.old) (read_for (form_seen form) (rule_token_seen found.token) (map rule_token_seen meant.now)) ≡ Ok (reading_seen self.new)) }
-        ensures err { IfErr result (IsFaultOf (all_tokens_read (context_seen context) number (found.start + 1) (reading_seen self.old) (read_for (form_seen form) (rule_token_seen found.token) (map rule_token_seen meant.now)))) }
+        ensures ok { IfOk result (λ _. all_tokens_read (context_seen context) source_line (found.start + 1) (reading_seen self.old) (read_for (form_seen form) (rule_token_seen found.token) (map rule_token_seen meant.now)) ≡ Ok (reading_seen self.new)) }
+        ensures err { IfErr result (IsFaultOf (all_tokens_read (context_seen context) source_line (found.start + 1) (reading_seen self.old) (read_for (form_seen form) (rule_token_seen found.token) (map rule_token_seen meant.now)))) }
     {
         let column = found.start + 1;
         if meant.is_empty() {
             let own = [admit(form, found.token)];
-            self.read_all(alloc, context, number, column, &own)
+            self.read_all(alloc, context, source_line, column, &own)
         } else {
-            self.read_all(alloc, context, number, column, meant)
+            self.read_all(alloc, context, source_line, column, meant)
         }
     }
 
@@ -87,17 +91,17 @@ impl LineReader {
         alloc: Global,
         context: Context,
         form: Form,
-        number: usize,
+        source_line: usize,
         column: usize,
     ) -> Result<(), RuleFault>
-        ensures ok { IfOk result (λ _. all_tokens_read (context_seen context) number column (reading_seen self.old) (ending (form_seen form)) ≡ Ok (reading_seen self.new)) }
-        ensures err { IfErr result (IsFaultOf (all_tokens_read (context_seen context) number column (reading_seen self.old) (ending (form_seen form)))) }
+        ensures ok { IfOk result (λ _. all_tokens_read (context_seen context) source_line column (reading_seen self.old) (ending (form_seen form)) ≡ Ok (reading_seen self.new)) }
+        ensures err { IfErr result (IsFaultOf (all_tokens_read (context_seen context) source_line column (reading_seen self.old) (ending (form_seen form)))) }
     {
         match form {
             Form::Rule | Form::Value => Ok(()),
             Form::Test | Form::List => {
                 let end = [Token::Arrow, Token::Refuse];
-                self.read_all(alloc, context, number, column, &end)
+                self.read_all(alloc, context, source_line, column, &end)
             }
         }
     }
@@ -143,28 +147,28 @@ pub(crate) fn statement_in(
     context: Context,
     names: &NameTable,
     form: Form,
-    number: usize,
+    source_line: usize,
     line: &[u8],
     start: usize,
 ) -> Result<Statement, RuleFault>
     requires names { IsFoundByLetters names.now }
     requires start { start ≤ length line.now }
-    ensures ok { IfOk result (λ statement. formed_statement (context_seen context) (names_seen names.now) (form_seen form) number line.now (start + 1) (tokens_from (start + 1) 0 (drop start line.now)) ≡ Ok (line_statement_seen statement)) }
-    ensures err { IfErr result (IsFaultOf (formed_statement (context_seen context) (names_seen names.now) (form_seen form) number line.now (start + 1) (tokens_from (start + 1) 0 (drop start line.now)))) }
+    ensures ok { IfOk result (λ statement. formed_statement (context_seen context) (names_seen names.now) (form_seen form) source_line line.now (start + 1) (tokens_from (start + 1) 0 (drop start line.now)) ≡ Ok (line_statement_seen statement)) }
+    ensures err { IfErr result (IsFaultOf (formed_statement (context_seen context) (names_seen names.now) (form_seen form) source_line line.now (start + 1) (tokens_from (start + 1) 0 (drop start line.now)))) }
 {
     let mut reader = LineReader::new(alloc, form);
     let mut room = context.room;
     let mut from = start;
     while let Some(found) = next_token(line, from) {
         let meant = meant_by(names, room, line, found);
-        reader.read_found(alloc, context, form, number, found, meant)?;
+        reader.read_found(alloc, context, form, source_line, found, meant)?;
         room = room.saturating_sub(meant.len());
         from = found.end;
     }
     let column = from + 1;
-    reader.read_end(alloc, context, form, number, column)?;
+    reader.read_end(alloc, context, form, source_line, column)?;
     match reader.finish() {
         Ok(statement) => Ok(statement),
-        Err(kind) => Err(fault_at(kind, number, column)),
+        Err(kind) => Err(fault_at(kind, source_line, column)),
     }
 }

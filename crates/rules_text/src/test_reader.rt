@@ -1,7 +1,7 @@
 //! The reader of a test: words, `and`, `or`, `not`, parentheses, and the end of the test.
 
 ghost use Rattle.std.specs.Prelude.{◌≡◌, ◌≢◌, Ok, Err, IfOk, IfErr};
-ghost use Rattle.rules_text.specs.LineGrammar.{no_group, read_operator, read_unit, whole_test, with_block, with_close, with_head, with_open, with_unit};
+ghost use Rattle.rules_text.specs.LineGrammar.{no_group, read_operator, read_unit, whole_test, with_block, with_closed_parenthesis, with_head, with_open_parenthesis, with_unit};
 ghost use Rattle.rules_text.specs.RulesRead.{test_read};
 ghost use Rattle.rules_text.specs.declared.fault.RuleKind.TheVariants.{NoMemory};
 ghost use Rattle.rules_text.specs.inner.Seen.{class_seen, rule_token_seen};
@@ -41,7 +41,7 @@ impl LineReader {
                 self.wants = Wants::Unit;
                 Ok(())
             }
-            Token::Left => self.open(context, column),
+            Token::LeftParenthesis => self.open_parenthesis(context, column),
             Token::Test(class) => self.word(alloc, class),
             Token::Field(name) => {
                 let field = header_field(context.side, name)?;
@@ -70,10 +70,14 @@ impl LineReader {
     }
 
     /// Opens a parenthesis.
-    #[tactic(auto, unfolding(crate::specs::LineGrammar::with_open))]
-    pub(crate) fn open(&mut self, context: Context, column: usize) -> Result<(), RuleKind>
-        ensures ok { IfOk result (λ _. with_open (context_seen context) column (reading_seen self.old) ≡ Ok (reading_seen self.new)) }
-        ensures err { IfErr result (λ kind. kind ≢ NoMemory → with_open (context_seen context) column (reading_seen self.old) ≡ Err kind) }
+    #[tactic(auto, unfolding(crate::specs::LineGrammar::with_open_parenthesis))]
+    pub(crate) fn open_parenthesis(
+        &mut self,
+        context: Context,
+        column: usize,
+    ) -> Result<(), RuleKind>
+        ensures ok { IfOk result (λ _. with_open_parenthesis (context_seen context) column (reading_seen self.old) ≡ Ok (reading_seen self.new)) }
+        ensures err { IfErr result (λ kind. kind ≢ NoMemory → with_open_parenthesis (context_seen context) column (reading_seen self.old) ≡ Err kind) }
     {
         if context.blocks >= MOST_DEEP || self.around.len() >= MOST_DEEP - context.blocks {
             return Err(RuleKind::TooDeep);
@@ -123,18 +127,18 @@ impl LineReader {
                 self.wants = Wants::Unit;
                 Ok(())
             }
-            Token::Right => self.close(alloc),
-            Token::Open => self.block(alloc, context),
+            Token::RightParenthesis => self.close_parenthesis(alloc),
+            Token::LeftBrace => self.block(alloc, context),
             Token::Arrow => self.head(alloc),
             _ => Err(RuleKind::BadLine),
         }
     }
 
     /// Closes a parenthesis.
-    #[tactic(auto, unfolding(crate::specs::LineGrammar::with_close))]
-    pub(crate) fn close(&mut self, alloc: Global) -> Result<(), RuleKind>
-        ensures ok { IfOk result (λ _. with_close (reading_seen self.old) ≡ Ok (reading_seen self.new)) }
-        ensures err { IfErr result (λ kind. kind ≢ NoMemory → with_close (reading_seen self.old) ≡ Err kind) }
+    #[tactic(auto, unfolding(crate::specs::LineGrammar::with_closed_parenthesis))]
+    pub(crate) fn close_parenthesis(&mut self, alloc: Global) -> Result<(), RuleKind>
+        ensures ok { IfOk result (λ _. with_closed_parenthesis (reading_seen self.old) ≡ Ok (reading_seen self.new)) }
+        ensures err { IfErr result (λ kind. kind ≢ NoMemory → with_closed_parenthesis (reading_seen self.old) ≡ Err kind) }
     {
         let Some(around) = self.around.pop() else {
             return Err(RuleKind::Unbalanced);

@@ -1,7 +1,7 @@
 -- The reading of a text that was found.
 use Rattle.std.specs.Prelude.{◌≡◌, ℕ, List, [], Option, MatchOption}
-use Rattle.rules_text.specs.NumberedText.{numbered_read}
-use Rattle.rules_text.specs.declared.reader.NumberedRules.{NumberedRules}
+use Rattle.rules_text.specs.RulesInMemory.{placed_rules_read}
+use Rattle.rules_text.specs.declared.reader.PlacedRules.{PlacedRules}
 use Rattle.text_io.specs.Devices.{Adds}
 use Rattle.cmd_differ.specs.DifferText.{FindsSide, FindsText, PrintsFaultAfter, PrintsSideFault, new_mark, old_mark}
 use Rattle.cmd_differ.specs.declared.kinds.TextKind.{TextKind}
@@ -17,9 +17,9 @@ which_mark New = new_mark
 which_mark Only = []
 
 -- The text was read, and nothing was added to the answers; or its fault was.
-abbrev pub ReadsText : Which → Option (List ℕ) → List ℕ → List ℕ → Option NumberedRules → Type 0
+abbrev pub ReadsText : Which → Option (List ℕ) → List ℕ → List ℕ → Option PlacedRules → Type 0
 ReadsText which found before after read = MatchOption read (Adds (PrintsFaultAfter (which_mark which) found) before after)
-    (λ numbered. (after ≡ before) × FindsText found (numbered_read numbered))
+    (λ placed_rules. (after ≡ before) × FindsText found (placed_rules_read placed_rules))
 
 -- The same of a text of this kind.
 abbrev pub ReadsSide : TextKind → Which → Option (List ℕ) → List ℕ → List ℕ → Option SideText → Type 0

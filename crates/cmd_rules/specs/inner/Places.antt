@@ -9,7 +9,7 @@ use Rattle.rules_cells.specs.declared.rules.RuleLine.TheVariants.{Rule, Block, E
 use Rattle.rules_cells.specs.declared.rules.Rules.{Rules}
 use Rattle.rules_text.specs.DecisionsRead.{rules_decide}
 use Rattle.rules_text.specs.RulesRead.{RulesRead}
-use Rattle.rules_text.specs.TextOfRules.{NumberedRead, numbered_in}
+use Rattle.rules_text.specs.TextOfRules.{PlacedRulesRead, placed_rules_in}
 use Rattle.cmd_rules.specs.WhyText.{HasCode}
 
 -- The line at this place, whose value is the place, counted from 1.
@@ -45,5 +45,5 @@ decision_by_place rules zero = record { line = None; value = rules.otherwise }
 decision_by_place rules (suc place) = record { line = Some place; value = value_of_line (slice_get rules.lines.items place) }
 
 -- A text was found that has these rules, and a code that isn't too long.
-abbrev pub FindsRules : Option (List ℕ) → NumberedRead → Type 0
-FindsRules found numbered = (text : List ℕ) × (found ≡ Some text) × (numbered_in text ≡ Ok numbered) × HasCode text
+abbrev pub FindsRules : Option (List ℕ) → PlacedRulesRead → Type 0
+FindsRules found placed_rules = (text : List ℕ) × (found ≡ Some text) × (placed_rules_in text ≡ Ok placed_rules) × HasCode text

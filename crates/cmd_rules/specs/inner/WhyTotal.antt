@@ -10,6 +10,6 @@ pub why-total : IsTotal why_rules
 why-total = record {
   keeps = λ before content here after sound steps. tt;
   step = λ before content sound.
-      let read = cell_line_read (words_of content) in (why_text before.numbered before.counts read, Some (world_after_line before read), (refl, refl));
+      let read = cell_line_read (words_of content) in (why_text before.placed_rules before.counts read, Some (world_after_line before read), (refl, refl));
   close = λ before sound. (counts_at_end before, Whole, (refl, refl));
 }

@@ -2,7 +2,7 @@
 use Rattle.std.specs.Prelude.{map, reverse, List, Option, Some, None, Result, Ok, Err}
 use Rattle.rules_cells.specs.declared.field.Field.{Field}
 use Rattle.rules_cells.specs.declared.test.Test.{Test}
-use Rattle.rules_text.specs.LineGrammar.{Awaited, GroupRead, LineContext, ListRead, field_list, denied_list, path_list, Reading, StatementRead, SubjectRead, awaits_start, awaits_unit, awaits_operator, awaits_offset, awaits_relation, awaits_mask, awaits_sign, awaits_constant, awaits_dots, awaits_high, awaits_comma, awaits_low, awaits_slash, awaits_channel, awaits_arrow, awaits_value, awaits_rest, awaits_side, awaits_end, blank_statement, side_statement, line_statement, otherwise_statement}
+use Rattle.rules_text.specs.LineGrammar.{Awaited, GroupRead, LineContext, ListRead, field_list, denied_list, path_list, Reading, StatementRead, SubjectRead, awaits_start, awaits_unit, awaits_operator, awaits_offset, awaits_relation, awaits_mask, awaits_sign, awaits_constant, awaits_dots, awaits_high, awaits_comma, awaits_low, awaits_slash, awaits_channel, awaits_arrow, awaits_value, awaits_only_value, awaits_side, awaits_end, blank_statement, side_statement, line_statement, value_statement}
 use Rattle.rules_text.specs.RulesRead.{FieldRead, TestRead, field_read, line_read, test_read}
 use Rattle.rules_text.specs.TextOfRules.{TextReading}
 use Rattle.rules_text.specs.Names.{FormRead, rule_form, value_form, test_form, list_form, NameRead}
@@ -52,7 +52,7 @@ wants_seen (wants.Slash path) = awaits_slash path
 wants_seen (wants.Channel path) = awaits_channel path
 wants_seen wants.Arrow = awaits_arrow
 wants_seen wants.Value = awaits_value
-wants_seen wants.Rest = awaits_rest
+wants_seen wants.OnlyValue = awaits_only_value
 wants_seen wants.Side = awaits_side
 wants_seen wants.End = awaits_end
 
@@ -63,14 +63,14 @@ some_test_seen (Some test) = Some (test_read test)
 
 -- A group of parts of a test.
 abbrev pub group_seen : Group → GroupRead
-group_seen group = record { either = some_test_seen group.either; both = some_test_seen group.both; negated = group.negated }
+group_seen group = record { alternatives = some_test_seen group.alternatives; last_alternative = some_test_seen group.last_alternative; negated = group.negated }
 
 -- The statement of a line.
 abbrev pub line_statement_seen : Statement → StatementRead
 line_statement_seen statement.Blank = blank_statement
 line_statement_seen (statement.Side side) = side_statement side
 line_statement_seen (statement.Line line) = line_statement (line_read line)
-line_statement_seen (statement.Otherwise value) = otherwise_statement value
+line_statement_seen (statement.Value value) = value_statement value
 
 -- What was read before a line.
 abbrev pub context_seen : Context → LineContext

@@ -7,11 +7,11 @@ use Rattle.rules_text.specs.declared.fault.RuleFault.{RuleFault}
 
 -- A token at this place.
 abbrev pub token_read : LineContext → ℕ → ℕ → Reading → RuleToken → Result Reading RuleFault
-token_read context number column reading token =
-    read_then (read_token context column reading token) (λ kind. placed_fault number (fault_column reading kind column) kind) (λ next. Ok next)
+token_read context source_line column reading token =
+    read_then (read_token context column reading token) (λ kind. placed_fault source_line (fault_column reading kind column) kind) (λ next. Ok next)
 
 -- Tokens at this place.
 abbrev pub all_tokens_read : LineContext → ℕ → ℕ → Reading → List RuleToken → Result Reading RuleFault
-all_tokens_read context number column reading [] = Ok reading
-all_tokens_read context number column reading (token ∷ rest) =
-    read_then (token_read context number column reading token) (λ fault. fault) (λ next. all_tokens_read context number column next rest)
+all_tokens_read context source_line column reading [] = Ok reading
+all_tokens_read context source_line column reading (token ∷ rest) =
+    read_then (token_read context source_line column reading token) (λ fault. fault) (λ next. all_tokens_read context source_line column next rest)

@@ -5,10 +5,10 @@ use Rattle.cmd_differ.proofs.searching.add_searched.Goals as goal
 
 pub returns : goal.returns
 returns c = (
-  unused_text c.args.numbered.now.begins.items c.args.unused.now,
+  unused_text c.args.placed_rules.now.begins.items c.args.unused.now,
   c.in_ok-add_unused_text.ensures ∙ ap (λ xs. c.args.answers.now.items ++ unused_text xs c.args.unused.now) c.deref.ensures.value,
   record {
-    rules = c.args.numbered.now.rules;
+    rules = c.args.placed_rules.now.rules;
     read = refl;
     unused = c.args.unused.now;
     are_unused = c.requires;

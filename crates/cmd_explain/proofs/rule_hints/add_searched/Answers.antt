@@ -5,10 +5,10 @@ use Rattle.cmd_explain.proofs.rule_hints.add_searched.Goals as goal
 
 pub returns : goal.returns
 returns c = (
-  rule_hints c.args.front.now c.args.numbered.now.begins.items c.args.unused.now,
+  rule_hints c.args.front.now c.args.placed_rules.now.begins.items c.args.unused.now,
   c.in_ok-add_all_hints.ensures ∙ ap (λ xs. c.args.answers.now.items ++ rule_hints c.args.front.now xs c.args.unused.now) c.deref.ensures.value,
   record {
-    rules = c.args.numbered.now.rules;
+    rules = c.args.placed_rules.now.rules;
     read = refl;
     unused = c.args.unused.now;
     are_unused = c.requires;

@@ -1,7 +1,7 @@
 -- The text of the rules, and then their fault or the answers to the cells.
 use Rattle.std.proofs.Common.{◌≡◌, ◌∙◌, option_map, inl, refl, sym, rules, ap}
 use Rattle.std.proofs.lemmas.Result.{IfOk-weaker, on_err_weaker}
-use Rattle.rules_text.specs.NumberedText.{numbered_read}
+use Rattle.rules_text.specs.RulesInMemory.{placed_rules_read}
 use Rattle.text_io.specs.Devices.{Adds}
 use Rattle.text_io.specs.Failures.{read_failures}
 use Rattle.text_io.specs.declared.ending.Done.TheVariants.{Ended, Whole}
@@ -74,18 +74,18 @@ returns-clause-served g c =
     let held = g.O.Output.held c.args.output.now in
     let held' = g.O.Output.held c.answer_lines.new.output in
     let found = option_map (λ text. text.items) c.in-Ok.found in
-    let numbered = numbered_read c.in-Ok-Some.decider.numbered in
+    let placed_rules = placed_rules_read c.in-Ok-Some.decider.placed_rules in
     let answered = rw c.in-Ok-Some.field-0-is at c.in-Ok-Some.ensures in
-    let finds : FindsRules found numbered = answered.1 in
+    let finds : FindsRules found placed_rules = answered.1 in
     record {
       text = λ known held_known. IfOk-weaker c.answer_lines.result _ _
-          (λ done each. decided_may c.args.count found before after (c.in-Ok.ensures.taken known) numbered finds held held' done (each (first_world c.args.count numbered) tt (refl, sym c.counts_if-counts.ensures.asked, c.counts_if-counts.ensures.empty)))
+          (λ done each. decided_may c.args.count found before after (c.in-Ok.ensures.taken known) placed_rules finds held held' done (each (first_world c.args.count placed_rules) tt (refl, sym c.counts_if-counts.ensures.asked, c.counts_if-counts.ensures.empty)))
           (c.answer_lines.ensures.text known held_known);
       front = λ known held_known. on_err_weaker c.answer_lines.result
-          (λ each. decided_begun c.args.count found before after (c.in-Ok.ensures.taken known) numbered finds held held' (each (first_world c.args.count numbered) tt (refl, sym c.counts_if-counts.ensures.asked, c.counts_if-counts.ensures.empty)))
+          (λ each. decided_begun c.args.count found before after (c.in-Ok.ensures.taken known) placed_rules finds held held' (each (first_world c.args.count placed_rules) tt (refl, sym c.counts_if-counts.ensures.asked, c.counts_if-counts.ensures.empty)))
           (c.answer_lines.ensures.front known held_known);
       left = λ known. IfOk-weaker c.answer_lines.result _ _
-          (λ done each. decided_enough c.args.count found before after (c.in-Ok.ensures.taken known) numbered left done finds (each (first_world c.args.count numbered) tt (refl, sym c.counts_if-counts.ensures.asked, c.counts_if-counts.ensures.empty)))
+          (λ done each. decided_enough c.args.count found before after (c.in-Ok.ensures.taken known) placed_rules left done finds (each (first_world c.args.count placed_rules) tt (refl, sym c.counts_if-counts.ensures.asked, c.counts_if-counts.ensures.empty)))
           (c.answer_lines.ensures.left known);
       whole = c.answer_lines.ensures.whole;
       reading = c.answer_lines.ensures.reading ∙ ap (read_failures c.answer_lines.result) c.in-Ok.ensures.reading;
@@ -99,8 +99,8 @@ returns-clause-printed g c = λ known held_known.
     let held = g.O.Output.held c.args.output.now in
     let held' = g.O.Output.held c.answer_lines.new.output in
     let found = option_map (λ text. text.items) c.in-Ok.found in
-    let numbered = numbered_read c.in-Ok-Some.decider.numbered in
+    let placed_rules = placed_rules_read c.in-Ok-Some.decider.placed_rules in
     let answered = rw c.in-Ok-Some.field-0-is at c.in-Ok-Some.ensures in
     IfOk-weaker c.answer_lines.result _ _
-    (λ done each. decided_added c.args.count found before after (c.in-Ok.ensures.taken known) numbered answered.1 held held' done (each (first_world c.args.count numbered) tt (refl, sym c.counts_if-counts.ensures.asked, c.counts_if-counts.ensures.empty)))
+    (λ done each. decided_added c.args.count found before after (c.in-Ok.ensures.taken known) placed_rules answered.1 held held' done (each (first_world c.args.count placed_rules) tt (refl, sym c.counts_if-counts.ensures.asked, c.counts_if-counts.ensures.empty)))
     (c.answer_lines.ensures.text known held_known)

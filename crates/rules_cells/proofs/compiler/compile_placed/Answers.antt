@@ -14,6 +14,6 @@ returns-in-Ok c =
     record {
       accepted = c.generate_placed.ensures.accepted;
       value = if_ok c.generate_placed.result _ _ (λ placed h. follows rules lines placed.code.items are h) c.generate_placed.ensures.value;
-      code = if_ok_both c.generate_placed.result _ _ _ (λ placed code lengths. (lines, are, code, lengths)) c.generate_placed.ensures.code c.generate_placed.ensures.lengths;
+      code = if_ok_both c.generate_placed.result _ _ _ (λ placed code starts_from_end. (lines, are, code, starts_from_end)) c.generate_placed.ensures.code c.generate_placed.ensures.starts_from_end;
       too_long = λ e. (lines, are, c.generate_placed.ensures.too_long e);
     }

@@ -18,7 +18,7 @@ returns c =
       accepted = subst (λ (code : List Instr). IsAccepted code) (sym is) (lines_accepted lines otherwise few);
       value = subst (λ (code : List Instr). Classifies lines otherwise code) (sym is) (lines_classify lines otherwise);
       code = is;
-      lengths = c.in-Ok.ensures.lengths;
+      starts_from_end = c.in-Ok.ensures.starts_from_end;
       too_long = λ e. absurd cc;
       short = few;
     }

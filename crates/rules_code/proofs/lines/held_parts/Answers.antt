@@ -18,6 +18,6 @@ loop-line-preserved c =
     let count = ap length more ∙ length_push old c.loop-line.held in
     let all = pushed old c.loop-line.held (λ k. held_at lines None k) at c.loop-line.invariant.0 c.loop-line.invariant.2 c.loop-line.invariant.1 in (
       omega (arith, count, c.loop-line.invariant.0),
-      held_next lines None at c.line-item.result c.loop-line.held c.left_after-held.result (omega arith) c.line-item.is c.loop-line.invariant.1 c.left_after-held.ensures,
+      held_next lines None at c.line-item.result c.loop-line.held c.known_after_line-held.result (omega arith) c.line-item.is c.loop-line.invariant.1 c.known_after_line-held.ensures,
       subst (λ (items : List (Option Part)). (k : ℕ) → k < at + 1 → slice_get items k ≡ Some (held_at lines None k)) (sym more) all,
     )

@@ -13,7 +13,7 @@ loop-left-init c =
     record {
       within = omega arith;
       coded = lines_none (drop (length c.args.lines.now) c.args.lines.now) None (held_at c.args.lines.now None (length c.args.lines.now)) c.args.otherwise _ none c.in_ok-coding.ensures;
-      lengths = rw c.new-lengths.ensures.items (lengths_none (drop (length c.args.lines.now) c.args.lines.now) (held_at c.args.lines.now None (length c.args.lines.now)) c.args.otherwise none);
+      starts_from_end = rw c.new-starts_from_end.ensures.items (lengths_none (drop (length c.args.lines.now) c.args.lines.now) (held_at c.args.lines.now None (length c.args.lines.now)) c.args.otherwise none);
     }
 
 pub loop-left-preserved : goal.loop-left-preserved
@@ -28,12 +28,12 @@ loop-left-preserved c =
     record {
       within = omega arith;
       coded = coded;
-      lengths = lengths_put lines at left c.index-lines-left.result None c.args.otherwise c.len.result (coded_of c.put_line.new.coding) (reverse c.loop-left.lengths.items) _ lt next
-          coded c.len.ensures.count c.loop-left.invariant.lengths (ap reverse c.in_ok-push.ensures.items ∙ reverse-append c.loop-left.lengths.items (c.len.result ∷ []));
+      starts_from_end = lengths_put lines at left c.index-lines-left.result None c.args.otherwise c.len.result (coded_of c.put_line.new.coding) (reverse c.loop-left.starts_from_end.items) _ lt next
+          coded c.len.ensures.count c.loop-left.invariant.starts_from_end (ap reverse c.in_ok-push.ensures.items ∙ reverse-append c.loop-left.starts_from_end.items (c.len.result ∷ []));
     }
 
 pub returns-clause-code : goal.returns-clause-code
 returns-clause-code c = lines_all c.args.lines.now None c.loop-left.left c.args.otherwise (coded_of c.loop-left.coding) (omega arith) c.loop-left.invariant.coded
 
-pub returns-clause-lengths : goal.returns-clause-lengths
-returns-clause-lengths c = lengths_all c.args.lines.now None c.loop-left.left c.args.otherwise c.reverse.new.self.items (omega arith) (c.reverse.ensures.items ∙ c.loop-left.invariant.lengths)
+pub returns-clause-starts_from_end : goal.returns-clause-starts_from_end
+returns-clause-starts_from_end c = lengths_all c.args.lines.now None c.loop-left.left c.args.otherwise c.reverse.new.self.items (omega arith) (c.reverse.ensures.items ∙ c.loop-left.invariant.starts_from_end)

@@ -35,7 +35,7 @@ put_chain-loop-left-preserved t c =
     let lt : at < length tests = omega arith in
     let next : at + 1 ≡ left = omega arith in (
       omega arith,
-      made_part on tests first at left c.index-tests-left.result c.index.result.now c.args.draft.now c.args.next c.args.end c.loop-left.draft c.put_part.new.draft c.loop-left.ways c.in_ok-ways.ways lt next
+      made_part on tests first at left c.index-tests-left.result c.index.result.now c.args.draft.now c.args.next c.args.end c.loop-left.draft c.put_operand.new.draft c.loop-left.ways c.in_ok-ways.ways lt next
           c.index-tests-left.is (c.index.ensures ∙ read_at c.in_ok-parts.parts.items at c.index.result.now (held_before on tests first at) (c.in_ok-parts.ensures.held at lt)) c.loop-left.invariant.1 c.in_ok-ways.ensures,
     )
 

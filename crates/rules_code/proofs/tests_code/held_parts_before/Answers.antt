@@ -2,7 +2,7 @@ use Rattle.std.proofs.Common.{◌≡◌, ℕ, length, Option, List, Some, arith,
 use Rattle.std.proofs.lemmas.List.{length_push}
 use Rattle.std.specs.List.{slice_get}
 use Rattle.rules_code.specs.inner.Chains.{held_before}
-use Rattle.rules_code.specs.declared.packet_part.Left.{Left}
+use Rattle.rules_code.specs.declared.packet_part.KnownOnBranches.{KnownOnBranches}
 use Rattle.rules_code.specs.declared.packet_part.Part.{Part}
 use Rattle.rules_code.proofs.Chains.{held_first, held_next}
 use Rattle.rules_code.proofs.Coding.{pushed}
@@ -22,6 +22,6 @@ loop-test-preserved c =
     let count = ap length more ∙ length_push old c.loop-test.held in
     let all = pushed old c.loop-test.held (λ k. held_before on tests first k) at c.loop-test.invariant.0 c.loop-test.invariant.2 c.loop-test.invariant.1 in (
       omega (arith, count, c.loop-test.invariant.0),
-      held_next on tests first at c.test-item.result c.loop-test.held c.known_after_part-held.result.met (omega arith) c.test-item.is c.loop-test.invariant.1 (ap (λ (l : Left). l.met) c.known_after_part-held.ensures),
+      held_next on tests first at c.test-item.result c.loop-test.held c.known_after_operand-held.result.met (omega arith) c.test-item.is c.loop-test.invariant.1 (ap (λ (l : KnownOnBranches). l.met) c.known_after_operand-held.ensures),
       subst (λ (items : List (Option Part)). (k : ℕ) → k < at + 1 → slice_get items k ≡ Some (held_before on tests first k)) (sym more) all,
     )

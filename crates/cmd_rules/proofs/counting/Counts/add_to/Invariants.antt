@@ -7,9 +7,9 @@ use Rattle.cmd_rules.proofs.counting.Counts.add_to.Given as goal
 
 abbrev pub invariant-loop-left : goal.invariant-loop-left
 invariant-loop-left l = record {
-  within : l.place + length l.left ≤ length l.numbered.rules.lines.items;
-  lines : l.answers.items ++ rule_counts l.numbered.begins.items (count_at l.self) l.place (map line_read l.left)
-      ≡ l.fn.answers.items ++ rule_counts l.numbered.begins.items (count_at l.self) 0 (map line_read l.numbered.rules.lines.items);
+  within : l.place + length l.left ≤ length l.placed_rules.rules.lines.items;
+  lines : l.answers.items ++ rule_counts l.placed_rules.begins.items (count_at l.self) l.place (map line_read l.left)
+      ≡ l.fn.answers.items ++ rule_counts l.placed_rules.begins.items (count_at l.self) 0 (map line_read l.placed_rules.rules.lines.items);
 }
 
 abbrev pub decreases-loop-left : goal.decreases-loop-left

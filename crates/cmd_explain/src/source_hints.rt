@@ -3,7 +3,7 @@
 ghost use Rattle.std.specs.Prelude.{◌≡◌, ◌++◌, drop, IfOk, OnOk};
 ghost use Rattle.bpf_asm.specs.SourceLines.{source_lines};
 ghost use Rattle.bpf_interp.specs.Packet.{octets_loaded};
-ghost use Rattle.cmd_explain.specs.Hints.{first_hint, hinted_token, hints_of, is_past_cell, outside_hint};
+ghost use Rattle.cmd_explain.specs.SourceHints.{first_hint, hinted_token, hints_of, is_past_cell, outside_hint};
 
 use crate::bad_lines::{column_of, first_number, token_at};
 use crate::lines_found::has_instruction;
@@ -108,7 +108,7 @@ fn after_first(code: &[Instr]) -> &[Instr]
 }
 
 /// Appends the hints about the code that a source means. Lines and instructions are in one order, so one pass finds the line of each.
-#[tactic(auto, unfolding(crate::specs::Hints::hints_of))]
+#[tactic(auto, unfolding(crate::specs::SourceHints::hints_of))]
 pub(crate) fn add_hints(
     alloc: Global,
     answers: &mut Vec<u8>,

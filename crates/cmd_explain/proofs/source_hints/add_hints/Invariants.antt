@@ -1,8 +1,8 @@
 -- Loop invariant: the hints so far, and those about the rest of the code on the rest of the lines, are all.
 use Rattle.std.proofs.Common.{◌≡◌, ◌≤◌, ◌+◌, ◌++◌, length}
 use Rattle.bpf_asm.specs.SourceLines.{source_lines}
-use Rattle.cmd_explain.specs.Hints.{hints_from}
-use Rattle.cmd_explain.proofs.hints.add_hints.Given as goal
+use Rattle.cmd_explain.specs.SourceHints.{hints_from}
+use Rattle.cmd_explain.proofs.source_hints.add_hints.Given as goal
 
 abbrev pub invariant-loop-line : goal.invariant-loop-line
 invariant-loop-line l = record {

@@ -2,7 +2,7 @@ use Rattle.std.proofs.Common.{◌∙◌, List, ap, refl, sym}
 use Rattle.rules_code.specs.Bounds.{bound_of}
 use Rattle.rules_code.specs.declared.packet_part.Span.{Span}
 use Rattle.rules_code.proofs.BoundTests.{among_is}
-use Rattle.rules_code.proofs.bounds.compare.Goals as goal
+use Rattle.rules_code.proofs.bounds.comparison_test.Goals as goal
 
 pub returns-in-None : goal.returns-in-None
 returns-in-None c =

@@ -1,10 +1,10 @@
 -- The rest of the text, read on from here, has the rules of the whole text.
 use Rattle.std.proofs.Common.{◌≡◌, ◌+◌, ◌≤◌, length}
 use Rattle.rules_text.specs.ContinuedLines.{rule_lines}
-use Rattle.rules_text.specs.TextOfRules.{numbered_from, numbered_in}
+use Rattle.rules_text.specs.TextOfRules.{placed_rules_from, placed_rules_in}
 use Rattle.rules_text.specs.inner.SeenNameTable.{IsFoundByLetters}
 use Rattle.rules_text.specs.inner.SeenReading.{text_seen}
-use Rattle.rules_text.proofs.reader.read_numbered.Given as goal
+use Rattle.rules_text.proofs.reader.read_with_places.Given as goal
 
 abbrev pub invariant-loop-line : goal.invariant-loop-line
 invariant-loop-line l = record {
@@ -12,7 +12,7 @@ invariant-loop-line l = record {
   column : l.begin.column + length l.left ≤ length l.text + 1;
   blocks : l.reader.blocks + length l.left ≤ length l.text;
   names : IsFoundByLetters l.reader.names;
-  rest : numbered_from (text_seen l.reader) l.begin (rule_lines l.left) ≡ numbered_in l.text;
+  rest : placed_rules_from (text_seen l.reader) l.begin (rule_lines l.left) ≡ placed_rules_in l.text;
 }
 
 abbrev pub decreases-loop-line : goal.decreases-loop-line

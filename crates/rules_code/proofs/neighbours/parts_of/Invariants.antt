@@ -1,5 +1,0 @@
-use Rattle.rules_code.proofs.AllOf.{Completes}
-use Rattle.rules_code.proofs.neighbours.parts_of.Given as goal
-
-abbrev pub invariant-loop-test : goal.invariant-loop-test
-invariant-loop-test l = Completes l.fn.first l.fn.others.items l.parts.items l.last l.test-iterator.rest.items
