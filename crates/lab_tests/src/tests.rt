@@ -1,6 +1,5 @@
 //! One module for each crate, one for rules, and what they share.
 
-mod at_once;
 mod choices;
 mod devices;
 mod expecting;
@@ -11,3 +10,4 @@ mod police;
 mod records;
 mod rules;
 mod setups;
+mod two_threads;

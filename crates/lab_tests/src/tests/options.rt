@@ -3,7 +3,7 @@
 use super::expecting::expect;
 use super::link::{plain, tick_of};
 use captures::{Channel, Link, Tick, TimeSource};
-use captures_text::CellLines;
+use captures_text::LineChoice;
 use cmd_options::{
     CellsOptions, FitOptions, PoliceOptions, cells_options, explain_options, fit_options,
     police_options,
@@ -234,14 +234,14 @@ fn expect_fits(rt: &impl Abort, alloc: Global) -> Result<(), Fail> {
 }
 
 /// Lines for `police`, with the setup, the nanoseconds of a tick, the link, the lines and the threads.
-const POLICES: [(&str, &str, Option<u64>, Option<u8>, CellLines, u8); 4] = [
-    ("a.setup", "a.setup", None, None, CellLines::All, 2),
+const POLICES: [(&str, &str, Option<u64>, Option<u8>, LineChoice, u8); 4] = [
+    ("a.setup", "a.setup", None, None, LineChoice::All, 2),
     (
         "--tick 1us b --lines refused",
         "b",
         Some(1000),
         None,
-        CellLines::Refused,
+        LineChoice::NotPassed,
         2,
     ),
     (
@@ -249,7 +249,7 @@ const POLICES: [(&str, &str, Option<u64>, Option<u8>, CellLines, u8); 4] = [
         "--tick",
         None,
         Some(3),
-        CellLines::Nothing,
+        LineChoice::Nothing,
         2,
     ),
     (
@@ -257,7 +257,7 @@ const POLICES: [(&str, &str, Option<u64>, Option<u8>, CellLines, u8); 4] = [
         "/tmp/c",
         None,
         None,
-        CellLines::All,
+        LineChoice::All,
         1,
     ),
 ];
@@ -283,7 +283,7 @@ fn expect_police(
     line: &str,
     found: &PoliceOptions,
     setup: &str,
-    wanted: (Option<Tick>, Option<Link>, CellLines, u8),
+    wanted: (Option<Tick>, Option<Link>, LineChoice, u8),
 ) {
     expect(rt, line, found.setup.as_str(), setup);
     let options = (found.tick, found.link, found.lines, found.threads);

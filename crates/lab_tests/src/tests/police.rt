@@ -3,7 +3,7 @@
 use super::expecting::expect;
 use super::link::{capture_of, record_of, tick_of};
 use captures::TimeSource;
-use captures_text::CellLines;
+use captures_text::LineChoice;
 use cmd_police::{PoliceChoice, PoliceScope, SharedText, police_setup};
 use std::alloc::{AllocError, Global};
 use std::process::Abort;
@@ -21,7 +21,7 @@ fn choice_of(threads: usize) -> PoliceChoice {
         scope: PoliceScope {
             link: None,
             timing: TimeSource::Record,
-            lines: CellLines::All,
+            lines: LineChoice::All,
             every: None,
             why: false,
         },

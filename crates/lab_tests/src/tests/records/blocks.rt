@@ -69,7 +69,7 @@ fn read_blocks(octets: &[u8]) -> (Reader, Next<'_>) {
     let mut left = octets;
     for _ in 0..3 {
         match reader.next(left) {
-            Next::Taken(_, own) | Next::Passed(_, own) => left = &left[own..],
+            Next::Taken(_, own) | Next::Skipped(_, own) => left = &left[own..],
             other => return (reader, other),
         }
     }
