@@ -9,7 +9,7 @@ use Rattle.captures.specs.declared.fault.RecordFault.{RecordFault}
 use Rattle.captures.specs.declared.fault.RecordFault.TheVariants.{TooFar}
 use Rattle.captures.specs.declared.format.Format.{Format}
 use Rattle.captures.specs.declared.format.Format.TheVariants.{Erf, Pcap, PcapNg}
-use Rattle.captures.specs.declared.reader.Passage.{Passage}
+use Rattle.captures.specs.declared.reader.SkippedBlock.{SkippedBlock}
 use Rattle.captures.specs.declared.reader.Reader.{Reader}
 use Rattle.captures.specs.declared.reader.Record.{Record}
 
@@ -86,7 +86,7 @@ head_some (Pcap order times) = omega arith
 head_some (PcapNg section) = omega arith
 
 -- A reader goes on by a whole frame.
-pub takes_frame : (before after : Reader) (octets : List ℕ) (size : ℕ) (next : Format) (held : Result Framed Unread) (given : Result Record Passage)
+pub takes_frame : (before after : Reader) (octets : List ℕ) (size : ℕ) (next : Format) (held : Result Framed Unread) (given : Result Record SkippedBlock)
     → head_length before.format ≤ length octets → frame_size before.format octets ≡ Ok size → 0 < size → size ≤ length octets
     → frame_held before.format (take size octets) ≡ Ok (next, held) → before.at + size < 2 ^ 64 → IsGiven before.count before.at held given
     → after.format ≡ next → after.count ≡ count_after before.count given → after.at ≡ before.at + size

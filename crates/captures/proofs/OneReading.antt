@@ -19,7 +19,7 @@ use Rattle.captures.specs.declared.format.Format.TheVariants.{Erf, Pcap, PcapNg}
 use Rattle.captures.specs.declared.link.Channel.{Channel}
 use Rattle.captures.specs.declared.link.Link.{Link}
 use Rattle.captures.specs.declared.marks.Marks.{Marks}
-use Rattle.captures.specs.declared.reader.Passage.{Passage}
+use Rattle.captures.specs.declared.reader.SkippedBlock.{SkippedBlock}
 use Rattle.captures.specs.declared.reader.Record.{Record}
 
 -- A record has one number of extension headers.
@@ -153,16 +153,16 @@ ends_apart format at octets (Some fault) frame begins (same, inr ends) =
     let bad : Some (Err fault.reason) ≡ Some (Ok frame) = sym ends ∙ begins in cc
 
 -- One thing is given of a frame.
-one_given : (count at : ℕ) (held : Result Framed Unread) (a b : Result Record Passage) → IsGiven count at held a → IsGiven count at held b → a ≡ b
-one_given count at (Err unread) (Err passage) (Err second) one other = ap Err (one ∙ sym other)
-one_given count at (Err unread) (Err passage) (Ok record_read) one other = absurd other
+one_given : (count at : ℕ) (held : Result Framed Unread) (a b : Result Record SkippedBlock) → IsGiven count at held a → IsGiven count at held b → a ≡ b
+one_given count at (Err unread) (Err block) (Err second) one other = ap Err (one ∙ sym other)
+one_given count at (Err unread) (Err block) (Ok record_read) one other = absurd other
 one_given count at (Err unread) (Ok record_read) b one other = absurd one
-one_given count at (Ok framed) (Err passage) b one other = absurd one
-one_given count at (Ok framed) (Ok record_read) (Err passage) one other = absurd other
+one_given count at (Ok framed) (Err block) b one other = absurd one
+one_given count at (Ok framed) (Ok record_read) (Err block) one other = absurd other
 one_given count at (Ok framed) (Ok record_read) (Ok second) one other = ap Ok (one_record_of (count + 1) framed record_read second one other)
 
 -- Octets have one reading.
-reading_only : (format : Format) (count at : ℕ) (octets : List ℕ) (frames others : List (Result Record Passage)) (ending other : Option Fault)
+reading_only : (format : Format) (count at : ℕ) (octets : List ℕ) (frames others : List (Result Record SkippedBlock)) (ending other : Option Fault)
     → IsReading format count at octets frames ending → IsReading format count at octets others other
     → (frames ≡ others) × (ending ≡ other)
 reading_only format count at octets [] [] ending other one second = (refl, one_ending format at octets ending other one second)
@@ -177,7 +177,7 @@ reading_only format count at octets (given ∷ frames) (rival ∷ others) ending
     × IsReading f.after (count_after count rival) (at + f.size) (drop f.size octets) others other in
     let moved : P one.0 = subst P frame (second.2, second.3) in
     let same : rival ≡ given = one_given count at one.0.held rival given moved.0 one.2 in
-    let Goes : Result Record Passage → Type 0 = λ g.
+    let Goes : Result Record SkippedBlock → Type 0 = λ g.
     IsReading one.0.after (count_after count g) (at + one.0.size) (drop one.0.size octets) others other in
     let later : (frames ≡ others) × (ending ≡ other) =
     reading_only one.0.after (count_after count given) (at + one.0.size) (drop one.0.size octets) frames others ending other one.3

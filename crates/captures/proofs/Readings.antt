@@ -4,12 +4,12 @@ use Rattle.std.proofs.lemmas.List.{drop-append-le}
 use Rattle.captures.specs.Reading.{FaultsEndReadings, FramesAreReadInOrder, IsReading, count_after}
 use Rattle.captures.specs.declared.fault.Fault.{Fault}
 use Rattle.captures.specs.declared.format.Format.{Format}
-use Rattle.captures.specs.declared.reader.Passage.{Passage}
+use Rattle.captures.specs.declared.reader.SkippedBlock.{SkippedBlock}
 use Rattle.captures.specs.declared.reader.Record.{Record}
 use Rattle.captures.proofs.Stays.{first_frame-append}
 
 -- The same octets, place, count and format have the same reading.
-reading_at : (format format' : Format) (count count' at at' : ℕ) (octets octets' : List ℕ) (frames : List (Result Record Passage))
+reading_at : (format format' : Format) (count count' at at' : ℕ) (octets octets' : List ℕ) (frames : List (Result Record SkippedBlock))
     (ending : Option Fault)
     → format ≡ format' → count ≡ count' → at ≡ at' → octets ≡ octets'
     → IsReading format count at octets frames ending → IsReading format' count' at' octets' frames ending

@@ -23,7 +23,7 @@ use Rattle.captures.specs.declared.format.Format.TheVariants.{Erf, Pcap, PcapNg}
 use Rattle.captures.specs.declared.format.Order.{Order}
 use Rattle.captures.specs.declared.link.Channel.{Channel}
 use Rattle.captures.specs.declared.marks.Marks.{Marks}
-use Rattle.captures.specs.declared.reader.Passage.{Passage}
+use Rattle.captures.specs.declared.reader.SkippedBlock.{SkippedBlock}
 use Rattle.captures.specs.declared.reader.Record.{Record}
 use Rattle.captures.proofs.First.{has_head, lacks_head, when_above, when_below}
 
@@ -103,7 +103,7 @@ some_record_of number framed =
       record { numbered = refl; packet = refl; interface = refl; channel = channel.1; marks = marks.1; time = refl; content = content.1 },
     )
 
-some_given : (count at : ℕ) (held : Result Framed Unread) → (given : Result Record Passage) × IsGiven count at held given
+some_given : (count at : ℕ) (held : Result Framed Unread) → (given : Result Record SkippedBlock) × IsGiven count at held given
 some_given count at (Err unread) = (Err (record { what = unread; at = at }), refl)
 some_given count at (Ok framed) = let record_read = some_record_of (count + 1) framed in (Ok record_read.0, record_read.1)
 
@@ -179,7 +179,7 @@ frame_some format at octets frame is =
 -- ---- the reading of any octets
 
 abbrev SomeReadings : Format → ℕ → ℕ → List ℕ → Type 0
-SomeReadings format count at octets = (frames : List (Result Record Passage)) × (ending : Option Fault) × IsReading format count at octets frames ending
+SomeReadings format count at octets = (frames : List (Result Record SkippedBlock)) × (ending : Option Fault) × IsReading format count at octets frames ending
 
 nothing_left : (octets : List ℕ) → length octets ≡ 0 → octets ≡ []
 nothing_left [] none = refl

@@ -11,8 +11,8 @@ use Rattle.captures.specs.declared.fault.RecordFault.{RecordFault}
 use Rattle.captures.specs.declared.fault.RecordFault.TheVariants.{CutOff}
 use Rattle.captures.specs.declared.format.Format.{Format}
 use Rattle.captures.specs.declared.reader.Next.{Next}
-use Rattle.captures.specs.declared.reader.Next.TheVariants.{Taken, Passed, Unfinished, Broken}
-use Rattle.captures.specs.declared.reader.Passage.{Passage}
+use Rattle.captures.specs.declared.reader.Next.TheVariants.{Taken, Skipped, Unfinished, Broken}
+use Rattle.captures.specs.declared.reader.SkippedBlock.{SkippedBlock}
 use Rattle.captures.specs.declared.reader.Reader.{Reader}
 use Rattle.captures.specs.declared.reader.Record.{Record}
 
@@ -30,27 +30,27 @@ EndsReading format at octets None = octets ≡ []
 EndsReading format at octets (Some fault) = (fault.at ≡ at) × IsRecordFault format at octets fault.reason
 
 -- What is given of a frame after this many numbers, at this place: the record in it, which has the next number, or what it is and where.
-abbrev pub IsGiven : ℕ → ℕ → Result Framed Unread → Result Record Passage → Type 0
-IsGiven count at (Err unread) (Err passage) = passage ≡ record { what = unread; at = at }
+abbrev pub IsGiven : ℕ → ℕ → Result Framed Unread → Result Record SkippedBlock → Type 0
+IsGiven count at (Err unread) (Err block) = block ≡ record { what = unread; at = at }
 IsGiven count at (Err unread) (Ok record_read) = ⊥
-IsGiven count at (Ok framed) (Err passage) = ⊥
+IsGiven count at (Ok framed) (Err block) = ⊥
 IsGiven count at (Ok framed) (Ok record_read) = IsRecordOf (count + 1) framed record_read
 
 -- How many numbers were given after a frame: a record has one, and so has a packet that is passed over.
-abbrev pub count_after : ℕ → Result Record Passage → ℕ
-count_after count (Err passage) = count_past count passage.what
+abbrev pub count_after : ℕ → Result Record SkippedBlock → ℕ
+count_after count (Err block) = count_past count block.what
 count_after count (Ok record_read) = count + 1
 
 -- After this many numbers, at this place, the octets are read as frames of which this is given, in order, and then end:
 -- the whole capture was read, or this is its first fault.
-abbrev pub IsReading : Format → ℕ → ℕ → List ℕ → List (Result Record Passage) → Option Fault → Type 0
+abbrev pub IsReading : Format → ℕ → ℕ → List ℕ → List (Result Record SkippedBlock) → Option Fault → Type 0
 IsReading format count at octets [] ending = EndsReading format at octets ending
 IsReading format count at octets (given ∷ frames) ending =
     (frame : Frame) × (first_frame format at octets ≡ Some (Ok frame)) × IsGiven count at frame.held given
     × IsReading frame.after (count_after count given) (at + frame.size) (drop frame.size octets) frames ending
 
 -- A reader goes on by one frame of this many octets, of which this is given. A frame has one octet at least.
-pub record TakesFrame (before : Reader) (octets : List ℕ) (given : Result Record Passage) (consumed : ℕ) (after : Reader) : Type 0 where
+pub record TakesFrame (before : Reader) (octets : List ℕ) (given : Result Record SkippedBlock) (consumed : ℕ) (after : Reader) : Type 0 where
   pub frame : Frame
   pub first : first_frame before.format before.at octets ≡ Some (Ok frame)
   pub given_of : IsGiven before.count before.at frame.held given
@@ -72,7 +72,7 @@ pub record IsSamePlace (before after : Reader) : Type 0 where
 -- begin, what is given of it, and how many octets it has; or more octets are wanted; or a fault, whatever follows.
 abbrev pub ComesNext : Reader → List ℕ → Next → Reader → Type 0
 ComesNext before octets (Taken record_read consumed) after = TakesFrame before octets (Ok record_read) consumed after
-ComesNext before octets (Passed passage consumed) after = TakesFrame before octets (Err passage) consumed after
+ComesNext before octets (Skipped block consumed) after = TakesFrame before octets (Err block) consumed after
 ComesNext before octets Unfinished after =
     (first_frame before.format before.at octets ≡ None) × (length octets < most_block) × IsSamePlace before after
 ComesNext before octets (Broken fault) after =
@@ -80,7 +80,7 @@ ComesNext before octets (Broken fault) after =
 
 -- A reading begins with the frame that comes next, and goes on as the reading of what follows it.
 abbrev pub FramesAreReadInOrder : Type 0
-FramesAreReadInOrder = (before after : Reader) (octets more : List ℕ) (given : Result Record Passage) (consumed : ℕ) (frames : List (Result Record Passage)) (ending : Option Fault)
+FramesAreReadInOrder = (before after : Reader) (octets more : List ℕ) (given : Result Record SkippedBlock) (consumed : ℕ) (frames : List (Result Record SkippedBlock)) (ending : Option Fault)
     → TakesFrame before octets given consumed after
     → IsReading after.format after.count after.at (drop consumed octets ++ more) frames ending
     → IsReading before.format before.count before.at (octets ++ more) (given ∷ frames) ending
@@ -93,11 +93,11 @@ FaultsEndReadings = (before after : Reader) (octets more : List ℕ) (fault : Fa
 
 -- A capture has at most one reading.
 abbrev pub HasOneReading : Type 0
-HasOneReading = (format : Format) (count at : ℕ) (octets : List ℕ) (frames others : List (Result Record Passage)) (ending other : Option Fault)
+HasOneReading = (format : Format) (count at : ℕ) (octets : List ℕ) (frames others : List (Result Record SkippedBlock)) (ending other : Option Fault)
     → IsReading format count at octets frames ending → IsReading format count at octets others other
     → (frames ≡ others) × (ending ≡ other)
 
 -- Any octets have a reading.
 abbrev pub HasSomeReading : Type 0
 HasSomeReading = (format : Format) (count at : ℕ) (octets : List ℕ)
-    → (frames : List (Result Record Passage)) × (ending : Option Fault) × IsReading format count at octets frames ending
+    → (frames : List (Result Record SkippedBlock)) × (ending : Option Fault) × IsReading format count at octets frames ending

@@ -27,5 +27,5 @@ pub use link::{Channel, Link};
 pub use marks::Marks;
 pub use opening::{FileFault, Opening, is_text, open, open_whole};
 pub use packet_time::{PacketTimes, TimeSource, TimeUnit};
-pub use reader::{Next, Passage, Reader, Record};
+pub use reader::{Next, Reader, Record, SkippedBlock};
 pub use record_octets::cell_place;

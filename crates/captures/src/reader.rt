@@ -32,9 +32,9 @@ pub struct Record<'a> {
     pub content: Result<LentCell<'a>, NoCell>,
 }
 
-/// A block or a packet that was passed over.
+/// A block or a packet without a record, which was skipped. Printed texts say that it was passed over.
 #[derive(Clone, Copy, PartialEq, Eq, Debug)]
-pub struct Passage {
+pub struct SkippedBlock {
     /// What it is.
     pub what: Unread,
     /// The place at which it begins, in octets from 0.
@@ -47,7 +47,7 @@ pub enum Next<'a> {
     /// A record, and how many octets are of it and its packet or block.
     Taken(Record<'a>, usize),
     /// A block without a record, and how many octets it has.
-    Passed(Passage, usize),
+    Skipped(SkippedBlock, usize),
     /// The beginning of a record, packet or block, or nothing: more octets are wanted.
     Unfinished,
     /// No record.
@@ -168,7 +168,7 @@ impl Reader {
         match held.framed {
             Err(what) => {
                 self.count = what.count_past(self.count);
-                Next::Passed(Passage { what, at }, size)
+                Next::Skipped(SkippedBlock { what, at }, size)
             }
             Ok(framed) => {
                 self.count += 1;

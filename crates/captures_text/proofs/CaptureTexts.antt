@@ -13,8 +13,8 @@ use Rattle.captures_text.specs.CaptureFaults.{file_fault_line}
 use Rattle.captures_text.specs.CaptureText.{IsCaptureText, IsOpenedText, IsRecordsText, short_fault}
 use Rattle.captures_text.specs.CellFilter.{FilterState, filter_state}
 use Rattle.captures_text.specs.CellRules.{AnswersEachCell, CellRules, fixed_rules}
-use Rattle.captures_text.specs.declared.counted.CountedCell.{CountedCell}
-use Rattle.captures_text.specs.declared.passed.PassedOver.{PassedOver}
+use Rattle.captures_text.specs.declared.captured_cell.CapturedCell.{CapturedCell}
+use Rattle.captures_text.specs.declared.reading_summary.ReadingSummary.{ReadingSummary}
 use Rattle.captures_text.specs.declared.reading_ahead.ReadingAhead.{ReadingAhead}
 use Rattle.captures_text.specs.inner.Ahead.{IsQueuedText}
 use Rattle.captures_text.specs.inner.FixedRules.{fixed_text}
@@ -49,7 +49,7 @@ opened_some rules total filter world octets (Opened format) sound =
     let printed = cells_some rules total has.0 has.1 world sound in
     (printed.0, printed.1, (has.0, has.1, has.2, printed.2))
 opened_some rules total filter world octets Undecided sound =
-    (rules.closes world filter.passed (Some (short_fault octets)), Ended, (refl, refl))
+    (rules.closes world filter.summary (Some (short_fault octets)), Ended, (refl, refl))
 opened_some rules total filter world octets (Refused fault) sound = (file_fault_line fault, Ended, (refl, refl))
 
 pub some_capture_text : {World : Type 0} (rules : CellRules World) → AnswersEachCell rules
@@ -78,9 +78,9 @@ refused_text rules filter world octets more fault is none =
 
 -- A file that is too short.
 pub short_text : {World : Type 0} (rules : CellRules World) (filter : FilterState) (world : World) (octets : List ℕ) → file_opening octets ≡ Undecided
-    → IsCaptureText rules filter world octets (rules.closes world filter.passed (Some (short_fault octets))) Ended
+    → IsCaptureText rules filter world octets (rules.closes world filter.summary (Some (short_fault octets))) Ended
 short_text rules filter world octets is =
-    by_opening rules filter world octets (rules.closes world filter.passed (Some (short_fault octets))) Undecided Ended is (refl, refl)
+    by_opening rules filter world octets (rules.closes world filter.summary (Some (short_fault octets))) Undecided Ended is (refl, refl)
 
 -- A capture: the text of its cells that count.
 pub opened_text : {World : Type 0} (rules : CellRules World) (world : World) (reading : ReadingAhead) (format : Format) (window : List ℕ)
@@ -137,7 +137,7 @@ not_read_at_end (Err WriteFailed) before after only same = same
 not_read_at_end (Err NoMemory) before after only same = same
 
 -- By fixed rules, a file has one text.
-opened_one : {World : Type 0} (steps : World → CountedCell → List ℕ × Option World) (closes : World → PassedOver → Option Fault → List ℕ)
+opened_one : {World : Type 0} (steps : World → CapturedCell → List ℕ × Option World) (closes : World → ReadingSummary → Option Fault → List ℕ)
     (filter : FilterState) (world : World) (octets : List ℕ) (opening : Opening) (one other : List ℕ) (ends other_ends : Done)
     → IsOpenedText (fixed_rules steps closes) filter world octets opening one ends
     → IsOpenedText (fixed_rules steps closes) filter world octets opening other other_ends → (one ≡ other) × (ends ≡ other_ends)
@@ -151,7 +151,7 @@ opened_one steps closes filter world octets (Opened format) one other ends other
 opened_one steps closes filter world octets Undecided one other ends other_ends first second = (first.0 ∙ sym second.0, first.1 ∙ sym second.1)
 opened_one steps closes filter world octets (Refused fault) one other ends other_ends first second = (first.0 ∙ sym second.0, first.1 ∙ sym second.1)
 
-pub one_fixed_text : {World : Type 0} (steps : World → CountedCell → List ℕ × Option World) (closes : World → PassedOver → Option Fault → List ℕ)
+pub one_fixed_text : {World : Type 0} (steps : World → CapturedCell → List ℕ × Option World) (closes : World → ReadingSummary → Option Fault → List ℕ)
     (filter : FilterState) (world : World) (octets one other : List ℕ) (ends other_ends : Done)
     → IsCaptureText (fixed_rules steps closes) filter world octets one ends → IsCaptureText (fixed_rules steps closes) filter world octets other other_ends
     → (one ≡ other) × (ends ≡ other_ends)

@@ -6,19 +6,19 @@ use Rattle.captures.specs.declared.fault.Fault.{Fault}
 use Rattle.captures_text.specs.CaptureText.{IsTextOfCells}
 use Rattle.captures_text.specs.CellFilter.{CellsEnd}
 use Rattle.captures_text.specs.CellRules.{fixed_rules}
-use Rattle.captures_text.specs.declared.counted.CountedCell.{CountedCell}
-use Rattle.captures_text.specs.declared.passed.PassedOver.{PassedOver}
+use Rattle.captures_text.specs.declared.captured_cell.CapturedCell.{CapturedCell}
+use Rattle.captures_text.specs.declared.reading_summary.ReadingSummary.{ReadingSummary}
 use Rattle.captures_text.specs.inner.FixedRules.{fixed_text, fixed_total, text_then}
 use Rattle.captures_text.proofs.CellTexts.{cells_some}
 use Rattle.text_io.specs.declared.ending.Done.{Done}
 use Rattle.text_io.specs.declared.ending.Done.TheVariants.{Ended}
 
 -- A text of cells is that one.
-pub fixed_is : {World : Type 0} (steps : World → CountedCell → List ℕ × Option World) (closes : World → PassedOver → Option Fault → List ℕ)
-    (cells : List CountedCell) (end : CellsEnd) (world : World) (text : List ℕ) (done : Done)
+pub fixed_is : {World : Type 0} (steps : World → CapturedCell → List ℕ × Option World) (closes : World → ReadingSummary → Option Fault → List ℕ)
+    (cells : List CapturedCell) (end : CellsEnd) (world : World) (text : List ℕ) (done : Done)
     → IsTextOfCells (fixed_rules steps closes) world cells end text done → fixed_text steps closes world cells end ≡ (text, done)
 fixed_is steps closes [] end world text done printed = ap₂ (λ (t : List ℕ) (d : Done). (t, d)) (sym printed.0) (sym printed.1)
-fixed_is {World = World} steps closes (counted ∷ cells) end world text done (here, more, next, is, step, rest) =
+fixed_is {World = World} steps closes (captured ∷ cells) end world text done (here, more, next, is, step, rest) =
     ap (λ (s : List ℕ × Option World). text_then s.0 s.1 goes) step
     ∙ then (λ v printed. fixed_is steps closes cells end v more done printed) next rest
   where
@@ -36,8 +36,8 @@ fixed_is {World = World} steps closes (counted ∷ cells) end world text done (h
         ap (λ (r : List ℕ × Done). (here ++ r.0, r.1)) (later v printed) ∙ ap (λ (t : List ℕ). (t, done)) (sym is)
 
 -- So cells have exactly one text.
-pub fixed_only : {World : Type 0} (steps : World → CountedCell → List ℕ × Option World) (closes : World → PassedOver → Option Fault → List ℕ)
-    (cells : List CountedCell) (end : CellsEnd) (world : World) (whole text : List ℕ) (ends done : Done)
+pub fixed_only : {World : Type 0} (steps : World → CapturedCell → List ℕ × Option World) (closes : World → ReadingSummary → Option Fault → List ℕ)
+    (cells : List CapturedCell) (end : CellsEnd) (world : World) (whole text : List ℕ) (ends done : Done)
     → fixed_text steps closes world cells end ≡ (whole, ends)
     → IsTextOfCells (fixed_rules steps closes) world cells end text done ↔ ((text ≡ whole) × (done ≡ ends))
 fixed_only {World = World} steps closes cells end world whole text ends done is = (

@@ -8,5 +8,5 @@ pub mod AdvanceLemmas
 pub mod FillsAheadLemmas
 pub mod QueueProgress
 pub mod CaptureTexts
-pub mod CountedLemmas
+pub mod CapturedLemmas
 pub mod Public

@@ -3,8 +3,8 @@
 use Rattle.std.specs.Prelude.{◌≡◌, ℕ, List, ◌++◌, Option, Some, None}
 use Rattle.captures.specs.declared.fault.Fault.{Fault}
 use Rattle.captures_text.specs.CellRules.{CellRules}
-use Rattle.captures_text.specs.declared.counted.CountedCell.{CountedCell}
-use Rattle.captures_text.specs.declared.passed.PassedOver.{PassedOver}
+use Rattle.captures_text.specs.declared.captured_cell.CapturedCell.{CapturedCell}
+use Rattle.captures_text.specs.declared.reading_summary.ReadingSummary.{ReadingSummary}
 use Rattle.text_io.specs.declared.machine.Turn.{Turn}
 use Rattle.text_io.specs.declared.machine.Turn.TheVariants.{GoesOn, Ends}
 
@@ -13,15 +13,15 @@ abbrev pub OfEachWorld : {World : Type 0} → CellRules World → (World → Typ
 OfEachWorld {World = World} rules shown IsSo = (world : World) → rules.is_sound world → shown world → IsSo world
 
 -- From this world, this text answers the cell. It ends the run, or leads to a world that is shown afterwards.
-abbrev pub TurnsAtCell : {World : Type 0} → CellRules World → World → CountedCell → List ℕ → Turn → (World → Type 0) → Type 0
-TurnsAtCell rules world counted here Ends shown = rules.steps world counted here None
-TurnsAtCell {World = World} rules world counted here GoesOn shown = (after : World) × shown after × rules.steps world counted here (Some after)
+abbrev pub TurnsAtCell : {World : Type 0} → CellRules World → World → CapturedCell → List ℕ → Turn → (World → Type 0) → Type 0
+TurnsAtCell rules world captured here Ends shown = rules.steps world captured here None
+TurnsAtCell {World = World} rules world captured here GoesOn shown = (after : World) × shown after × rules.steps world captured here (Some after)
 
 -- The answers grew by a text that answers the cell, from each world that was shown.
-abbrev pub FollowsCell : {World : Type 0} → CellRules World → (World → Type 0) → CountedCell → Turn → (World → Type 0) → List ℕ → List ℕ → Type 0
-FollowsCell rules shown counted turn shown' old new =
-    (here : List ℕ) × (new ≡ old ++ here) × OfEachWorld rules shown (λ world. TurnsAtCell rules world counted here turn shown')
+abbrev pub FollowsCell : {World : Type 0} → CellRules World → (World → Type 0) → CapturedCell → Turn → (World → Type 0) → List ℕ → List ℕ → Type 0
+FollowsCell rules shown captured turn shown' old new =
+    (here : List ℕ) × (new ≡ old ++ here) × OfEachWorld rules shown (λ world. TurnsAtCell rules world captured here turn shown')
 
 -- The answers grew by the text that answers the end of the capture, or its fault, in each world that is shown.
-abbrev pub ClosesCells : {World : Type 0} → CellRules World → (World → Type 0) → PassedOver → Option Fault → List ℕ → List ℕ → Type 0
-ClosesCells rules shown passed ending old new = OfEachWorld rules shown (λ world. new ≡ old ++ rules.closes world passed ending)
+abbrev pub ClosesCells : {World : Type 0} → CellRules World → (World → Type 0) → ReadingSummary → Option Fault → List ℕ → List ℕ → Type 0
+ClosesCells rules shown summary ending old new = OfEachWorld rules shown (λ world. new ≡ old ++ rules.closes world summary ending)

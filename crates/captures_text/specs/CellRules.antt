@@ -2,29 +2,29 @@
 -- They may allow several answers to a cell.
 use Rattle.std.specs.Prelude.{◌≡◌, ℕ, List, Option, Some}
 use Rattle.captures.specs.declared.fault.Fault.{Fault}
-use Rattle.captures_text.specs.declared.counted.CountedCell.{CountedCell}
-use Rattle.captures_text.specs.declared.passed.PassedOver.{PassedOver}
+use Rattle.captures_text.specs.declared.captured_cell.CapturedCell.{CapturedCell}
+use Rattle.captures_text.specs.declared.reading_summary.ReadingSummary.{ReadingSummary}
 
 -- The rules of such a program.
 pub record CellRules (World : Type 0) : Type 1 where
   -- From this world, the text may answer a cell and lead to the next world, or to none if the cell ends the run.
-  pub steps : World → CountedCell → List ℕ → Option World → Type 0
+  pub steps : World → CapturedCell → List ℕ → Option World → Type 0
   -- The text that answers the end of a capture in this world, or the fault at which its reading ends, after these records were passed over.
-  pub closes : World → PassedOver → Option Fault → List ℕ
+  pub closes : World → ReadingSummary → Option Fault → List ℕ
   -- Invariant of the worlds that a run reaches.
   pub is_sound : World → Type 0
 
 -- In a sound world each cell has some answer, and leads only to sound worlds.
 pub record AnswersEachCell {World : Type 0} (rules : CellRules World) : Type 0 where
-  pub keeps : (before : World) (counted : CountedCell) (here : List ℕ) (after : World)
-      → rules.is_sound before → rules.steps before counted here (Some after) → rules.is_sound after
-  pub step : (before : World) (counted : CountedCell) → rules.is_sound before
-      → (here : List ℕ) × (next : Option World) × rules.steps before counted here next
+  pub keeps : (before : World) (captured : CapturedCell) (here : List ℕ) (after : World)
+      → rules.is_sound before → rules.steps before captured here (Some after) → rules.is_sound after
+  pub step : (before : World) (captured : CapturedCell) → rules.is_sound before
+      → (here : List ℕ) × (next : Option World) × rules.steps before captured here next
 
 -- Rules by which each cell has one answer in each world.
-abbrev pub fixed_rules : {World : Type 0} → (World → CountedCell → List ℕ × Option World) → (World → PassedOver → Option Fault → List ℕ) → CellRules World
+abbrev pub fixed_rules : {World : Type 0} → (World → CapturedCell → List ℕ × Option World) → (World → ReadingSummary → Option Fault → List ℕ) → CellRules World
 fixed_rules steps closes = record {
-  steps = λ world counted here next. steps world counted ≡ (here, next);
+  steps = λ world captured here next. steps world captured ≡ (here, next);
   closes = closes;
   is_sound = λ world. Unit {0};
 }

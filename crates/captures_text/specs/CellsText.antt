@@ -8,8 +8,8 @@ use Rattle.captures_text.specs.CaptureText.{IsCaptureText, IsTextOfCells, end_do
 use Rattle.captures_text.specs.CellFilter.{CellsEnd, filter_start}
 use Rattle.captures_text.specs.CellRules.{CellRules, fixed_rules}
 use Rattle.captures_text.specs.RunLines.{closing_lines}
-use Rattle.captures_text.specs.declared.counted.CountedCell.{CountedCell}
-use Rattle.captures_text.specs.declared.passed.PassedOver.{PassedOver}
+use Rattle.captures_text.specs.declared.captured_cell.CapturedCell.{CapturedCell}
+use Rattle.captures_text.specs.declared.reading_summary.ReadingSummary.{ReadingSummary}
 use Rattle.text_io.specs.declared.ending.Done.{Done}
 
 -- The line of a cell, as scripts have it: its moment, and its 52 octets in hexadecimal digits.
@@ -21,21 +21,21 @@ abbrev pub record_comment : ℕ → List ℕ
 record_comment number = codes "# record " ++ decimal number ++ codes "\n"
 
 -- The line of a cell that counts, after the comment with the number of its record if that is asked for.
-abbrev pub counted_line : Bool → CountedCell → List ℕ
-counted_line numbered counted =
-    (if numbered then record_comment counted.number else []) ++ cell_line counted.moment counted.cell
+abbrev pub captured_line : Bool → CapturedCell → List ℕ
+captured_line numbered captured =
+    (if numbered then record_comment captured.number else []) ++ cell_line captured.moment captured.cell
 
 -- The state of a run, which stays: whether the numbers of records are asked for.
 pub record CellsWorld : Type 0 where
   pub numbered : Bool
 
 -- The answer to a cell.
-abbrev pub cells_steps : CellsWorld → CountedCell → List ℕ × Option CellsWorld
-cells_steps world counted = (counted_line world.numbered counted, Some world)
+abbrev pub cells_steps : CellsWorld → CapturedCell → List ℕ × Option CellsWorld
+cells_steps world captured = (captured_line world.numbered captured, Some world)
 
 -- The answer to the end: the comments, and the fault if there is one.
-abbrev pub cells_closes : CellsWorld → PassedOver → Option Fault → List ℕ
-cells_closes world passed ending = closing_lines passed ending
+abbrev pub cells_closes : CellsWorld → ReadingSummary → Option Fault → List ℕ
+cells_closes world summary ending = closing_lines summary ending
 
 -- The rules of `cells`.
 abbrev pub cells_rules : CellRules CellsWorld
@@ -51,14 +51,14 @@ abbrev pub IsCellsText : ℕ → Option Link → TimeSource → Bool → List �
 IsCellsText tick link timing numbered = IsCaptureText cells_rules (filter_start tick link timing) (cells_start numbered)
 
 -- The lines of these cells.
-abbrev pub counted_lines : Bool → List CountedCell → List ℕ
-counted_lines numbered cells = flat_map (counted_line numbered) cells
+abbrev pub captured_lines : Bool → List CapturedCell → List ℕ
+captured_lines numbered cells = flat_map (captured_line numbered) cells
 
 -- The text has the lines of the cells that count, in order, and then the answer to their end, and there is no other text.
 abbrev pub CellsAreWritten : Type 0
-CellsAreWritten = (numbered : Bool) (cells : List CountedCell) (end : CellsEnd) (text : List ℕ) (done : Done)
+CellsAreWritten = (numbered : Bool) (cells : List CapturedCell) (end : CellsEnd) (text : List ℕ) (done : Done)
     → IsTextOfCells cells_rules (cells_start numbered) cells end text done
-    ↔ ((text ≡ counted_lines numbered cells ++ text_at_end cells_rules (cells_start numbered) end) × (done ≡ end_done end))
+    ↔ ((text ≡ captured_lines numbered cells ++ text_at_end cells_rules (cells_start numbered) end) × (done ≡ end_done end))
 
 -- A file has exactly one output.
 abbrev pub CapturesHaveOneCellsText : Type 0

@@ -1,8 +1,8 @@
 pub mod CaptureFaults
 pub mod Tallies
-pub mod PassedBlocks
+pub mod SkippedBlocks
 pub mod MarkedRecords
-pub mod PassedRecords
+pub mod ReadingSummaries
 pub mod CellFilter
 pub mod LinkWords
 pub mod RunLines

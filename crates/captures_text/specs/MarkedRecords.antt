@@ -2,9 +2,9 @@
 use Rattle.std.specs.Prelude.{◌==◌, nat_lt, if◌then◌else◌, ℕ, List, [], ◌++◌, codes, decimal}
 use Rattle.captures.specs.Marks.{has_mark}
 use Rattle.captures.specs.declared.marks.Marks.{Marks}
-use Rattle.captures_text.specs.Tallies.{first_passed, no_tally, one_more_if}
+use Rattle.captures_text.specs.Tallies.{first_record_text, no_tally, one_more_if}
 use Rattle.captures_text.specs.declared.marked.MarkTallies.{MarkTallies}
-use Rattle.captures_text.specs.declared.tally.PassedTally.{PassedTally}
+use Rattle.captures_text.specs.declared.tally.CountAndFirst.{CountAndFirst}
 
 -- No record yet.
 abbrev pub no_marks : MarkTallies
@@ -25,8 +25,8 @@ abbrev pub with_marks : MarkTallies → Marks → ℕ → MarkTallies
 with_marks tallies marks number = if has_mark marks then with_each_mark tallies marks number else tallies
 
 -- A comment about records with a mark, if there are any.
-abbrev pub mark_line : PassedTally → List ℕ → List ℕ
-mark_line tally what = if tally.count == 0 then [] else codes "# " ++ decimal tally.count ++ what ++ first_passed tally
+abbrev pub mark_line : CountAndFirst → List ℕ → List ℕ
+mark_line tally what = if tally.count == 0 then [] else codes "# " ++ decimal tally.count ++ what ++ first_record_text tally
 
 -- A comment for each mark of a first header.
 abbrev pub header_mark_lines : MarkTallies → List ℕ

@@ -4,8 +4,8 @@ use Rattle.captures.specs.declared.fault.Fault.{Fault}
 use Rattle.captures.specs.declared.link.Link.{Link}
 use Rattle.captures_text.specs.CaptureFaults.{capture_fault_line}
 use Rattle.captures_text.specs.LinkWords.{link_word}
-use Rattle.captures_text.specs.PassedRecords.{passed_lines}
-use Rattle.captures_text.specs.declared.passed.PassedOver.{PassedOver}
+use Rattle.captures_text.specs.ReadingSummaries.{summary_lines}
+use Rattle.captures_text.specs.declared.reading_summary.ReadingSummary.{ReadingSummary}
 
 -- The answer to a cell of a second link, where none was asked for.
 abbrev pub several_line : Link → Link → List ℕ
@@ -17,5 +17,5 @@ ending_line None = []
 ending_line (Some fault) = capture_fault_line fault
 
 -- The end of a text: the comments, and the fault if there is one.
-abbrev pub closing_lines : PassedOver → Option Fault → List ℕ
-closing_lines passed ending = passed_lines passed ++ ending_line ending
+abbrev pub closing_lines : ReadingSummary → Option Fault → List ℕ
+closing_lines summary ending = summary_lines summary ++ ending_line ending

@@ -1,31 +1,31 @@
 -- Tallies of records, or of other things in a capture, and the comments about them.
 use Rattle.std.specs.Prelude.{◌+◌, ◌-◌, ◌^◌, ◌==◌, min, Bool, if◌then◌else◌, ℕ, List, [], ◌++◌, codes, decimal}
-use Rattle.captures_text.specs.declared.tally.PassedTally.{PassedTally}
+use Rattle.captures_text.specs.declared.tally.CountAndFirst.{CountAndFirst}
 use Rattle.text_words.specs.FaultLines.{line}
 
 -- One record more, with this number. The first record's number stays.
-abbrev pub one_more_record : PassedTally → ℕ → PassedTally
+abbrev pub one_more_record : CountAndFirst → ℕ → CountAndFirst
 one_more_record tally number = record {
   count = min (tally.count + 1) (2 ^ 64 - 1);
   first = if tally.count == 0 then number else tally.first;
 }
 
 -- The same if this holds.
-abbrev pub one_more_if : PassedTally → Bool → ℕ → PassedTally
+abbrev pub one_more_if : CountAndFirst → Bool → ℕ → CountAndFirst
 one_more_if tally holds number = if holds then one_more_record tally number else tally
 
 -- No record yet.
-abbrev pub no_tally : PassedTally
+abbrev pub no_tally : CountAndFirst
 no_tally = record { count = 0; first = 0 }
 
 -- The beginning of a comment: how many records were passed over.
-abbrev pub passed_count : PassedTally → List ℕ
-passed_count tally = codes "# " ++ decimal tally.count ++ codes " passed over: "
+abbrev pub skipped_count : CountAndFirst → List ℕ
+skipped_count tally = codes "# " ++ decimal tally.count ++ codes " passed over: "
 
 -- Its end: the number of the first of them.
-abbrev pub first_passed : PassedTally → List ℕ
-first_passed tally = line (codes "; first record " ++ decimal tally.first)
+abbrev pub first_record_text : CountAndFirst → List ℕ
+first_record_text tally = line (codes "; first record " ++ decimal tally.first)
 
 -- A comment about records that were passed over, if there are any.
-abbrev pub tally_line : PassedTally → List ℕ → List ℕ
-tally_line tally why = if tally.count == 0 then [] else passed_count tally ++ why ++ first_passed tally
+abbrev pub tally_line : CountAndFirst → List ℕ → List ℕ
+tally_line tally why = if tally.count == 0 then [] else skipped_count tally ++ why ++ first_record_text tally

@@ -1,10 +1,10 @@
 //! Blocks and packets of a pcapng file that have no record for this reader.
 
 ghost use Rattle.std.specs.Prelude.{◌≡◌, ◌++◌, OnOk};
-ghost use Rattle.captures_text.specs.PassedBlocks.{block_line, block_lines, first_place, no_blocks, unknown_blocks, one_more_block};
+ghost use Rattle.captures_text.specs.SkippedBlocks.{block_line, block_lines, first_place, no_blocks, unknown_blocks, one_more_block};
 
 use crate::fault_lines::add_with_number;
-use crate::tally::{PassedTally, add_count};
+use crate::tally::{CountAndFirst, add_count};
 use captures::Unread;
 use std::alloc::AllocError;
 use text_words::{add_numbered, add_text};
@@ -13,15 +13,15 @@ use text_words::{add_numbered, add_text};
 #[derive(Clone, Copy, PartialEq, Eq, Debug)]
 pub struct BlockTallies {
     /// Simple packets.
-    pub simple: PassedTally,
+    pub simple: CountAndFirst,
     /// Obsolete packets.
-    pub obsolete: PassedTally,
+    pub obsolete: CountAndFirst,
     /// Blocks of unknown types.
-    pub other: PassedTally,
+    pub other: CountAndFirst,
     /// The type of the first of these.
     pub other_type: u32,
     /// Packets of an interface of another link type.
-    pub other_link: PassedTally,
+    pub other_link: CountAndFirst,
 }
 
 impl BlockTallies {
@@ -29,7 +29,7 @@ impl BlockTallies {
     pub(crate) fn none() -> BlockTallies
         ensures { result ≡ no_blocks }
     {
-        let none = PassedTally::none();
+        let none = CountAndFirst::none();
         BlockTallies {
             simple: none,
             obsolete: none,
@@ -66,7 +66,7 @@ impl BlockTallies {
 }
 
 /// Appends the place of the first block of a kind.
-fn add_place(answers: &mut Vec<u8>, tally: PassedTally) -> Result<(), AllocError>
+fn add_place(answers: &mut Vec<u8>, tally: CountAndFirst) -> Result<(), AllocError>
     ensures { OnOk result (answers.new.items ≡ answers.old.items ++ first_place tally) }
 {
     add_numbered(answers, b"; first at octet ", tally.first as usize)
@@ -74,7 +74,7 @@ fn add_place(answers: &mut Vec<u8>, tally: PassedTally) -> Result<(), AllocError
 
 /// Appends a comment about blocks of a kind, if there are any.
 #[tactic(auto, using(std::proofs::lemmas::List::append_assoc))]
-fn add_kind(answers: &mut Vec<u8>, tally: PassedTally, why: &[u8]) -> Result<(), AllocError>
+fn add_kind(answers: &mut Vec<u8>, tally: CountAndFirst, why: &[u8]) -> Result<(), AllocError>
     ensures { OnOk result (answers.new.items ≡ answers.old.items ++ block_line tally why.now) }
 {
     if tally.count == 0 {
@@ -98,7 +98,7 @@ fn add_unknown(answers: &mut Vec<u8>, kind: u32) -> Result<(), AllocError>
 
 /// Appends a comment about blocks of unknown types, if there are any.
 #[tactic(auto, using(std::proofs::lemmas::List::append_assoc))]
-fn add_other(answers: &mut Vec<u8>, tally: PassedTally, kind: u32) -> Result<(), AllocError>
+fn add_other(answers: &mut Vec<u8>, tally: CountAndFirst, kind: u32) -> Result<(), AllocError>
     ensures { OnOk result (answers.new.items ≡ answers.old.items ++ block_line tally (unknown_blocks kind)) }
 {
     if tally.count == 0 {

@@ -14,8 +14,8 @@ use crate::driver::follow_on;
 use crate::fault_lines::add_file_fault;
 use crate::filter::CellFilter;
 use crate::follower::{CellFollower, answers_each_cell};
-use crate::passed::PassedOver;
 use crate::reading_ahead::{ReadingAhead, WINDOW_ROOM};
+use crate::reading_summary::ReadingSummary;
 use captures::{
     Fault, FileFault, Link, Opening, Reader, RecordFault, Tick, TimeSource, is_text, open,
     open_whole,
@@ -80,20 +80,20 @@ fn close_short<O: Output, F: CellFollower>(
     alloc: Global,
     output: &mut O,
     follower: &F,
-    passed: &PassedOver,
+    summary: &ReadingSummary,
     octets: &[u8],
 ) -> Result<Done, RunFault>
     ensures done { IfOk result (λ done. done ≡ Done.Ended) }
     ensures given { O.is_known → OnOk result (OfEachWorld F.rules (F.shows follower.now) (λ world.
-        O.held output.new ≡ O.held output.old ++ F.rules.closes world passed.now (Some (fault_if_short octets.now)))) }
+        O.held output.new ≡ O.held output.old ++ F.rules.closes world summary.now (Some (fault_if_short octets.now)))) }
     ensures front { O.is_known → OnErr result (OfEachWorld F.rules (F.shows follower.now) (λ world.
-        IsPart (O.held output.old) (O.held output.new) (F.rules.closes world passed.now (Some (fault_if_short octets.now))))) }
+        IsPart (O.held output.old) (O.held output.new) (F.rules.closes world summary.now (Some (fault_if_short octets.now))))) }
     ensures fault { result ≢ Err RunFault.ReadFailed }
     ensures writing { O.failures output.new ≡ write_failures result (O.failures output.old) }
 {
     let fault = short_fault(octets);
     let mut answers = Vec::new(alloc);
-    match follower.close(passed, Some(fault), &mut answers) {
+    match follower.close(summary, Some(fault), &mut answers) {
         Err(_) => Err(RunFault::NoMemory),
         Ok(()) => give_last(output, &mut answers, Done::Ended),
     }
@@ -133,7 +133,7 @@ pub fn follow_cells<R: Threads, I: Input + Send, O: Output, F: CellFollower + Se
         Err(_) => Err(RunFault::ReadFailed),
         Ok(Opening::Refused(fault)) => refuse(alloc, output, fault),
         Ok(Opening::Undecided) => {
-            close_short(alloc, output, follower, &filter.passed(), window.octets())
+            close_short(alloc, output, follower, &filter.summary(), window.octets())
         }
         Ok(Opening::Opened(format)) => {
             window.skip(format.start());

@@ -2,13 +2,13 @@
 
 ghost use Rattle.std.specs.Prelude.{◌≡◌, ◌++◌, OnOk};
 ghost use Rattle.hex.specs.Hex.{encode_lower};
-ghost use Rattle.captures_text.specs.CellsText.{IsCellsText, cell_line, cells_start, counted_line, record_comment};
+ghost use Rattle.captures_text.specs.CellsText.{IsCellsText, cell_line, cells_start, captured_line, record_comment};
 ghost use Rattle.text_io.specs.Serving.{IsServed};
 
 use crate::capture::follow_cells;
-use crate::counted::CountedCell;
+use crate::captured_cell::CapturedCell;
 use crate::follower::CellFollower;
-use crate::passed::PassedOver;
+use crate::reading_summary::ReadingSummary;
 use crate::run_lines::add_closing;
 use captures::{Fault, Link, Tick, TimeSource};
 use std::alloc::{AllocError, Global};
@@ -37,13 +37,13 @@ fn add_octets(answers: &mut Vec<u8>, cell: &Cell) -> Result<(), AllocError>
 
 /// Appends the line of a cell.
 #[tactic(auto, using(std::proofs::lemmas::List::append_assoc))]
-fn add_cell(answers: &mut Vec<u8>, counted: &CountedCell) -> Result<(), AllocError>
-    ensures { OnOk result (answers.new.items ≡ answers.old.items ++ cell_line counted.now.moment counted.now.cell) }
+fn add_cell(answers: &mut Vec<u8>, captured: &CapturedCell) -> Result<(), AllocError>
+    ensures { OnOk result (answers.new.items ≡ answers.old.items ++ cell_line captured.now.moment captured.now.cell) }
 {
     add_text(answers, b"cell ")?;
-    add_number(answers, counted.moment)?;
+    add_number(answers, captured.moment)?;
     add_text(answers, b" ")?;
-    add_octets(answers, &counted.cell)?;
+    add_octets(answers, &captured.cell)?;
     answers.push(b'\n')?;
     Ok(())
 }
@@ -61,17 +61,17 @@ fn add_record_comment(answers: &mut Vec<u8>, number: u64) -> Result<(), AllocErr
 
 /// Appends the line of a cell that counts, after the number of its record if that is asked for.
 #[tactic(auto, using(std::proofs::lemmas::List::append_assoc))]
-fn add_counted(
+fn add_captured(
     answers: &mut Vec<u8>,
     numbered: bool,
-    counted: &CountedCell,
+    captured: &CapturedCell,
 ) -> Result<(), AllocError>
-    ensures { OnOk result (answers.new.items ≡ answers.old.items ++ counted_line numbered counted.now) }
+    ensures { OnOk result (answers.new.items ≡ answers.old.items ++ captured_line numbered captured.now) }
 {
     if numbered {
-        add_record_comment(answers, counted.number)?;
+        add_record_comment(answers, captured.number)?;
     }
-    add_cell(answers, counted)
+    add_cell(answers, captured)
 }
 
 impl CellFollower for Cells {
@@ -86,20 +86,20 @@ impl CellFollower for Cells {
 
     fn follow_cell(
         &mut self,
-        counted: &CountedCell,
+        captured: &CapturedCell,
         answers: &mut Vec<u8>,
     ) -> Result<Turn, AllocError> {
-        add_counted(answers, self.numbered, counted)?;
+        add_captured(answers, self.numbered, captured)?;
         Ok(Turn::GoesOn)
     }
 
     fn close(
         &self,
-        passed: &PassedOver,
+        summary: &ReadingSummary,
         ending: Option<Fault>,
         answers: &mut Vec<u8>,
     ) -> Result<(), AllocError> {
-        add_closing(answers, passed, ending)
+        add_closing(answers, summary, ending)
     }
 
     ghost is_total = { fixed_total cells_steps cells_closes };

@@ -11,8 +11,8 @@ ghost use Rattle.text_io.specs.Failures.{read_failures, write_failures};
 ghost use Rattle.text_io.specs.Printing.{IsFront};
 ghost use Rattle.text_io.specs.declared.ending.Done.{Done as TheDone};
 
+use crate::answering::{StepOutcome, advance, leaves_cells};
 use crate::follower::{CellFollower, answers_each_cell};
-use crate::one_thread::{Going, advance};
 use crate::queue::Queue;
 use crate::reading_ahead::{READING_OCTETS, ReadingAhead, WINDOW_ROOM};
 use crate::two_threads::give_and_go_ahead;
@@ -52,13 +52,14 @@ fn finish<O: Output, F: CellFollower>(
 {
     let ending = reading.reader.end(reading.window.octets());
     let done = done_at(ending);
-    match follower.close(&reading.filter.passed(), ending, answers) {
+    match follower.close(&reading.filter.summary(), ending, answers) {
         Err(_) => Err(RunFault::NoMemory),
         Ok(()) => give_last(output, answers, done),
     }
 }
 
-/// Returns whether less waits than the longest frame has, so that there is room for more octets.
+/// Returns whether fewer octets wait than the longest frame has, so that there is room for more. So it may be where the last reading
+/// filled the window: most of its octets were read since.
 fn is_short(reading: &ReadingAhead) -> bool
     ensures { result ≡ true → length reading.now.window < 131072 }
 {
@@ -68,7 +69,7 @@ fn is_short(reading: &ReadingAhead) -> bool
 /// Runs a follower over the cells of a capture that count, from here on: those of the octets that wait, and then those of the input.
 pub(crate) fn follow_on<R: Threads, I: Input + Send, O: Output, F: CellFollower + Send>(
     rt: &R,
-    at_once: bool,
+    with_two_threads: bool,
     alloc: Global,
     input: &mut I,
     output: &mut O,
@@ -89,12 +90,16 @@ pub(crate) fn follow_on<R: Threads, I: Input + Send, O: Output, F: CellFollower 
     ensures written { O.failures output.new ≡ write_failures result (O.failures output.old) }
 {
     answers_each_cell(follower);
-    // A full window starts the second thread.
-    let most = if at_once { WINDOW_ROOM } else { READING_OCTETS };
+    // With two threads, read until the window is full: only then does the second thread start.
+    let most = if with_two_threads {
+        WINDOW_ROOM
+    } else {
+        READING_OCTETS
+    };
     let mut queue = Queue::new(alloc);
     let mut answers = Vec::new(alloc);
     loop {
-        if at_once && reading.window.is_full() && !queue.cells.is_empty() && is_short(&reading) {
+        if leaves_cells(with_two_threads, &reading, &queue) && is_short(&reading) {
             match give_and_go_ahead(
                 rt,
                 input,
@@ -105,20 +110,26 @@ pub(crate) fn follow_on<R: Threads, I: Input + Send, O: Output, F: CellFollower 
                 &mut answers,
             ) {
                 Err(fault) => return Err(fault),
-                Ok(Going::Ended) => return give_last(output, &mut answers, Done::Ended),
-                Ok(Going::On) => {}
-                Ok(Going::Wants) => {}
+                Ok(StepOutcome::Ended) => return give_last(output, &mut answers, Done::Ended),
+                Ok(StepOutcome::On) => {}
+                Ok(StepOutcome::Wants) => {}
             }
         } else {
-            match advance(at_once, &mut reading, &mut queue, follower, &mut answers) {
+            match advance(
+                with_two_threads,
+                &mut reading,
+                &mut queue,
+                follower,
+                &mut answers,
+            ) {
                 Err(_) => return Err(RunFault::NoMemory),
-                Ok(Going::Ended) => return give_last(output, &mut answers, Done::Ended),
-                Ok(Going::On) => {
+                Ok(StepOutcome::Ended) => return give_last(output, &mut answers, Done::Ended),
+                Ok(StepOutcome::On) => {
                     if give_if_enough(output, &mut answers).is_err() {
                         return Err(RunFault::WriteFailed);
                     }
                 }
-                Ok(Going::Wants) => match refill(
+                Ok(StepOutcome::Wants) => match refill(
                     &mut reading.window,
                     most,
                     input,

@@ -1,13 +1,13 @@
 //! Which cells of a capture count, and at which moments.
 
 ghost use Rattle.std.specs.Prelude.{◌≡◌, List, ℕ, Ok, IfSome};
-ghost use Rattle.captures_text.specs.CellFilter.{filter_at_link, filter_at_time, filter_content, filter_passage, filter_record, filter_start, filter_state};
+ghost use Rattle.captures_text.specs.CellFilter.{filter_at_link, filter_at_time, filter_content, filter_block, filter_record, filter_start, filter_state};
 ghost use Rattle.captures_text.specs.inner.Following.{CountsAt, IsFollowing, with_clock};
 ghost use Rattle.captures_text.specs.declared.filter.CellFilter.{CellFilter as Filter};
 
-use crate::passed::PassedOver;
+use crate::reading_summary::ReadingSummary;
 use crate::ticks::Ticks;
-use captures::{Clock, LentCell, Link, Passage, Record, Tick, TimeSource};
+use captures::{Clock, LentCell, Link, Record, SkippedBlock, Tick, TimeSource};
 
 /// What a record is to a run that reads the cells of one link.
 #[derive(PartialEq, Eq, Drop, Debug)]
@@ -15,9 +15,9 @@ pub enum Filtered<'a> {
     /// Its cell counts: the moment, in ticks since the first cell of the capture, and the cell.
     Counts(u64, LentCell<'a>),
     /// It is passed over.
-    Passed,
+    Skipped,
     /// Its cell is of a second link, and none was asked for: the first link, and this one.
-    Several(Link, Link),
+    SecondLink(Link, Link),
 }
 
 /// Decides for each record of a capture whether its cell counts. If a link was asked for, its cells count, otherwise those of the first
@@ -32,7 +32,7 @@ pub struct CellFilter {
     link: Option<Link>,
     /// None before the first cell.
     clock: Option<Clock>,
-    passed: PassedOver,
+    summary: ReadingSummary,
 }
 
 /// What a filter has that knows its link. Usual records change only the clock: in a variable of its own the compiler keeps it in registers.
@@ -72,7 +72,7 @@ impl CellFilter {
             asked: link.is_some(),
             link,
             clock: None,
-            passed: PassedOver::none(),
+            summary: ReadingSummary::none(),
         }
     }
 
@@ -97,11 +97,11 @@ impl CellFilter {
     }
 
     // no edit: it returns a field
-    /// Returns the records passed over so far.
-    pub fn passed(&self) -> PassedOver
-        ensures { result ≡ (filter_state self.now).passed }
+    /// Returns what was passed over so far, and which records had marks.
+    pub fn summary(&self) -> ReadingSummary
+        ensures { result ≡ (filter_state self.now).summary }
     {
-        self.passed
+        self.summary
     }
 
     /// Reads a cell of the right link.
@@ -119,8 +119,8 @@ impl CellFilter {
         self.clock = Some(clock);
         match moment {
             None => {
-                self.passed.back = self.passed.back.with(record_read.number);
-                Filtered::Passed
+                self.summary.back = self.summary.back.with(record_read.number);
+                Filtered::Skipped
             }
             Some(moment) => Filtered::Counts(moment, cell.lend()),
         }
@@ -142,21 +142,21 @@ impl CellFilter {
             Some(link) if link.is_same(record_read.link) => {}
             Some(link) => {
                 if !self.asked {
-                    return Filtered::Several(link, record_read.link);
+                    return Filtered::SecondLink(link, record_read.link);
                 }
-                self.passed.other_link = self.passed.other_link.with(record_read.number);
+                self.summary.other_link = self.summary.other_link.with(record_read.number);
                 self.clock = Some(clock);
-                return Filtered::Passed;
+                return Filtered::Skipped;
             }
         }
         self.read_at(clock, record_read, cell)
     }
 
     /// Counts a block or a packet without a record.
-    pub fn pass(&mut self, passage: Passage)
-        ensures { filter_state self.new ≡ filter_passage (filter_state self.old) passage }
+    pub fn skip_block(&mut self, block: SkippedBlock)
+        ensures { filter_state self.new ≡ filter_block (filter_state self.old) block }
     {
-        self.passed.pass(passage);
+        self.summary.skip_block(block);
     }
 
     /// Reads the next record. It is inlined, as `Reader::next` is.
@@ -164,7 +164,7 @@ impl CellFilter {
     pub fn read<'a>(&mut self, record_read: &Record<'a>) -> Filtered<'a>
         ensures { filter_record (filter_state self.old) record_read.now ≡ (result, filter_state self.new) }
     {
-        self.passed.mark(record_read.marks, record_read.number);
+        self.summary.mark(record_read.marks, record_read.number);
         self.read_content(record_read)
     }
 
@@ -175,8 +175,8 @@ impl CellFilter {
     {
         match &record_read.content {
             Err(why) => {
-                self.passed.count(*why, record_read.number);
-                Filtered::Passed
+                self.summary.count(*why, record_read.number);
+                Filtered::Skipped
             }
             Ok(cell) => {
                 let clock = match self.clock {

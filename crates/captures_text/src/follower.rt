@@ -5,8 +5,8 @@ ghost use Rattle.captures_text.specs.CellFollowing.{ClosesCells, FollowsCell};
 ghost use Rattle.captures_text.specs.inner.Answered.{AnswersCells};
 ghost use Rattle.captures_text.specs.CellRules.{AnswersEachCell, CellRules};
 
-use crate::counted::CountedCell;
-use crate::passed::PassedOver;
+use crate::captured_cell::CapturedCell;
+use crate::reading_summary::ReadingSummary;
 use captures::Fault;
 use std::alloc::AllocError;
 use text_io::Turn;
@@ -25,20 +25,20 @@ pub trait CellFollower {
     /// Appends the answer to a cell to the answers.
     fn follow_cell(
         &mut self,
-        counted: &CountedCell,
+        captured: &CapturedCell,
         answers: &mut Vec<u8>,
     ) -> Result<Turn, AllocError>
         ensures { IfOk result (λ turn.
-            FollowsCell rules (shows self.old) counted.now turn (shows self.new) answers.old.items answers.new.items) };
+            FollowsCell rules (shows self.old) captured.now turn (shows self.new) answers.old.items answers.new.items) };
 
-    /// Appends the answer to the end of the capture, or to its fault, to the answers. These records were passed over.
+    /// Appends the answer to the end of the capture, or to its fault, to the answers. The summary says what was passed over.
     fn close(
         &self,
-        passed: &PassedOver,
+        summary: &ReadingSummary,
         ending: Option<Fault>,
         answers: &mut Vec<u8>,
     ) -> Result<(), AllocError>
-        ensures { OnOk result (ClosesCells rules (shows self.now) passed.now ending answers.old.items answers.new.items) };
+        ensures { OnOk result (ClosesCells rules (shows self.now) summary.now ending answers.old.items answers.new.items) };
 
     ghost is_total: { AnswersEachCell rules };
 }
@@ -51,14 +51,14 @@ pub(crate) fn answers_each_cell<F: CellFollower>(_: &F)
 /// Answers cells in order, up to one that ends the run.
 pub(crate) fn answer_cells<F: CellFollower>(
     follower: &mut F,
-    cells: &[CountedCell],
+    cells: &[CapturedCell],
     answers: &mut Vec<u8>,
 ) -> Result<Turn, AllocError>
     ensures { IfOk result (λ turn.
         AnswersCells F.rules (F.shows follower.old) cells.now turn (F.shows follower.new) answers.old.items answers.new.items) }
 {
-    for counted in cells {
-        match follower.follow_cell(counted, answers)? {
+    for captured in cells {
+        match follower.follow_cell(captured, answers)? {
             Turn::GoesOn => {}
             Turn::Ends => return Ok(Turn::Ends),
         }

@@ -1,22 +1,22 @@
 //! Subcommands of `upc-lab` over captures of links, and what others share with them.
 #![tactic(auto)]
 
+mod answering;
 mod blocks;
 mod capture;
-mod cell_lines;
+mod captured_cell;
 mod cells;
-mod counted;
 mod driver;
 mod fault_lines;
 mod filter;
 mod follower;
 pub mod laws;
+mod line_choice;
 mod link_words;
 mod marked;
-mod one_thread;
-mod passed;
 mod queue;
 mod reading_ahead;
+mod reading_summary;
 mod run_lines;
 mod tally;
 mod ticks;
@@ -24,16 +24,16 @@ mod two_threads;
 
 pub use blocks::BlockTallies;
 pub use capture::{find_opening, follow_cells, short_fault};
-pub use cell_lines::CellLines;
+pub use captured_cell::CapturedCell;
 pub use cells::cells_of_capture;
-pub use counted::CountedCell;
 pub use driver::done_at;
 pub use fault_lines::add_file_fault;
 pub use filter::{CellFilter, Filtered};
 pub use follower::CellFollower;
+pub use line_choice::LineChoice;
 pub use link_words::add_link;
 pub use marked::MarkTallies;
-pub use passed::PassedOver;
 pub use reading_ahead::{READING_OCTETS, WINDOW_ROOM};
+pub use reading_summary::ReadingSummary;
 pub use run_lines::{add_closing, add_several};
-pub use tally::PassedTally;
+pub use tally::CountAndFirst;

@@ -3,7 +3,7 @@
 ghost use Rattle.std.specs.Prelude.{◌≡◌, ◌++◌, OnOk};
 ghost use Rattle.captures_text.specs.MarkedRecords.{channel_mark_lines, header_mark_lines, mark_line, mark_lines, no_marks, with_each_mark, with_marks};
 
-use crate::tally::{PassedTally, add_first};
+use crate::tally::{CountAndFirst, add_first};
 use captures::Marks;
 use std::alloc::AllocError;
 use text_words::{add_number, add_text};
@@ -12,15 +12,15 @@ use text_words::{add_number, add_text};
 #[derive(Clone, Copy, PartialEq, Eq, Debug)]
 pub struct MarkTallies {
     /// Records were lost before them.
-    pub losses: PassedTally,
+    pub losses: CountAndFirst,
     /// The card cut them off.
-    pub truncated: PassedTally,
+    pub truncated: CountAndFirst,
     /// An octet of the cell was lost.
-    pub lost_octet: PassedTally,
+    pub lost_octet: CountAndFirst,
     /// The header of the cell was corrected by its check.
-    pub header_corrected: PassedTally,
+    pub header_corrected: CountAndFirst,
     /// The CRC-10 of the cell is wrong.
-    pub crc_error: PassedTally,
+    pub crc_error: CountAndFirst,
 }
 
 impl MarkTallies {
@@ -28,7 +28,7 @@ impl MarkTallies {
     pub(crate) fn none() -> MarkTallies
         ensures { result ≡ no_marks }
     {
-        let none = PassedTally::none();
+        let none = CountAndFirst::none();
         MarkTallies {
             losses: none,
             truncated: none,
@@ -66,7 +66,7 @@ impl MarkTallies {
 
 /// Appends a comment about records with a mark, if there are any.
 #[tactic(auto, using(std::proofs::lemmas::List::append_assoc))]
-fn add_mark(answers: &mut Vec<u8>, tally: PassedTally, what: &[u8]) -> Result<(), AllocError>
+fn add_mark(answers: &mut Vec<u8>, tally: CountAndFirst, what: &[u8]) -> Result<(), AllocError>
     ensures { OnOk result (answers.new.items ≡ answers.old.items ++ mark_line tally what.now) }
 {
     if tally.count == 0 {

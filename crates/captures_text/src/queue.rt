@@ -2,7 +2,7 @@
 
 ghost use Rattle.std.specs.Prelude.{◌≡◌, []};
 
-use crate::counted::CountedCell;
+use crate::captured_cell::CapturedCell;
 use std::alloc::Global;
 use std::mem;
 
@@ -10,9 +10,9 @@ use std::mem;
 #[derive(Drop)]
 pub(crate) struct Queue {
     /// The cells, in order.
-    pub(crate) cells: Vec<CountedCell>,
+    pub(crate) cells: Vec<CapturedCell>,
     /// Room for the cells that are read next.
-    pub(crate) spare: Vec<CountedCell>,
+    pub(crate) spare: Vec<CapturedCell>,
 }
 
 impl Queue {
@@ -28,7 +28,7 @@ impl Queue {
     }
 
     /// Replaces the cells, which were answered, by those that were read after them.
-    pub(crate) fn turn(&mut self)
+    pub(crate) fn take_next_cells(&mut self)
         ensures cells { self.new.cells.items ≡ self.old.spare.items }
         ensures spare { self.new.spare.items ≡ [] }
     {

@@ -3,10 +3,10 @@
 ghost use Rattle.std.specs.Prelude.{◌≡◌, ◌≢◌, ◌<◌, ◌≤◌, Err, IfOk, List, None, length};
 ghost use Rattle.text_io.specs.Failures.{read_failures};
 ghost use Rattle.captures_text.specs.inner.Ahead.{FillsAndReads, ReadsCells, ReadsSoFar, ReadsUsual, StepsTo};
-ghost use Rattle.captures_text.specs.declared.counted.CountedCell.{CountedCell as Counted};
+ghost use Rattle.captures_text.specs.declared.captured_cell.CapturedCell.{CapturedCell as Captured};
 ghost use Rattle.captures_text.specs.declared.reading_ahead.ReadingAhead.{ReadingAhead as Reading};
 
-use crate::counted::CountedCell;
+use crate::captured_cell::CapturedCell;
 use crate::filter::{CellFilter, Filtered, Following};
 use byteorder::{BigEndian, ByteOrder};
 use captures::{Clock, Fault, Link, Next, Reader};
@@ -23,15 +23,15 @@ pub const READING_OCTETS: usize = 131_072;
 /// The octets of a usual record: a header of 16 octets, and a cell.
 const USUAL_OCTETS: usize = 16 + CELL_OCTETS;
 
-/// What comes after the records that were read.
+/// Why the reading stopped: what comes after the records that were read.
 #[derive(Clone, Copy, PartialEq, Eq, Debug)]
-pub(crate) enum Coming {
+pub(crate) enum StopReason {
     /// The octets that wait begin a frame, or there are none: more octets are wanted.
     Wants,
     /// Enough cells were read. There may be more frames.
     Enough,
     /// A cell of a second link, where none was asked for: the first link, and this one.
-    Several(Link, Link),
+    SecondLink(Link, Link),
     /// A fault of the capture.
     Broken(Fault),
 }
@@ -72,7 +72,7 @@ fn read_usual_of(
     following: Following,
     mut reader: Reader,
     octets: &[u8],
-    cells: &mut Vec<CountedCell>,
+    cells: &mut Vec<CapturedCell>,
     most: usize,
 ) -> Farther
     ensures within { result.place ≤ length octets.now }
@@ -96,7 +96,7 @@ fn read_usual_of(
         let Some(moment) = following.moment_of(&mut next_clock, &record_read) else {
             break;
         };
-        cells.push_reserved(CountedCell {
+        cells.push_reserved(CapturedCell {
             number: record_read.number,
             moment,
             cell: cell.cell(),
@@ -121,11 +121,11 @@ impl ReadingAhead {
     pub(crate) fn fill_and_read<I: Input>(
         &mut self,
         input: &mut I,
-        cells: &mut Vec<CountedCell>,
-    ) -> Result<Option<Coming>, RunFault>
+        cells: &mut Vec<CapturedCell>,
+    ) -> Result<Option<StopReason>, RunFault>
         requires { length self.old.window < 131072 }
-        ensures filled { IfOk result (λ coming. FillsAndReads I.is_known (I.rest input.old) (I.rest input.new)
-            self.old coming self.new cells.old.items cells.new.items) }
+        ensures filled { IfOk result (λ stop. FillsAndReads I.is_known (I.rest input.old) (I.rest input.new)
+            self.old stop self.new cells.old.items cells.new.items) }
         ensures fault { result ≢ Err RunFault.WriteFailed }
         ensures reading { I.failures input.new ≡ read_failures result (I.failures input.old) }
     {
@@ -134,7 +134,7 @@ impl ReadingAhead {
             Ok(0) => Ok(None),
             Ok(_) => match self.read(cells, usize::MAX) {
                 Err(_) => Err(RunFault::NoMemory),
-                Ok(coming) => Ok(Some(coming)),
+                Ok(stop) => Ok(Some(stop)),
             },
         }
     }
@@ -143,32 +143,34 @@ impl ReadingAhead {
     #[inline(always)]
     fn step(
         &mut self,
-        cells: &mut Vec<CountedCell>,
+        cells: &mut Vec<CapturedCell>,
         most: usize,
-    ) -> Result<Option<Coming>, AllocError>
-        ensures reads { (first : Reading) (old : List Counted) → ReadsSoFar first self.old old cells.old.items
+    ) -> Result<Option<StopReason>, AllocError>
+        ensures reads { (first : Reading) (old : List Captured) → ReadsSoFar first self.old old cells.old.items
             → IfOk result (λ found. StepsTo first self.new old cells.new.items found) }
         ensures shorter { IfOk result (λ found. found ≡ None → length self.new.window < length self.old.window) }
     {
         match self.reader.next(self.window.octets()) {
-            Next::Unfinished => return Ok(Some(Coming::Wants)),
-            Next::Broken(fault) => return Ok(Some(Coming::Broken(fault))),
-            Next::Passed(passage, own) => {
-                self.filter.pass(passage);
+            Next::Unfinished => return Ok(Some(StopReason::Wants)),
+            Next::Broken(fault) => return Ok(Some(StopReason::Broken(fault))),
+            Next::Skipped(block, own) => {
+                self.filter.skip_block(block);
                 self.window.skip(own);
             }
             Next::Taken(record_read, own) => match self.filter.read(&record_read) {
-                Filtered::Passed => self.window.skip(own),
-                Filtered::Several(one, other) => return Ok(Some(Coming::Several(one, other))),
+                Filtered::Skipped => self.window.skip(own),
+                Filtered::SecondLink(one, other) => return Ok(Some(StopReason::SecondLink(
+                    one, other,
+                ))),
                 Filtered::Counts(moment, cell) => {
-                    cells.push(CountedCell {
+                    cells.push(CapturedCell {
                         number: record_read.number,
                         moment,
                         cell: cell.cell(),
                     })?;
                     self.window.skip(own);
                     if most <= cells.len() {
-                        return Ok(Some(Coming::Enough));
+                        return Ok(Some(StopReason::Enough));
                     }
                 }
             },
@@ -177,8 +179,8 @@ impl ReadingAhead {
     }
 
     /// Reads usual records among the octets that wait, as [`read_usual_of`] does.
-    fn read_usual(&mut self, cells: &mut Vec<CountedCell>, most: usize)
-        ensures reads { (first : Reading) (old : List Counted) → ReadsSoFar first self.old old cells.old.items
+    fn read_usual(&mut self, cells: &mut Vec<CapturedCell>, most: usize)
+        ensures reads { (first : Reading) (old : List Captured) → ReadsSoFar first self.old old cells.old.items
             → ReadsSoFar first self.new old cells.new.items }
         ensures shorter { length self.new.window ≤ length self.old.window }
     {
@@ -196,15 +198,15 @@ impl ReadingAhead {
     /// and after a cell if there are `most` or more then.
     pub(crate) fn read(
         &mut self,
-        cells: &mut Vec<CountedCell>,
+        cells: &mut Vec<CapturedCell>,
         most: usize,
-    ) -> Result<Coming, AllocError>
-        ensures { IfOk result (λ coming. ReadsCells self.old coming self.new cells.old.items cells.new.items) }
+    ) -> Result<StopReason, AllocError>
+        ensures { IfOk result (λ stop. ReadsCells self.old stop self.new cells.old.items cells.new.items) }
     {
         loop {
             self.read_usual(cells, most.saturating_sub(1));
-            if let Some(coming) = self.step(cells, most)? {
-                return Ok(coming);
+            if let Some(stop) = self.step(cells, most)? {
+                return Ok(stop);
             }
         }
     }

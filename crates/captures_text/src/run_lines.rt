@@ -5,7 +5,7 @@ ghost use Rattle.captures_text.specs.RunLines.{closing_lines, ending_line, sever
 
 use crate::fault_lines::add_capture_fault;
 use crate::link_words::add_link;
-use crate::passed::{PassedOver, add_passed};
+use crate::reading_summary::{ReadingSummary, add_summary};
 use captures::{Fault, Link};
 use std::alloc::AllocError;
 use text_words::add_text;
@@ -33,15 +33,15 @@ fn add_ending(answers: &mut Vec<u8>, ending: Option<Fault>) -> Result<(), AllocE
     }
 }
 
-/// Appends the comments about records that were passed over, and the fault at which the reading ended.
+/// Appends the comments of the summary, and the fault at which the reading ended.
 #[tactic(auto, using(std::proofs::lemmas::List::append_assoc))]
 pub fn add_closing(
     answers: &mut Vec<u8>,
-    passed: &PassedOver,
+    summary: &ReadingSummary,
     ending: Option<Fault>,
 ) -> Result<(), AllocError>
-    ensures { OnOk result (answers.new.items ≡ answers.old.items ++ closing_lines passed.now ending) }
+    ensures { OnOk result (answers.new.items ≡ answers.old.items ++ closing_lines summary.now ending) }
 {
-    add_passed(answers, passed)?;
+    add_summary(answers, summary)?;
     add_ending(answers, ending)
 }

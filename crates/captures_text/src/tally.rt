@@ -1,40 +1,40 @@
 //! Tallies of records, or of other things in a capture.
 
 ghost use Rattle.std.specs.Prelude.{◌≡◌, ◌++◌, OnOk};
-ghost use Rattle.captures_text.specs.Tallies.{first_passed, no_tally, one_more_if, one_more_record, passed_count, tally_line};
+ghost use Rattle.captures_text.specs.Tallies.{first_record_text, no_tally, one_more_if, one_more_record, skipped_count, tally_line};
 
 use std::alloc::AllocError;
 use text_words::{add_number, add_numbered, add_text};
 
-/// How many records were passed over for a reason.
+/// How many records, or other things in a capture, and the first of them.
 #[derive(Clone, Copy, PartialEq, Eq, Debug)]
-pub struct PassedTally {
+pub struct CountAndFirst {
     /// How many.
     pub count: u64,
     /// The number of the first of them, from 1, or 0 if there is none.
     pub first: u64,
 }
 
-impl PassedTally {
+impl CountAndFirst {
     /// Returns the tally of no record.
-    pub fn none() -> PassedTally
+    pub fn none() -> CountAndFirst
         ensures { result ≡ no_tally }
     {
-        PassedTally { count: 0, first: 0 }
+        CountAndFirst { count: 0, first: 0 }
     }
 
     /// Returns the tally with one record more, which has this number.
-    pub fn with(self, number: u64) -> PassedTally
+    pub fn with(self, number: u64) -> CountAndFirst
         ensures { result ≡ one_more_record self number }
     {
-        PassedTally {
+        CountAndFirst {
             count: self.count.saturating_add(1),
             first: if self.count == 0 { number } else { self.first },
         }
     }
 
     /// The same if `holds`.
-    pub(crate) fn with_if(self, holds: bool, number: u64) -> PassedTally
+    pub(crate) fn with_if(self, holds: bool, number: u64) -> CountAndFirst
         ensures { result ≡ one_more_if self holds number }
     {
         if holds { self.with(number) } else { self }
@@ -43,8 +43,8 @@ impl PassedTally {
 
 /// Appends how many records were passed over.
 #[tactic(auto, using(std::proofs::lemmas::List::append_assoc))]
-pub(crate) fn add_count(answers: &mut Vec<u8>, tally: PassedTally) -> Result<(), AllocError>
-    ensures { OnOk result (answers.new.items ≡ answers.old.items ++ passed_count tally) }
+pub(crate) fn add_count(answers: &mut Vec<u8>, tally: CountAndFirst) -> Result<(), AllocError>
+    ensures { OnOk result (answers.new.items ≡ answers.old.items ++ skipped_count tally) }
 {
     add_text(answers, b"# ")?;
     add_number(answers, tally.count)?;
@@ -52,8 +52,8 @@ pub(crate) fn add_count(answers: &mut Vec<u8>, tally: PassedTally) -> Result<(),
 }
 
 /// Appends which record is the first of those that were passed over.
-pub(crate) fn add_first(answers: &mut Vec<u8>, tally: PassedTally) -> Result<(), AllocError>
-    ensures { OnOk result (answers.new.items ≡ answers.old.items ++ first_passed tally) }
+pub(crate) fn add_first(answers: &mut Vec<u8>, tally: CountAndFirst) -> Result<(), AllocError>
+    ensures { OnOk result (answers.new.items ≡ answers.old.items ++ first_record_text tally) }
 {
     add_numbered(answers, b"; first record ", tally.first as usize)
 }
@@ -62,7 +62,7 @@ pub(crate) fn add_first(answers: &mut Vec<u8>, tally: PassedTally) -> Result<(),
 #[tactic(auto, using(std::proofs::lemmas::List::append_assoc))]
 pub(crate) fn add_tally(
     answers: &mut Vec<u8>,
-    tally: PassedTally,
+    tally: CountAndFirst,
     why: &[u8],
 ) -> Result<(), AllocError>
     ensures { OnOk result (answers.new.items ≡ answers.old.items ++ tally_line tally why.now) }

@@ -6,11 +6,11 @@ ghost use Rattle.captures_text.specs.inner.Answered.{AnswersCells};
 ghost use Rattle.text_io.specs.Devices.{IsPart};
 ghost use Rattle.text_io.specs.Failures.{read_failures, write_failures};
 
-use crate::counted::CountedCell;
+use crate::answering::{StepOutcome, answer_read};
+use crate::captured_cell::CapturedCell;
 use crate::follower::{CellFollower, answer_cells};
-use crate::one_thread::{Going, answer_read};
 use crate::queue::Queue;
-use crate::reading_ahead::{Coming, ReadingAhead};
+use crate::reading_ahead::{ReadingAhead, StopReason};
 use std::alloc::AllocError;
 use std::thread::{Threads, join_mut};
 use text_io::{Input, Output, RunFault, Turn, give_answers};
@@ -21,11 +21,11 @@ fn read_beside<R: Threads, I: Input + Send, F: CellFollower + Send>(
     rt: &R,
     input: &mut I,
     reading: &mut ReadingAhead,
-    fresh: &mut Vec<CountedCell>,
+    fresh: &mut Vec<CapturedCell>,
     follower: &mut F,
-    cells: &[CountedCell],
+    cells: &[CapturedCell],
     answers: &mut Vec<u8>,
-) -> Result<(Option<Coming>, Turn), RunFault>
+) -> Result<(Option<StopReason>, Turn), RunFault>
     requires { length reading.old.window < 131072 }
     ensures filled { IfOk result (λ found. FillsAndReads I.is_known (I.rest input.old) (I.rest input.new)
         reading.old found.0 reading.new fresh.old.items fresh.new.items) }
@@ -36,10 +36,10 @@ fn read_beside<R: Threads, I: Input + Send, F: CellFollower + Send>(
 {
     let (filled, answered) = join_mut(
         rt,
-        &mut || -> Result<Option<Coming>, RunFault>
+        &mut || -> Result<Option<StopReason>, RunFault>
             requires { length reading.now.window < 131072 }
-            ensures filled { IfOk result (λ coming. FillsAndReads I.is_known (I.rest input.entry.now) (I.rest input.exit.now)
-                reading.entry.now coming reading.exit.now fresh.entry.now.items fresh.exit.now.items) }
+            ensures filled { IfOk result (λ stop. FillsAndReads I.is_known (I.rest input.entry.now) (I.rest input.exit.now)
+                reading.entry.now stop reading.exit.now fresh.entry.now.items fresh.exit.now.items) }
             ensures fault { result ≢ Err RunFault.WriteFailed }
             ensures reading { I.failures input.exit.now ≡ read_failures result (I.failures input.entry.now) }
         { reading.fill_and_read::<I>(input, fresh) },
@@ -48,9 +48,9 @@ fn read_beside<R: Threads, I: Input + Send, F: CellFollower + Send>(
                 answers.entry.now.items answers.exit.now.items) }
         { answer_cells(follower, cells, answers) },
     );
-    let coming = filled?;
+    let stop = filled?;
     match answered {
-        Ok(turn) => Ok((coming, turn)),
+        Ok(turn) => Ok((stop, turn)),
         Err(_) => Err(RunFault::NoMemory),
     }
 }
@@ -63,16 +63,16 @@ fn go_ahead<R: Threads, I: Input + Send, F: CellFollower + Send>(
     queue: &mut Queue,
     follower: &mut F,
     answers: &mut Vec<u8>,
-) -> Result<Going, RunFault>
+) -> Result<StepOutcome, RunFault>
     requires short { length reading.old.window < 131072 }
     requires spare { queue.old.spare.items ≡ [] }
     ensures spare { OnOk result (queue.new.spare.items ≡ []) }
-    ensures ahead { IfOk result (λ going. FillsAhead F.rules (F.shows follower.old) (F.shows follower.new) I.is_known (I.rest input.old) (I.rest input.new)
-        reading.old queue.old.cells.items going reading.new queue.new.cells.items answers.old.items answers.new.items) }
+    ensures ahead { IfOk result (λ outcome. FillsAhead F.rules (F.shows follower.old) (F.shows follower.new) I.is_known (I.rest input.old) (I.rest input.new)
+        reading.old queue.old.cells.items outcome reading.new queue.new.cells.items answers.old.items answers.new.items) }
     ensures fault { result ≢ Err RunFault.WriteFailed }
     ensures reading { I.failures input.new ≡ read_failures result (I.failures input.old) }
 {
-    let (coming, turn) = read_beside(
+    let (stop, turn) = read_beside(
         rt,
         input,
         reading,
@@ -81,20 +81,20 @@ fn go_ahead<R: Threads, I: Input + Send, F: CellFollower + Send>(
         &queue.cells,
         answers,
     )?;
-    queue.turn();
+    queue.take_next_cells();
     match turn {
-        Turn::Ends => return Ok(Going::Ended),
+        Turn::Ends => return Ok(StepOutcome::Ended),
         Turn::GoesOn => {}
     }
-    let Some(coming) = coming else {
-        return Ok(Going::Wants);
+    let Some(stop) = stop else {
+        return Ok(StepOutcome::Wants);
     };
-    match coming {
-        Coming::Wants => Ok(Going::On),
-        Coming::Enough => Ok(Going::On),
-        Coming::Several(_, _) | Coming::Broken(_) => {
-            match answer_read(follower, reading, coming, &mut queue.cells, answers) {
-                Ok(_) => Ok(Going::Ended),
+    match stop {
+        StopReason::Wants => Ok(StepOutcome::On),
+        StopReason::Enough => Ok(StepOutcome::On),
+        StopReason::SecondLink(_, _) | StopReason::Broken(_) => {
+            match answer_read(follower, reading, stop, &mut queue.cells, answers) {
+                Ok(_) => Ok(StepOutcome::Ended),
                 Err(_) => Err(RunFault::NoMemory),
             }
         }
@@ -110,14 +110,14 @@ pub(crate) fn give_and_go_ahead<R: Threads, I: Input + Send, O: Output, F: CellF
     queue: &mut Queue,
     follower: &mut F,
     answers: &mut Vec<u8>,
-) -> Result<Going, RunFault>
+) -> Result<StepOutcome, RunFault>
     requires short { length reading.old.window < 131072 }
     requires spare { queue.old.spare.items ≡ [] }
     ensures spare { OnOk result (queue.new.spare.items ≡ []) }
     ensures given { O.is_known → OnOk result (O.held output.new ≡ O.held output.old ++ answers.old.items) }
     ensures front { O.is_known → OnErr result (IsPart (O.held output.old) (O.held output.new) answers.old.items) }
-    ensures ahead { IfOk result (λ going. FillsAhead F.rules (F.shows follower.old) (F.shows follower.new) I.is_known (I.rest input.old) (I.rest input.new)
-        reading.old queue.old.cells.items going reading.new queue.new.cells.items [] answers.new.items) }
+    ensures ahead { IfOk result (λ outcome. FillsAhead F.rules (F.shows follower.old) (F.shows follower.new) I.is_known (I.rest input.old) (I.rest input.new)
+        reading.old queue.old.cells.items outcome reading.new queue.new.cells.items [] answers.new.items) }
     ensures reading { I.failures input.new ≡ read_failures result (I.failures input.old) }
     ensures writing { O.failures output.new ≡ write_failures result (O.failures output.old) }
 {

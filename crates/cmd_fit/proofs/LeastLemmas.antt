@@ -1,29 +1,29 @@
 -- Why the highest level that a cell finds is the least limit.
 use Rattle.std.proofs.Common.{◌≡◌, ◌⊎◌, ℕ, ◌+◌, ◌<◌, ◌≤◌, ◌↔◌, max, nat_lt, Bool, true, false, cond, List, [], ◌∷◌, ◌++◌, length, refl, sym, ap, ◌∙◌, subst, inl, inr, arith}
 use Rattle.std.proofs.lemmas.Bool.{leb-true, le-leb, ltb-true, ltb-false}
-use Rattle.captures_text.specs.declared.counted.CountedCell.{CountedCell}
+use Rattle.captures_text.specs.declared.captured_cell.CapturedCell.{CapturedCell}
 use Rattle.leaky.specs.Bucket.{level_at, opening}
 use Rattle.leaky.specs.Bursts.{AllFill}
 use Rattle.leaky.specs.declared.gcra.Gcra.{Gcra}
 use Rattle.cmd_fit.specs.Fits.{bucket_of, fit_after, no_cells}
-use Rattle.cmd_fit.specs.FitLaws.{IsFitOf, moments_counted}
+use Rattle.cmd_fit.specs.FitLaws.{IsFitOf, captured_moments}
 use Rattle.cmd_fit.specs.declared.connection_fit.ConnectionFit.{ConnectionFit}
 use Rattle.cmd_fit.specs.declared.flow.Flow.{Flow}
 
 -- The state after these cells, from this one on.
-abbrev pub through : ℕ → ConnectionFit → List CountedCell → ConnectionFit
+abbrev pub through : ℕ → ConnectionFit → List CapturedCell → ConnectionFit
 through increment fit [] = fit
 through increment fit (cell ∷ cells) = through increment (fit_after increment fit cell.moment cell.number) cells
 
-through-cells : (increment : ℕ) (fit : ConnectionFit) (cells : List CountedCell) → (through increment fit cells).cells ≡ fit.cells + length cells
+through-cells : (increment : ℕ) (fit : ConnectionFit) (cells : List CapturedCell) → (through increment fit cells).cells ≡ fit.cells + length cells
 through-cells increment fit [] = omega arith
 through-cells increment fit (cell ∷ cells) =
     let rest = through-cells increment (fit_after increment fit cell.moment cell.number) cells in
     omega arith
 
 -- Cells that conform need no more than the limit.
-through-low : (gcra : Gcra) (fit : ConnectionFit) (cells : List CountedCell)
-    → AllFill gcra (bucket_of fit) (moments_counted cells) → fit.limit ≤ gcra.limit
+through-low : (gcra : Gcra) (fit : ConnectionFit) (cells : List CapturedCell)
+    → AllFill gcra (bucket_of fit) (captured_moments cells) → fit.limit ≤ gcra.limit
     → (through gcra.increment fit cells).limit ≤ gcra.limit
 through-low gcra fit [] fill low = low
 through-low gcra fit (cell ∷ cells) fill low =
@@ -34,9 +34,9 @@ through-low gcra fit (cell ∷ cells) fill low =
     through-low gcra next cells fill.1 lower
 
 -- Under a limit that is enough, each conforms.
-through-fill : (gcra : Gcra) (fit : ConnectionFit) (cells : List CountedCell)
+through-fill : (gcra : Gcra) (fit : ConnectionFit) (cells : List CapturedCell)
     → (through gcra.increment fit cells).limit ≤ gcra.limit
-    → AllFill gcra (bucket_of fit) (moments_counted cells) × (fit.limit ≤ gcra.limit)
+    → AllFill gcra (bucket_of fit) (captured_moments cells) × (fit.limit ≤ gcra.limit)
 through-fill gcra fit [] low = (tt, low)
 through-fill gcra fit (cell ∷ cells) low =
     let next = fit_after gcra.increment fit cell.moment cell.number in
@@ -47,21 +47,21 @@ through-fill gcra fit (cell ∷ cells) low =
     ((le-leb (level_at (bucket_of fit) cell.moment) gcra.limit needed, rest.0), before)
 
 -- The cell that is named: those before it need less.
-record Named (increment : ℕ) (fit : ConnectionFit) (cells : List CountedCell) : Type 0 where
-  before : List CountedCell
-  named : CountedCell
-  later : List CountedCell
+record Named (increment : ℕ) (fit : ConnectionFit) (cells : List CapturedCell) : Type 0 where
+  before : List CapturedCell
+  named : CapturedCell
+  later : List CapturedCell
   cut : cells ≡ before ++ named ∷ later
   number : named.number ≡ (through increment fit cells).number
   below : (through increment fit before).limit < (through increment fit cells).limit
   needs : (through increment fit (before ++ named ∷ [])).limit ≡ (through increment fit cells).limit
 
 -- No cell needs more than the limit so far, and the named record stays, or some cell is named.
-record Same (increment : ℕ) (fit : ConnectionFit) (cells : List CountedCell) : Type 0 where
+record Same (increment : ℕ) (fit : ConnectionFit) (cells : List CapturedCell) : Type 0 where
   limit : (through increment fit cells).limit ≡ fit.limit
   number : (through increment fit cells).number ≡ fit.number
 
-through-named : (increment : ℕ) (fit : ConnectionFit) (cells : List CountedCell) → Same increment fit cells ⊎ Named increment fit cells
+through-named : (increment : ℕ) (fit : ConnectionFit) (cells : List CapturedCell) → Same increment fit cells ⊎ Named increment fit cells
 through-named increment fit [] = inl (record { limit = refl; number = refl })
 through-named increment fit (cell ∷ cells) =
     let needed = level_at (bucket_of fit) cell.moment in
@@ -94,7 +94,7 @@ through-named increment fit (cell ∷ cells) =
         before = cell ∷ it.before;
         named = it.named;
         later = it.later;
-        cut = ap (λ (cs : List CountedCell). cell ∷ cs) it.cut;
+        cut = ap (λ (cs : List CapturedCell). cell ∷ cs) it.cut;
         number = it.number;
         below = it.below;
         needs = it.needs;
@@ -102,7 +102,7 @@ through-named increment fit (cell ∷ cells) =
     ]
 
 -- The state after all cells of a flow is right for them.
-pub through-is : (increment : ℕ) (flow : Flow) (cell : CountedCell) (cells : List CountedCell)
+pub through-is : (increment : ℕ) (flow : Flow) (cell : CapturedCell) (cells : List CapturedCell)
     → IsFitOf increment (cell ∷ cells) (through increment (no_cells flow cell.number) (cell ∷ cells))
 through-is increment flow cell cells =
     let start = no_cells flow cell.number in
@@ -110,8 +110,8 @@ through-is increment flow cell cells =
     let last = through increment start all in
     let more : last.cells ≡ start.cells + length all = through-cells increment start all in
     let count : last.cells ≡ length all = omega (arith, more) in
-    let Least : ℕ → Type 0 = λ n. (gcra : Gcra) → gcra.increment ≡ n → AllFill gcra opening (moments_counted all) ↔ ((through n start all).limit ≤ gcra.limit) in
-    let least : Least increment = λ gcra e. subst (λ n. AllFill gcra opening (moments_counted all) ↔ ((through n start all).limit ≤ gcra.limit)) e (
+    let Least : ℕ → Type 0 = λ n. (gcra : Gcra) → gcra.increment ≡ n → AllFill gcra opening (captured_moments all) ↔ ((through n start all).limit ≤ gcra.limit) in
+    let least : Least increment = λ gcra e. subst (λ n. AllFill gcra opening (captured_moments all) ↔ ((through n start all).limit ≤ gcra.limit)) e (
       λ fill. through-low gcra start all fill (omega arith),
       λ low. (through-fill gcra start all low).0,
     ) in

@@ -10,9 +10,9 @@ use Rattle.captures.specs.Links.{same_channel, same_link, same_packet_interface}
 use Rattle.captures.specs.declared.content.NoCell.{NoCell}
 use Rattle.captures.specs.declared.link.Channel.{Channel}
 use Rattle.captures.specs.declared.link.Link.{Link}
-use Rattle.captures.specs.declared.reader.Passage.{Passage}
+use Rattle.captures.specs.declared.reader.SkippedBlock.{SkippedBlock}
 use Rattle.captures.specs.declared.reader.Record.{Record}
-use Rattle.captures_text.specs.PassedRecords.{with_marked}
+use Rattle.captures_text.specs.ReadingSummaries.{with_marked}
 use Rattle.cmd_fit.specs.LinkLaws.{HasRow, IsTallyOf, LinksAreCounted, RowsAreFew, cell_record, if_cell, records_of, rows_of}
 use Rattle.cmd_fit.specs.LinkTallies.{LinksState, links_after, links_cell_with, links_content, links_given, most_links, no_links, one_more_cell, opening_tally, tally_after, link_tally_of, with_row}
 use Rattle.cmd_fit.specs.declared.link_tally.LinkTally.{LinkTally}
@@ -153,7 +153,7 @@ own-put link tally (row ∷ rows) =
     choice (same_link link row.0) refl
 
 -- What the rows say after these frames.
-record Counts (frames : List (Result Record Passage)) (rows : List (Link × LinkTally)) : Type 0 where
+record Counts (frames : List (Result Record SkippedBlock)) (rows : List (Link × LinkTally)) : Type 0 where
   few : length rows ≤ most_links
   row : (link : Link) → HasRow (records_of link frames) (length rows) (rows_of link rows)
 
@@ -190,20 +190,20 @@ one-left more count [] none full = inr full
 one-left more count (row ∷ rows) none full = absurd (let no : Some row.1 ≡ None = none in cc)
 
 -- The records of a link after a frame.
-records-after : (link : Link) (frames : List (Result Record Passage)) (given : Result Record Passage)
+records-after : (link : Link) (frames : List (Result Record SkippedBlock)) (given : Result Record SkippedBlock)
     → records_of link (frames ++ given ∷ []) ≡ records_of link frames ++ filter (λ record_read. same_link link record_read.link) (cell_record given ++ [])
 records-after link frames given =
     ap (filter (λ record_read. same_link link record_read.link)) (flat_map-append cell_record frames (given ∷ []))
     ∙ filter-append (λ record_read. same_link link record_read.link) (flat_map cell_record frames) (cell_record given ++ [])
 
-without-cell : (link : Link) (frames : List (Result Record Passage)) (given : Result Record Passage) → cell_record given ≡ []
+without-cell : (link : Link) (frames : List (Result Record SkippedBlock)) (given : Result Record SkippedBlock) → cell_record given ≡ []
     → records_of link (frames ++ given ∷ []) ≡ records_of link frames
 without-cell link frames given none =
     records-after link frames given
     ∙ ap (λ (xs : List Record). records_of link frames ++ filter (λ record_read. same_link link record_read.link) (xs ++ [])) none
     ∙ append-nil (records_of link frames)
 
-with-cell : (link : Link) (frames : List (Result Record Passage)) (given : Result Record Passage) (record_read : Record) (b : Bool)
+with-cell : (link : Link) (frames : List (Result Record SkippedBlock)) (given : Result Record SkippedBlock) (record_read : Record) (b : Bool)
     → cell_record given ≡ record_read ∷ [] → same_link link record_read.link ≡ b
     → records_of link (frames ++ given ∷ []) ≡ records_of link frames ++ cond b (record_read ∷ []) []
 with-cell link frames given record_read b one is =
@@ -212,7 +212,7 @@ with-cell link frames given record_read b one is =
     ∙ ap (λ b. records_of link frames ++ cond b (record_read ∷ []) []) is
 
 -- A row that is put in, where that of the record's own link is right.
-put-in : (frames : List (Result Record Passage)) (given : Result Record Passage) (rows : List (Link × LinkTally)) (record_read : Record) (tally : LinkTally)
+put-in : (frames : List (Result Record SkippedBlock)) (given : Result Record SkippedBlock) (rows : List (Link × LinkTally)) (record_read : Record) (tally : LinkTally)
     → cell_record given ≡ record_read ∷ [] → Counts frames rows → length (with_row record_read.link tally rows) ≤ most_links
     → HasRow (records_of record_read.link frames ++ record_read ∷ []) (length (with_row record_read.link tally rows))
     (put_first record_read.link tally (rows_of record_read.link rows))
@@ -242,7 +242,7 @@ put-in frames given rows record_read tally one counts few own =
     }
 
 -- A cell for whose link there is no room.
-left-out : (frames : List (Result Record Passage)) (given : Result Record Passage) (rows : List (Link × LinkTally)) (record_read : Record)
+left-out : (frames : List (Result Record SkippedBlock)) (given : Result Record SkippedBlock) (rows : List (Link × LinkTally)) (record_read : Record)
     → cell_record given ≡ record_read ∷ [] → Counts frames rows → link_tally_of record_read.link rows ≡ None → most_links ≤ length rows
     → Counts (frames ++ given ∷ []) rows
 left-out frames given rows record_read one counts none full =
@@ -262,7 +262,7 @@ left-out frames given rows record_read one counts none full =
     }
 
 -- A cell.
-counts-cell : (frames : List (Result Record Passage)) (given : Result Record Passage) (state : LinksState) (record_read : Record)
+counts-cell : (frames : List (Result Record SkippedBlock)) (given : Result Record SkippedBlock) (state : LinksState) (record_read : Record)
     → cell_record given ≡ record_read ∷ [] → Counts frames state.rows
     → (known : Option LinkTally) → link_tally_of record_read.link state.rows ≡ known
     → Counts (frames ++ given ∷ []) (links_cell_with state record_read (tally_after state.rows record_read known)).rows
@@ -287,34 +287,34 @@ counts-cell frames given state record_read one counts None none =
     ]
 
 -- A frame without a cell.
-counts-none : (frames : List (Result Record Passage)) (given : Result Record Passage) (rows : List (Link × LinkTally)) → cell_record given ≡ []
+counts-none : (frames : List (Result Record SkippedBlock)) (given : Result Record SkippedBlock) (rows : List (Link × LinkTally)) → cell_record given ≡ []
     → Counts frames rows → Counts (frames ++ given ∷ []) rows
 counts-none frames given rows none counts = record {
   few = counts.few;
   row = λ link. subst (λ (xs : List Record). HasRow xs (length rows) (rows_of link rows)) (sym (without-cell link frames given none)) (counts.row link);
 }
 
-counts-content : (frames : List (Result Record Passage)) (state : LinksState) (record_read : Record) (content : Result (List ℕ) NoCell)
+counts-content : (frames : List (Result Record SkippedBlock)) (state : LinksState) (record_read : Record) (content : Result (List ℕ) NoCell)
     → record_read.content ≡ content → Counts frames state.rows → Counts (frames ++ Ok record_read ∷ []) (links_content state record_read content).rows
 counts-content frames state record_read (Ok cell) is counts =
     counts-cell frames (Ok record_read) state record_read (ap (if_cell record_read) is) counts (link_tally_of record_read.link state.rows) refl
 counts-content frames state record_read (Err why) is counts =
     counts-none frames (Ok record_read) state.rows (ap (if_cell record_read) is) counts
 
-counts-given : (frames : List (Result Record Passage)) (state : LinksState) (given : Result Record Passage) → Counts frames state.rows
+counts-given : (frames : List (Result Record SkippedBlock)) (state : LinksState) (given : Result Record SkippedBlock) → Counts frames state.rows
     → Counts (frames ++ given ∷ []) (links_given state given).rows
 counts-given frames state (Ok record_read) counts =
-    counts-content frames (record state { passed = with_marked state.passed record_read.marks record_read.number }) record_read record_read.content refl counts
-counts-given frames state (Err passage) counts = counts-none frames (Err passage) state.rows refl counts
+    counts-content frames (record state { summary = with_marked state.summary record_read.marks record_read.number }) record_read record_read.content refl counts
+counts-given frames state (Err block) counts = counts-none frames (Err block) state.rows refl counts
 
-counts-after : (before : List (Result Record Passage)) (state : LinksState) (frames : List (Result Record Passage)) → Counts before state.rows
+counts-after : (before : List (Result Record SkippedBlock)) (state : LinksState) (frames : List (Result Record SkippedBlock)) → Counts before state.rows
     → Counts (before ++ frames) (links_after state frames).rows
-counts-after before state [] counts = subst (λ (xs : List (Result Record Passage)). Counts xs state.rows) (sym (append-nil before)) counts
+counts-after before state [] counts = subst (λ (xs : List (Result Record SkippedBlock)). Counts xs state.rows) (sym (append-nil before)) counts
 counts-after before state (given ∷ frames) counts =
-    subst (λ (xs : List (Result Record Passage)). Counts xs (links_after (links_given state given) frames).rows) (append_assoc before (given ∷ []) frames)
+    subst (λ (xs : List (Result Record SkippedBlock)). Counts xs (links_after (links_given state given) frames).rows) (append_assoc before (given ∷ []) frames)
     (counts-after (before ++ given ∷ []) (links_given state given) frames (counts-given before state given counts))
 
-counts-all : (frames : List (Result Record Passage)) → Counts frames (links_after no_links frames).rows
+counts-all : (frames : List (Result Record SkippedBlock)) → Counts frames (links_after no_links frames).rows
 counts-all frames = counts-after [] no_links frames (record { few = omega arith; row = λ link. inl refl })
 
 pub links-counted : LinksAreCounted

@@ -11,7 +11,7 @@ use Rattle.captures.specs.declared.opening.FileFault.{FileFault}
 use Rattle.captures.specs.declared.opening.Opening.{Opening}
 use Rattle.captures.specs.declared.opening.Opening.TheVariants.{Opened, Undecided, Refused}
 use Rattle.captures.specs.declared.reader.Next.TheVariants.{Broken}
-use Rattle.captures.specs.declared.reader.Passage.{Passage}
+use Rattle.captures.specs.declared.reader.SkippedBlock.{SkippedBlock}
 use Rattle.captures.specs.declared.reader.Reader.{Reader}
 use Rattle.captures.specs.declared.reader.Record.{Record}
 use Rattle.captures_text.specs.CaptureFaults.{file_fault_line}
@@ -26,7 +26,7 @@ use Rattle.cmd_fit.specs.declared.links_reading.LinksReading.{LinksReading}
 use Rattle.cmd_fit.specs.inner.LinksSteps.{ReadsFrame, LinksHere, WantsMore}
 
 -- A frame more.
-pub frame_before : (state : LinksState) (before after : Reader) (given : Result Record Passage) (octets more text : List ℕ) (own : ℕ) (done : Done)
+pub frame_before : (state : LinksState) (before after : Reader) (given : Result Record SkippedBlock) (octets more text : List ℕ) (own : ℕ) (done : Done)
     → TakesFrame before octets given own after
     → IsLinksFrom (links_given state given) after.format after.count after.at (drop own octets ++ more) text done
     → IsLinksFrom state before.format before.count before.at (octets ++ more) text done
@@ -54,7 +54,7 @@ pub one_from : (state : LinksState) (format : Format) (count at : ℕ) (octets o
     → IsLinksFrom state format count at octets one ends → IsLinksFrom state format count at octets other other_ends → (one ≡ other) × (ends ≡ other_ends)
 one_from state format count at octets one other ends other_ends first second =
     let same = one_reading format count at octets first.0 second.0 first.1 second.1 first.2 second.2 in (
-      first.3 ∙ ap₂ (λ (frames : List (Result Record Passage)) (ending : Option Fault). links_lines (links_after state frames) ending) same.0 same.1 ∙ sym second.3,
+      first.3 ∙ ap₂ (λ (frames : List (Result Record SkippedBlock)) (ending : Option Fault). links_lines (links_after state frames) ending) same.0 same.1 ∙ sym second.3,
       first.4 ∙ ap done_at same.1 ∙ sym second.4,
     )
 

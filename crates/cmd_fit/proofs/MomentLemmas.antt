@@ -8,16 +8,16 @@ use Rattle.captures.specs.Links.{same_link}
 use Rattle.captures.specs.Moments.{nearest_tick}
 use Rattle.captures.specs.declared.content.NoCell.{NoCell}
 use Rattle.captures.specs.declared.link.Link.{Link}
-use Rattle.captures.specs.declared.reader.Passage.{Passage}
+use Rattle.captures.specs.declared.reader.SkippedBlock.{SkippedBlock}
 use Rattle.captures.specs.declared.reader.Record.{Record}
-use Rattle.captures_text.specs.CellFilter.{FilterState, counted_cells, counted_then, filter_at_link, filter_at_time, filter_cell, filter_content, filter_marked, filter_passage, filter_record, filter_start}
+use Rattle.captures_text.specs.CellFilter.{FilterState, captured_cells, captured_then, filter_at_link, filter_at_time, filter_cell, filter_content, filter_marked, filter_block, filter_record, filter_start}
 use Rattle.captures_text.specs.Tallies.{one_more_record}
-use Rattle.captures_text.specs.declared.counted.CountedCell.{CountedCell}
+use Rattle.captures_text.specs.declared.captured_cell.CapturedCell.{CapturedCell}
 use Rattle.captures_text.specs.declared.filter.Filtered.{Filtered}
-use Rattle.captures_text.specs.declared.filter.Filtered.TheVariants.{Counts, Passed, Several}
+use Rattle.captures_text.specs.declared.filter.Filtered.TheVariants.{Counts, Skipped, SecondLink}
 use Rattle.leaky.specs.Moments.{GoesOn}
 use Rattle.cmd_fit.specs.Fits.{is_of_class}
-use Rattle.cmd_fit.specs.FitLaws.{MomentsGoOn, cells_of_class, moments_counted}
+use Rattle.cmd_fit.specs.FitLaws.{MomentsGoOn, cells_of_class, captured_moments}
 use Rattle.cmd_fit.specs.Flows.{flow_of, is_same_flow}
 
 div-grows : (a b d : ℕ) → 0 < d → a ≤ b → a / d ≤ b / d
@@ -37,8 +37,8 @@ IsOn state earliest =
 -- The next cell that counts is not before it.
 abbrev IsNext : ℕ → ℕ → Filtered → FilterState → Type 0
 IsNext tick earliest (Counts moment cell) after = (earliest ≤ moment) × (IsOn after moment × (after.tick ≡ tick))
-IsNext tick earliest Passed after = IsOn after earliest × (after.tick ≡ tick)
-IsNext tick earliest (Several one other) after = ⊤
+IsNext tick earliest Skipped after = IsOn after earliest × (after.tick ≡ tick)
+IsNext tick earliest (SecondLink one other) after = ⊤
 
 abbrev Reads : ℕ → ℕ → Filtered × FilterState → Type 0
 Reads tick earliest read = IsNext tick earliest read.0 read.1
@@ -48,8 +48,8 @@ module _ (record_read : Record) (first latest earliest : ℕ) (ordered : first �
       → Reads state.tick earliest (filter_at_time state first latest record_read cell)
   at-time state cell some on =
       let back : Filtered × FilterState = (
-        Passed,
-        record state { clock = Some (first, latest); passed = record state.passed { back = one_more_record state.passed.back record_read.number } },
+        Skipped,
+        record state { clock = Some (first, latest); summary = record state.summary { back = one_more_record state.summary.back record_read.number } },
       ) in
       let moment = nearest_tick (record_read.time - first) state.tick in
       let counts : Filtered × FilterState = (Counts moment cell, record state { clock = Some (first, max latest record_read.time) }) in
@@ -70,10 +70,10 @@ module _ (record_read : Record) (first latest earliest : ℕ) (ordered : first �
   at-link state cell None some on = at-time (record state { link = Some record_read.link }) cell some on
   at-link state cell (Some link) some on =
       let other : Filtered × FilterState = (
-        Passed,
-        record state { clock = Some (first, latest); passed = record state.passed { other_link = one_more_record state.passed.other_link record_read.number } },
+        Skipped,
+        record state { clock = Some (first, latest); summary = record state.summary { other_link = one_more_record state.summary.other_link record_read.number } },
       ) in
-      let several : Filtered × FilterState = (Several link record_read.link, state) in
+      let several : Filtered × FilterState = (SecondLink link record_read.link, state) in
       let asked : (b : Bool) → Reads state.tick earliest (cond b other several) = elim [
         | true ↦ ((ordered, on), refl)
         | false ↦ tt
@@ -102,20 +102,20 @@ reads-on : (state : FilterState) (record_read : Record) (earliest : ℕ) → 0 <
     → Reads state.tick earliest (filter_record state record_read)
 reads-on state record_read earliest some on = at-content (filter_marked state record_read) record_read record_read.content earliest some on
 
-counted-on : (answer : Filtered) (after : FilterState) (tick earliest number : ℕ) (later : List CountedCell) → IsNext tick earliest answer after
-    → ((from : ℕ) → IsOn after from → after.tick ≡ tick → GoesOn from (moments_counted later))
-    → GoesOn earliest (moments_counted (counted_then answer number later))
-counted-on (Counts moment cell) after tick earliest number later next rest = (next.0, rest moment next.1.0 next.1.1)
-counted-on Passed after tick earliest number later next rest = rest earliest next.0 next.1
-counted-on (Several one other) after tick earliest number later next rest = tt
+captured-on : (answer : Filtered) (after : FilterState) (tick earliest number : ℕ) (later : List CapturedCell) → IsNext tick earliest answer after
+    → ((from : ℕ) → IsOn after from → after.tick ≡ tick → GoesOn from (captured_moments later))
+    → GoesOn earliest (captured_moments (captured_then answer number later))
+captured-on (Counts moment cell) after tick earliest number later next rest = (next.0, rest moment next.1.0 next.1.1)
+captured-on Skipped after tick earliest number later next rest = rest earliest next.0 next.1
+captured-on (SecondLink one other) after tick earliest number later next rest = tt
 
-cells-go-on : (state : FilterState) (frames : List (Result Record Passage)) (earliest : ℕ) → 0 < state.tick → IsOn state earliest
-    → GoesOn earliest (moments_counted (counted_cells state frames))
+cells-go-on : (state : FilterState) (frames : List (Result Record SkippedBlock)) (earliest : ℕ) → 0 < state.tick → IsOn state earliest
+    → GoesOn earliest (captured_moments (captured_cells state frames))
 cells-go-on state [] earliest some on = tt
-cells-go-on state (Err passage ∷ frames) earliest some on = cells-go-on (filter_passage state passage) frames earliest some on
+cells-go-on state (Err block ∷ frames) earliest some on = cells-go-on (filter_block state block) frames earliest some on
 cells-go-on state (Ok record_read ∷ frames) earliest some on =
     let read = filter_record state record_read in
-    counted-on read.0 read.1 state.tick earliest record_read.number (counted_cells read.1 frames) (reads-on state record_read earliest some on)
+    captured-on read.0 read.1 state.tick earliest record_read.number (captured_cells read.1 frames) (reads-on state record_read earliest some on)
     (λ from ahead same. cells-go-on read.1 frames from (subst (λ n. 0 < n) (sym same) some) ahead)
 
 -- So do those of some of the cells.
@@ -123,18 +123,18 @@ GoesOn-from : (earlier later : ℕ) (moments : List ℕ) → earlier ≤ later �
 GoesOn-from earlier later [] less goes = tt
 GoesOn-from earlier later (moment ∷ moments) less goes = (omega (arith, less, goes.0), goes.1)
 
-GoesOn-filter : (test : CountedCell → Bool) (earliest : ℕ) (cells : List CountedCell) → GoesOn earliest (moments_counted cells)
-    → GoesOn earliest (moments_counted (filter test cells))
+GoesOn-filter : (test : CapturedCell → Bool) (earliest : ℕ) (cells : List CapturedCell) → GoesOn earliest (captured_moments cells)
+    → GoesOn earliest (captured_moments (filter test cells))
 GoesOn-filter test earliest [] goes = tt
 GoesOn-filter test earliest (cell ∷ cells) goes =
-    let choice : (b : Bool) → GoesOn earliest (moments_counted (cond b (cell ∷ filter test cells) (filter test cells))) = elim [
+    let choice : (b : Bool) → GoesOn earliest (captured_moments (cond b (cell ∷ filter test cells) (filter test cells))) = elim [
       | true ↦ (goes.0, GoesOn-filter test cell.moment cells goes.1)
-      | false ↦ GoesOn-from earliest cell.moment (moments_counted (filter test cells)) goes.0 (GoesOn-filter test cell.moment cells goes.1)
+      | false ↦ GoesOn-from earliest cell.moment (captured_moments (filter test cells)) goes.0 (GoesOn-filter test cell.moment cells goes.1)
     ] in
     choice (test cell)
 
 pub moments-go-on : MomentsGoOn
 moments-go-on tick link timing scope frames flow some =
-    let cells = counted_cells (filter_start tick link timing) frames in
-    GoesOn-filter (λ counted. is_same_flow flow (flow_of scope.side scope.rules counted.cell)) 0 (cells_of_class scope.clp cells)
-    (GoesOn-filter (λ counted. is_of_class scope.clp counted.cell) 0 cells (cells-go-on (filter_start tick link timing) frames 0 some refl))
+    let cells = captured_cells (filter_start tick link timing) frames in
+    GoesOn-filter (λ captured. is_same_flow flow (flow_of scope.side scope.rules captured.cell)) 0 (cells_of_class scope.clp cells)
+    (GoesOn-filter (λ captured. is_of_class scope.clp captured.cell) 0 cells (cells-go-on (filter_start tick link timing) frames 0 some refl))

@@ -9,7 +9,7 @@ use Rattle.std.specs.declared.cmp.Ordering.TheVariants.{Less, Equal, Greater}
 use Rattle.std.proofs.lemmas.Map.Lookups.{exact_unsigned}
 use Rattle.std.proofs.lemmas.Option.{same_Some}
 use Rattle.captures_text.specs.CaptureText.{RunsThrough}
-use Rattle.captures_text.specs.declared.counted.CountedCell.{CountedCell}
+use Rattle.captures_text.specs.declared.captured_cell.CapturedCell.{CapturedCell}
 use Rattle.cmd_fit.specs.Fits.{fit_in, is_of_class, with_fit}
 use Rattle.cmd_fit.specs.FitLaws.{LinesAreOfFlows}
 use Rattle.cmd_fit.specs.FitText.{FitWorld, fit_answer, fit_rules, fit_start, fits_with_cell, flow_key, put_in_order}
@@ -125,29 +125,29 @@ apart-with (first ∷ fits) fit apart small =
     ] in
     choice (is_same_flow fit.flow first.flow) refl
 
-apart-by : (world : FitWorld) (counted : CountedCell) (next : FitWorld) (answer : Result (List ConnectionFit) FitFault)
-    → fits_with_cell world counted ≡ answer
-    → (fit_answer world counted.number answer).1 ≡ Some next → AreApart world.fits → AreApart next.fits
-apart-by world counted next (Err fault) is goes apart = absurd (let no : None ≡ Some next = goes in cc)
-apart-by world counted next (Ok new) is goes apart =
-    let named = flow_of world.scope.side world.scope.rules counted.cell in
-    let grew = grew-by world.scope.increment world.fits named counted.moment counted.number new is in
-    let small : IsSmall named = (channel_fits world.scope.side counted.cell, value_fits world.scope.rules counted.cell) in
+apart-by : (world : FitWorld) (captured : CapturedCell) (next : FitWorld) (answer : Result (List ConnectionFit) FitFault)
+    → fits_with_cell world captured ≡ answer
+    → (fit_answer world captured.number answer).1 ≡ Some next → AreApart world.fits → AreApart next.fits
+apart-by world captured next (Err fault) is goes apart = absurd (let no : None ≡ Some next = goes in cc)
+apart-by world captured next (Ok new) is goes apart =
+    let named = flow_of world.scope.side world.scope.rules captured.cell in
+    let grew = grew-by world.scope.increment world.fits named captured.moment captured.number new is in
+    let small : IsSmall named = (channel_fits world.scope.side captured.cell, value_fits world.scope.rules captured.cell) in
     let own : IsSmall grew.fit.flow = subst IsSmall (sym grew.own) small in
     subst (λ (w : FitWorld). AreApart w.fits) (same_Some (record world { fits = new }) next goes)
     (subst AreApart grew.is (apart-with world.fits grew.fit apart own))
 
-apart-on : (world : FitWorld) (counted : CountedCell) (next : FitWorld) (b : Bool)
-    → (cond b (fit_answer world counted.number (fits_with_cell world counted)) ([], Some world)).1 ≡ Some next
+apart-on : (world : FitWorld) (captured : CapturedCell) (next : FitWorld) (b : Bool)
+    → (cond b (fit_answer world captured.number (fits_with_cell world captured)) ([], Some world)).1 ≡ Some next
     → AreApart world.fits → AreApart next.fits
-apart-on world counted next true goes apart = apart-by world counted next (fits_with_cell world counted) refl goes apart
-apart-on world counted next false goes apart = subst (λ (w : FitWorld). AreApart w.fits) (same_Some world next goes) apart
+apart-on world captured next true goes apart = apart-by world captured next (fits_with_cell world captured) refl goes apart
+apart-on world captured next false goes apart = subst (λ (w : FitWorld). AreApart w.fits) (same_Some world next goes) apart
 
-run-apart : (world last : FitWorld) (cells : List CountedCell) → RunsThrough fit_rules world cells last → AreApart world.fits → AreApart last.fits
+run-apart : (world last : FitWorld) (cells : List CapturedCell) → RunsThrough fit_rules world cells last → AreApart world.fits → AreApart last.fits
 run-apart world last [] leads apart = subst (λ (w : FitWorld). AreApart w.fits) (sym leads) apart
-run-apart world last (counted ∷ cells) (here, next, step, leads) apart =
+run-apart world last (captured ∷ cells) (here, next, step, leads) apart =
     run-apart next last cells leads
-    (apart-on world counted next (is_of_class world.scope.clp counted.cell) (ap (λ (s : List ℕ × Option FitWorld). s.1) step) apart)
+    (apart-on world captured next (is_of_class world.scope.clp captured.cell) (ap (λ (s : List ℕ × Option FitWorld). s.1) step) apart)
 
 or-none : (found : Option ConnectionFit) → or_else found None ≡ found
 or-none None = refl

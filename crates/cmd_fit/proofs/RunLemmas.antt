@@ -6,7 +6,7 @@ use Rattle.captures_text.specs.CaptureText.{RunsThrough, end_done, text_at_end}
 use Rattle.captures_text.specs.CellFilter.{CellsEnd}
 use Rattle.captures_text.specs.inner.FixedRules.{fixed_text, text_then}
 use Rattle.captures_text.proofs.Public.{fixed_only}
-use Rattle.captures_text.specs.declared.counted.CountedCell.{CountedCell}
+use Rattle.captures_text.specs.declared.captured_cell.CapturedCell.{CapturedCell}
 use Rattle.text_io.specs.declared.ending.Done.{Done}
 use Rattle.cmd_fit.specs.Fits.{fit_after, fit_in, fits_after, fits_from, is_in_64_bits, is_of_class, most_connections, no_cells, with_fit, with_checked_fit}
 use Rattle.cmd_fit.specs.Flows.{flow_of, is_same_flow}
@@ -21,12 +21,12 @@ use Rattle.cmd_fit.proofs.FlowLemmas.{flow_itself, flow_same}
 use Rattle.cmd_fit.proofs.LeastLemmas.{through, through-is}
 
 -- The state of a flow after these cells of it, if it has one then.
-abbrev over : ℕ → Flow → Option ConnectionFit → List CountedCell → Option ConnectionFit
+abbrev over : ℕ → Flow → Option ConnectionFit → List CapturedCell → Option ConnectionFit
 over increment flow found [] = found
 over increment flow found (cell ∷ cells) =
     over increment flow (Some (fit_after increment (unwrap_or found (no_cells flow cell.number)) cell.moment cell.number)) cells
 
-over-through : (increment : ℕ) (flow : Flow) (fit : ConnectionFit) (cells : List CountedCell)
+over-through : (increment : ℕ) (flow : Flow) (fit : ConnectionFit) (cells : List CapturedCell)
     → over increment flow (Some fit) cells ≡ Some (through increment fit cells)
 over-through increment flow fit [] = refl
 over-through increment flow fit (cell ∷ cells) = over-through increment flow (fit_after increment fit cell.moment cell.number) cells
@@ -106,37 +106,37 @@ takes-cell increment fits flow moment number new is =
     }
 
 -- A cell after which the run goes on.
-record GoesOn (world : FitWorld) (counted : CountedCell) (next : FitWorld) : Type 0 where
+record GoesOn (world : FitWorld) (captured : CapturedCell) (next : FitWorld) : Type 0 where
   scope : next.scope ≡ world.scope
-  silent : (fit_steps world counted).0 ≡ []
-  fits : (flow : Flow) (later : List CountedCell) → over world.scope.increment flow (fit_in flow next.fits) (cells_fitted world.scope flow later)
-      ≡ over world.scope.increment flow (fit_in flow world.fits) (cells_fitted world.scope flow (counted ∷ later))
+  silent : (fit_steps world captured).0 ≡ []
+  fits : (flow : Flow) (later : List CapturedCell) → over world.scope.increment flow (fit_in flow next.fits) (cells_fitted world.scope flow later)
+      ≡ over world.scope.increment flow (fit_in flow world.fits) (cells_fitted world.scope flow (captured ∷ later))
 
-goes-by : (world : FitWorld) (counted : CountedCell) (next : FitWorld) (answer : Result (List ConnectionFit) FitFault)
-    → fits_with_cell world counted ≡ answer
-    → is_of_class world.scope.clp counted.cell ≡ true → (fit_answer world counted.number answer).1 ≡ Some next → GoesOn world counted next
-goes-by world counted next (Err fault) is of goes = absurd (let no : None ≡ Some next = goes in cc)
-goes-by world counted next (Ok new) is of goes =
+goes-by : (world : FitWorld) (captured : CapturedCell) (next : FitWorld) (answer : Result (List ConnectionFit) FitFault)
+    → fits_with_cell world captured ≡ answer
+    → is_of_class world.scope.clp captured.cell ≡ true → (fit_answer world captured.number answer).1 ≡ Some next → GoesOn world captured next
+goes-by world captured next (Err fault) is of goes = absurd (let no : None ≡ Some next = goes in cc)
+goes-by world captured next (Ok new) is of goes =
     let to : FitWorld = record world { fits = new } in
     let same : to ≡ next = same_Some to next goes in
-    let named = flow_of world.scope.side world.scope.rules counted.cell in
-    let takes = takes-cell world.scope.increment world.fits named counted.moment counted.number new is in
+    let named = flow_of world.scope.side world.scope.rules captured.cell in
+    let takes = takes-cell world.scope.increment world.fits named captured.moment captured.number new is in
     let fits : new ≡ next.fits = ap (λ (w : FitWorld). w.fits) same in
     record {
       scope = ap (λ (w : FitWorld). w.scope) (sym same);
-      silent = ap (λ b. (cond b (fit_answer world counted.number (fits_with_cell world counted)) ([], Some world)).0) of
-          ∙ ap (λ (r : Result (List ConnectionFit) FitFault). (fit_answer world counted.number r).0) is;
+      silent = ap (λ b. (cond b (fit_answer world captured.number (fits_with_cell world captured)) ([], Some world)).0) of
+          ∙ ap (λ (r : Result (List ConnectionFit) FitFault). (fit_answer world captured.number r).0) is;
       fits = λ flow later.
           let few = cells_of_class world.scope.clp later in
           let rest = cells_of_flow world.scope flow few in
-          let with_it : cells_of_class world.scope.clp (counted ∷ later) ≡ counted ∷ few = ap (λ b. cond b (counted ∷ few) few) of in
+          let with_it : cells_of_class world.scope.clp (captured ∷ later) ≡ captured ∷ few = ap (λ b. cond b (captured ∷ few) few) of in
           let choice : (b : Bool) → is_same_flow flow named ≡ b
           → over world.scope.increment flow (fit_in flow new) rest
-          ≡ over world.scope.increment flow (fit_in flow world.fits) (cond b (counted ∷ rest) rest) = elim [
+          ≡ over world.scope.increment flow (fit_in flow world.fits) (cond b (captured ∷ rest) rest) = elim [
             | true ↦ λ e.
                 let own : flow ≡ named = flow_same flow named e in
-                let here : fit_in flow new ≡ Some (fit_after world.scope.increment (unwrap_or (fit_in flow world.fits) (no_cells flow counted.number)) counted.moment counted.number) =
-                subst (λ (v : Flow). fit_in v new ≡ Some (fit_after world.scope.increment (unwrap_or (fit_in v world.fits) (no_cells v counted.number)) counted.moment counted.number))
+                let here : fit_in flow new ≡ Some (fit_after world.scope.increment (unwrap_or (fit_in flow world.fits) (no_cells flow captured.number)) captured.moment captured.number) =
+                subst (λ (v : Flow). fit_in v new ≡ Some (fit_after world.scope.increment (unwrap_or (fit_in v world.fits) (no_cells v captured.number)) captured.moment captured.number))
                 (sym own) takes.here in
                 ap (λ (found : Option ConnectionFit). over world.scope.increment flow found rest) here
             | false ↦ λ e.
@@ -149,44 +149,44 @@ goes-by world counted next (Ok new) is of goes =
           ] in
           ap (λ (fs : List ConnectionFit). over world.scope.increment flow (fit_in flow fs) rest) (sym fits)
           ∙ choice (is_same_flow flow named) refl
-          ∙ ap (λ (its : List CountedCell). over world.scope.increment flow (fit_in flow world.fits) (cells_of_flow world.scope flow its)) (sym with_it);
+          ∙ ap (λ (its : List CapturedCell). over world.scope.increment flow (fit_in flow world.fits) (cells_of_flow world.scope flow its)) (sym with_it);
     }
 
-goes-on : (world : FitWorld) (counted : CountedCell) (next : FitWorld) → (fit_steps world counted).1 ≡ Some next → GoesOn world counted next
-goes-on world counted next goes =
-    let answer = fits_with_cell world counted in
-    let choice : (b : Bool) → is_of_class world.scope.clp counted.cell ≡ b
-    → (cond b (fit_answer world counted.number answer) ([], Some world)).1 ≡ Some next → GoesOn world counted next = elim [
-      | true ↦ λ of here. goes-by world counted next answer refl of here
+goes-on : (world : FitWorld) (captured : CapturedCell) (next : FitWorld) → (fit_steps world captured).1 ≡ Some next → GoesOn world captured next
+goes-on world captured next goes =
+    let answer = fits_with_cell world captured in
+    let choice : (b : Bool) → is_of_class world.scope.clp captured.cell ≡ b
+    → (cond b (fit_answer world captured.number answer) ([], Some world)).1 ≡ Some next → GoesOn world captured next = elim [
+      | true ↦ λ of here. goes-by world captured next answer refl of here
       | false ↦ λ of here.
           let same : world ≡ next = same_Some world next here in
           record {
             scope = ap (λ (w : FitWorld). w.scope) (sym same);
-            silent = ap (λ b. (cond b (fit_answer world counted.number answer) ([], Some world)).0) of;
+            silent = ap (λ b. (cond b (fit_answer world captured.number answer) ([], Some world)).0) of;
             fits = λ flow later.
                 let few = cells_of_class world.scope.clp later in
-                let without : cells_of_class world.scope.clp (counted ∷ later) ≡ few = ap (λ b. cond b (counted ∷ few) few) of in
+                let without : cells_of_class world.scope.clp (captured ∷ later) ≡ few = ap (λ b. cond b (captured ∷ few) few) of in
                 ap (λ (w : FitWorld). over world.scope.increment flow (fit_in flow w.fits) (cells_of_flow world.scope flow few)) (sym same)
-                ∙ ap (λ (its : List CountedCell). over world.scope.increment flow (fit_in flow world.fits) (cells_of_flow world.scope flow its)) (sym without);
+                ∙ ap (λ (its : List CapturedCell). over world.scope.increment flow (fit_in flow world.fits) (cells_of_flow world.scope flow its)) (sym without);
           }
     ] in
-    choice (is_of_class world.scope.clp counted.cell) refl goes
+    choice (is_of_class world.scope.clp captured.cell) refl goes
 
 -- The states of a run.
-run-fits : (world last : FitWorld) (cells : List CountedCell) → RunsThrough fit_rules world cells last → (flow : Flow)
+run-fits : (world last : FitWorld) (cells : List CapturedCell) → RunsThrough fit_rules world cells last → (flow : Flow)
     → fit_in flow last.fits ≡ over world.scope.increment flow (fit_in flow world.fits) (cells_fitted world.scope flow cells)
 run-fits world last [] leads flow = ap (λ (w : FitWorld). fit_in flow w.fits) leads
-run-fits world last (counted ∷ cells) (here, next, step, leads) flow =
-    let goes = goes-on world counted next (ap (λ (s : List ℕ × Option FitWorld). s.1) step) in
+run-fits world last (captured ∷ cells) (here, next, step, leads) flow =
+    let goes = goes-on world captured next (ap (λ (s : List ℕ × Option FitWorld). s.1) step) in
     let Rest : FitScope → Type 0 = λ scope.
     fit_in flow last.fits ≡ over scope.increment flow (fit_in flow next.fits) (cells_fitted scope flow cells) in
     let same : Rest world.scope = subst Rest goes.scope (run-fits next last cells leads flow) in
     same ∙ goes.fits flow cells
 
 -- What the state is that a flow has after all its cells.
-all-cells : (increment : ℕ) (flow : Flow) (cells : List CountedCell) (found : Option ConnectionFit) → found ≡ over increment flow None cells
+all-cells : (increment : ℕ) (flow : Flow) (cells : List CapturedCell) (found : Option ConnectionFit) → found ≡ over increment flow None cells
     → MatchOption found (cells ≡ []) (IsFitOf increment cells)
-all-cells increment flow [] found is = subst (λ (f : Option ConnectionFit). MatchOption f (◌≡◌ {A = List CountedCell} [] []) (IsFitOf increment [])) (sym is) refl
+all-cells increment flow [] found is = subst (λ (f : Option ConnectionFit). MatchOption f (◌≡◌ {A = List CapturedCell} [] []) (IsFitOf increment [])) (sym is) refl
 all-cells increment flow (cell ∷ cells) found is =
     let all = cell ∷ cells in
     let state = through increment (no_cells flow cell.number) all in
@@ -207,39 +207,39 @@ same-answer : (world : FitWorld) (number : ℕ) (answer : Result (List Connectio
 same-answer world number (Ok fits) = refl
 same-answer world number (Err fault) = refl
 
-run-alone : (world last : FitWorld) (cells : List CountedCell) → RunsThrough fit_rules world cells last
+run-alone : (world last : FitWorld) (cells : List CapturedCell) → RunsThrough fit_rules world cells last
     → RunsThrough fit_rules (of_all world) (cells_of_class world.scope.clp cells) (of_all last)
 run-alone world last [] leads = ap of_all leads
-run-alone world last (counted ∷ cells) (here, next, step, leads) =
-    let answer = fits_with_cell world counted in
-    let goes = goes-on world counted next (ap (λ (s : List ℕ × Option FitWorld). s.1) step) in
+run-alone world last (captured ∷ cells) (here, next, step, leads) =
+    let answer = fits_with_cell world captured in
+    let goes = goes-on world captured next (ap (λ (s : List ℕ × Option FitWorld). s.1) step) in
     let few = cells_of_class world.scope.clp cells in
     let rest : RunsThrough fit_rules (of_all next) few (of_all last) =
     subst (λ (s : FitScope). RunsThrough fit_rules (of_all next) (cells_of_class s.clp cells) (of_all last)) goes.scope (run-alone next last cells leads) in
-    let choice : (b : Bool) → cond b (fit_answer world counted.number answer) ([], Some world) ≡ (here, Some next)
-    → RunsThrough fit_rules (of_all world) (cond b (counted ∷ few) few) (of_all last) = elim [
+    let choice : (b : Bool) → cond b (fit_answer world captured.number answer) ([], Some world) ≡ (here, Some next)
+    → RunsThrough fit_rules (of_all world) (cond b (captured ∷ few) few) (of_all last) = elim [
       | true ↦ λ is.
-          let same : fit_answer (of_all world) counted.number answer ≡ (here, Some (of_all next)) =
-          same-answer world counted.number answer ∙ ap (λ (s : List ℕ × Option FitWorld). (s.0, option_map of_all s.1)) is in
+          let same : fit_answer (of_all world) captured.number answer ≡ (here, Some (of_all next)) =
+          same-answer world captured.number answer ∙ ap (λ (s : List ℕ × Option FitWorld). (s.0, option_map of_all s.1)) is in
           (here, of_all next, same, rest)
       | false ↦ λ is.
           subst (λ (w : FitWorld). RunsThrough fit_rules (of_all w) few (of_all last))
           (sym (same_Some world next (ap (λ (s : List ℕ × Option FitWorld). s.1) is))) rest
     ] in
-    choice (is_of_class world.scope.clp counted.cell) step
+    choice (is_of_class world.scope.clp captured.cell) step
 
 pub classes-are-alone : ClassesAreAlone
 classes-are-alone scope cells last leads = run-alone (fit_start scope) last cells leads
 
 -- The text of a run.
-run-text : (world last : FitWorld) (cells : List CountedCell) → RunsThrough fit_rules world cells last → (end : CellsEnd)
+run-text : (world last : FitWorld) (cells : List CapturedCell) → RunsThrough fit_rules world cells last → (end : CellsEnd)
     → fixed_text fit_steps fit_closes world cells end ≡ (text_at_end fit_rules last end, end_done end)
 run-text world last [] leads end = ap (λ (w : FitWorld). (text_at_end fit_rules w end, end_done end)) (sym leads)
-run-text world last (counted ∷ cells) (here, next, step, leads) end =
-    let on : (fit_steps world counted).1 ≡ Some next = ap (λ (s : List ℕ × Option FitWorld). s.1) step in
-    let goes = goes-on world counted next on in
+run-text world last (captured ∷ cells) (here, next, step, leads) end =
+    let on : (fit_steps world captured).1 ≡ Some next = ap (λ (s : List ℕ × Option FitWorld). s.1) step in
+    let goes = goes-on world captured next on in
     let rest : FitWorld → List ℕ × Done = λ w. fixed_text fit_steps fit_closes w cells end in
-    ap (λ (text : List ℕ). text_then text (fit_steps world counted).1 rest) goes.silent
+    ap (λ (text : List ℕ). text_then text (fit_steps world captured).1 rest) goes.silent
     ∙ ap (λ (after : Option FitWorld). text_then [] after rest) on
     ∙ run-text next last cells leads end
 

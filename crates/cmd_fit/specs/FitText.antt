@@ -11,8 +11,8 @@ use Rattle.captures_text.specs.CaptureText.{IsCaptureText}
 use Rattle.captures_text.specs.CellFilter.{filter_start}
 use Rattle.captures_text.specs.CellRules.{CellRules, fixed_rules}
 use Rattle.captures_text.specs.RunLines.{closing_lines}
-use Rattle.captures_text.specs.declared.counted.CountedCell.{CountedCell}
-use Rattle.captures_text.specs.declared.passed.PassedOver.{PassedOver}
+use Rattle.captures_text.specs.declared.captured_cell.CapturedCell.{CapturedCell}
+use Rattle.captures_text.specs.declared.reading_summary.ReadingSummary.{ReadingSummary}
 use Rattle.rules_text.specs.RulesRead.{RulesRead}
 use Rattle.text_io.specs.declared.ending.Done.{Done}
 use Rattle.upc_cell.specs.Side.{has_paths}
@@ -92,20 +92,20 @@ fit_answer world number (Ok fits) = ([], Some (record world { fits = fits }))
 fit_answer world number (Err fault) = (fit_fault_line fault number, None)
 
 -- The states after a cell, or why it ends the run.
-abbrev pub fits_with_cell : FitWorld → CountedCell → Result (List ConnectionFit) FitFault
-fits_with_cell world counted =
-    fits_after world.scope.increment world.fits (flow_of world.scope.side world.scope.rules counted.cell) counted.moment counted.number
+abbrev pub fits_with_cell : FitWorld → CapturedCell → Result (List ConnectionFit) FitFault
+fits_with_cell world captured =
+    fits_after world.scope.increment world.fits (flow_of world.scope.side world.scope.rules captured.cell) captured.moment captured.number
 
 -- The answer to a cell. One of another class changes nothing.
-abbrev pub fit_steps : FitWorld → CountedCell → List ℕ × Option FitWorld
-fit_steps world counted =
-    if is_of_class world.scope.clp counted.cell then fit_answer world counted.number (fits_with_cell world counted) else ([], Some world)
+abbrev pub fit_steps : FitWorld → CapturedCell → List ℕ × Option FitWorld
+fit_steps world captured =
+    if is_of_class world.scope.clp captured.cell then fit_answer world captured.number (fits_with_cell world captured) else ([], Some world)
 
 -- The answer to the end: the table, the comments, and the fault if there is one.
-abbrev pub fit_closes : FitWorld → PassedOver → Option Fault → List ℕ
-fit_closes world passed ending =
+abbrev pub fit_closes : FitWorld → ReadingSummary → Option Fault → List ℕ
+fit_closes world summary ending =
     heading (is_some world.scope.rules)
-    ++ (fit_lines world.scope.side (is_some world.scope.rules) world.fits ++ closing_lines passed ending)
+    ++ (fit_lines world.scope.side (is_some world.scope.rules) world.fits ++ closing_lines summary ending)
 
 -- The rules of `fit`.
 abbrev pub fit_rules : CellRules FitWorld

@@ -3,7 +3,7 @@ use Rattle.std.specs.Prelude.{◌≡◌, ◌-◌, ◌^◌, ◌≤◌, ◌⊎◌,
 use Rattle.captures.specs.Links.{same_link}
 use Rattle.captures.specs.declared.content.NoCell.{NoCell}
 use Rattle.captures.specs.declared.link.Link.{Link}
-use Rattle.captures.specs.declared.reader.Passage.{Passage}
+use Rattle.captures.specs.declared.reader.SkippedBlock.{SkippedBlock}
 use Rattle.captures.specs.declared.reader.Record.{Record}
 use Rattle.cmd_fit.specs.LinkTallies.{links_after, most_links, no_links}
 use Rattle.cmd_fit.specs.declared.link_tally.LinkTally.{LinkTally}
@@ -14,12 +14,12 @@ if_cell record_read (Ok cell) = record_read ∷ []
 if_cell record_read (Err why) = []
 
 -- The record of a frame, if it holds a cell.
-abbrev pub cell_record : Result Record Passage → List Record
+abbrev pub cell_record : Result Record SkippedBlock → List Record
 cell_record (Ok record_read) = if_cell record_read record_read.content
-cell_record (Err passage) = []
+cell_record (Err block) = []
 
 -- The records with a cell of this link, in order.
-abbrev pub records_of : Link → List (Result Record Passage) → List Record
+abbrev pub records_of : Link → List (Result Record SkippedBlock) → List Record
 records_of link frames = filter (λ record_read. same_link link record_read.link) (flat_map cell_record frames)
 
 -- The rows of this link.
@@ -49,9 +49,9 @@ HasRow records count (row ∷ other ∷ rows) = ⊥
 
 -- Each link of a cell has one row, which says what its records say, unless 4096 other links have one. No other link has a row.
 abbrev pub LinksAreCounted : Type 0
-LinksAreCounted = (frames : List (Result Record Passage)) (link : Link) → let rows = (links_after no_links frames).rows in
+LinksAreCounted = (frames : List (Result Record SkippedBlock)) (link : Link) → let rows = (links_after no_links frames).rows in
     HasRow (records_of link frames) (length rows) (rows_of link rows)
 
 -- At most 4096 links have a row.
 abbrev pub RowsAreFew : Type 0
-RowsAreFew = (frames : List (Result Record Passage)) → length (links_after no_links frames).rows ≤ most_links
+RowsAreFew = (frames : List (Result Record SkippedBlock)) → length (links_after no_links frames).rows ≤ most_links

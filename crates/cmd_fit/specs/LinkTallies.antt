@@ -3,12 +3,12 @@ use Rattle.std.specs.Prelude.{◌+◌, ◌-◌, ◌^◌, min, nat_lt, if◌then�
 use Rattle.captures.specs.Links.{same_link}
 use Rattle.captures.specs.declared.content.NoCell.{NoCell}
 use Rattle.captures.specs.declared.link.Link.{Link}
-use Rattle.captures.specs.declared.reader.Passage.{Passage}
+use Rattle.captures.specs.declared.reader.SkippedBlock.{SkippedBlock}
 use Rattle.captures.specs.declared.reader.Record.{Record}
-use Rattle.captures_text.specs.PassedRecords.{none_passed, with_marked, with_passage, without_cell}
+use Rattle.captures_text.specs.ReadingSummaries.{empty_summary, with_marked, with_skipped_block, without_cell}
 use Rattle.captures_text.specs.Tallies.{no_tally, one_more_record}
-use Rattle.captures_text.specs.declared.passed.PassedOver.{PassedOver}
-use Rattle.captures_text.specs.declared.tally.PassedTally.{PassedTally}
+use Rattle.captures_text.specs.declared.reading_summary.ReadingSummary.{ReadingSummary}
+use Rattle.captures_text.specs.declared.tally.CountAndFirst.{CountAndFirst}
 use Rattle.cmd_fit.specs.declared.link_tally.LinkTally.{LinkTally}
 
 -- How many links have a row.
@@ -36,12 +36,12 @@ one_more_cell tally record_read = record tally {
 -- what was passed over.
 pub record LinksState : Type 0 where
   pub rows : List (Link × LinkTally)
-  pub left_out : PassedTally
-  pub passed : PassedOver
+  pub left_out : CountAndFirst
+  pub summary : ReadingSummary
 
 -- Before the first record.
 abbrev pub no_links : LinksState
-no_links = record { rows = []; left_out = no_tally; passed = none_passed }
+no_links = record { rows = []; left_out = no_tally; summary = empty_summary }
 
 -- What is known of this link, if it has a row.
 abbrev pub link_tally_of : Link → List (Link × LinkTally) → Option LinkTally
@@ -71,23 +71,23 @@ links_cell state record_read =
 -- A record, by what it holds.
 abbrev pub links_content : LinksState → Record → Result (List ℕ) NoCell → LinksState
 links_content state record_read (Ok cell) = links_cell state record_read
-links_content state record_read (Err why) = record state { passed = without_cell state.passed why record_read.number }
+links_content state record_read (Err why) = record state { summary = without_cell state.summary why record_read.number }
 
 -- A record. Its marks are counted, whatever it holds.
 abbrev pub links_record : LinksState → Record → LinksState
 links_record state record_read =
-    links_content (record state { passed = with_marked state.passed record_read.marks record_read.number }) record_read record_read.content
+    links_content (record state { summary = with_marked state.summary record_read.marks record_read.number }) record_read record_read.content
 
 -- A block or a packet without a record.
-abbrev pub links_passage : LinksState → Passage → LinksState
-links_passage state passage = record state { passed = with_passage state.passed passage }
+abbrev pub links_block : LinksState → SkippedBlock → LinksState
+links_block state block = record state { summary = with_skipped_block state.summary block }
 
 -- What is given of a frame.
-abbrev pub links_given : LinksState → Result Record Passage → LinksState
+abbrev pub links_given : LinksState → Result Record SkippedBlock → LinksState
 links_given state (Ok record_read) = links_record state record_read
-links_given state (Err passage) = links_passage state passage
+links_given state (Err block) = links_block state block
 
 -- What is given of frames, in order.
-abbrev pub links_after : LinksState → List (Result Record Passage) → LinksState
+abbrev pub links_after : LinksState → List (Result Record SkippedBlock) → LinksState
 links_after state [] = state
 links_after state (given ∷ frames) = links_after (links_given state given) frames

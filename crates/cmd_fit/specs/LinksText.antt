@@ -9,14 +9,14 @@ use Rattle.captures.specs.declared.format.Format.{Format}
 use Rattle.captures.specs.declared.link.Link.{Link}
 use Rattle.captures.specs.declared.opening.Opening.{Opening}
 use Rattle.captures.specs.declared.opening.Opening.TheVariants.{Opened, Undecided, Refused}
-use Rattle.captures.specs.declared.reader.Passage.{Passage}
+use Rattle.captures.specs.declared.reader.SkippedBlock.{SkippedBlock}
 use Rattle.captures.specs.declared.reader.Record.{Record}
 use Rattle.captures_text.specs.CaptureFaults.{file_fault_line}
 use Rattle.captures_text.specs.CaptureText.{done_at, short_fault}
 use Rattle.captures_text.specs.LinkWords.{link_word}
 use Rattle.captures_text.specs.RunLines.{closing_lines}
-use Rattle.captures_text.specs.Tallies.{first_passed}
-use Rattle.captures_text.specs.declared.tally.PassedTally.{PassedTally}
+use Rattle.captures_text.specs.Tallies.{first_record_text}
+use Rattle.captures_text.specs.declared.tally.CountAndFirst.{CountAndFirst}
 use Rattle.text_io.specs.declared.ending.Done.{Done}
 use Rattle.text_io.specs.declared.ending.Done.TheVariants.{Ended}
 use Rattle.cmd_fit.specs.LinkTallies.{LinksState, links_after, no_links}
@@ -58,22 +58,22 @@ abbrev pub links_heading : List ℕ
 links_heading = codes "link\tcells\tfirst\tlast\tlosses\n"
 
 -- The beginning of the comment about cells of links without a line.
-abbrev pub left_out_count : PassedTally → List ℕ
+abbrev pub left_out_count : CountAndFirst → List ℕ
 left_out_count tally = codes "# " ++ (decimal tally.count ++ codes " of links after the first 4096")
 
 -- The comment, if there are any.
-abbrev pub left_out_line : PassedTally → List ℕ
-left_out_line tally = if tally.count == 0 then [] else left_out_count tally ++ first_passed tally
+abbrev pub left_out_line : CountAndFirst → List ℕ
+left_out_line tally = if tally.count == 0 then [] else left_out_count tally ++ first_record_text tally
 
 -- The text after records in this state, where the reading ended so.
 abbrev pub links_lines : LinksState → Option Fault → List ℕ
 links_lines state ending =
-    links_heading ++ (flat_map link_line state.rows ++ (left_out_line state.left_out ++ closing_lines state.passed ending))
+    links_heading ++ (flat_map link_line state.rows ++ (left_out_line state.left_out ++ closing_lines state.summary ending))
 
 -- From this state, after this many numbers, at this place, the text answers the octets, and the run then ends in this way.
 abbrev pub IsLinksFrom : LinksState → Format → ℕ → ℕ → List ℕ → List ℕ → Done → Type 0
 IsLinksFrom state format count at octets text done =
-    (frames : List (Result Record Passage)) × (ending : Option Fault) × IsReading format count at octets frames ending
+    (frames : List (Result Record SkippedBlock)) × (ending : Option Fault) × IsReading format count at octets frames ending
     × (text ≡ links_lines (links_after state frames) ending) × (done ≡ done_at ending)
 
 -- The text answers a file with these octets that is this.

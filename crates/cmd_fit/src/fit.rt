@@ -19,7 +19,7 @@ use crate::flow::Flow;
 use crate::flows::Flows;
 use crate::given_rules::{GivenRules, read_given};
 use captures::Fault;
-use captures_text::{CellFollower, CountedCell, PassedOver, add_closing, follow_cells};
+use captures_text::{CapturedCell, CellFollower, ReadingSummary, add_closing, follow_cells};
 use std::alloc::{AllocError, Global};
 use std::thread::Threads;
 use text_io::{Done, Input, Output, RunFault, Turn, give_last};
@@ -117,20 +117,20 @@ impl CellFollower for FitRun {
 
     fn follow_cell(
         &mut self,
-        counted: &CountedCell,
+        captured: &CapturedCell,
         answers: &mut Vec<u8>,
     ) -> Result<Turn, AllocError> {
-        if !is_of_class(&counted.cell, self.clp) {
+        if !is_of_class(&captured.cell, self.clp) {
             return Ok(Turn::GoesOn);
         }
-        let flow = self.flow_of(&counted.cell);
+        let flow = self.flow_of(&captured.cell);
         match self
             .flows
-            .take(self.increment, flow, counted.moment, counted.number)?
+            .take(self.increment, flow, captured.moment, captured.number)?
         {
             None => Ok(Turn::GoesOn),
             Some(fault) => {
-                add_fit_fault(answers, fault, counted.number)?;
+                add_fit_fault(answers, fault, captured.number)?;
                 Ok(Turn::Ends)
             }
         }
@@ -138,7 +138,7 @@ impl CellFollower for FitRun {
 
     fn close(
         &self,
-        passed: &PassedOver,
+        summary: &ReadingSummary,
         ending: Option<Fault>,
         answers: &mut Vec<u8>,
     ) -> Result<(), AllocError> {
@@ -146,7 +146,7 @@ impl CellFollower for FitRun {
         add_heading(answers, valued)?;
         self.flows
             .add_lines(self.alloc, answers, self.side, valued)?;
-        add_closing(answers, passed, ending)
+        add_closing(answers, summary, ending)
     }
 
     ghost is_total = { fixed_total fit_steps fit_closes };

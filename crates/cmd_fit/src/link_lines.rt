@@ -5,12 +5,12 @@ ghost use Rattle.cmd_fit.specs.inner.LinkStates.{links_state};
 ghost use Rattle.cmd_fit.specs.LinksText.{last_digit as digit_of, left_out_count, left_out_line, link_line, links_heading, links_lines, nine_digits, seconds_word, tally_columns, time_columns, time_word};
 ghost use Rattle.captures.specs.Moments.{nearest_tick};
 ghost use Rattle.captures_text.specs.LinkWords.{link_word};
-ghost use Rattle.captures_text.specs.Tallies.{first_passed};
+ghost use Rattle.captures_text.specs.Tallies.{first_record_text};
 
 use crate::link_table::LinkTable;
 use crate::link_tally::LinkTally;
 use captures::{Fault, Link, Tick};
-use captures_text::{PassedTally, add_closing, add_link};
+use captures_text::{CountAndFirst, add_closing, add_link};
 use indexmap::IndexMap;
 use std::alloc::AllocError;
 use text_words::{add_number, add_numbered, add_text};
@@ -128,7 +128,7 @@ fn add_link_lines(answers: &mut Vec<u8>, rows: &IndexMap<Link, LinkTally>) -> Re
 
 /// Appends how many cells are of links without a line.
 #[tactic(auto, using(std::proofs::lemmas::List::append_assoc))]
-fn add_left_out_count(answers: &mut Vec<u8>, tally: PassedTally) -> Result<(), AllocError>
+fn add_left_out_count(answers: &mut Vec<u8>, tally: CountAndFirst) -> Result<(), AllocError>
     ensures { OnOk result (answers.new.items ≡ answers.old.items ++ left_out_count tally) }
 {
     add_text(answers, b"# ")?;
@@ -137,15 +137,15 @@ fn add_left_out_count(answers: &mut Vec<u8>, tally: PassedTally) -> Result<(), A
 }
 
 /// Appends which record has the first of those cells.
-fn add_first_left_out(answers: &mut Vec<u8>, tally: PassedTally) -> Result<(), AllocError>
-    ensures { OnOk result (answers.new.items ≡ answers.old.items ++ first_passed tally) }
+fn add_first_left_out(answers: &mut Vec<u8>, tally: CountAndFirst) -> Result<(), AllocError>
+    ensures { OnOk result (answers.new.items ≡ answers.old.items ++ first_record_text tally) }
 {
     add_numbered(answers, b"; first record ", tally.first as usize)
 }
 
 /// Appends the comment about cells of links without a line.
 #[tactic(auto, using(std::proofs::lemmas::List::append_assoc))]
-fn add_left_out(answers: &mut Vec<u8>, tally: PassedTally) -> Result<(), AllocError>
+fn add_left_out(answers: &mut Vec<u8>, tally: CountAndFirst) -> Result<(), AllocError>
     ensures { OnOk result (answers.new.items ≡ answers.old.items ++ left_out_line tally) }
 {
     if tally.count == 0 {
@@ -167,5 +167,5 @@ pub(crate) fn add_links(
     add_text(answers, b"link\tcells\tfirst\tlast\tlosses\n")?;
     add_link_lines(answers, &table.rows)?;
     add_left_out(answers, table.left_out)?;
-    add_closing(answers, &table.passed, ending)
+    add_closing(answers, &table.summary, ending)
 }

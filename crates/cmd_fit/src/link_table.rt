@@ -1,12 +1,12 @@
 //! The links of a capture so far.
 
 ghost use Rattle.std.specs.Prelude.{◌≡◌, OnOk};
-ghost use Rattle.cmd_fit.specs.LinkTallies.{links_cell, links_passage, links_record, no_links, tally_after, link_tally_of, with_row};
+ghost use Rattle.cmd_fit.specs.LinkTallies.{links_cell, links_block, links_record, no_links, tally_after, link_tally_of, with_row};
 ghost use Rattle.cmd_fit.specs.inner.LinkStates.{links_state};
 
 use crate::link_tally::LinkTally;
-use captures::{Link, Passage, Record};
-use captures_text::{PassedOver, PassedTally};
+use captures::{Link, Record, SkippedBlock};
+use captures_text::{CountAndFirst, ReadingSummary};
 use indexmap::IndexMap;
 use std::alloc::{AllocError, Global};
 
@@ -19,9 +19,9 @@ pub(crate) struct LinkTable {
     /// What is known of each link, in order of its first cell. A link is found by its hash.
     pub(crate) rows: IndexMap<Link, LinkTally>,
     /// The cells of links that have no row.
-    pub(crate) left_out: PassedTally,
+    pub(crate) left_out: CountAndFirst,
     /// What was passed over.
-    pub(crate) passed: PassedOver,
+    pub(crate) summary: ReadingSummary,
 }
 
 /// Returns what is known of a link, if it has a row.
@@ -59,8 +59,8 @@ impl LinkTable {
     {
         LinkTable {
             rows: IndexMap::new(alloc),
-            left_out: PassedTally::none(),
-            passed: PassedOver::none(),
+            left_out: CountAndFirst::none(),
+            summary: ReadingSummary::none(),
         }
     }
 
@@ -81,10 +81,10 @@ impl LinkTable {
     pub(crate) fn take(&mut self, record_read: &Record<'_>) -> Result<(), AllocError>
         ensures { OnOk result (links_state self.new ≡ links_record (links_state self.old) record_read.now) }
     {
-        self.passed.mark(record_read.marks, record_read.number);
+        self.summary.mark(record_read.marks, record_read.number);
         match &record_read.content {
             Err(why) => {
-                self.passed.count(*why, record_read.number);
+                self.summary.count(*why, record_read.number);
                 Ok(())
             }
             Ok(_) => self.take_cell(record_read),
@@ -92,9 +92,9 @@ impl LinkTable {
     }
 
     /// Counts a block or a packet without a record.
-    pub(crate) fn pass(&mut self, passage: Passage)
-        ensures { links_state self.new ≡ links_passage (links_state self.old) passage }
+    pub(crate) fn skip_block(&mut self, block: SkippedBlock)
+        ensures { links_state self.new ≡ links_block (links_state self.old) block }
     {
-        self.passed.pass(passage);
+        self.summary.skip_block(block);
     }
 }

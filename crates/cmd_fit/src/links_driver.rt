@@ -10,7 +10,7 @@ ghost use Rattle.cmd_fit.specs.inner.LinksSteps.{LinksHere};
 
 use crate::link_lines::add_links;
 use crate::link_table::LinkTable;
-use crate::links_reading::{Going, LinksReading};
+use crate::links_reading::{LinksReading, StepOutcome};
 use captures::Fault;
 use captures_text::{READING_OCTETS, done_at};
 use text_io::{Done, Input, RunFault};
@@ -49,9 +49,9 @@ pub(crate) fn read_on<I: Input>(
     loop {
         match reading.step() {
             Err(_) => return Err(RunFault::NoMemory),
-            Ok(Going::On) => {}
-            Ok(Going::Broken(fault)) => return finish(answers, &reading.table, Some(fault)),
-            Ok(Going::Wants) => match reading.window.fill(input, READING_OCTETS) {
+            Ok(StepOutcome::On) => {}
+            Ok(StepOutcome::Broken(fault)) => return finish(answers, &reading.table, Some(fault)),
+            Ok(StepOutcome::Wants) => match reading.window.fill(input, READING_OCTETS) {
                 Err(_) => return Err(RunFault::ReadFailed),
                 Ok(0) => {
                     let ending = reading.reader.end(reading.window.octets());

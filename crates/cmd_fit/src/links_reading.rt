@@ -11,7 +11,7 @@ use text_io::Window;
 
 /// How a reading goes on.
 #[derive(Clone, Copy, PartialEq, Eq, Debug)]
-pub(crate) enum Going {
+pub(crate) enum StepOutcome {
     /// A frame was read, and there may be more among the octets that wait.
     On,
     /// More octets are wanted.
@@ -31,21 +31,21 @@ pub(crate) struct LinksReading {
 
 impl LinksReading {
     /// Reads the next frame among the octets that wait.
-    pub(crate) fn step(&mut self) -> Result<Going, AllocError>
-        ensures { IfOk result (λ going. StepsLinks self.old going self.new) }
+    pub(crate) fn step(&mut self) -> Result<StepOutcome, AllocError>
+        ensures { IfOk result (λ outcome. StepsLinks self.old outcome self.new) }
     {
         match self.reader.next(self.window.octets()) {
-            Next::Unfinished => Ok(Going::Wants),
-            Next::Broken(fault) => Ok(Going::Broken(fault)),
-            Next::Passed(passage, own) => {
-                self.table.pass(passage);
+            Next::Unfinished => Ok(StepOutcome::Wants),
+            Next::Broken(fault) => Ok(StepOutcome::Broken(fault)),
+            Next::Skipped(block, own) => {
+                self.table.skip_block(block);
                 self.window.skip(own);
-                Ok(Going::On)
+                Ok(StepOutcome::On)
             }
             Next::Taken(record_read, own) => {
                 self.table.take(&record_read)?;
                 self.window.skip(own);
-                Ok(Going::On)
+                Ok(StepOutcome::On)
             }
         }
     }

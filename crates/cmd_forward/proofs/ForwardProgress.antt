@@ -7,7 +7,7 @@ use Rattle.captures.specs.Reading.{EndsReading}
 use Rattle.captures.specs.declared.fault.Fault.{Fault}
 use Rattle.captures_text.specs.CaptureText.{done_at}
 use Rattle.captures_text.specs.CellFilter.{filter_state}
-use Rattle.captures_text.specs.declared.passed.PassedOver.{PassedOver}
+use Rattle.captures_text.specs.declared.reading_summary.ReadingSummary.{ReadingSummary}
 use Rattle.captures_text.specs.inner.Progress.{CaptureProgress, HasRead}
 use Rattle.captures_text.proofs.Progresses.{begun, enough, front_of, given, refilled, stepped, text_of}
 use Rattle.text_io.specs.Devices.{Adds, IsPart, WritesPrefix}
@@ -182,16 +182,16 @@ enough_at_end ends = λ world sound is_shown. let end = ends world sound is_show
 
 -- The end of the input.
 pub said_at_last : {World : Type 0} (rules : JudgeRules World) (others : Others) (shown : World → Type 0) (reading : ForwardReading) (octets : List ℕ)
-    (passed : PassedOver) (ending : Option Fault) (done : Done) (said said' : List ℕ) → ClosesReport rules shown passed ending said said'
-    → passed ≡ (filter_state reading.filter).passed → octets ≡ reading.window → first_frame reading.reader.format reading.reader.at reading.window ≡ None
+    (summary : ReadingSummary) (ending : Option Fault) (done : Done) (said said' : List ℕ) → ClosesReport rules shown summary ending said said'
+    → summary ≡ (filter_state reading.filter).summary → octets ≡ reading.window → first_frame reading.reader.format reading.reader.at reading.window ≡ None
     → (first_frame reading.reader.format reading.reader.at octets ≡ None → EndsReading reading.reader.format reading.reader.at octets ending)
     → done ≡ done_at ending
     → OfEachJudgeWorld rules shown (λ world. (last : List ℕ) × (said' ≡ said ++ last) × ForwardsHere rules others reading world last reading.window [] done)
-said_at_last rules others shown reading octets passed ending done said said' closes is same unfinished ends how = λ world sound is_shown.
+said_at_last rules others shown reading octets summary ending done said said' closes is same unfinished ends how = λ world sound is_shown.
     let at_end : EndsReading reading.reader.format reading.reader.at reading.window ending =
     subst (λ (xs : List ℕ). EndsReading reading.reader.format reading.reader.at xs ending) same
     (ends (ap (first_frame reading.reader.format reading.reader.at) same ∙ unfinished)) in (
-      rules.closes world passed ending,
+      rules.closes world summary ending,
       closes world sound is_shown,
-      ([], ending, at_end, (refl, ap (λ (p : PassedOver). rules.closes world p ending) is, how)),
+      ([], ending, at_end, (refl, ap (λ (p : ReadingSummary). rules.closes world p ending) is, how)),
     )

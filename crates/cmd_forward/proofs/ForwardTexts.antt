@@ -5,7 +5,7 @@ use Rattle.std.specs.Global.{Vec}
 use Rattle.std.specs.Result.{OnErr, OnOk}
 use Rattle.captures.specs.declared.link.Link.{Link}
 use Rattle.captures.specs.declared.packet_time.TimeSource.TheVariants as source
-use Rattle.captures_text.specs.declared.cell_lines.CellLines.TheVariants as lines
+use Rattle.captures_text.specs.declared.line_choice.LineChoice.TheVariants as lines
 use Rattle.cmd_police.proofs.Existence.{fault_may, polices_timed}
 use Rattle.cmd_police.proofs.PoliceLemmas.{served_as}
 use Rattle.cmd_police.proofs.SetUpLemmas.{FaultOrCard, fault_or_card}

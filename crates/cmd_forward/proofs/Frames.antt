@@ -11,7 +11,7 @@ use Rattle.captures.specs.RecordOctets.{octets_held, octets_of_first}
 use Rattle.captures.specs.declared.block.Unread.{Unread}
 use Rattle.captures.specs.declared.fault.Fault.{Fault}
 use Rattle.captures.specs.declared.format.Format.{Format}
-use Rattle.captures.specs.declared.reader.Passage.{Passage}
+use Rattle.captures.specs.declared.reader.SkippedBlock.{SkippedBlock}
 use Rattle.captures.specs.declared.reader.Reader.{Reader}
 use Rattle.captures.specs.declared.reader.Record.{Record}
 use Rattle.cmd_forward.specs.FramesRead.{AreFrames, FrameRead}
@@ -27,7 +27,7 @@ frames_at format format' count count' at at' octets octets' frames ending format
     (subst (λ (xs : List ℕ). AreFrames format count at xs frames ending) same are)))
 
 -- One frame more.
-pub frame_before : (before after : Reader) (octets more whole : List ℕ) (given : Result Record Passage) (own : ℕ) (frames : List FrameRead) (ending : Option Fault)
+pub frame_before : (before after : Reader) (octets more whole : List ℕ) (given : Result Record SkippedBlock) (own : ℕ) (frames : List FrameRead) (ending : Option Fault)
     → TakesFrame before octets given own after → whole ≡ octets_of_first (first_frame before.format before.at octets)
     → AreFrames after.format after.count after.at (drop own octets ++ more) frames ending
     → AreFrames before.format before.count before.at (octets ++ more) (record { given = given; octets = whole } ∷ frames) ending
@@ -45,7 +45,7 @@ frame_before before after octets more whole given own frames ending takes is are
     )
 
 -- Octets that have a reading have these frames.
-frames_of : (format : Format) (count at : ℕ) (octets : List ℕ) (givens : List (Result Record Passage)) (ending : Option Fault)
+frames_of : (format : Format) (count at : ℕ) (octets : List ℕ) (givens : List (Result Record SkippedBlock)) (ending : Option Fault)
     → IsReading format count at octets givens ending → (frames : List FrameRead) × AreFrames format count at octets frames ending
 frames_of format count at octets [] ending reading = ([], reading)
 frames_of format count at octets (given ∷ givens) ending (frame, first, is, later) =

@@ -11,16 +11,16 @@ use Rattle.captures.specs.declared.fault.Fault.{Fault}
 use Rattle.captures.specs.declared.format.Format.{Format}
 use Rattle.captures.specs.declared.opening.Opening.{Opening}
 use Rattle.captures.specs.declared.opening.Opening.TheVariants.{Opened, Undecided, Refused}
-use Rattle.captures.specs.declared.reader.Passage.{Passage}
+use Rattle.captures.specs.declared.reader.SkippedBlock.{SkippedBlock}
 use Rattle.captures.specs.declared.reader.Record.{Record}
 use Rattle.captures.specs.Frames.{format_start}
 use Rattle.captures.specs.Opening.{file_opening}
 use Rattle.captures_text.specs.CaptureFaults.{file_fault_line}
 use Rattle.captures_text.specs.CaptureText.{done_at, short_fault}
-use Rattle.captures_text.specs.CellFilter.{FilterState, filter_content, filter_marked, filter_passage, filter_record}
+use Rattle.captures_text.specs.CellFilter.{FilterState, filter_content, filter_marked, filter_block, filter_record}
 use Rattle.captures_text.specs.RunLines.{several_line}
 use Rattle.captures_text.specs.declared.filter.Filtered.{Filtered}
-use Rattle.captures_text.specs.declared.filter.Filtered.TheVariants.{Counts, Passed, Several}
+use Rattle.captures_text.specs.declared.filter.Filtered.TheVariants.{Counts, Skipped, SecondLink}
 use Rattle.text_io.specs.declared.ending.Done.{Done}
 use Rattle.text_io.specs.declared.ending.Done.TheVariants.{Ended}
 use Rattle.cmd_forward.specs.Forwarding.{ForwardState, Forwards, ForwardsCapture, ForwardsOctets, ForwardsOpened, WritesFiltered, WritesFrame}
@@ -66,17 +66,17 @@ filtered_some {World = World} rules total others world number octets (Counts mom
     let written = written_some judged.0 octets it.0 it.1 in
     let after : ForwardState World = record { filter = filter; world = judged.1 } in
     (written.0, Ok after, (judged.0, judged.1, judged.2, written.1, refl), total.keeps world (record { number = number; moment = moment; cell = cell }) judged.0 judged.1 sound judged.2)
-filtered_some rules total others world number octets Passed filter sound has =
+filtered_some rules total others world number octets Skipped filter sound has =
     (other_written others octets, Ok (record { filter = filter; world = world }), (refl, refl), sound)
-filtered_some rules total others world number octets (Several one other) filter sound has =
+filtered_some rules total others world number octets (SecondLink one other) filter sound has =
     ([], Err (several_line one other), (refl, refl), tt)
 
 -- So is a frame.
 frame_some : {World : Type 0} (rules : JudgeRules World) → JudgesEachCell rules → (others : Others) (state : ForwardState World) (count at : ℕ)
-    (held : Result Framed Unread) (given : Result Record Passage) (octets : List ℕ) → rules.is_sound state.world → IsGiven count at held given → octets ≡ octets_held held
+    (held : Result Framed Unread) (given : Result Record SkippedBlock) (octets : List ℕ) → rules.is_sound state.world → IsGiven count at held given → octets ≡ octets_held held
     → (here : List ℕ) × (next : Result (ForwardState World) (List ℕ)) × WritesFrame rules others state given octets here next × IsSoundNext rules next
-frame_some rules total others state count at held (Err passage) octets sound is same =
-    ([], Ok (record { filter = filter_passage state.filter passage; world = state.world }), (refl, refl), sound)
+frame_some rules total others state count at held (Err block) octets sound is same =
+    ([], Ok (record { filter = filter_block state.filter block; world = state.world }), (refl, refl), sound)
 frame_some rules total others state count at held (Ok record_read) octets sound is same =
     filtered_some rules total others state.world record_read.number octets (filter_record state.filter record_read).0 (filter_record state.filter record_read).1 sound
     (λ moment cell counts. cell_counted state.filter record_read octets moment cell
@@ -87,7 +87,7 @@ frames_some : {World : Type 0} (rules : JudgeRules World) → JudgesEachCell rul
     (octets : List ℕ) (frames : List FrameRead) (ending : Option Fault) → rules.is_sound state.world → AreFrames format count at octets frames ending
     → (text : List ℕ) × (report : List ℕ) × (done : Done) × Forwards rules others state frames ending text report done
 frames_some rules total others state format count at octets [] ending sound are =
-    ([], rules.closes state.world state.filter.passed ending, done_at ending, (refl, refl, refl))
+    ([], rules.closes state.world state.filter.summary ending, done_at ending, (refl, refl, refl))
 frames_some {World = World} rules total others state format count at octets (read ∷ frames) ending sound (frame, first, is, same, are) =
     let now = frame_some rules total others state count at frame.held read.given read.octets sound is same in
     let then = later (λ (after : ForwardState World) good. frames_some rules total others after frame.after (count_after count read.given) (at + frame.size)
@@ -117,7 +117,7 @@ opened_some : {World : Type 0} (rules : JudgeRules World) → JudgesEachCell rul
 opened_some rules total others state octets (Opened format) sound =
     octets_some rules total others state format 0 (format_start format) (drop (format_start format) octets) sound
 opened_some rules total others state octets Undecided sound =
-    ([], rules.closes state.world state.filter.passed (Some (short_fault octets)), Ended, (refl, refl, refl))
+    ([], rules.closes state.world state.filter.summary (Some (short_fault octets)), Ended, (refl, refl, refl))
 opened_some rules total others state octets (Refused fault) sound = ([], file_fault_line fault, Ended, (refl, refl, refl))
 
 pub capture_some : {World : Type 0} (rules : JudgeRules World) → JudgesEachCell rules → (others : Others) (state : ForwardState World) (octets : List ℕ)

@@ -7,19 +7,19 @@ use Rattle.captures.specs.Reading.{ComesNext, TakesFrame}
 use Rattle.captures.specs.RecordOctets.{octets_of_first}
 use Rattle.captures.specs.declared.fault.Fault.{Fault}
 use Rattle.captures.specs.declared.reader.Next.TheVariants.{Broken}
-use Rattle.captures.specs.declared.reader.Passage.{Passage}
+use Rattle.captures.specs.declared.reader.SkippedBlock.{SkippedBlock}
 use Rattle.captures.specs.declared.reader.Reader.{Reader}
 use Rattle.captures.specs.declared.reader.Record.{Record}
-use Rattle.captures_text.specs.CellFilter.{FilterState, filter_passage, filter_record, filter_state}
+use Rattle.captures_text.specs.CellFilter.{FilterState, filter_block, filter_record, filter_state}
 use Rattle.captures_text.specs.declared.filter.Filtered.{Filtered}
-use Rattle.captures_text.specs.declared.filter.Filtered.TheVariants.{Counts, Passed, Several}
+use Rattle.captures_text.specs.declared.filter.Filtered.TheVariants.{Counts, Skipped, SecondLink}
 use Rattle.text_io.specs.declared.ending.Done.{Done}
 use Rattle.text_io.specs.declared.machine.Turn.TheVariants.{GoesOn, Ends}
 use Rattle.cmd_forward.specs.Forwarding.{ForwardState, WritesFiltered, WritesFrame}
 use Rattle.cmd_forward.specs.JudgeRules.{JudgeRules, JudgesEachCell, OfEachJudgeWorld}
 use Rattle.cmd_forward.specs.declared.others.Others.{Others}
 use Rattle.cmd_forward.specs.declared.stepping.ForwardReading.{ForwardReading}
-use Rattle.cmd_forward.specs.declared.stepping.Going.TheVariants as going
+use Rattle.cmd_forward.specs.declared.stepping.StepOutcome.TheVariants as outcome
 use Rattle.cmd_forward.specs.inner.ForwardSteps.{ForwardsOn, ForwardsToEnd, ForwardedSoFar, ForwardsHere, TurnsAtRecord, at_state}
 use Rattle.cmd_forward.proofs.Frames.{frame_before, some_frames}
 
@@ -31,13 +31,13 @@ filtered_sound {World = World} rules total others world number octets here (Coun
     let is : after ≡ record { filter = filter; world = next } = cc in
     subst (λ (state : ForwardState World). rules.is_sound state.world) (sym is)
     (total.keeps world (record { number = number; moment = moment; cell = cell }) onward next sound step)
-filtered_sound {World = World} rules total others world number octets here Passed filter after sound (written, same) =
+filtered_sound {World = World} rules total others world number octets here Skipped filter after sound (written, same) =
     let is : after ≡ record { filter = filter; world = world } = cc in
     subst (λ (state : ForwardState World). rules.is_sound state.world) (sym is) sound
-filtered_sound rules total others world number octets here (Several one other) filter after sound (written, same) = cc
+filtered_sound rules total others world number octets here (SecondLink one other) filter after sound (written, same) = cc
 
 -- One frame, and what follows it.
-frame_leads : {World : Type 0} (rules : JudgeRules World) (others : Others) (before after : ForwardReading) (world next : World) (given : Result Record Passage)
+frame_leads : {World : Type 0} (rules : JudgeRules World) (others : Others) (before after : ForwardReading) (world next : World) (given : Result Record SkippedBlock)
     (whole here : List ℕ) (own : ℕ) → TakesFrame before.reader before.window given own after.reader
     → whole ≡ octets_of_first (first_frame before.reader.format before.reader.at before.window)
     → WritesFrame rules others (at_state (filter_state before.filter) world) given whole here (Ok (at_state (filter_state after.filter) next))
@@ -53,13 +53,13 @@ frame_leads rules others before after world next given whole here own takes is w
     )
 
 -- A frame without a record.
-pub advances_passed : {World : Type 0} (rules : JudgeRules World) (others : Others) (shown : World → Type 0) (before after : ForwardReading) (passage : Passage)
-    (own : ℕ) (old : List ℕ) → TakesFrame before.reader before.window (Err passage) own after.reader
-    → filter_state after.filter ≡ filter_passage (filter_state before.filter) passage → after.window ≡ drop own before.window
+pub advances_skipped : {World : Type 0} (rules : JudgeRules World) (others : Others) (shown : World → Type 0) (before after : ForwardReading) (block : SkippedBlock)
+    (own : ℕ) (old : List ℕ) → TakesFrame before.reader before.window (Err block) own after.reader
+    → filter_state after.filter ≡ filter_block (filter_state before.filter) block → after.window ≡ drop own before.window
     → OfEachJudgeWorld rules shown (λ world. ForwardsOn rules others before world after shown old old)
-advances_passed {World = World} rules others shown before after passage own old takes passes cut = λ world sound is_shown.
+advances_skipped {World = World} rules others shown before after block own old takes passes cut = λ world sound is_shown.
     let going : ForwardState World → Result (ForwardState World) (List ℕ) = λ state. Ok state in
-    let writes : WritesFrame rules others (at_state (filter_state before.filter) world) (Err passage)
+    let writes : WritesFrame rules others (at_state (filter_state before.filter) world) (Err block)
     (octets_of_first (first_frame before.reader.format before.reader.at before.window)) [] (Ok (at_state (filter_state after.filter) world)) =
     (refl, ap (λ (filter : FilterState). going (at_state filter world)) passes) in
     record {
@@ -68,7 +68,7 @@ advances_passed {World = World} rules others shown before after passage own old 
       next = world;
       sound = sound;
       is_shown = is_shown;
-      completes = frame_leads rules others before after world world (Err passage) (octets_of_first (first_frame before.reader.format before.reader.at before.window)) [] own
+      completes = frame_leads rules others before after world world (Err block) (octets_of_first (first_frame before.reader.format before.reader.at before.window)) [] own
           takes refl writes cut;
     }
 
@@ -116,17 +116,17 @@ ends_record rules others shown shown' before reader filter' record_read whole ow
 -- A fault.
 pub ends_fault : {World : Type 0} (rules : JudgeRules World) (others : Others) (shown : World → Type 0) (before : ForwardReading) (reader : Reader)
     (fault : Fault) (said said' : List ℕ) → ComesNext before.reader before.window (Broken fault) reader
-    → OfEachJudgeWorld rules shown (λ world. said' ≡ said ++ rules.closes world (filter_state before.filter).passed (Some fault))
+    → OfEachJudgeWorld rules shown (λ world. said' ≡ said ++ rules.closes world (filter_state before.filter).summary (Some fault))
     → OfEachJudgeWorld rules shown (λ world. ForwardsToEnd rules others before world said said')
 ends_fault rules others shown before reader fault said said' next closes = λ world sound is_shown. record {
-  last = rules.closes world (filter_state before.filter).passed (Some fault);
+  last = rules.closes world (filter_state before.filter).summary (Some fault);
   grew = closes world sound is_shown;
   ends = λ more. ([], Some fault, faults_end before.reader reader before.window more fault next, (refl, refl, refl));
 }
 
 -- How far the reading came by a frame.
-pub came_on : (before after : ForwardReading) (given : Result Record Passage) (own : ℕ) → TakesFrame before.reader before.window given own after.reader
-    → after.window ≡ drop own before.window → ForwardedSoFar going.On before after
+pub came_on : (before after : ForwardReading) (given : Result Record SkippedBlock) (own : ℕ) → TakesFrame before.reader before.window given own after.reader
+    → after.window ≡ drop own before.window → ForwardedSoFar outcome.On before after
 came_on before after given own takes cut =
     let long = length-take-le own before.window takes.within in (
       take own before.window,

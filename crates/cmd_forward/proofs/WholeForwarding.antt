@@ -45,9 +45,9 @@ refused_text rules others state octets more fault is none =
 
 -- A file that is too short.
 pub short_text : {World : Type 0} (rules : JudgeRules World) (others : Others) (state : ForwardState World) (octets : List ℕ) → file_opening octets ≡ Undecided
-    → ForwardsCapture rules others state octets [] (rules.closes state.world state.filter.passed (Some (short_fault octets))) Ended
+    → ForwardsCapture rules others state octets [] (rules.closes state.world state.filter.summary (Some (short_fault octets))) Ended
 short_text rules others state octets is =
-    by_opening rules others state octets [] (rules.closes state.world state.filter.passed (Some (short_fault octets))) Undecided Ended is (refl, refl, refl)
+    by_opening rules others state octets [] (rules.closes state.world state.filter.summary (Some (short_fault octets))) Undecided Ended is (refl, refl, refl)
 
 -- A capture.
 pub opened_text : {World : Type 0} (rules : JudgeRules World) (others : Others) (world : World) (reading : ForwardReading) (format : Format) (window : List ℕ)

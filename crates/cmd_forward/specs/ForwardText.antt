@@ -3,7 +3,7 @@
 -- at port 0 and in order, and their records go on by its verdicts.
 use Rattle.std.specs.Prelude.{◌≡◌, ◌⊎◌, ℕ, List, [], Option, Some, None, MatchOption}
 use Rattle.captures.specs.declared.link.Link.{Link}
-use Rattle.captures_text.specs.declared.counted.CountedCell.{CountedCell}
+use Rattle.captures_text.specs.declared.captured_cell.CapturedCell.{CapturedCell}
 use Rattle.cmd_police.specs.FaultyRules.{HasFaultyRules}
 use Rattle.cmd_police.specs.PoliceText.{IsFaultAtTimes, IsSetUpAtTimes}
 use Rattle.cmd_police.specs.PolicedCards.{PolicedWorld, PolicesOneCell, policed_report, policed_start}
@@ -31,8 +31,8 @@ onward_by (Some Refuse) = Stays
 onward_by None = Stays
 
 -- A cell arrives at the card, and goes on by its verdict.
-abbrev pub GoesByVerdict : PolicedWorld → CountedCell → Onward → PolicedWorld → Type 0
-GoesByVerdict before counted onward after = (verdict : Option Verdict) × PolicesOneCell before counted verdict after × (onward ≡ onward_by verdict)
+abbrev pub GoesByVerdict : PolicedWorld → CapturedCell → Onward → PolicedWorld → Type 0
+GoesByVerdict before captured onward after = (verdict : Option Verdict) × PolicesOneCell before captured verdict after × (onward ≡ onward_by verdict)
 
 -- The rules of `forward`.
 abbrev pub forward_rules : JudgeRules PolicedWorld

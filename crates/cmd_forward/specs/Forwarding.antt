@@ -6,16 +6,16 @@ use Rattle.captures.specs.declared.fault.Fault.{Fault}
 use Rattle.captures.specs.declared.format.Format.{Format}
 use Rattle.captures.specs.declared.opening.Opening.{Opening}
 use Rattle.captures.specs.declared.opening.Opening.TheVariants.{Opened, Undecided, Refused}
-use Rattle.captures.specs.declared.reader.Passage.{Passage}
+use Rattle.captures.specs.declared.reader.SkippedBlock.{SkippedBlock}
 use Rattle.captures.specs.declared.reader.Record.{Record}
 use Rattle.captures_text.specs.CaptureFaults.{file_fault_line}
 use Rattle.captures_text.specs.CaptureText.{done_at, short_fault}
 use Rattle.captures.specs.declared.link.Link.{Link}
 use Rattle.captures.specs.declared.packet_time.TimeSource.TheVariants as source
-use Rattle.captures_text.specs.CellFilter.{FilterState, filter_passage, filter_record, filter_start}
+use Rattle.captures_text.specs.CellFilter.{FilterState, filter_block, filter_record, filter_start}
 use Rattle.captures_text.specs.RunLines.{several_line}
 use Rattle.captures_text.specs.declared.filter.Filtered.{Filtered}
-use Rattle.captures_text.specs.declared.filter.Filtered.TheVariants.{Counts, Passed, Several}
+use Rattle.captures_text.specs.declared.filter.Filtered.TheVariants.{Counts, Skipped, SecondLink}
 use Rattle.text_io.specs.declared.ending.Done.{Done}
 use Rattle.text_io.specs.declared.ending.Done.TheVariants.{Ended}
 use Rattle.cmd_forward.specs.FramesRead.{AreFrames, FrameRead}
@@ -36,17 +36,17 @@ abbrev pub WritesFiltered : {World : Type 0} → JudgeRules World → Others →
 WritesFiltered {World = World} rules others world number octets (Counts moment cell) filter here next =
     (onward : Onward) × (after : World) × rules.steps world (record { number = number; moment = moment; cell = cell }) onward after
     × IsCellWritten onward octets here × (next ≡ Ok (record { filter = filter; world = after }))
-WritesFiltered rules others world number octets Passed filter here next =
+WritesFiltered rules others world number octets Skipped filter here next =
     (here ≡ other_written others octets) × (next ≡ Ok (record { filter = filter; world = world }))
-WritesFiltered rules others world number octets (Several one other) filter here next =
+WritesFiltered rules others world number octets (SecondLink one other) filter here next =
     (here ≡ []) × (next ≡ Err (several_line one other))
 
 -- From this state, what is written of a frame of which this is given, with a record of these octets, and the next state, or the report with
 -- which the run ends. Of a frame without a record nothing is written.
-abbrev pub WritesFrame : {World : Type 0} → JudgeRules World → Others → ForwardState World → Result Record Passage → List ℕ
+abbrev pub WritesFrame : {World : Type 0} → JudgeRules World → Others → ForwardState World → Result Record SkippedBlock → List ℕ
     → List ℕ → Result (ForwardState World) (List ℕ) → Type 0
-WritesFrame rules others state (Err passage) octets here next =
-    (here ≡ []) × (next ≡ Ok (record { filter = filter_passage state.filter passage; world = state.world }))
+WritesFrame rules others state (Err block) octets here next =
+    (here ≡ []) × (next ≡ Ok (record { filter = filter_block state.filter block; world = state.world }))
 WritesFrame rules others state (Ok record_read) octets here next =
     WritesFiltered rules others state.world record_read.number octets (filter_record state.filter record_read).0 (filter_record state.filter record_read).1 here next
 
@@ -54,7 +54,7 @@ WritesFrame rules others state (Ok record_read) octets here next =
 -- the run ends in this way.
 abbrev pub Forwards : {World : Type 0} → JudgeRules World → Others → ForwardState World → List FrameRead → Option Fault → List ℕ → List ℕ → Done → Type 0
 Forwards rules others state [] ending text report done =
-    (text ≡ []) × (report ≡ rules.closes state.world state.filter.passed ending) × (done ≡ done_at ending)
+    (text ≡ []) × (report ≡ rules.closes state.world state.filter.summary ending) × (done ≡ done_at ending)
 Forwards {World = World} rules others state (read ∷ frames) ending text report done =
     (here : List ℕ) × (more : List ℕ) × (next : Result (ForwardState World) (List ℕ)) × (text ≡ here ++ more)
     × WritesFrame rules others state read.given read.octets here next
@@ -70,7 +70,7 @@ abbrev pub ForwardsOpened : {World : Type 0} → JudgeRules World → Others →
 ForwardsOpened rules others state octets (Opened format) text report done =
     ForwardsOctets rules others state format 0 (format_start format) (drop (format_start format) octets) text report done
 ForwardsOpened rules others state octets Undecided text report done =
-    (text ≡ []) × (report ≡ rules.closes state.world state.filter.passed (Some (short_fault octets))) × (done ≡ Ended)
+    (text ≡ []) × (report ≡ rules.closes state.world state.filter.summary (Some (short_fault octets))) × (done ≡ Ended)
 ForwardsOpened rules others state octets (Refused fault) text report done = (text ≡ []) × (report ≡ file_fault_line fault) × (done ≡ Ended)
 
 -- The same of a file.

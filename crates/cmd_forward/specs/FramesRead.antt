@@ -5,12 +5,12 @@ use Rattle.captures.specs.Reading.{EndsReading, IsGiven, count_after}
 use Rattle.captures.specs.RecordOctets.{octets_held}
 use Rattle.captures.specs.declared.fault.Fault.{Fault}
 use Rattle.captures.specs.declared.format.Format.{Format}
-use Rattle.captures.specs.declared.reader.Passage.{Passage}
+use Rattle.captures.specs.declared.reader.SkippedBlock.{SkippedBlock}
 use Rattle.captures.specs.declared.reader.Record.{Record}
 
 -- What is given of a frame: its record, or what it is that has none; and the octets of the record.
 pub record FrameRead : Type 0 where
-  pub given : Result Record Passage
+  pub given : Result Record SkippedBlock
   pub octets : List ℕ
 
 -- After this many records, at this place, the octets are read as these frames, in order, and then end: the whole

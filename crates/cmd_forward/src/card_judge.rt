@@ -6,7 +6,7 @@ ghost use Rattle.cmd_forward.specs.ForwardText.{onward_by as by_verdict};
 use crate::judge::CellJudge;
 use crate::onward::Onward;
 use captures::Fault;
-use captures_text::{CountedCell, PassedOver};
+use captures_text::{CapturedCell, ReadingSummary};
 use cmd_police::PolicedCard;
 use leaky::Verdict;
 use std::alloc::AllocError;
@@ -33,18 +33,18 @@ impl CellJudge for PolicedCard {
 
     ghost rules = { forward_rules };
 
-    fn judge_cell(&mut self, counted: &CountedCell) -> Result<Onward, AllocError> {
-        let verdict = self.judge(counted)?;
+    fn judge_cell(&mut self, captured: &CapturedCell) -> Result<Onward, AllocError> {
+        let verdict = self.judge(captured)?;
         Ok(onward_by(verdict))
     }
 
     fn close(
         &self,
-        passed: &PassedOver,
+        summary: &ReadingSummary,
         ending: Option<Fault>,
         report: &mut Vec<u8>,
     ) -> Result<(), AllocError> {
-        self.add_report(report, passed, ending)
+        self.add_report(report, summary, ending)
     }
 
     ghost is_total = { forward-total };

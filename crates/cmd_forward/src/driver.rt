@@ -11,7 +11,7 @@ ghost use Rattle.cmd_forward.specs.inner.ForwardSteps.{ForwardsHere, ForwardsSom
 
 use crate::judge::{CellJudge, judges_each_cell};
 use crate::others::Others;
-use crate::stepping::{ForwardReading, Going};
+use crate::stepping::{ForwardReading, StepOutcome};
 use captures_text::{READING_OCTETS, done_at};
 use std::alloc::Global;
 use text_io::{Done, Input, Output, RunFault, give_if_enough, give_last, refill};
@@ -35,7 +35,7 @@ fn finish<O: Output, J: CellJudge>(
     ensures writing { O.failures output.new ≡ write_failures result (O.failures output.old) }
 {
     let ending = reading.reader.end(reading.window.octets());
-    match judge.close(&reading.filter.passed(), ending, report) {
+    match judge.close(&reading.filter.summary(), ending, report) {
         Err(_) => Err(RunFault::NoMemory),
         Ok(()) => give_last(output, written, done_at(ending)),
     }
@@ -70,13 +70,13 @@ pub(crate) fn forward_on<I: Input, O: Output, J: CellJudge>(
     loop {
         match reading.step(others, judge, &mut written, report) {
             Err(_) => return Err(RunFault::NoMemory),
-            Ok(Going::Ended) => return give_last(output, &mut written, Done::Ended),
-            Ok(Going::On) => {
+            Ok(StepOutcome::Ended) => return give_last(output, &mut written, Done::Ended),
+            Ok(StepOutcome::On) => {
                 if give_if_enough(output, &mut written).is_err() {
                     return Err(RunFault::WriteFailed);
                 }
             }
-            Ok(Going::Wants) => match refill(
+            Ok(StepOutcome::Wants) => match refill(
                 &mut reading.window,
                 READING_OCTETS,
                 input,

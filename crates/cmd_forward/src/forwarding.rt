@@ -51,7 +51,7 @@ pub fn forward_cells<I: Input, O: Output, J: CellJudge>(
         },
         Ok(Opening::Undecided) => {
             let fault = short_fault(window.octets());
-            match judge.close(&filter.passed(), Some(fault), report) {
+            match judge.close(&filter.summary(), Some(fault), report) {
                 Err(_) => Err(RunFault::NoMemory),
                 Ok(()) => Ok(Done::Ended),
             }

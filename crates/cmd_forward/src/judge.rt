@@ -5,7 +5,7 @@ ghost use Rattle.cmd_forward.specs.JudgeRules.{ClosesReport, JudgeRules, JudgesC
 
 use crate::onward::Onward;
 use captures::Fault;
-use captures_text::{CountedCell, PassedOver};
+use captures_text::{CapturedCell, ReadingSummary};
 use std::alloc::AllocError;
 
 /// A program that gets one cell that counts after another and says of each how it goes on.
@@ -20,17 +20,17 @@ pub trait CellJudge {
     ghost rules: { JudgeRules World };
 
     /// Returns how a cell goes on.
-    fn judge_cell(&mut self, counted: &CountedCell) -> Result<Onward, AllocError>
-        ensures { IfOk result (λ onward. JudgesCell rules (shows self.old) counted.now onward (shows self.new)) };
+    fn judge_cell(&mut self, captured: &CapturedCell) -> Result<Onward, AllocError>
+        ensures { IfOk result (λ onward. JudgesCell rules (shows self.old) captured.now onward (shows self.new)) };
 
     /// Appends the report about the run at the end of the capture, or at its fault. These records were passed over.
     fn close(
         &self,
-        passed: &PassedOver,
+        summary: &ReadingSummary,
         ending: Option<Fault>,
         report: &mut Vec<u8>,
     ) -> Result<(), AllocError>
-        ensures { OnOk result (ClosesReport rules (shows self.now) passed.now ending report.old.items report.new.items) };
+        ensures { OnOk result (ClosesReport rules (shows self.now) summary.now ending report.old.items report.new.items) };
 
     ghost is_total: { JudgesEachCell rules };
 }

@@ -10,13 +10,13 @@ use crate::judge::{CellJudge, judges_each_cell};
 use crate::others::Others;
 use crate::record_writing::{add_cell_record, add_other_record};
 use captures::{Fault, Next, Reader, Record};
-use captures_text::{CellFilter, CountedCell, Filtered, WINDOW_ROOM, add_several};
+use captures_text::{CapturedCell, CellFilter, Filtered, WINDOW_ROOM, add_several};
 use std::alloc::AllocError;
 use text_io::{Turn, Window};
 
 /// How a run goes on.
 #[derive(Clone, Copy, PartialEq, Eq, Debug)]
-pub(crate) enum Going {
+pub(crate) enum StepOutcome {
     /// Some octets that wait may be read.
     On,
     /// More octets are wanted.
@@ -50,21 +50,21 @@ fn forward_record<J: CellJudge>(
         turn (filter_state filter.new) (J.shows judge.new) written.old.items written.new.items report.old.items report.new.items) }
 {
     match filter.read(record_read) {
-        Filtered::Passed => {
+        Filtered::Skipped => {
             add_other_record(written, others, octets)?;
             Ok(Turn::GoesOn)
         }
-        Filtered::Several(one, other) => {
+        Filtered::SecondLink(one, other) => {
             add_several(report, one, other)?;
             Ok(Turn::Ends)
         }
         Filtered::Counts(moment, cell) => {
-            let counted = CountedCell {
+            let captured = CapturedCell {
                 number: record_read.number,
                 moment,
                 cell: cell.cell(),
             };
-            let onward = judge.judge_cell(&counted)?;
+            let onward = judge.judge_cell(&captured)?;
             add_cell_record(written, onward, octets)?;
             Ok(Turn::GoesOn)
         }
@@ -79,9 +79,9 @@ fn close_at<J: CellJudge>(
     fault: Fault,
     report: &mut Vec<u8>,
 ) -> Result<(), AllocError>
-    ensures { OnOk result (ClosesReport J.rules (J.shows judge.now) (filter_state filter.now).passed (Some fault) report.old.items report.new.items) }
+    ensures { OnOk result (ClosesReport J.rules (J.shows judge.now) (filter_state filter.now).summary (Some fault) report.old.items report.new.items) }
 {
-    judge.close(&filter.passed(), Some(fault), report)
+    judge.close(&filter.summary(), Some(fault), report)
 }
 
 impl ForwardReading {
@@ -92,28 +92,28 @@ impl ForwardReading {
         judge: &mut J,
         written: &mut Vec<u8>,
         report: &mut Vec<u8>,
-    ) -> Result<Going, AllocError>
-        ensures goes_on { IfOk result (λ going. going ≢ Going.Ended → OfEachJudgeWorld J.rules (J.shows judge.old) (λ world.
+    ) -> Result<StepOutcome, AllocError>
+        ensures goes_on { IfOk result (λ outcome. outcome ≢ StepOutcome.Ended → OfEachJudgeWorld J.rules (J.shows judge.old) (λ world.
             ForwardsOn J.rules others self.old world self.new (J.shows judge.new) written.old.items written.new.items)) }
-        ensures silent { IfOk result (λ going. going ≢ Going.Ended → report.new.items ≡ report.old.items) }
-        ensures ends { IfOk result (λ going. going ≡ Going.Ended → OfEachJudgeWorld J.rules (J.shows judge.old) (λ world.
+        ensures silent { IfOk result (λ outcome. outcome ≢ StepOutcome.Ended → report.new.items ≡ report.old.items) }
+        ensures ends { IfOk result (λ outcome. outcome ≡ StepOutcome.Ended → OfEachJudgeWorld J.rules (J.shows judge.old) (λ world.
             ForwardsToEnd J.rules others self.old world report.old.items report.new.items)) }
-        ensures same { IfOk result (λ going. going ≡ Going.Ended → written.new.items ≡ written.old.items) }
-        ensures came { IfOk result (λ going. ForwardedSoFar going self.old self.new) }
+        ensures same { IfOk result (λ outcome. outcome ≡ StepOutcome.Ended → written.new.items ≡ written.old.items) }
+        ensures came { IfOk result (λ outcome. ForwardedSoFar outcome self.old self.new) }
     {
         judges_each_cell(judge);
         let octets = self.window.octets();
         let whole = self.reader.record_octets(octets);
         match self.reader.next(octets) {
-            Next::Unfinished => Ok(Going::Wants),
+            Next::Unfinished => Ok(StepOutcome::Wants),
             Next::Broken(fault) => {
                 close_at(judge, &self.filter, fault, report)?;
-                Ok(Going::Ended)
+                Ok(StepOutcome::Ended)
             }
-            Next::Passed(passage, own) => {
-                self.filter.pass(passage);
+            Next::Skipped(block, own) => {
+                self.filter.skip_block(block);
                 self.window.skip(own);
-                Ok(Going::On)
+                Ok(StepOutcome::On)
             }
             Next::Taken(record_read, own) => {
                 match forward_record(
@@ -125,10 +125,10 @@ impl ForwardReading {
                     written,
                     report,
                 )? {
-                    Turn::Ends => Ok(Going::Ended),
+                    Turn::Ends => Ok(StepOutcome::Ended),
                     Turn::GoesOn => {
                         self.window.skip(own);
-                        Ok(Going::On)
+                        Ok(StepOutcome::On)
                     }
                 }
             }

@@ -4,8 +4,8 @@ use Rattle.std.specs.Str.{bytes_eq}
 use Rattle.clap.specs.Walk.{Text}
 use Rattle.captures.specs.declared.packet_time.TimeSource.{TimeSource}
 use Rattle.captures.specs.declared.packet_time.TimeSource.TheVariants as source
-use Rattle.captures_text.specs.declared.cell_lines.CellLines.{CellLines}
-use Rattle.captures_text.specs.declared.cell_lines.CellLines.TheVariants as lines
+use Rattle.captures_text.specs.declared.line_choice.LineChoice.{LineChoice}
+use Rattle.captures_text.specs.declared.line_choice.LineChoice.TheVariants as lines
 use Rattle.cmd_size.specs.SizeWords.{duration_of}
 use Rattle.upc_cell.specs.declared.side.Side.{Side}
 use Rattle.upc_cell.specs.declared.side.Side.TheVariants.{Uni, Nni, UniPaths, NniPaths}
@@ -75,16 +75,16 @@ asked_file_of None = Some None
 asked_file_of (Some word) = option_map Some (file_named word)
 
 -- Which cells a word gives lines.
-abbrev pub cell_lines_named : Text → Option CellLines
-cell_lines_named word =
+abbrev pub line_choice_named : Text → Option LineChoice
+line_choice_named word =
     if bytes_eq word (codes "all") then Some lines.All
-    else if bytes_eq word (codes "refused") then Some lines.Refused
+    else if bytes_eq word (codes "refused") then Some lines.NotPassed
     else if bytes_eq word (codes "none") then Some lines.Nothing
     else None
 
 -- Which cells have lines.
-abbrev pub cell_lines_of : Option Text → Option CellLines
-cell_lines_of text = option_and_then cell_lines_named text
+abbrev pub line_choice_of : Option Text → Option LineChoice
+line_choice_of text = option_and_then line_choice_named text
 
 -- Whether a word asks for all pairs of lines.
 abbrev pub pairs_named : Text → Option Bool

@@ -8,11 +8,11 @@ use Rattle.clap.specs.Walk.{Rule, Text}
 use Rattle.text_command_line.specs.Arguments.{app_with_rules, argument_rule, flag_rule}
 use Rattle.text_command_line.specs.CommandLines.{argument_value}
 use Rattle.text_command_line.specs.declared.stop.Stop.{Stop}
-use Rattle.captures_text.specs.declared.cell_lines.CellLines.{CellLines}
+use Rattle.captures_text.specs.declared.line_choice.LineChoice.{LineChoice}
 use Rattle.cmd_options.specs.CellsOptions.{link_rule, time_rule}
 use Rattle.cmd_options.specs.OptionAnswers.{Asks, IsOptionStop}
 use Rattle.cmd_options.specs.LinkOption.{link_of}
-use Rattle.cmd_options.specs.OptionValues.{asked_tick_of, cell_lines_of, every_of, file_name_of, is_given, threads_of, timing_of}
+use Rattle.cmd_options.specs.OptionValues.{asked_tick_of, line_choice_of, every_of, file_name_of, is_given, threads_of, timing_of}
 use Rattle.cmd_options.specs.declared.police.PoliceOptions.{PoliceOptions}
 
 -- The argument SETUP, which must be given.
@@ -52,7 +52,7 @@ pub record PoliceAsked : Type 0 where
   pub nanoseconds : Option ℕ
   pub link : Option Link
   pub timing : TimeSource
-  pub lines : CellLines
+  pub lines : LineChoice
   pub every : Option ℕ
   pub why : Bool
   pub threads : ℕ
@@ -82,7 +82,7 @@ police_values setup tick link timing lines every why threads =
       every = span;
       why = is_given why;
       threads = number;
-    }) (threads_of threads)) (every_of every)) (cell_lines_of lines)) (timing_of timing)) (link_of link)) (asked_tick_of tick)) (file_name_of setup)
+    }) (threads_of threads)) (every_of every)) (line_choice_of lines)) (timing_of timing)) (link_of link)) (asked_tick_of tick)) (file_name_of setup)
 
 -- What the values of the argument and the options in the words spell.
 abbrev pub police_asked : List Text → Option PoliceAsked

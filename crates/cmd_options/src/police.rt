@@ -8,11 +8,11 @@ ghost use Rattle.cmd_options.specs.inner.Answered.{AnswersValues, police_spelled
 
 use crate::link::link_of;
 use crate::values::{
-    ASKED_TICK, LINK, SETUP, TIME, WRONG_LINK, WRONG_TICK, WRONG_TIME, asked_tick_of,
-    cell_lines_of, every_of, is_why_given, setup_name_of, threads_of, timing_of, wrong_value,
+    ASKED_TICK, LINK, SETUP, TIME, WRONG_LINK, WRONG_TICK, WRONG_TIME, asked_tick_of, every_of,
+    is_why_given, line_choice_of, setup_name_of, threads_of, timing_of, wrong_value,
 };
 use captures::{Link, Tick, TimeSource};
-use captures_text::CellLines;
+use captures_text::LineChoice;
 use std::alloc::Global;
 use text_command_line::{Argument, Form, Options, Stop, Value, values_of_words};
 
@@ -28,7 +28,7 @@ pub struct PoliceOptions {
     /// Which time of a record counts.
     pub timing: TimeSource,
     /// Which cells have lines.
-    pub lines: CellLines,
+    pub lines: LineChoice,
     /// How many nanoseconds a span has, above 0, if the counts of each span of time are written.
     pub every: Option<u64>,
     /// Whether lines show the rule that gave a cell its value.
@@ -106,7 +106,7 @@ fn read(alloc: Global, values: &[Value]) -> Result<PoliceOptions, Stop>
     let Some(timing) = timing_of(values) else {
         return Err(wrong_value(alloc, WRONG_TIME));
     };
-    let Some(lines) = cell_lines_of(values) else {
+    let Some(lines) = line_choice_of(values) else {
         return Err(wrong_value(
             alloc,
             "error: the value of '--lines' is all, refused or none\n",

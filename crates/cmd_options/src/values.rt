@@ -3,11 +3,11 @@
 ghost use Rattle.std.specs.Prelude.{◌≡◌, IfOk, codes, option_map};
 ghost use Rattle.std.specs.String.{string_bytes};
 ghost use Rattle.text_command_line.specs.Arguments.{text_named, texts_of};
-ghost use Rattle.cmd_options.specs.OptionValues.{asked_clp_of, asked_file_of, asked_tick_of, cell_lines_of, clp_named, every_of, fit_increment_of, fit_side_of, file_name_of, file_named, is_given, others_of, pairs_of, side_named, threads_of, tick_of, timing_of};
+ghost use Rattle.cmd_options.specs.OptionValues.{asked_clp_of, asked_file_of, asked_tick_of, line_choice_of, clp_named, every_of, fit_increment_of, fit_side_of, file_name_of, file_named, is_given, others_of, pairs_of, side_named, threads_of, tick_of, timing_of};
 ghost use Rattle.cmd_options.specs.inner.Answered.{IsWrongValue};
 
 use captures::{Tick, TimeSource};
-use captures_text::CellLines;
+use captures_text::LineChoice;
 use cmd_size::duration;
 use std::alloc::{AllocError, Global};
 use text_command_line::{Argument, Form, Stop, Value, text_of};
@@ -237,13 +237,13 @@ pub(crate) fn pairs_of(values: &[Value]) -> Option<bool>
 }
 
 /// Returns which cells the value of `--lines` gives lines.
-pub(crate) fn cell_lines_of(values: &[Value]) -> Option<CellLines>
-    ensures { result ≡ cell_lines_of (text_named (texts_of values.now) (codes "lines")) }
+pub(crate) fn line_choice_of(values: &[Value]) -> Option<LineChoice>
+    ensures { result ≡ line_choice_of (text_named (texts_of values.now) (codes "lines")) }
 {
     match text_of(values, "lines")? {
-        "all" => Some(CellLines::All),
-        "refused" => Some(CellLines::Refused),
-        "none" => Some(CellLines::Nothing),
+        "all" => Some(LineChoice::All),
+        "refused" => Some(LineChoice::NotPassed),
+        "none" => Some(LineChoice::Nothing),
         _ => None,
     }
 }

@@ -24,7 +24,7 @@ use Rattle.cmd_police.specs.inner.CountsSince.{AreOwnCounts}
 use Rattle.cmd_police.specs.PoliceLines.{in_column}
 use Rattle.cmd_police.specs.PoliceText.{MayBeCut, TakesCellWithRoom, connection_of_cell}
 use Rattle.cmd_police.specs.TimedLines.{WaitingCommand}
-use Rattle.cmd_police.specs.declared.line_starts.LineStarts.{LineStarts}
+use Rattle.cmd_police.specs.declared.counts_at_setup.CountsAtSetup.{CountsAtSetup}
 use Rattle.cmd_police.specs.declared.stored_commands.StoredCommand.{StoredCommand}
 use Rattle.cmd_police.specs.declared.stored_commands.StoredCommands.{StoredCommands}
 use Rattle.cmd_police.specs.declared.timed_card.TimedCard.{TimedCard}
@@ -35,9 +35,9 @@ use Rattle.cmd_police.specs.StoredCommands.{shown_command, waiting_in}
 use Rattle.cmd_police.specs.inner.TimedScripts.{IsDue, IsNoneDue, after_first_left}
 
 -- A command that is taken is answered as in `run`.
-pub taken_moves : (line : List ℕ) (held held' : Held) (starts starts' : List Tally) (old new : List ℕ) → is_taken_under_traffic (words_of line) ≡ true
-    → MovesNoting (AnswersLine line) held starts held' starts' old new → MovesNoting (λ before. AnswersPlainly before line) held starts held' starts' old new
-taken_moves line held held' starts starts' old new is moves = (
+pub taken_moves : (line : List ℕ) (held held' : Held) (at_setup at_setup' : List Tally) (old new : List ℕ) → is_taken_under_traffic (words_of line) ≡ true
+    → MovesNoting (AnswersLine line) held at_setup held' at_setup' old new → MovesNoting (λ before. AnswersPlainly before line) held at_setup held' at_setup' old new
+taken_moves line held held' at_setup at_setup' old new is moves = (
   moves.0,
   moves.1,
   λ before led shown are.
@@ -56,11 +56,11 @@ counts_answer world ended given None = refl
 counts_answer world ended given (Some connection) = refl
 
 -- A command that ends a journal is answered with the counts of its connection.
-pub counted_moves : (side : Side) (line word : List ℕ) (vc : Vc) (counts : Option Tally) (held held' : Held) (starts starts' : List Tally) (given old new : List ℕ)
-    → held.core.shape.side ≡ side → AreOwnCounts held.core starts vc counts
-    → MovesNoting (AnswersLine line) held starts held' starts' [] given → new ≡ old ++ answer_of_counts side word vc counts given
-    → MovesNoting (λ before text after. AnswersWithCounts before line (word, vc) text after) held starts held' starts' old new
-counted_moves side line word vc counts held held' starts starts' given old new is own moves added = (
+pub counted_moves : (side : Side) (line word : List ℕ) (vc : Vc) (counts : Option Tally) (held held' : Held) (at_setup at_setup' : List Tally) (given old new : List ℕ)
+    → held.core.shape.side ≡ side → AreOwnCounts held.core at_setup vc counts
+    → MovesNoting (AnswersLine line) held at_setup held' at_setup' [] given → new ≡ old ++ answer_of_counts side word vc counts given
+    → MovesNoting (λ before text after. AnswersWithCounts before line (word, vc) text after) held at_setup held' at_setup' old new
+counted_moves side line word vc counts held held' at_setup at_setup' given old new is own moves added = (
   answer_of_counts side word vc counts given,
   added,
   λ before led shown are.
@@ -81,11 +81,11 @@ counted_moves side line word vc counts held held' starts starts' given old new i
 )
 
 -- The answer to a command, by whether it ends a journal.
-pub ended_moves : (side : Side) (line word : List ℕ) (vc : Vc) (held held' : Held) (starts starts' : List Tally) (old new : List ℕ) → held.core.shape.side ≡ side
+pub ended_moves : (side : Side) (line word : List ℕ) (vc : Vc) (held held' : Held) (at_setup at_setup' : List Tally) (old new : List ℕ) → held.core.shape.side ≡ side
     → Some (word, vc) ≡ ended_journal (command_of side (words_of line))
-    → MovesNoting (λ before text after. AnswersWithCounts before line (word, vc) text after) held starts held' starts' old new
-    → MovesNoting (λ before. AnswersUnderTraffic before line) held starts held' starts' old new
-ended_moves side line word vc held held' starts starts' old new is ends moves = (
+    → MovesNoting (λ before text after. AnswersWithCounts before line (word, vc) text after) held at_setup held' at_setup' old new
+    → MovesNoting (λ before. AnswersUnderTraffic before line) held at_setup held' at_setup' old new
+ended_moves side line word vc held held' at_setup at_setup' old new is ends moves = (
   moves.0,
   moves.1,
   λ before led shown are.
@@ -100,10 +100,10 @@ ended_moves side line word vc held held' starts starts' old new is ends moves = 
       ),
 )
 
-pub plain_moves : (side : Side) (line : List ℕ) (held held' : Held) (starts starts' : List Tally) (old new : List ℕ) → held.core.shape.side ≡ side
-    → None ≡ ended_journal (command_of side (words_of line)) → MovesNoting (λ before. AnswersPlainly before line) held starts held' starts' old new
-    → MovesNoting (λ before. AnswersUnderTraffic before line) held starts held' starts' old new
-plain_moves side line held held' starts starts' old new is ends moves = (
+pub plain_moves : (side : Side) (line : List ℕ) (held held' : Held) (at_setup at_setup' : List Tally) (old new : List ℕ) → held.core.shape.side ≡ side
+    → None ≡ ended_journal (command_of side (words_of line)) → MovesNoting (λ before. AnswersPlainly before line) held at_setup held' at_setup' old new
+    → MovesNoting (λ before. AnswersUnderTraffic before line) held at_setup held' at_setup' old new
+plain_moves side line held held' at_setup at_setup' old new is ends moves = (
   moves.0,
   moves.1,
   λ before led shown are.
@@ -130,7 +130,7 @@ carried_none timed moment old none = (
   [],
   sym (append-nil old),
   refl,
-  λ before led shown are. record { after = before; led = led; shown = shown; starts = are; carried = none_carried (waiting_in timed.commands) moment before none },
+  λ before led shown are. record { after = before; led = led; shown = shown; at_setup = are; carried = none_carried (waiting_in timed.commands) moment before none },
 )
 
 -- At first nothing was carried out.
@@ -139,7 +139,7 @@ carries_start timed moment old = (
   [],
   sym (append-nil old),
   refl,
-  λ before led shown are. record { present = before; led = led; shown = shown; starts = are; completes = λ more after left carried. carried },
+  λ before led shown are. record { present = before; led = led; shown = shown; at_setup = are; completes = λ more after left carried. carried },
 )
 
 -- The first command is carried out.
@@ -170,13 +170,13 @@ filled_more [] moment answer = refl
 filled_more (octet ∷ octets) moment answer = refl
 
 -- One more was carried out.
-pub carries_more : (first timed : TimedCard) (held : Held) (starts : LineStarts) (command : StoredCommand) (moment : ℕ) (carried : Bool) (old now begun new : List ℕ)
+pub carries_more : (first timed : TimedCard) (held : Held) (at_setup : CountsAtSetup) (command : StoredCommand) (moment : ℕ) (carried : Bool) (old now begun new : List ℕ)
     → CarriesSoFar first moment carried timed old now → IsDue timed.commands moment command → begun ≡ now ++ command_line command.moment []
-    → MovesNoting (λ before. AnswersUnderTraffic before command.content.items) timed.card timed.starts.counts.items held starts.counts.items begun new
-    → CarriesSoFar first moment true (record timed { card = held; starts = starts; commands = after_first_left timed.commands }) old new
-carries_more first timed held starts command moment carried old now begun new so_far due begins moves =
+    → MovesNoting (λ before. AnswersUnderTraffic before command.content.items) timed.card timed.at_setup.counts.items held at_setup.counts.items begun new
+    → CarriesSoFar first moment true (record timed { card = held; at_setup = at_setup; commands = after_first_left timed.commands }) old new
+carries_more first timed held at_setup command moment carried old now begun new so_far due begins moves =
     let line = command_line command.moment moves.0 in
-    let next : TimedCard = record timed { card = held; starts = starts; commands = after_first_left timed.commands } in (
+    let next : TimedCard = record timed { card = held; at_setup = at_setup; commands = after_first_left timed.commands } in (
       so_far.0 ++ line,
       moves.1 ∙ ap (λ xs. xs ++ moves.0) begins ∙ append_assoc now (command_line command.moment []) moves.0
           ∙ ap (λ xs. now ++ xs) (line_grows command.moment moves.0)
@@ -184,12 +184,12 @@ carries_more first timed held starts command moment carried old now begun new so
       filled_more so_far.0 command.moment moves.0,
       λ before led shown are.
           let on = so_far.3 before led shown are in
-          let goes = moves.2 on.present on.led on.shown on.starts in
+          let goes = moves.2 on.present on.led on.shown on.at_setup in
           record {
             present = goes.0;
             led = under_traffic_led on.present goes.0 command.content.items moves.0 on.led goes.3;
             shown = goes.1;
-            starts = goes.2;
+            at_setup = goes.2;
             completes = λ more after left later.
                 subst (λ xs. CarriesOutWaiting (waiting_in first.commands) moment before xs after left) (sym (append_assoc so_far.0 line more))
                 (on.completes (line ++ more) after left
@@ -211,7 +211,7 @@ carries_end first timed moment carried old new so_far none = (
         after = on.present;
         led = on.led;
         shown = on.shown;
-        starts = on.starts;
+        at_setup = on.at_setup;
         carried = subst (λ xs. CarriesOutWaiting (waiting_in first.commands) moment before xs on.present (waiting_in timed.commands)) (append-nil so_far.0)
             (on.completes [] on.present (waiting_in timed.commands) (none_carried (waiting_in timed.commands) moment on.present none));
       },

@@ -15,7 +15,7 @@ use Rattle.leaky.specs.declared.verdict.Verdict.TheVariants.{Pass, Tag, Discard,
 use Rattle.line_record.specs.History.{NamedCell, buckets_after_cells, empty_buckets, last_moment, numbered}
 use Rattle.line_record.specs.Line.{LineView}
 use Rattle.upc_cell.specs.declared.vc.Vc.{Vc}
-use Rattle.cmd_police.specs.inner.ExcessLeft.{IsKeptOnLine, excess_left, first_met, met_after}
+use Rattle.cmd_police.specs.inner.ExcessLeft.{IsKeptOnLine, excess_left, first_met, buckets_to_explain}
 
 -- Lists of one length have the same numbers.
 places_same : {X Y : Type 0} (xs : List X) (ys : List Y) (place : ℕ) → length ys ≡ length xs → slice_get ys place ≡ None → slice_get xs place ≡ None
@@ -40,9 +40,9 @@ no_levels connection line value is none =
 by_contract : (connection : Connection) (line : LineView) (value : ℕ) (verdict : Verdict) (clp : Bool) (moment : ℕ) (found : Option Contract)
     → IsKeptOnLine connection line → numbered line.contracts value ≡ found
     → excess_left connection value verdict clp moment
-    ≡ option_and_then (λ contract. excess_at contract (met_after verdict (buckets_after_cells connection.contracts empty_buckets connection.history value)) clp moment) found
+    ≡ option_and_then (λ contract. excess_at contract (buckets_to_explain verdict (buckets_after_cells connection.contracts empty_buckets connection.history value)) clp moment) found
 by_contract connection line value verdict clp moment found is named =
-    ap (option_and_then (λ contract. excess_at contract (met_after verdict (buckets_after_cells connection.contracts empty_buckets connection.history value)) clp moment))
+    ap (option_and_then (λ contract. excess_at contract (buckets_to_explain verdict (buckets_after_cells connection.contracts empty_buckets connection.history value)) clp moment))
     (subst (λ (xs : List Contract). numbered xs value ≡ found) is.contracts named)
 
 -- A value that names no contract.
@@ -52,13 +52,13 @@ left_none connection line value verdict clp moment is none = sym (by_contract co
 
 -- Levels that represent buckets represent what the excess depends on.
 met_agrees : (verdict : Verdict) (levels met : Levels) (buckets : Buckets) → met.first ≡ first_met verdict levels.first → met.second ≡ levels.second
-    → Agrees levels buckets → Agrees met (met_after verdict buckets)
+    → Agrees levels buckets → Agrees met (buckets_to_explain verdict buckets)
 met_agrees Pass levels met buckets first second agrees = record { first = first ∙ agrees.first; second = second ∙ agrees.second }
 met_agrees Tag levels met buckets first second agrees = record { first = first; second = second ∙ agrees.second }
 met_agrees Discard levels met buckets first second agrees = record { first = first ∙ agrees.first; second = second ∙ agrees.second }
 met_agrees Refuse levels met buckets first second agrees = record { first = first ∙ agrees.first; second = second ∙ agrees.second }
 
-met_charged : (verdict : Verdict) (buckets : Buckets) (moment : ℕ) → IsChargedBy buckets moment → IsChargedBy (met_after verdict buckets) moment
+met_charged : (verdict : Verdict) (buckets : Buckets) (moment : ℕ) → IsChargedBy buckets moment → IsChargedBy (buckets_to_explain verdict buckets) moment
 met_charged Pass buckets moment charged = charged
 met_charged Tag buckets moment charged = record { first = omega arith; second = charged.second }
 met_charged Discard buckets moment charged = charged
@@ -75,7 +75,7 @@ left_is connection line value verdict clp moment contract levels met found is la
     let buckets = buckets_after_cells connection.contracts empty_buckets connection.history value in
     let agrees = is.state.holds.agrees value levels two in
     let charged = is.state.holds.charged value levels two in
-    at (met_after verdict buckets) (met_agrees verdict levels met buckets first second agrees)
+    at (buckets_to_explain verdict buckets) (met_agrees verdict levels met buckets first second agrees)
     (met_charged verdict buckets moment (record { first = omega (arith, charged.first, late); second = omega (arith, charged.second, late) }))
     ∙ sym (by_contract connection line value verdict clp moment (Some contract) is one)
 

@@ -17,7 +17,7 @@ use Rattle.leaky.specs.declared.verdict.Verdict.TheVariants.{Pass, Tag, Discard,
 use Rattle.line_record.specs.History.{NamedCell, arrival_of, arrivals_at, buckets_after_cells, buckets_under, empty_buckets, last_moment, named_verdict, numbered}
 use Rattle.upc_cell.specs.declared.vc.Vc.{Vc}
 use Rattle.cmd_police.specs.PoliceLines.{next_excess}
-use Rattle.cmd_police.specs.inner.ExcessLeft.{JudgesNext, excess_left, met_after}
+use Rattle.cmd_police.specs.inner.ExcessLeft.{JudgesNext, excess_left, buckets_to_explain}
 
 -- Buckets after one more cell.
 
@@ -69,7 +69,7 @@ tag_kept peak sustained excess buckets moment is = by (conforms peak buckets.fir
 
 -- The excess of a cell that did not pass, from the buckets after it.
 kept : (contract : Contract) (buckets : Buckets) (clp : Bool) (moment : ℕ) (verdict : Verdict) → verdict_of contract buckets clp moment ≡ verdict → verdict ≢ Pass
-    → excess_at contract buckets clp moment ≡ excess_at contract (met_after verdict (buckets_after contract buckets clp moment)) clp moment
+    → excess_at contract buckets clp moment ≡ excess_at contract (buckets_to_explain verdict (buckets_after contract buckets clp moment)) clp moment
 kept contract buckets clp moment Pass is other = absurd (other refl)
 kept contract buckets clp moment Tag is other =
     tag_kept (peak_of contract) (sustained_of contract clp) (excess_of contract) buckets moment is
@@ -83,7 +83,7 @@ kept contract buckets clp moment Refuse is other =
 by_named : (contracts : List Contract) (history : List NamedCell) (cell : NamedCell) (verdict : Verdict) (found : Option Contract) → numbered contracts cell.value ≡ found
     → verdict ≡ named_verdict found (buckets_after_cells contracts empty_buckets history cell.value) cell → verdict ≢ Pass
     → option_and_then (λ contract. excess_at contract (buckets_after_cells contracts empty_buckets history cell.value) cell.clp cell.moment) found
-    ≡ option_and_then (λ contract. excess_at contract (met_after verdict (buckets_after_cells contracts empty_buckets (history ++ cell ∷ []) cell.value)) cell.clp cell.moment) found
+    ≡ option_and_then (λ contract. excess_at contract (buckets_to_explain verdict (buckets_after_cells contracts empty_buckets (history ++ cell ∷ []) cell.value)) cell.clp cell.moment) found
 by_named contracts history cell verdict None named is other = refl
 by_named contracts history cell verdict (Some contract) named is other =
     let number = cell.value in
@@ -98,7 +98,7 @@ by_named contracts history cell verdict (Some contract) named is other =
     sym (is ∙ ap (λ (b : Buckets). verdict_of contract b cell.clp cell.moment) before) in
     ap (λ (b : Buckets). excess_at contract b cell.clp cell.moment) before
     ∙ kept contract buckets cell.clp cell.moment verdict given other
-    ∙ sym (ap (λ (b : Buckets). excess_at contract (met_after verdict b) cell.clp cell.moment) after)
+    ∙ sym (ap (λ (b : Buckets). excess_at contract (buckets_to_explain verdict b) cell.clp cell.moment) after)
 
 passes_named : (contracts : List Contract) (history : List NamedCell) (cell : NamedCell) (found : Option Contract)
     → Pass ≡ named_verdict found (buckets_after_cells contracts empty_buckets history cell.value) cell
@@ -137,7 +137,7 @@ module _ (before after : List (Vc × Connection)) (vc : Vc) (clp : Bool) (moment
   pub refused_next : verdict ≢ Pass → excess_left judges.next value verdict clp moment ≡ next_excess judges.connection value clp moment
   refused_next other =
       let Left : List Contract → List NamedCell → ℕ → Bool → ℕ → Option Excess = λ contracts history value clp moment.
-      option_and_then (λ contract. excess_at contract (met_after verdict (buckets_after_cells contracts empty_buckets history value)) clp moment) (numbered contracts value) in
+      option_and_then (λ contract. excess_at contract (buckets_to_explain verdict (buckets_after_cells contracts empty_buckets history value)) clp moment) (numbered contracts value) in
       let history = judges.connection.history ++ judges.cell ∷ [] in
       ap (λ (contracts : List Contract). Left contracts judges.next.history value clp moment) judges.contracts
       ∙ ap (λ (cells : List NamedCell). Left judges.connection.contracts cells value clp moment) judges.history

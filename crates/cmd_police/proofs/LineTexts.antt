@@ -3,8 +3,8 @@ use Rattle.std.proofs.Common.{◌≡◌, ◌||◌, Bool, true, false, if◌then�
 use Rattle.card_core.specs.Agreement.{CoreAgrees}
 use Rattle.card_core.specs.World.{World}
 use Rattle.card_core.specs.declared.answer.Answer.{Answer}
-use Rattle.captures_text.specs.declared.cell_lines.CellLines.{CellLines}
-use Rattle.captures_text.specs.declared.counted.CountedCell.{CountedCell}
+use Rattle.captures_text.specs.declared.line_choice.LineChoice.{LineChoice}
+use Rattle.captures_text.specs.declared.captured_cell.CapturedCell.{CapturedCell}
 use Rattle.leaky.specs.declared.excess.Excess.{Excess}
 use Rattle.std.specs.Prelude.{Option}
 use Rattle.text_card.specs.Replies.{number_of_judging}
@@ -28,19 +28,19 @@ joined old first second third heading columns ending one two three =
     three ∙ ap (λ xs. xs ++ ending) (two ∙ ap (λ xs. xs ++ columns) one)
     ∙ append_assoc (old ++ heading) columns ending ∙ append_assoc old heading (columns ++ ending)
 
-pub adds_line : (side : Side) (lines : CellLines) (rules : ShownRules) (begun : Bool) (counted : CountedCell) (vc : Vc) (given : Answer) (card : Held) (excess : Option Excess)
+pub adds_line : (side : Side) (lines : LineChoice) (rules : ShownRules) (begun : Bool) (captured : CapturedCell) (vc : Vc) (given : Answer) (card : Held) (excess : Option Excess)
     (old first second new : List ℕ) → has_line lines given ≡ true
     → first ≡ old ++ (if begun then [] else verdict_heading rules)
-    → second ≡ first ++ cell_columns side counted.number counted.moment vc (has_low_priority counted.cell) given excess
-    → new ≡ second ++ line_end rules (number_of_judging card.names given) counted.cell
-    → ((before after : World) → CoreAgrees card.core after → LeavesConnection before.connections after.connections vc (has_low_priority counted.cell) given
-    → excess ≡ excess_of_answer before vc (has_low_priority counted.cell) given)
-    → AddsCell side lines rules begun counted vc given card old new true
-adds_line side lines rules begun counted vc given card excess old first second new wanted heading columns ending right = record {
+    → second ≡ first ++ cell_columns side captured.number captured.moment vc (has_low_priority captured.cell) given excess
+    → new ≡ second ++ line_end rules (number_of_judging card.names given) captured.cell
+    → ((before after : World) → CoreAgrees card.core after → LeavesConnection before.connections after.connections vc (has_low_priority captured.cell) given
+    → excess ≡ excess_of_answer before vc (has_low_priority captured.cell) given)
+    → AddsCell side lines rules begun captured vc given card old new true
+adds_line side lines rules begun captured vc given card excess old first second new wanted heading columns ending right = record {
   excess = excess;
-  added = joined old first second new (if begun then [] else verdict_heading rules) (cell_columns side counted.number counted.moment vc (has_low_priority counted.cell) given excess)
-      (line_end rules (number_of_judging card.names given) counted.cell) heading columns ending
-      ∙ ap (λ b. old ++ (if b then headed_line side rules begun card.names counted vc given excess else [])) (sym wanted);
+  added = joined old first second new (if begun then [] else verdict_heading rules) (cell_columns side captured.number captured.moment vc (has_low_priority captured.cell) given excess)
+      (line_end rules (number_of_judging card.names given) captured.cell) heading columns ending
+      ∙ ap (λ b. old ++ (if b then headed_line side rules begun card.names captured vc given excess else [])) (sym wanted);
   right = λ _ before after agrees leaves. right before after agrees leaves;
   written = or_true begun ∙ ap (λ b. begun || b) (sym wanted);
 }

@@ -8,9 +8,9 @@ use Rattle.card_core.specs.declared.shape.Shape.{Shape}
 use Rattle.captures_text.specs.CellFollowing.{FollowsCell}
 use Rattle.captures_text.proofs.Progresses.{on_fault}
 use Rattle.captures_text.specs.RunLines.{closing_lines}
-use Rattle.captures_text.specs.declared.cell_lines.CellLines.{CellLines}
-use Rattle.captures_text.specs.declared.counted.CountedCell.{CountedCell}
-use Rattle.captures_text.specs.declared.passed.PassedOver.{PassedOver}
+use Rattle.captures_text.specs.declared.line_choice.LineChoice.{LineChoice}
+use Rattle.captures_text.specs.declared.captured_cell.CapturedCell.{CapturedCell}
+use Rattle.captures_text.specs.declared.reading_summary.ReadingSummary.{ReadingSummary}
 use Rattle.gen_arena.specs.declared.id.Id.{Id}
 use Rattle.leaky.specs.declared.excess.Excess.{Excess}
 use Rattle.text_io.specs.Serving.{IsServed}
@@ -66,10 +66,10 @@ lined_same true line one other same = ap line (same refl)
 lined_same false line one other same = refl
 
 -- The answers grew by a text that answers a cell after the commands, from each state that was shown.
-abbrev pub FollowsArrived : (PoliceWorld → Type 0) → CountedCell → (PoliceWorld → Type 0) → List ℕ → List ℕ → Type 0
-FollowsArrived shown counted shown' old new =
+abbrev pub FollowsArrived : (PoliceWorld → Type 0) → CapturedCell → (PoliceWorld → Type 0) → List ℕ → List ℕ → Type 0
+FollowsArrived shown captured shown' old new =
     (here : List ℕ) × (new ≡ old ++ here)
-    × ((ready : PoliceWorld) → IsLed ready.card → shown ready → (after : PoliceWorld) × shown' after × PolicesArrived ready counted here (Some after))
+    × ((ready : PoliceWorld) → IsLed ready.card → shown ready → (after : PoliceWorld) × shown' after × PolicesArrived ready captured here (Some after))
 
 -- The run after a cell.
 abbrev run_after : PoliceRun → CoreView → Bool → Spans → NotJudged → PoliceRun
@@ -81,27 +81,27 @@ run_after before core begun spans not_judged = record before {
 }
 
 -- A cell that arrived, with the text for it.
-pub polices_by : (before : PoliceRun) (core : CoreView) (given : Answer) (counted : CountedCell)
+pub polices_by : (before : PoliceRun) (core : CoreView) (given : Answer) (captured : CapturedCell)
     (begun : Bool) (at_moment spans : Spans) (not_judged : NotJudged) (old ended new : List ℕ)
-    → SpansGoOn before.spans counted.moment at_moment old ended
-    → ArrivesWithRoom before.timed.card.core counted.cell counted.moment (Some given) core
-    → AddsCell before.timed.card.core.shape.side before.lines (shown_stored before.rules) before.begun counted (vc_of before.timed.card.core.shape.side counted.cell) given
+    → SpansGoOn before.spans captured.moment at_moment old ended
+    → ArrivesWithRoom before.timed.card.core captured.cell captured.moment (Some given) core
+    → AddsCell before.timed.card.core.shape.side before.lines (shown_stored before.rules) before.begun captured (vc_of before.timed.card.core.shape.side captured.cell) given
     (record before.timed.card { core = core }) ended new begun
-    → SpansCount at_moment (vc_of before.timed.card.core.shape.side counted.cell) given spans
-    → not_judged ≡ not_judged_after before.not_judged counted.number given
-    → FollowsArrived (ShowsPolice before) counted (ShowsPolice (run_after before core begun spans not_judged)) old new
-polices_by before core given counted begun at_moment spans not_judged old ended new goes arrives adds more counts = (
-  own_ended_text before.spans counted.moment
-      ++ lined before.timed.card.core.shape.side before.lines (shown_stored before.rules) before.begun before.timed.card.names counted
-      (vc_of before.timed.card.core.shape.side counted.cell) given adds.excess,
+    → SpansCount at_moment (vc_of before.timed.card.core.shape.side captured.cell) given spans
+    → not_judged ≡ not_judged_after before.not_judged captured.number given
+    → FollowsArrived (ShowsPolice before) captured (ShowsPolice (run_after before core begun spans not_judged)) old new
+polices_by before core given captured begun at_moment spans not_judged old ended new goes arrives adds more counts = (
+  own_ended_text before.spans captured.moment
+      ++ lined before.timed.card.core.shape.side before.lines (shown_stored before.rules) before.begun before.timed.card.names captured
+      (vc_of before.timed.card.core.shape.side captured.cell) given adds.excess,
   adds.added
-      ∙ ap (λ xs. xs ++ lined before.timed.card.core.shape.side before.lines (shown_stored before.rules) before.begun before.timed.card.names counted
-      (vc_of before.timed.card.core.shape.side counted.cell) given adds.excess) goes.added
-      ∙ append_assoc old (own_ended_text before.spans counted.moment) _,
+      ∙ ap (λ xs. xs ++ lined before.timed.card.core.shape.side before.lines (shown_stored before.rules) before.begun before.timed.card.names captured
+      (vc_of before.timed.card.core.shape.side captured.cell) given adds.excess) goes.added
+      ∙ append_assoc old (own_ended_text before.spans captured.moment) _,
   λ world led shown.
-      let number = counted.number in
-      let moment = counted.moment in
-      let cell = counted.cell in
+      let number = captured.number in
+      let moment = captured.moment in
+      let cell = captured.cell in
       let vc = vc_of before.timed.card.core.shape.side cell in
       let clp = has_low_priority cell in
       let on = arrives world.card led shown.timed.held.agrees in
@@ -113,31 +113,31 @@ polices_by before core given counted begun at_moment spans not_judged old ended 
       (room_leaves world.card on.2 cell moment on.0 led on.3)) in
       let rules = shown_stored before.rules in
       let names = before.timed.card.names in
-      let Text : Side → CellLines → ShownRules → List Id → Bool → Vc → Answer → List ℕ = λ side lines rules names begun vc given.
-      lined side lines rules begun names counted vc given (excess_of_answer world.card.world vc clp given) in
-      let text : lined before.timed.card.core.shape.side before.lines rules before.begun names counted vc given adds.excess ≡ policed_text world counted on.0 =
-      lined_same (has_line before.lines given) (λ excess. headed_line before.timed.card.core.shape.side rules before.begun names counted vc given excess)
+      let Text : Side → LineChoice → ShownRules → List Id → Bool → Vc → Answer → List ℕ = λ side lines rules names begun vc given.
+      lined side lines rules begun names captured vc given (excess_of_answer world.card.world vc clp given) in
+      let text : lined before.timed.card.core.shape.side before.lines rules before.begun names captured vc given adds.excess ≡ policed_text world captured on.0 =
+      lined_same (has_line before.lines given) (λ excess. headed_line before.timed.card.core.shape.side rules before.begun names captured vc given excess)
       adds.excess (excess_of_answer world.card.world vc clp given) (λ wanted. adds.right wanted world.card.world on.2.world on.4 leaves)
       ∙ ap (λ (shape : Shape). Text shape.side before.lines rules names before.begun vc given) shown.timed.held.agrees.shape
-      ∙ ap (λ (lines : CellLines). Text world.card.world.shape.side lines rules names before.begun vc given) shown.lines
+      ∙ ap (λ (lines : LineChoice). Text world.card.world.shape.side lines rules names before.begun vc given) shown.lines
       ∙ ap (λ (rules : ShownRules). Text world.card.world.shape.side world.lines rules names before.begun vc given) shown.rules
       ∙ ap (λ (names : List Id). Text world.card.world.shape.side world.lines world.rules names before.begun vc given) shown.timed.held.names
       ∙ ap (λ b. Text world.card.world.shape.side world.lines world.rules world.card.names b vc given) shown.begun
       ∙ ap (λ (v : Vc). Text world.card.world.shape.side world.lines world.rules world.card.names world.begun v given) here
       ∙ ap (λ (a : Answer). Text world.card.world.shape.side world.lines world.rules world.card.names world.begun (connection_of_cell world.card cell) a) same
       in (
-        after_cell world counted on.0 on.2,
+        after_cell world captured on.0 on.2,
         record {
           lines = shown.lines;
           rules = shown.rules;
           tick = shown.tick;
           timed = record {
             held = record { agrees = on.4; names = shown.timed.held.names ∙ room_names world.card on.2 cell moment on.0 on.3 };
-            starts = room_starts world.card on.2 cell moment on.0 before.timed.starts.counts.items led on.3 shown.timed.starts;
+            at_setup = room_starts world.card on.2 cell moment on.0 before.timed.at_setup.counts.items led on.3 shown.timed.at_setup;
             waits = shown.timed.waits;
           };
           commanded = shown.commanded;
-          begun = adds.written ∙ ap (λ b. b || has_line before.lines given) shown.begun ∙ ap (λ (lines : CellLines). world.begun || has_line lines given) shown.lines
+          begun = adds.written ∙ ap (λ b. b || has_line before.lines given) shown.begun ∙ ap (λ (lines : LineChoice). world.begun || has_line lines given) shown.lines
               ∙ ap (λ (a : Answer). world.begun || has_line world.lines a) same;
           spans = subst (λ (v : Vc). ShowsSpans spans (spans_after (spans_at world.spans moment) v on.0)) here
               (subst (λ (a : Answer). ShowsSpans spans (spans_after (spans_at world.spans moment) vc a)) same
@@ -149,7 +149,7 @@ polices_by before core given counted begun at_moment spans not_judged old ended 
           given = on.0;
           card = on.2;
           taken = on.3;
-          written = ap (λ xs. xs ++ lined before.timed.card.core.shape.side before.lines rules before.begun names counted vc given adds.excess) (ended_same before.spans world.spans moment shown.spans)
+          written = ap (λ xs. xs ++ lined before.timed.card.core.shape.side before.lines rules before.begun names captured vc given adds.excess) (ended_same before.spans world.spans moment shown.spans)
               ∙ ap (λ xs. ended_text world.spans moment ++ xs) text;
           after = refl;
         },
@@ -157,11 +157,11 @@ polices_by before core given counted begun at_moment spans not_judged old ended 
 )
 
 -- No represented card leaves a cell without an answer.
-pub polices_never : (before after : PoliceRun) (core : CoreView) (counted : CountedCell) (at_moment : Spans) (old new : List ℕ)
-    → SpansGoOn before.spans counted.moment at_moment old new
-    → ArrivesWithRoom before.timed.card.core counted.cell counted.moment None core → FollowsArrived (ShowsPolice before) counted (ShowsPolice after) old new
-polices_never before after core counted at_moment old new goes arrives =
-    (own_ended_text before.spans counted.moment, goes.added, λ world led shown. let on = arrives world.card led shown.timed.held.agrees in let no = on.1 in cc)
+pub polices_never : (before after : PoliceRun) (core : CoreView) (captured : CapturedCell) (at_moment : Spans) (old new : List ℕ)
+    → SpansGoOn before.spans captured.moment at_moment old new
+    → ArrivesWithRoom before.timed.card.core captured.cell captured.moment None core → FollowsArrived (ShowsPolice before) captured (ShowsPolice after) old new
+polices_never before after core captured at_moment old new goes arrives =
+    (own_ended_text before.spans captured.moment, goes.added, λ world led shown. let on = arrives world.card led shown.timed.held.agrees in let no = on.1 in cc)
 
 -- The run after commands.
 abbrev pub run_commanded : PoliceRun → TimedCard → Bool → PoliceRun
@@ -178,7 +178,7 @@ commanded_state before timed moment carried commanded text world filled either s
         lines = shown.lines;
         rules = shown.rules;
         tick = shown.tick;
-        timed = record { held = to.shown; starts = to.starts; waits = refl };
+        timed = record { held = to.shown; at_setup = to.at_setup; waits = refl };
         commanded = either ∙ ap (λ b. before.commanded || b) filled ∙ ap (λ b. b || is_filled text) shown.commanded;
         begun = shown.begun;
         spans = shown.spans;
@@ -194,15 +194,15 @@ commanded_state before timed moment carried commanded text world filled either s
     )
 
 -- A cell after the commands whose moment has come.
-pub polices_after : (before : PoliceRun) (timed : TimedCard) (carried commanded : Bool) (counted : CountedCell) (shown' : PoliceWorld → Type 0) (old middle new : List ℕ)
-    → CarriesShown before.timed counted.moment carried timed old middle → commanded ≡ (before.commanded || carried)
-    → FollowsArrived (ShowsPolice (run_commanded before timed commanded)) counted shown' middle new
-    → FollowsCell police_rules (ShowsPolice before) counted GoesOn shown' old new
-polices_after before timed carried commanded counted shown' old middle new carries either follows = (
+pub polices_after : (before : PoliceRun) (timed : TimedCard) (carried commanded : Bool) (captured : CapturedCell) (shown' : PoliceWorld → Type 0) (old middle new : List ℕ)
+    → CarriesShown before.timed captured.moment carried timed old middle → commanded ≡ (before.commanded || carried)
+    → FollowsArrived (ShowsPolice (run_commanded before timed commanded)) captured shown' middle new
+    → FollowsCell police_rules (ShowsPolice before) captured GoesOn shown' old new
+polices_after before timed carried commanded captured shown' old middle new carries either follows = (
   carries.0 ++ follows.0,
   follows.1 ∙ ap (λ xs. xs ++ follows.0) carries.1 ∙ append_assoc old carries.0 follows.0,
   λ world led shown.
-      let state = commanded_state before timed counted.moment carried commanded carries.0 world carries.2 either shown (carries.3 world.card led shown.timed.held shown.timed.starts) in
+      let state = commanded_state before timed captured.moment carried commanded carries.0 world carries.2 either shown (carries.3 world.card led shown.timed.held shown.timed.at_setup) in
       let on = follows.2 state.0 state.2 state.1 in (
         on.0,
         on.1,
@@ -224,26 +224,26 @@ joined old spans gap heading counts cells waiting comments closing =
     ∙ ap (λ xs. old ++ (spans ++ (gap ++ xs))) (append_assoc heading counts (cells ++ (waiting ++ (comments ++ closing))))
 
 -- The end of a capture.
-pub closes_by : (run : PoliceRun) (world : PoliceWorld) (passed : PassedOver) (ending : Option Fault) (old one two three four five six new : List ℕ)
+pub closes_by : (run : PoliceRun) (world : PoliceWorld) (summary : ReadingSummary) (ending : Option Fault) (old one two three four five six new : List ℕ)
     → ShowsPolice run world → one ≡ old ++ own_text run.spans
     → two ≡ one ++ police_gap ((run.begun || own_begun_after run.spans) || run.commanded) → three ≡ two ++ (counts_heading ++ counts_lines world.card.world)
     → four ≡ three ++ not_judged_lines run.not_judged → five ≡ four ++ waiting_comment (waiting_in run.timed.commands)
-    → six ≡ five ++ run_comments run.tick.nanoseconds passed → new ≡ six ++ closing_lines passed ending
-    → new ≡ old ++ police_closes world passed ending
-closes_by run world passed ending old one two three four five six new shown zeroth first second third waits fourth last =
+    → six ≡ five ++ run_comments run.tick.nanoseconds summary → new ≡ six ++ closing_lines summary ending
+    → new ≡ old ++ police_closes world summary ending
+closes_by run world summary ending old one two three four five six new shown zeroth first second third waits fourth last =
     let after = own_begun_after run.spans in
     let here = own_text run.spans in
     let gap = police_gap ((run.begun || after) || run.commanded) in
     let counts = counts_lines world.card.world in
-    let closing = closing_lines passed ending in
+    let closing = closing_lines summary ending in
     let waiting = waiting_comment (waiting_in run.timed.commands) in
     let Closes : List ℕ → Bool → NotJudged → List WaitingCommand → ℕ → List ℕ = λ here begun cells commands tick.
-    old ++ (here ++ (police_gap begun ++ (counts_heading ++ (counts ++ (not_judged_lines cells ++ (waiting_comment commands ++ (run_comments tick passed ++ closing))))))) in
+    old ++ (here ++ (police_gap begun ++ (counts_heading ++ (counts ++ (not_judged_lines cells ++ (waiting_comment commands ++ (run_comments tick summary ++ closing))))))) in
     let left = waiting_in run.timed.commands in
-    last ∙ ap (λ xs. xs ++ closing) (fourth ∙ ap (λ xs. xs ++ run_comments run.tick.nanoseconds passed) (waits ∙ ap (λ xs. xs ++ waiting)
+    last ∙ ap (λ xs. xs ++ closing) (fourth ∙ ap (λ xs. xs ++ run_comments run.tick.nanoseconds summary) (waits ∙ ap (λ xs. xs ++ waiting)
     (third ∙ ap (λ xs. xs ++ not_judged_lines run.not_judged)
     (second ∙ ap (λ xs. xs ++ (counts_heading ++ counts)) (first ∙ ap (λ xs. xs ++ gap) zeroth)))))
-    ∙ joined old here gap counts_heading counts (not_judged_lines run.not_judged) waiting (run_comments run.tick.nanoseconds passed) closing
+    ∙ joined old here gap counts_heading counts (not_judged_lines run.not_judged) waiting (run_comments run.tick.nanoseconds summary) closing
     ∙ ap (λ here. Closes here ((run.begun || after) || run.commanded) run.not_judged left run.tick.nanoseconds) (text_same run.spans world.spans shown.spans)
     ∙ ap (λ b. Closes (present_text world.spans) ((b || after) || run.commanded) run.not_judged left run.tick.nanoseconds) shown.begun
     ∙ ap (λ b. Closes (present_text world.spans) ((world.begun || b) || run.commanded) run.not_judged left run.tick.nanoseconds) (begun_same run.spans world.spans shown.spans)

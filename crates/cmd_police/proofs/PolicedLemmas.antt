@@ -6,8 +6,8 @@ use Rattle.captures.specs.declared.fault.Fault.{Fault}
 use Rattle.card_core.specs.Agreement.{CoreView}
 use Rattle.card_core.specs.declared.answer.Answer.{Answer}
 use Rattle.captures_text.specs.RunLines.{closing_lines}
-use Rattle.captures_text.specs.declared.counted.CountedCell.{CountedCell}
-use Rattle.captures_text.specs.declared.passed.PassedOver.{PassedOver}
+use Rattle.captures_text.specs.declared.captured_cell.CapturedCell.{CapturedCell}
+use Rattle.captures_text.specs.declared.reading_summary.ReadingSummary.{ReadingSummary}
 use Rattle.leaky.specs.declared.verdict.Verdict.{Verdict}
 use Rattle.cmd_run.specs.RunText.{IsLed}
 use Rattle.cmd_police.specs.CommandsUnderTraffic.{CarriesOutWaiting, waiting_comment}
@@ -36,15 +36,15 @@ policed_after before timed core answers not_judged = record before {
 }
 
 -- A cell that arrived after the commands whose moment had come.
-pub polices_cell : (before : PolicedCard) (timed : TimedCard) (core : CoreView) (answers : Vec ℕ) (given : Answer) (counted : CountedCell) (not_judged : NotJudged)
+pub polices_cell : (before : PolicedCard) (timed : TimedCard) (core : CoreView) (answers : Vec ℕ) (given : Answer) (captured : CapturedCell) (not_judged : NotJudged)
     (carried : Bool) (verdict : Option Verdict)
-    → CarriesShown before.timed counted.moment carried timed before.answers.items answers.items
-    → ArrivesWithRoom timed.card.core counted.cell counted.moment (Some given) core
-    → not_judged ≡ not_judged_after before.not_judged counted.number given → verdict ≡ verdict_given given
+    → CarriesShown before.timed captured.moment carried timed before.answers.items answers.items
+    → ArrivesWithRoom timed.card.core captured.cell captured.moment (Some given) core
+    → not_judged ≡ not_judged_after before.not_judged captured.number given → verdict ≡ verdict_given given
     → (world : PolicedWorld) → IsLed world.card → ShowsPoliced before world
-    → (after : PolicedWorld) × ShowsPoliced (policed_after before timed core answers not_judged) after × PolicesOneCell world counted verdict after
-polices_cell before timed core answers given counted not_judged carried verdict carries arrives counts gives world led shown =
-    let to = carries.3 world.card led shown.timed.held shown.timed.starts in
+    → (after : PolicedWorld) × ShowsPoliced (policed_after before timed core answers not_judged) after × PolicesOneCell world captured verdict after
+polices_cell before timed core answers given captured not_judged carried verdict carries arrives counts gives world led shown =
+    let to = carries.3 world.card led shown.timed.held shown.timed.at_setup in
     let on = arrives to.after to.led to.shown.agrees in
     let same : given ≡ on.0 = let e : Some given ≡ Some on.0 = on.1 in cc in
     let left = waiting_in timed.commands in
@@ -52,8 +52,8 @@ polices_cell before timed core answers given counted not_judged carried verdict 
       after,
       record {
         timed = record {
-          held = record { agrees = on.4; names = to.shown.names ∙ room_names to.after on.2 counted.cell counted.moment on.0 on.3 };
-          starts = room_starts to.after on.2 counted.cell counted.moment on.0 timed.starts.counts.items to.led on.3 to.starts;
+          held = record { agrees = on.4; names = to.shown.names ∙ room_names to.after on.2 captured.cell captured.moment on.0 on.3 };
+          at_setup = room_starts to.after on.2 captured.cell captured.moment on.0 timed.at_setup.counts.items to.led on.3 to.at_setup;
           waits = refl;
         };
         answers = refl;
@@ -63,25 +63,25 @@ polices_cell before timed core answers given counted not_judged carried verdict 
       record {
         lines = carries.0;
         ready = to.after;
-        carried = subst (λ (waiting : List WaitingCommand). CarriesOutWaiting waiting counted.moment world.card carries.0 to.after left) shown.timed.waits to.carried;
+        carried = subst (λ (waiting : List WaitingCommand). CarriesOutWaiting waiting captured.moment world.card carries.0 to.after left) shown.timed.waits to.carried;
         answered = carries.1 ∙ ap (λ xs. xs ++ carries.0) shown.answers;
         given = on.0;
         taken = on.3;
         verdict_is = gives ∙ ap verdict_given same;
-        counts = counts ∙ ap (λ (cells : NotJudged). not_judged_after cells counted.number given) shown.not_judged
-            ∙ ap (λ (a : Answer). not_judged_after world.not_judged counted.number a) same;
+        counts = counts ∙ ap (λ (cells : NotJudged). not_judged_after cells captured.number given) shown.not_judged
+            ∙ ap (λ (a : Answer). not_judged_after world.not_judged captured.number a) same;
         same = refl;
       },
     )
 
 -- No represented card leaves a cell without an answer.
-pub polices_no_cell : (before after : PolicedCard) (timed : TimedCard) (core : CoreView) (counted : CountedCell) (carried : Bool) (verdict : Option Verdict) (old new : List ℕ)
-    → CarriesShown before.timed counted.moment carried timed old new
-    → ArrivesWithRoom timed.card.core counted.cell counted.moment None core
+pub polices_no_cell : (before after : PolicedCard) (timed : TimedCard) (core : CoreView) (captured : CapturedCell) (carried : Bool) (verdict : Option Verdict) (old new : List ℕ)
+    → CarriesShown before.timed captured.moment carried timed old new
+    → ArrivesWithRoom timed.card.core captured.cell captured.moment None core
     → (world : PolicedWorld) → IsLed world.card → ShowsPoliced before world
-    → (next : PolicedWorld) × ShowsPoliced after next × PolicesOneCell world counted verdict next
-polices_no_cell before after timed core counted carried verdict old new carries arrives world led shown =
-    let to = carries.3 world.card led shown.timed.held shown.timed.starts in
+    → (next : PolicedWorld) × ShowsPoliced after next × PolicesOneCell world captured verdict next
+polices_no_cell before after timed core captured carried verdict old new carries arrives world led shown =
+    let to = carries.3 world.card led shown.timed.held shown.timed.at_setup in
     let on = arrives to.after to.led to.shown.agrees in let no = on.1 in cc
 
 -- The parts of the report, one after another.
@@ -98,25 +98,25 @@ joined old lines gap heading counts cells waiting comments closing =
     ∙ ap (λ xs. old ++ (lines ++ (gap ++ xs))) (append_assoc heading counts (cells ++ (waiting ++ (comments ++ closing))))
 
 -- The report.
-pub reports_by : (policed : PolicedCard) (world : PolicedWorld) (passed : PassedOver) (ending : Option Fault) (old one two three four five six new : List ℕ)
+pub reports_by : (policed : PolicedCard) (world : PolicedWorld) (summary : ReadingSummary) (ending : Option Fault) (old one two three four five six new : List ℕ)
     → ShowsPoliced policed world
     → one ≡ old ++ policed.answers.items → two ≡ one ++ police_gap (is_filled policed.answers.items)
     → three ≡ two ++ (counts_heading ++ counts_lines world.card.world) → four ≡ three ++ not_judged_lines policed.not_judged
     → five ≡ four ++ waiting_comment (waiting_in policed.timed.commands)
-    → six ≡ five ++ run_comments policed.tick.nanoseconds passed → new ≡ six ++ closing_lines passed ending → new ≡ old ++ policed_report world passed ending
-reports_by policed world passed ending old one two three four five six new shown zeroth first second third waits fourth last =
+    → six ≡ five ++ run_comments policed.tick.nanoseconds summary → new ≡ six ++ closing_lines summary ending → new ≡ old ++ policed_report world summary ending
+reports_by policed world summary ending old one two three four five six new shown zeroth first second third waits fourth last =
     let lines = policed.answers.items in
     let counts = counts_lines world.card.world in
-    let closing = closing_lines passed ending in
+    let closing = closing_lines summary ending in
     let left = waiting_in policed.timed.commands in
     let Whole : List ℕ → NotJudged → List WaitingCommand → ℕ → List ℕ = λ lines cells commands tick.
     old ++ (lines ++ (police_gap (is_filled lines) ++ (counts_heading ++ (counts ++ (not_judged_lines cells ++ (waiting_comment commands
-    ++ (run_comments tick passed ++ closing))))))) in
-    last ∙ ap (λ xs. xs ++ closing) (fourth ∙ ap (λ xs. xs ++ run_comments policed.tick.nanoseconds passed) (waits ∙ ap (λ xs. xs ++ waiting_comment left)
+    ++ (run_comments tick summary ++ closing))))))) in
+    last ∙ ap (λ xs. xs ++ closing) (fourth ∙ ap (λ xs. xs ++ run_comments policed.tick.nanoseconds summary) (waits ∙ ap (λ xs. xs ++ waiting_comment left)
     (third ∙ ap (λ xs. xs ++ not_judged_lines policed.not_judged) (second ∙ ap (λ xs. xs ++ (counts_heading ++ counts))
     (first ∙ ap (λ xs. xs ++ police_gap (is_filled lines)) zeroth)))))
     ∙ joined old lines (police_gap (is_filled lines)) counts_heading counts (not_judged_lines policed.not_judged) (waiting_comment left)
-    (run_comments policed.tick.nanoseconds passed) closing
+    (run_comments policed.tick.nanoseconds summary) closing
     ∙ ap (λ xs. Whole xs policed.not_judged left policed.tick.nanoseconds) shown.answers
     ∙ ap (λ (cells : NotJudged). Whole world.answers cells left policed.tick.nanoseconds) shown.not_judged
     ∙ ap (λ (commands : List WaitingCommand). Whole world.answers world.not_judged commands policed.tick.nanoseconds) shown.timed.waits

@@ -5,7 +5,7 @@ use Rattle.card_core.specs.World.{Connection, connection_in}
 use Rattle.card_core.specs.declared.answer.Answer.{Answer}
 use Rattle.card_core.specs.declared.answer.Answer.TheVariants as answer
 use Rattle.captures_text.specs.CaptureText.{RunsThrough}
-use Rattle.captures_text.specs.declared.counted.CountedCell.{CountedCell}
+use Rattle.captures_text.specs.declared.captured_cell.CapturedCell.{CapturedCell}
 use Rattle.leaky.specs.declared.verdict.Verdict.{Verdict}
 use Rattle.line_record.specs.Tally.{count_of, counted, tally_of}
 use Rattle.upc_cell.specs.Connection.{is_same_vc}
@@ -86,7 +86,7 @@ same_state before ready moment text none due =
     due.is ∙ ap (λ (card : Card). Made card due.left (is_filled text)) carried.same ∙ ap (λ (waiting : List WaitingCommand). Made before.card waiting (is_filled text)) left
     ∙ ap (λ xs. Made before.card before.waiting (is_filled xs)) carried.none ∙ ap (λ (b : Bool). record before { commanded = b }) (or_false before.commanded)
 
-run_adds : (first last : PoliceWorld) (cells : List CountedCell) (ticks : ℕ) → RunsThrough police_rules first cells last → first.spans.ticks ≡ Some ticks
+run_adds : (first last : PoliceWorld) (cells : List CapturedCell) (ticks : ℕ) → RunsThrough police_rules first cells last → first.spans.ticks ≡ Some ticks
     → first.waiting ≡ [] → IsLed first.card → (vc : Vc) (next : Connection) → connection_in last.card.world.connections vc ≡ Some next → Adds first last vc next
 run_adds first last [] ticks leads wanted none led vc next found =
     subst (λ (w : PoliceWorld). Adds first w vc next) (sym leads) (record {
@@ -94,19 +94,19 @@ run_adds first last [] ticks leads wanted none led vc next found =
       found = subst (λ (w : PoliceWorld). connection_in w.card.world.connections vc ≡ Some next) leads found;
       counts = λ verdict. refl;
     })
-run_adds first last (counted ∷ cells) ticks (here, after, polices, leads) wanted none led vc next found =
-    let moment = counted.moment in
+run_adds first last (captured ∷ cells) ticks (here, after, polices, leads) wanted none led vc next found =
+    let moment = captured.moment in
     let is_ready = same_state first polices.ready moment polices.first none polices.commands in
-    let step : PolicesArrived first counted polices.rest (Some after) =
-    subst (λ (ready : PoliceWorld). PolicesArrived ready counted polices.rest (Some after)) is_ready polices.policed in
-    let own = connection_of_cell first.card counted.cell in
-    let middle = after_cell first counted step.given step.card in
+    let step : PolicesArrived first captured polices.rest (Some after) =
+    subst (λ (ready : PoliceWorld). PolicesArrived ready captured polices.rest (Some after)) is_ready polices.policed in
+    let own = connection_of_cell first.card captured.cell in
+    let middle = after_cell first captured step.given step.card in
     let is : after ≡ middle = same_Some after middle step.after in
     let leads' : RunsThrough police_rules middle cells last = subst (λ (w : PoliceWorld). RunsThrough police_rules w cells last) is leads in
-    let led' = room_led first.card step.card counted.cell moment step.given led step.taken in
+    let led' = room_led first.card step.card captured.cell moment step.given led step.taken in
     let there = ticks_at first.spans moment ∙ wanted in
     let later = run_adds middle last cells ticks leads' there none led' vc next found in
-    let gain = room_gains first.card step.card counted.cell moment step.given led step.taken vc later.connection later.found in
+    let gain = room_gains first.card step.card captured.cell moment step.given led step.taken vc later.connection later.found in
     record {
       connection = gain.connection;
       found = gain.found;

@@ -3,7 +3,7 @@ pub mod RuleColumn
 pub mod PoliceLines
 pub mod NotJudgedCells
 pub mod ConnectionCounts
-pub mod LineStarts
+pub mod CountsAtSetup
 pub mod OrderNumber
 pub mod SpanCounts
 pub mod RunComments

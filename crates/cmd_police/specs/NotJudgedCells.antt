@@ -3,7 +3,7 @@ use Rattle.std.specs.Prelude.{ℕ, ◌==◌, if◌then◌else◌, List, [], ◌+
 use Rattle.card_core.specs.declared.answer.Answer.{Answer}
 use Rattle.card_core.specs.declared.answer.Answer.TheVariants as answer
 use Rattle.captures_text.specs.Tallies.{no_tally, one_more_record}
-use Rattle.captures_text.specs.declared.tally.PassedTally.{PassedTally}
+use Rattle.captures_text.specs.declared.tally.CountAndFirst.{CountAndFirst}
 use Rattle.cmd_police.specs.declared.not_judged.NotJudged.{NotJudged}
 
 -- Each cell was judged.
@@ -19,7 +19,7 @@ not_judged_after before number answer.JournalFull = record before { full = one_m
 not_judged_after before number _ = before
 
 -- A comment about cells that were not judged, if there are any.
-abbrev pub not_judged_line : PassedTally → List ℕ → List ℕ
+abbrev pub not_judged_line : CountAndFirst → List ℕ → List ℕ
 not_judged_line tally why =
     if tally.count == 0 then []
     else codes "# " ++ (decimal tally.count ++ (codes " not judged: " ++ (why ++ (codes "; first record " ++ (decimal tally.first ++ codes "\n")))))

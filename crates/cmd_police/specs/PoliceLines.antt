@@ -4,8 +4,8 @@ use Rattle.std.specs.Prelude.{ℕ, nat_lt, Bool, true, false, if◌then◌else�
 use Rattle.card_core.specs.World.{Connection, World, connection_in}
 use Rattle.card_core.specs.declared.answer.Answer.{Answer}
 use Rattle.card_core.specs.declared.answer.Answer.TheVariants as answer
-use Rattle.captures_text.specs.declared.cell_lines.CellLines.{CellLines}
-use Rattle.captures_text.specs.declared.cell_lines.CellLines.TheVariants as lines
+use Rattle.captures_text.specs.declared.line_choice.LineChoice.{LineChoice}
+use Rattle.captures_text.specs.declared.line_choice.LineChoice.TheVariants as lines
 use Rattle.leaky.specs.Excess.{bucket_number, excess_at}
 use Rattle.leaky.specs.declared.excess.Excess.{Excess}
 use Rattle.leaky.specs.declared.verdict.Verdict.{Verdict}
@@ -85,7 +85,7 @@ is_pass_answer (answer.Judged line number moment value program verdict.Pass leav
 is_pass_answer _ = false
 
 -- Whether a cell with this answer has a line.
-abbrev pub has_line : CellLines → Answer → Bool
+abbrev pub has_line : LineChoice → Answer → Bool
 has_line lines.All given = true
-has_line lines.Refused given = if is_pass_answer given then false else true
+has_line lines.NotPassed given = if is_pass_answer given then false else true
 has_line lines.Nothing given = false

@@ -11,9 +11,9 @@ use Rattle.captures_text.specs.CaptureText.{IsCaptureText}
 use Rattle.captures_text.specs.CellFilter.{filter_start}
 use Rattle.captures_text.specs.CellRules.{CellRules}
 use Rattle.captures_text.specs.RunLines.{closing_lines}
-use Rattle.captures_text.specs.declared.cell_lines.CellLines.{CellLines}
-use Rattle.captures_text.specs.declared.counted.CountedCell.{CountedCell}
-use Rattle.captures_text.specs.declared.passed.PassedOver.{PassedOver}
+use Rattle.captures_text.specs.declared.line_choice.LineChoice.{LineChoice}
+use Rattle.captures_text.specs.declared.captured_cell.CapturedCell.{CapturedCell}
+use Rattle.captures_text.specs.declared.reading_summary.ReadingSummary.{ReadingSummary}
 use Rattle.cmd_explain_script.specs.ScriptText.{IsScriptExplained}
 use Rattle.text_io.specs.Lines.{lines_of}
 use Rattle.text_io.specs.Printing.{EndsAt}
@@ -39,7 +39,7 @@ use Rattle.cmd_police.specs.declared.scope.PoliceScope.{PoliceScope}
 -- The state of a run: which cells have lines, the rules that these show, the nanoseconds of a tick, the card, the commands that wait,
 -- whether some were carried out, whether the heading of the lines was written, the spans of time, and the cells that were not judged.
 pub record PoliceWorld : Type 0 where
-  pub lines : CellLines
+  pub lines : LineChoice
   pub rules : ShownRules
   pub tick : ℕ
   pub card : Card
@@ -94,22 +94,22 @@ pub record TakesCellWithRoom (before : Card) (cell : List ℕ) (moment : ℕ) (g
   pub room : given ≡ JournalFull → IsCutOrWorn before (connection_of_cell before cell) ready
 
 -- The text for a cell with this answer: its line, and before the first line the heading.
-abbrev pub policed_text : PoliceWorld → CountedCell → Answer → List ℕ
-policed_text before counted given =
+abbrev pub policed_text : PoliceWorld → CapturedCell → Answer → List ℕ
+policed_text before captured given =
     if has_line before.lines given
     then (if before.begun then [] else verdict_heading before.rules)
-    ++ (cell_columns before.card.world.shape.side counted.number counted.moment (connection_of_cell before.card counted.cell) (has_low_priority counted.cell) given
-    (excess_of_answer before.card.world (connection_of_cell before.card counted.cell) (has_low_priority counted.cell) given)
-    ++ line_end before.rules (number_of_judging before.card.names given) counted.cell)
+    ++ (cell_columns before.card.world.shape.side captured.number captured.moment (connection_of_cell before.card captured.cell) (has_low_priority captured.cell) given
+    (excess_of_answer before.card.world (connection_of_cell before.card captured.cell) (has_low_priority captured.cell) given)
+    ++ line_end before.rules (number_of_judging before.card.names given) captured.cell)
     else []
 
 -- The state after a cell with this answer.
-abbrev pub after_cell : PoliceWorld → CountedCell → Answer → Card → PoliceWorld
-after_cell before counted given card = record before {
+abbrev pub after_cell : PoliceWorld → CapturedCell → Answer → Card → PoliceWorld
+after_cell before captured given card = record before {
   card = card;
   begun = before.begun || has_line before.lines given;
-  spans = spans_after (spans_at before.spans counted.moment) (connection_of_cell before.card counted.cell) given;
-  not_judged = not_judged_after before.not_judged counted.number given;
+  spans = spans_after (spans_at before.spans captured.moment) (connection_of_cell before.card captured.cell) given;
+  not_judged = not_judged_after before.not_judged captured.number given;
 }
 
 -- The commands whose moment has come are carried out, with this text.
@@ -121,20 +121,20 @@ pub record CarriesOutDue (before : PoliceWorld) (moment : ℕ) (text : List ℕ)
 
 -- A cell arrives in this state: this text answers it, and leads to the next state. If the cell ends a span, the text
 -- begins with the lines of that span.
-pub record PolicesArrived (before : PoliceWorld) (counted : CountedCell) (text : List ℕ) (next : Option PoliceWorld) : Type 0 where
+pub record PolicesArrived (before : PoliceWorld) (captured : CapturedCell) (text : List ℕ) (next : Option PoliceWorld) : Type 0 where
   pub given : Answer
   pub card : Card
-  pub taken : TakesCellWithRoom before.card counted.cell counted.moment given card
-  pub written : text ≡ ended_text before.spans counted.moment ++ policed_text before counted given
-  pub after : next ≡ Some (after_cell before counted given card)
+  pub taken : TakesCellWithRoom before.card captured.cell captured.moment given card
+  pub written : text ≡ ended_text before.spans captured.moment ++ policed_text before captured given
+  pub after : next ≡ Some (after_cell before captured given card)
 
 -- A cell is policed, after the commands whose moment has come with it.
-pub record PolicesCounted (before : PoliceWorld) (counted : CountedCell) (text : List ℕ) (next : Option PoliceWorld) : Type 0 where
+pub record PolicesCaptured (before : PoliceWorld) (captured : CapturedCell) (text : List ℕ) (next : Option PoliceWorld) : Type 0 where
   pub first : List ℕ
   pub ready : PoliceWorld
-  pub commands : CarriesOutDue before counted.moment first ready
+  pub commands : CarriesOutDue before captured.moment first ready
   pub rest : List ℕ
-  pub policed : PolicesArrived ready counted rest next
+  pub policed : PolicesArrived ready captured rest next
   pub whole : text ≡ first ++ rest
 
 -- Whether lines are written before the table: those of cells, of spans or of commands.
@@ -147,14 +147,14 @@ police_gap begun = if begun then codes "\n" else []
 
 -- The text at the end: the lines of the last span; an empty line after the lines about cells, spans and commands, if
 -- there are any; the table of the connections; the comments; and the fault at which the reading ended.
-abbrev pub police_closes : PoliceWorld → PassedOver → Option Fault → List ℕ
-police_closes world passed ending =
+abbrev pub police_closes : PoliceWorld → ReadingSummary → Option Fault → List ℕ
+police_closes world summary ending =
     present_text world.spans ++ (police_gap (has_lines_before world) ++ (counts_heading ++ (counts_lines world.card.world
-    ++ (not_judged_lines world.not_judged ++ (waiting_comment world.waiting ++ (run_comments world.tick passed ++ closing_lines passed ending))))))
+    ++ (not_judged_lines world.not_judged ++ (waiting_comment world.waiting ++ (run_comments world.tick summary ++ closing_lines summary ending))))))
 
 -- The rules of `police`.
 abbrev pub police_rules : CellRules PoliceWorld
-police_rules = record { steps = PolicesCounted; closes = police_closes; is_sound = λ world. IsLed world.card }
+police_rules = record { steps = PolicesCaptured; closes = police_closes; is_sound = λ world. IsLed world.card }
 
 -- A script without a fault, which leads to this card.
 pub record IsSetUpBy (script : List ℕ) (card : Card) : Type 0 where

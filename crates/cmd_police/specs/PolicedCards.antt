@@ -3,8 +3,8 @@ use Rattle.std.specs.Prelude.{◌≡◌, ◌⊎◌, ℕ, List, [], ◌++◌, Opt
 use Rattle.captures.specs.declared.fault.Fault.{Fault}
 use Rattle.card_core.specs.declared.answer.Answer.{Answer}
 use Rattle.captures_text.specs.RunLines.{closing_lines}
-use Rattle.captures_text.specs.declared.counted.CountedCell.{CountedCell}
-use Rattle.captures_text.specs.declared.passed.PassedOver.{PassedOver}
+use Rattle.captures_text.specs.declared.captured_cell.CapturedCell.{CapturedCell}
+use Rattle.captures_text.specs.declared.reading_summary.ReadingSummary.{ReadingSummary}
 use Rattle.leaky.specs.declared.verdict.Verdict.{Verdict}
 use Rattle.text_io.specs.Lines.{lines_of}
 use Rattle.text_io.specs.Words.{is_filled}
@@ -39,22 +39,22 @@ abbrev pub policed_start : ℕ → Card → List WaitingCommand → PolicedWorld
 policed_start tick card waiting = record { card = card; waiting = waiting; answers = []; tick = tick; not_judged = all_judged }
 
 -- The commands whose moment has come are carried out, and a cell arrives at the card, as in `police`, with this verdict.
-pub record PolicesOneCell (before : PolicedWorld) (counted : CountedCell) (verdict : Option Verdict) (after : PolicedWorld) : Type 0 where
+pub record PolicesOneCell (before : PolicedWorld) (captured : CapturedCell) (verdict : Option Verdict) (after : PolicedWorld) : Type 0 where
   pub lines : List ℕ
   pub ready : Card
-  pub carried : CarriesOutWaiting before.waiting counted.moment before.card lines ready after.waiting
+  pub carried : CarriesOutWaiting before.waiting captured.moment before.card lines ready after.waiting
   pub answered : after.answers ≡ before.answers ++ lines
   pub given : Answer
-  pub taken : TakesCellWithRoom ready counted.cell counted.moment given after.card
+  pub taken : TakesCellWithRoom ready captured.cell captured.moment given after.card
   pub verdict_is : verdict ≡ verdict_given given
-  pub counts : after.not_judged ≡ not_judged_after before.not_judged counted.number given
+  pub counts : after.not_judged ≡ not_judged_after before.not_judged captured.number given
   pub same : after.tick ≡ before.tick
 
 -- The report at the end: the lines of commands, and what `police` prints after its lines about cells.
-abbrev pub policed_report : PolicedWorld → PassedOver → Option Fault → List ℕ
-policed_report world passed ending =
+abbrev pub policed_report : PolicedWorld → ReadingSummary → Option Fault → List ℕ
+policed_report world summary ending =
     world.answers ++ (police_gap (is_filled world.answers) ++ (counts_heading ++ (counts_lines world.card.world ++ (not_judged_lines world.not_judged
-    ++ (waiting_comment world.waiting ++ (run_comments world.tick passed ++ closing_lines passed ending))))))
+    ++ (waiting_comment world.waiting ++ (run_comments world.tick summary ++ closing_lines summary ending))))))
 
 -- The stored card agrees with the state. Only laws and contracts know the state.
 pub record ShowsPoliced (policed : PolicedCard) (world : PolicedWorld) : Type 0 where

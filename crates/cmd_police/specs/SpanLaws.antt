@@ -5,7 +5,7 @@ use Rattle.std.specs.Map.{lookup}
 use Rattle.std.specs.Ordering.{nat_cmp}
 use Rattle.card_core.specs.World.{Connection, connection_in}
 use Rattle.captures_text.specs.CaptureText.{RunsThrough}
-use Rattle.captures_text.specs.declared.counted.CountedCell.{CountedCell}
+use Rattle.captures_text.specs.declared.captured_cell.CapturedCell.{CapturedCell}
 use Rattle.leaky.specs.declared.verdict.Verdict.{Verdict}
 use Rattle.line_record.specs.Tally.{count_of, tally_of}
 use Rattle.line_record.specs.declared.tally.Tally.{Tally}
@@ -36,7 +36,7 @@ all_spans spans = spans.present ∷ spans.ended
 -- The spans of a run without commands add up: the counts of a connection after the run are those before, and those of
 -- all spans.
 abbrev pub SpansAddUp : Type 0
-SpansAddUp = (scope : PoliceScope) (nanoseconds tick : ℕ) (rules : ShownRules) (card : Card) (cells : List CountedCell) (last : PoliceWorld) → scope.every ≡ Some nanoseconds
+SpansAddUp = (scope : PoliceScope) (nanoseconds tick : ℕ) (rules : ShownRules) (card : Card) (cells : List CapturedCell) (last : PoliceWorld) → scope.every ≡ Some nanoseconds
     → IsLed card → RunsThrough police_rules (police_start scope tick rules card []) cells last
     → (vc : Vc) (connection : Connection) → connection_in last.card.world.connections vc ≡ Some connection
     → (before : Connection) × (connection_in card.world.connections vc ≡ Some before)

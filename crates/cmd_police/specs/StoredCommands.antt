@@ -2,7 +2,7 @@
 use Rattle.std.specs.Prelude.{◌≡◌, List, drop, map}
 use Rattle.cmd_run.specs.RunText.{Card}
 use Rattle.cmd_run.specs.ShownCard.{ShowsCard}
-use Rattle.cmd_police.specs.LineStarts.{AreStarts}
+use Rattle.cmd_police.specs.CountsAtSetup.{AreCountsAtSetup}
 use Rattle.cmd_police.specs.TimedLines.{WaitingCommand}
 use Rattle.cmd_police.specs.declared.stored_commands.StoredCommand.{StoredCommand}
 use Rattle.cmd_police.specs.declared.stored_commands.StoredCommands.{StoredCommands}
@@ -16,8 +16,8 @@ shown_command command = record { moment = command.moment; content = command.cont
 abbrev pub waiting_in : StoredCommands → List WaitingCommand
 waiting_in commands = map shown_command (drop commands.next commands.all.items)
 
--- The stored card shows this card, with the starts of its lines, and these commands are left.
+-- The stored card shows this card, with what its lines had counted at the setups, and these commands are left.
 pub record ShowsTimed (timed : TimedCard) (card : Card) (waiting : List WaitingCommand) : Type 0 where
   pub held : ShowsCard timed.card card
-  pub starts : AreStarts timed.starts.counts.items card.world
+  pub at_setup : AreCountsAtSetup timed.at_setup.counts.items card.world
   pub waits : waiting_in timed.commands ≡ waiting

@@ -13,8 +13,8 @@ use std::alloc::{AllocError, Global};
 use text_card::read_card;
 use text_io::{LineWords, first_word, line_words};
 
-/// The maximum number of lines of a script.
-const MOST_LINES: usize = 1000000;
+/// The maximum number of lines of a setup script.
+const MOST_SCRIPT_LINES: usize = 1000000;
 
 /// The maximum number of octets of a line, with its carriage return and without its line feed.
 pub(crate) const MOST_LINE_OCTETS: usize = 70000;
@@ -112,7 +112,7 @@ impl CardRoom {
 fn is_over(met: usize, octets: usize) -> bool
     ensures { result ≡ (nat_le most_input_lines met || nat_lt most_line_octets octets) }
 {
-    met >= MOST_LINES || octets > MOST_LINE_OCTETS
+    met >= MOST_SCRIPT_LINES || octets > MOST_LINE_OCTETS
 }
 
 /// Appends the name that a line has, if any, or none in its place if there is no room.

@@ -8,7 +8,7 @@ ghost use Rattle.cmd_police.specs.StoredRules.{shown_stored};
 
 use crate::program_rules::LoadedRules;
 use crate::rule_column::end_heading;
-use captures_text::CellLines;
+use captures_text::LineChoice;
 use card_core::{Judgement, Unjudged};
 use leaky::Verdict;
 use std::alloc::AllocError;
@@ -77,13 +77,13 @@ pub(crate) fn add_channel_column(
 }
 
 /// Returns whether a cell with this result has a line.
-pub(crate) fn has_line(lines: CellLines, decision: &Result<Judgement, Unjudged>) -> bool
+pub(crate) fn has_line(lines: LineChoice, decision: &Result<Judgement, Unjudged>) -> bool
     ensures { (cell : List ℕ) → result ≡ has_line lines (answer_to cell decision.now) }
 {
     match lines {
-        CellLines::All => true,
-        CellLines::Nothing => false,
-        CellLines::Refused => !is_pass_answer(decision),
+        LineChoice::All => true,
+        LineChoice::Nothing => false,
+        LineChoice::NotPassed => !is_pass_answer(decision),
     }
 }
 

@@ -6,11 +6,11 @@ ghost use Rattle.card_core.specs.World.{World};
 ghost use Rattle.text_script.specs.ReplyTexts.{channel_name};
 ghost use Rattle.cmd_police.specs.PoliceLines.{in_column};
 ghost use Rattle.cmd_police.specs.ConnectionCounts.{connection_counts, counts_heading, counts_line, counts_lines};
-ghost use Rattle.cmd_police.specs.LineStarts.{AreStarts};
+ghost use Rattle.cmd_police.specs.CountsAtSetup.{AreCountsAtSetup};
 ghost use Rattle.cmd_police.specs.OrderNumber.{order_number};
 
 use crate::cell_lines::{add_channel_column, add_number_column};
-use crate::line_starts::LineStarts;
+use crate::counts_at_setup::CountsAtSetup;
 use card_core::Core;
 use line_record::Tally;
 use std::alloc::AllocError;
@@ -69,13 +69,13 @@ pub(crate) fn add_counts_line(
 fn add_counts_of(
     answers: &mut Vec<u8>,
     core: &Core,
-    starts: &LineStarts,
+    at_setup: &CountsAtSetup,
     vc: Vc,
 ) -> Result<(), AllocError>
-    ensures { (world : World) → CoreAgrees core.now world → AreStarts starts.now.counts.items world
+    ensures { (world : World) → CoreAgrees core.now world → AreCountsAtSetup at_setup.now.counts.items world
         → OnOk result (answers.new.items ≡ answers.old.items ++ connection_counts world vc) }
 {
-    match starts.own_counts(core, vc) {
+    match at_setup.own_counts(core, vc) {
         Some(counts) => add_counts_line(answers, core.shape().side, vc, counts),
         None => Ok(()),
     }
@@ -91,8 +91,12 @@ pub(crate) fn order_number(vc: Vc) -> u64
 }
 
 /// Appends the lines of all connections, in order of path and channel.
-fn add_all_counts(answers: &mut Vec<u8>, core: &Core, starts: &LineStarts) -> Result<(), AllocError>
-    ensures { (world : World) → CoreAgrees core.now world → AreStarts starts.now.counts.items world
+fn add_all_counts(
+    answers: &mut Vec<u8>,
+    core: &Core,
+    at_setup: &CountsAtSetup,
+) -> Result<(), AllocError>
+    ensures { (world : World) → CoreAgrees core.now world → AreCountsAtSetup at_setup.now.counts.items world
         → OnOk result (answers.new.items ≡ answers.old.items ++ counts_lines world) }
 {
     let mut earlier = None;
@@ -104,7 +108,7 @@ fn add_all_counts(answers: &mut Vec<u8>, core: &Core, starts: &LineStarts) -> Re
         if number < least {
             break;
         }
-        add_counts_of(answers, core, starts, vc)?;
+        add_counts_of(answers, core, at_setup, vc)?;
         earlier = Some(vc);
         least = number + 1;
     }
@@ -116,11 +120,11 @@ fn add_all_counts(answers: &mut Vec<u8>, core: &Core, starts: &LineStarts) -> Re
 pub(crate) fn add_counts(
     answers: &mut Vec<u8>,
     core: &Core,
-    starts: &LineStarts,
+    at_setup: &CountsAtSetup,
 ) -> Result<(), AllocError>
-    ensures { (world : World) → CoreAgrees core.now world → AreStarts starts.now.counts.items world → OnOk result (answers.new.items
+    ensures { (world : World) → CoreAgrees core.now world → AreCountsAtSetup at_setup.now.counts.items world → OnOk result (answers.new.items
         ≡ answers.old.items ++ (counts_heading ++ counts_lines world)) }
 {
     add_counts_heading(answers)?;
-    add_all_counts(answers, core, starts)
+    add_all_counts(answers, core, at_setup)
 }

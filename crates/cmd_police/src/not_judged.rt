@@ -4,7 +4,7 @@ ghost use Rattle.std.specs.Prelude.{◌≡◌, ◌++◌, List, ℕ, OnOk};
 ghost use Rattle.card_core.specs.Sections.{answer_to, unjudged_answer};
 ghost use Rattle.cmd_police.specs.NotJudgedCells.{all_judged, not_judged_after, not_judged_line, not_judged_lines};
 
-use captures_text::PassedTally;
+use captures_text::CountAndFirst;
 use card_core::{Judgement, Unjudged};
 use line_record::LineFault;
 use std::alloc::AllocError;
@@ -14,13 +14,13 @@ use text_words::{add_number, add_text};
 #[derive(Clone, Copy, PartialEq, Eq, Debug)]
 pub struct NotJudged {
     /// They belong to no connection.
-    pub no_connection: PassedTally,
+    pub no_connection: CountAndFirst,
     /// Their moment is before that of their connection's last judged cell.
-    pub back: PassedTally,
+    pub back: CountAndFirst,
     /// Their moment is above 2^62.
-    pub late: PassedTally,
+    pub late: CountAndFirst,
     /// The journal of their connection is full, even after a cut: 2^62 cells were judged on its line.
-    pub full: PassedTally,
+    pub full: CountAndFirst,
 }
 
 impl NotJudged {
@@ -28,7 +28,7 @@ impl NotJudged {
     pub(crate) fn none() -> NotJudged
         ensures { result ≡ all_judged }
     {
-        let none = PassedTally::none();
+        let none = CountAndFirst::none();
         NotJudged {
             no_connection: none,
             back: none,
@@ -64,7 +64,7 @@ impl NotJudged {
 #[tactic(auto, using(std::proofs::lemmas::List::append_assoc))]
 fn add_not_judged_line(
     answers: &mut Vec<u8>,
-    tally: PassedTally,
+    tally: CountAndFirst,
     why: &[u8],
 ) -> Result<(), AllocError>
     ensures { OnOk result (answers.new.items ≡ answers.old.items ++ not_judged_line tally why.now) }

@@ -1,4 +1,4 @@
-//! A script, carried out line by line, with the starts of its lines.
+//! A script, carried out line by line, with what the lines of its card had counted when their connections were set up.
 
 ghost use Rattle.std.specs.Prelude.{◌≡◌, OnOk};
 ghost use Rattle.card_core.specs.Agreement.{CoreAgrees};
@@ -9,7 +9,7 @@ ghost use Rattle.text_script.specs.CommandSeen.{command_seen};
 ghost use Rattle.text_script.specs.ScriptCommands.{command_of};
 ghost use Rattle.cmd_police.specs.inner.NotedSetups.{IsNewIn, IsSetupOf, MovesNoting};
 
-use crate::line_starts::LineStarts;
+use crate::counts_at_setup::CountsAtSetup;
 use card_core::Core;
 use cmd_run::{Policing, ScriptCard};
 use std::alloc::{AllocError, Global};
@@ -43,7 +43,7 @@ fn set_up_in(side: Side, line: &[u8]) -> Option<Vc>
 }
 
 /// Returns the connection that a line sets up, if the card doesn't have it.
-fn new_in(core: &Core, line: &[u8]) -> Option<Vc>
+fn connection_to_set_up(core: &Core, line: &[u8]) -> Option<Vc>
     ensures { (world : World) → CoreAgrees core.now world → IsNewIn world (command_of world.shape.side (words_of line.now)) result }
 {
     let Some(vc) = set_up_in(core.shape().side, line) else {
@@ -55,34 +55,34 @@ fn new_in(core: &Core, line: &[u8]) -> Option<Vc>
     }
 }
 
-/// Carries out a line, and notes the start of its line if it set up a connection.
-pub(crate) fn answer_noting(
+/// Carries out a line. If it set up a connection, what the line of the card had counted then is recorded.
+pub(crate) fn answer_and_record(
     alloc: Global,
     card: &mut ScriptCard,
-    starts: &mut LineStarts,
+    at_setup: &mut CountsAtSetup,
     line: &[u8],
     answers: &mut Vec<u8>,
 ) -> Result<(), AllocError>
-    ensures { OnOk result (MovesNoting (AnswersLine line.now) card.old starts.old.counts.items card.new starts.new.counts.items
+    ensures { OnOk result (MovesNoting (AnswersLine line.now) card.old at_setup.old.counts.items card.new at_setup.new.counts.items
         answers.old.items answers.new.items) }
 {
-    let vc = new_in(card.core(), line);
+    let vc = connection_to_set_up(card.core(), line);
     card.answer(alloc, line, answers)?;
-    starts.note(card.core(), vc)
+    at_setup.record_setup(card.core(), vc)
 }
 
-/// A run of `run`, with the starts of the lines of its card.
+/// A run of `run`, with what the lines of its card had counted when their connections were set up.
 #[derive(Drop)]
 pub(crate) struct NotedSetups {
     run: Policing,
-    starts: LineStarts,
+    at_setup: CountsAtSetup,
 }
 
 impl NotedSetups {
     ghost use Rattle.std.specs.Prelude.{None};
     ghost use Rattle.cmd_run.specs.RunText.{RunWorld};
     ghost use Rattle.cmd_run.specs.ShownCard.{ShowsRun};
-    ghost use Rattle.cmd_police.specs.inner.NotedSetups.{AreRunStarts, IsNewInRun, NotesInRun};
+    ghost use Rattle.cmd_police.specs.inner.NotedSetups.{AreRunCountsAtSetup, IsNewInRun, NotesInRun};
 
     /// Makes a run that has no card yet.
     pub(crate) fn new(alloc: Global) -> Self
@@ -90,57 +90,57 @@ impl NotedSetups {
     {
         NotedSetups {
             run: Policing::new(alloc),
-            starts: LineStarts::new(alloc),
+            at_setup: CountsAtSetup::new(alloc),
         }
     }
 
     /// Returns the connection that a line sets up, if there is a card and it doesn't have the connection.
-    fn new_in(&self, line: &[u8]) -> Option<Vc>
+    fn connection_to_set_up(&self, line: &[u8]) -> Option<Vc>
         ensures { (world : RunWorld) → ⟦<Policing as Machine>⟧.shows self.now.run world → IsNewInRun world line.now result }
     {
         match self.run.card() {
-            Some(card) => new_in(card.core(), line),
+            Some(card) => connection_to_set_up(card.core(), line),
             None => None,
         }
     }
 
-    /// Notes that this connection was set up, if there is one.
-    fn note(&mut self, vc: Option<Vc>) -> Result<(), AllocError>
+    /// Records that this connection was set up, if there is one.
+    fn record_setup(&mut self, vc: Option<Vc>) -> Result<(), AllocError>
         ensures noted { OnOk result ((world : RunWorld) → ⟦<Policing as Machine>⟧.shows self.old.run world
-            → NotesInRun world vc self.old.starts.counts.items self.new.starts.counts.items) }
+            → NotesInRun world vc self.old.at_setup.counts.items self.new.at_setup.counts.items) }
         ensures kept { self.new.run ≡ self.old.run }
     {
         match self.run.card() {
-            Some(card) => self.starts.note(card.core(), vc),
+            Some(card) => self.at_setup.record_setup(card.core(), vc),
             None => Ok(()),
         }
     }
 
-    /// Returns the card, if there is one, and the starts of its lines.
-    pub(crate) fn into_parts(self) -> (Option<ScriptCard>, LineStarts)
+    /// Returns the card, if there is one, and what its lines had counted when their connections were set up.
+    pub(crate) fn into_parts(self) -> (Option<ScriptCard>, CountsAtSetup)
         ensures card { (world : RunWorld) → ⟦<NotedSetups as Machine>⟧.shows self world → ShowsRun result.0 world }
-        ensures starts { (world : RunWorld) → ⟦<NotedSetups as Machine>⟧.shows self world → AreRunStarts result.1.counts.items world }
+        ensures at_setup { (world : RunWorld) → ⟦<NotedSetups as Machine>⟧.shows self world → AreRunCountsAtSetup result.1.counts.items world }
     {
-        let NotedSetups { run, starts } = self;
-        (run.into_card(), starts)
+        let NotedSetups { run, at_setup } = self;
+        (run.into_card(), at_setup)
     }
 }
 
 impl Machine for NotedSetups {
     ghost use Rattle.cmd_run.specs.RunText.{RunWorld, run_rules};
     ghost use Rattle.cmd_run.specs.inner.RunLaws.{run-total};
-    ghost use Rattle.cmd_police.specs.inner.NotedSetups.{AreRunStarts};
+    ghost use Rattle.cmd_police.specs.inner.NotedSetups.{AreRunCountsAtSetup};
 
     ghost World = { RunWorld };
 
-    ghost shows = { λ noted world. ⟦<Policing as Machine>⟧.shows noted.run world × AreRunStarts noted.starts.counts.items world };
+    ghost shows = { λ noted world. ⟦<Policing as Machine>⟧.shows noted.run world × AreRunCountsAtSetup noted.at_setup.counts.items world };
 
     ghost rules = { run_rules };
 
     fn answer(&mut self, line: &[u8], answers: &mut Vec<u8>) -> Result<Turn, AllocError> {
-        let vc = self.new_in(line);
+        let vc = self.connection_to_set_up(line);
         let turn = self.run.answer(line, answers)?;
-        self.note(vc)?;
+        self.record_setup(vc)?;
         Ok(turn)
     }
 

@@ -32,7 +32,9 @@ use crate::spans::Spans;
 use crate::stored_commands::add_waiting;
 use crate::timed_card::TimedCard;
 use captures::{Fault, Tick};
-use captures_text::{CellFollower, CellLines, CountedCell, PassedOver, add_closing, follow_cells};
+use captures_text::{
+    CapturedCell, CellFollower, LineChoice, ReadingSummary, add_closing, follow_cells,
+};
 use card_core::{Core, Judgement, Unjudged};
 use cmd_run::ScriptCard;
 use leaky::{Excess, Levels, Verdict, excess_at};
@@ -52,9 +54,9 @@ fn numbered<T: Copy>(items: &[T], number: u32) -> Option<T>
     items.get(number as usize - 1).copied()
 }
 
-/// Returns the levels of a contract after a cell with this verdict, as far as its excess depends on them: a tagged cell
-/// conformed to bucket 1, and filled it.
-fn met_after(verdict: Verdict, levels: Levels) -> Levels
+/// Returns the levels of a contract that explain a cell's excess, after the cell and by its verdict: a tagged cell conformed to bucket 1,
+/// and filled it.
+fn levels_to_explain(verdict: Verdict, levels: Levels) -> Levels
     ensures first { result.first ≡ first_met verdict levels.first }
     ensures second { result.second ≡ levels.second }
 {
@@ -74,7 +76,7 @@ fn excess_left(line: &Line, judged: &Judgement, clp: bool) -> Option<Excess>
 {
     let contract = numbered(line.contracts(), judged.value)?;
     let levels = numbered(line.state().levels.as_slice(), judged.value)?;
-    let met = met_after(judged.verdict, levels);
+    let met = levels_to_explain(judged.verdict, levels);
     excess_at(&contract, &met, clp, judged.moment)
 }
 
@@ -105,20 +107,20 @@ fn excess_of(
 fn add_cell(
     answers: &mut Vec<u8>,
     side: Side,
-    lines: CellLines,
+    lines: LineChoice,
     rules: &Option<LoadedRules>,
     begun: bool,
-    counted: &CountedCell,
+    captured: &CapturedCell,
     decision: &Result<Judgement, Unjudged>,
     card: &ScriptCard,
 ) -> Result<bool, AllocError>
-    ensures { IfOk result (AddsCell side lines (shown_stored rules.now) begun counted.now (vc_of side counted.now.cell)
-        (answer_to counted.now.cell decision.now) card.now answers.old.items answers.new.items) }
+    ensures { IfOk result (AddsCell side lines (shown_stored rules.now) begun captured.now (vc_of side captured.now.cell)
+        (answer_to captured.now.cell decision.now) card.now answers.old.items answers.new.items) }
 {
     if !has_line(lines, decision) {
         return Ok(begun);
     }
-    let cell = &counted.cell;
+    let cell = &captured.cell;
     let vc = cell.vc_at(side);
     let clp = cell.clp();
     let excess = excess_of(card.core(), vc, clp, decision);
@@ -126,8 +128,8 @@ fn add_cell(
     add_cell_columns(
         answers,
         side,
-        counted.number,
-        counted.moment,
+        captured.number,
+        captured.moment,
         vc,
         clp,
         decision,
@@ -146,13 +148,6 @@ pub(crate) fn add_gap(answers: &mut Vec<u8>, begun: bool) -> Result<(), AllocErr
     }
     answers.push(b'\n')?;
     Ok(())
-}
-
-/// Returns whether one of both is true.
-fn either(one: bool, other: bool) -> bool
-    ensures { result ≡ (one || other) }
-{
-    one || other
 }
 
 /// Returns whether lines are written before the table.
@@ -175,7 +170,7 @@ pub struct PoliceChoice {
 #[derive(Drop)]
 pub(crate) struct PoliceRun {
     /// Which cells have lines.
-    lines: CellLines,
+    lines: LineChoice,
     /// The rules that these show, if they do.
     rules: Option<LoadedRules>,
     /// How long a tick is.
@@ -203,13 +198,13 @@ impl CellFollower for PoliceRun {
     #[inline(always)]
     fn follow_cell(
         &mut self,
-        counted: &CountedCell,
+        captured: &CapturedCell,
         answers: &mut Vec<u8>,
     ) -> Result<Turn, AllocError> {
-        let cell = &counted.cell;
-        let moment = counted.moment;
+        let cell = &captured.cell;
+        let moment = captured.moment;
         let carried = self.timed.carry_out(moment, answers)?;
-        self.commanded = either(self.commanded, carried);
+        self.commanded |= carried;
         let side = self.timed.core().shape().side;
         self.spans.go_on(moment, answers)?;
         let Some(decision) = self.timed.arrive(cell, moment) else {
@@ -221,18 +216,18 @@ impl CellFollower for PoliceRun {
             self.lines,
             &self.rules,
             self.begun,
-            counted,
+            captured,
             &decision,
             &self.timed.card,
         )?;
         self.spans.count(side, cell, &decision)?;
-        self.not_judged.count(counted.number, &decision);
+        self.not_judged.count(captured.number, &decision);
         Ok(Turn::GoesOn)
     }
 
     fn close(
         &self,
-        passed: &PassedOver,
+        summary: &ReadingSummary,
         ending: Option<Fault>,
         answers: &mut Vec<u8>,
     ) -> Result<(), AllocError> {
@@ -241,11 +236,11 @@ impl CellFollower for PoliceRun {
             answers,
             has_lines_before(self.begun, &self.spans, self.commanded),
         )?;
-        add_counts(answers, self.timed.core(), &self.timed.starts)?;
+        add_counts(answers, self.timed.core(), &self.timed.at_setup)?;
         add_not_judged(answers, &self.not_judged)?;
         add_waiting(answers, &self.timed.commands)?;
-        add_run_comments(answers, self.tick, passed)?;
-        add_closing(answers, passed, ending)
+        add_run_comments(answers, self.tick, summary)?;
+        add_closing(answers, summary, ending)
     }
 
     ghost is_total = { police-total };

@@ -18,7 +18,7 @@ use crate::stored_commands::add_waiting;
 use crate::timed_card::TimedCard;
 use crate::timed_lines::{TimedScript, take_times};
 use captures::{Fault, Tick};
-use captures_text::{CountedCell, PassedOver, add_closing};
+use captures_text::{CapturedCell, ReadingSummary, add_closing};
 use leaky::Verdict;
 use std::alloc::{AllocError, Global};
 use text_words::add_text;
@@ -60,15 +60,15 @@ impl PolicedCard {
     /// # Errors
     ///
     /// An allocation failed, for a command or its line.
-    pub fn judge(&mut self, counted: &CountedCell) -> Result<Option<Verdict>, AllocError>
+    pub fn judge(&mut self, captured: &CapturedCell) -> Result<Option<Verdict>, AllocError>
         ensures { IfOk result (λ verdict. (before : PolicedWorld) → IsLed before.card → ShowsPoliced self.old before
-            → (after : PolicedWorld) × ShowsPoliced self.new after × PolicesOneCell before counted.now verdict after) }
+            → (after : PolicedWorld) × ShowsPoliced self.new after × PolicesOneCell before captured.now verdict after) }
     {
-        self.timed.carry_out(counted.moment, &mut self.answers)?;
-        let Some(decision) = self.timed.arrive(&counted.cell, counted.moment) else {
+        self.timed.carry_out(captured.moment, &mut self.answers)?;
+        let Some(decision) = self.timed.arrive(&captured.cell, captured.moment) else {
             return Ok(None);
         };
-        self.not_judged.count(counted.number, &decision);
+        self.not_judged.count(captured.number, &decision);
         Ok(verdict_in(&decision))
     }
 
@@ -79,19 +79,19 @@ impl PolicedCard {
     pub fn add_report(
         &self,
         report: &mut Vec<u8>,
-        passed: &PassedOver,
+        summary: &ReadingSummary,
         ending: Option<Fault>,
     ) -> Result<(), AllocError>
         ensures { (world : PolicedWorld) → ShowsPoliced self.now world
-            → OnOk result (report.new.items ≡ report.old.items ++ policed_report world passed.now ending) }
+            → OnOk result (report.new.items ≡ report.old.items ++ policed_report world summary.now ending) }
     {
         add_text(report, &self.answers)?;
         add_gap(report, is_filled(&self.answers))?;
-        add_counts(report, self.timed.core(), &self.timed.starts)?;
+        add_counts(report, self.timed.core(), &self.timed.at_setup)?;
         add_not_judged(report, &self.not_judged)?;
         add_waiting(report, &self.timed.commands)?;
-        add_run_comments(report, self.tick, passed)?;
-        add_closing(report, passed, ending)
+        add_run_comments(report, self.tick, summary)?;
+        add_closing(report, summary, ending)
     }
 }
 

@@ -4,7 +4,7 @@ ghost use Rattle.std.specs.Prelude.{◌≡◌, ◌++◌, OnOk};
 ghost use Rattle.cmd_police.specs.RunComments.{loss_comment, run_comments, tick_comment};
 
 use captures::Tick;
-use captures_text::{PassedOver, PassedTally};
+use captures_text::{CountAndFirst, ReadingSummary};
 use std::alloc::AllocError;
 use text_words::{add_number, add_text};
 
@@ -20,7 +20,7 @@ fn add_tick(answers: &mut Vec<u8>, nanoseconds: u64) -> Result<(), AllocError>
 
 /// Appends from which record on verdicts may be wrong, if records were lost.
 #[tactic(auto, using(std::proofs::lemmas::List::append_assoc))]
-fn add_losses(answers: &mut Vec<u8>, losses: PassedTally) -> Result<(), AllocError>
+fn add_losses(answers: &mut Vec<u8>, losses: CountAndFirst) -> Result<(), AllocError>
     ensures { OnOk result (answers.new.items ≡ answers.old.items ++ loss_comment losses) }
 {
     if losses.count == 0 {
@@ -36,10 +36,10 @@ fn add_losses(answers: &mut Vec<u8>, losses: PassedTally) -> Result<(), AllocErr
 pub(crate) fn add_run_comments(
     answers: &mut Vec<u8>,
     tick: Tick,
-    passed: &PassedOver,
+    summary: &ReadingSummary,
 ) -> Result<(), AllocError>
-    ensures { OnOk result (answers.new.items ≡ answers.old.items ++ run_comments tick.nanoseconds passed.now) }
+    ensures { OnOk result (answers.new.items ≡ answers.old.items ++ run_comments tick.nanoseconds summary.now) }
 {
     add_tick(answers, tick.nanoseconds)?;
-    add_losses(answers, passed.marks.losses)
+    add_losses(answers, summary.marks.losses)
 }

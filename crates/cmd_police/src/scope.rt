@@ -1,7 +1,7 @@
 //! What a run of `police` is about.
 
 use captures::{Link, TimeSource};
-use captures_text::CellLines;
+use captures_text::LineChoice;
 
 /// Which cells of a capture are policed, and what is written about them.
 #[derive(Clone, Copy, Debug)]
@@ -11,7 +11,7 @@ pub struct PoliceScope {
     /// Which time of a record counts.
     pub timing: TimeSource,
     /// Which cells have lines.
-    pub lines: CellLines,
+    pub lines: LineChoice,
     /// How many nanoseconds a span has, if the counts of each span of time are written. A span has whole ticks, at least one.
     pub every: Option<u64>,
     /// Whether lines show the rule that gave a cell its value.

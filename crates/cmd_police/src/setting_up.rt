@@ -5,7 +5,7 @@ ghost use Rattle.cmd_explain_script.specs.ScriptText.{IsScriptExplained};
 ghost use Rattle.cmd_police.specs.PoliceText.{IsFaultOfEither};
 ghost use Rattle.cmd_police.specs.inner.SetUpCard.{IsSetUpAs, LeadsScriptTo, RunsWhole};
 
-use crate::line_starts::LineStarts;
+use crate::counts_at_setup::CountsAtSetup;
 use crate::noted_setups::NotedSetups;
 use crate::stored_commands::{before_times, commands_at};
 use crate::timed_card::TimedCard;
@@ -76,8 +76,8 @@ fn faults_at_times(
     faults_of(alloc, before)
 }
 
-/// Returns the card that a script without a fault leads to, and the starts of its lines.
-fn card_of(alloc: Global, script: &[u8]) -> Result<(ScriptCard, LineStarts), AllocError>
+/// Returns the card that a script without a fault leads to, and what its lines had counted when their connections were set up.
+fn card_of(alloc: Global, script: &[u8]) -> Result<(ScriptCard, CountsAtSetup), AllocError>
     requires { RunsWhole script.now }
     ensures { IfOk result (λ made. IsSetUpAs script.now made.0 made.1.counts.items) }
 {
@@ -86,9 +86,9 @@ fn card_of(alloc: Global, script: &[u8]) -> Result<(ScriptCard, LineStarts), All
     let mut run = NotedSetups::new(alloc);
     match answer_lines(alloc, &mut input, &mut output, &mut run) {
         Ok(Done::Whole) => {
-            let (card, starts) = run.into_parts();
+            let (card, at_setup) = run.into_parts();
             match card {
-                Some(card) => Ok((card, starts)),
+                Some(card) => Ok((card, at_setup)),
                 None => unreachable!(),
             }
         }
@@ -110,12 +110,12 @@ pub(crate) fn set_up(
     if let Some(text) = faults_at_times(alloc, script, before)? {
         return Ok(SetUp::Faulty(text));
     }
-    let (card, starts) = card_of(alloc, before)?;
+    let (card, at_setup) = card_of(alloc, before)?;
     let commands = commands_at(alloc, tick, times, script)?;
     Ok(SetUp::Ready(TimedCard {
         alloc,
         card,
-        starts,
+        at_setup,
         commands,
     }))
 }

@@ -12,8 +12,8 @@ ghost use Rattle.text_script.specs.ReplyTexts.{channel_name, connection_name};
 ghost use Rattle.text_script.specs.ScriptCommands.{command_of};
 
 use crate::cell_lines::add_number_column;
-use crate::line_starts::LineStarts;
-use crate::noted_setups::answer_noting;
+use crate::counts_at_setup::CountsAtSetup;
+use crate::noted_setups::answer_and_record;
 use crate::stored_commands::{StoredCommands, add_waiting};
 use card_core::{Core, Judgement, Unjudged};
 use cmd_run::ScriptCard;
@@ -24,9 +24,9 @@ use text_script::{Command, add_tally, read_command};
 use text_words::{add_bad_line, add_number, add_text};
 use upc_cell::{Cell, Side, Vc};
 
-/// How many entries a journal has at most when a cell arrives. Nothing printed depends on it. So few entries of each connection stay in the
-/// processor's cache.
-const MOST_ENTRIES: usize = 64;
+/// A journal that has this number of entries is dropped before the next cell of its connection. Nothing printed depends on it. So few entries
+/// of each connection stay in the processor's cache.
+const JOURNAL_DROPPED_AT: usize = 64;
 
 /// A card, and the commands that wait for their moments.
 #[derive(Drop)]
@@ -36,7 +36,7 @@ pub struct TimedCard {
     /// The card.
     pub(crate) card: ScriptCard,
     /// What the lines of the card had counted when their connections were set up.
-    pub(crate) starts: LineStarts,
+    pub(crate) at_setup: CountsAtSetup,
     /// The commands.
     pub(crate) commands: StoredCommands,
 }
@@ -56,19 +56,19 @@ fn is_taken_under_traffic(line: &[u8]) -> bool
     }
 }
 
-/// Appends the answer to a command that ends no journal.
-fn answer_plain(
+/// Appends the answer to any other command: one that ends no journal.
+fn answer_other(
     alloc: Global,
     card: &mut ScriptCard,
-    starts: &mut LineStarts,
+    at_setup: &mut CountsAtSetup,
     line: &[u8],
     answers: &mut Vec<u8>,
 ) -> Result<(), AllocError>
-    ensures { OnOk result (MovesNoting (λ before. AnswersPlainly before line.now) card.old starts.old.counts.items
-        card.new starts.new.counts.items answers.old.items answers.new.items) }
+    ensures { OnOk result (MovesNoting (λ before. AnswersPlainly before line.now) card.old at_setup.old.counts.items
+        card.new at_setup.new.counts.items answers.old.items answers.new.items) }
 {
     if is_taken_under_traffic(line) {
-        answer_noting(alloc, card, starts, line, answers)
+        answer_and_record(alloc, card, at_setup, line, answers)
     } else {
         add_bad_line(answers)
     }
@@ -144,22 +144,22 @@ fn add_counted(
 }
 
 /// Appends the answer to a command that ends a journal, which begins with this word.
-fn answer_counted(
+fn answer_with_counts(
     alloc: Global,
     card: &mut ScriptCard,
-    starts: &mut LineStarts,
+    at_setup: &mut CountsAtSetup,
     line: &[u8],
     word: &[u8],
     vc: Vc,
     answers: &mut Vec<u8>,
 ) -> Result<(), AllocError>
     ensures { OnOk result (MovesNoting (λ before text after. AnswersWithCounts before line.now (word.now, vc) text after)
-        card.old starts.old.counts.items card.new starts.new.counts.items answers.old.items answers.new.items) }
+        card.old at_setup.old.counts.items card.new at_setup.new.counts.items answers.old.items answers.new.items) }
 {
-    let counts = starts.own_counts(card.core(), vc);
+    let counts = at_setup.own_counts(card.core(), vc);
     let side = card.core().shape().side;
     let mut given = Vec::new(alloc);
-    answer_noting(alloc, card, starts, line, &mut given)?;
+    answer_and_record(alloc, card, at_setup, line, &mut given)?;
     add_counted(answers, side, word, vc, counts, &given)
 }
 
@@ -167,16 +167,16 @@ fn answer_counted(
 fn answer_command(
     alloc: Global,
     card: &mut ScriptCard,
-    starts: &mut LineStarts,
+    at_setup: &mut CountsAtSetup,
     line: &[u8],
     answers: &mut Vec<u8>,
 ) -> Result<(), AllocError>
-    ensures { OnOk result (MovesNoting (λ before. AnswersUnderTraffic before line.now) card.old starts.old.counts.items
-        card.new starts.new.counts.items answers.old.items answers.new.items) }
+    ensures { OnOk result (MovesNoting (λ before. AnswersUnderTraffic before line.now) card.old at_setup.old.counts.items
+        card.new at_setup.new.counts.items answers.old.items answers.new.items) }
 {
     match ended_journal(card.core().shape().side, line) {
-        Some((word, vc)) => answer_counted(alloc, card, starts, line, word, vc, answers),
-        None => answer_plain(alloc, card, starts, line, answers),
+        Some((word, vc)) => answer_with_counts(alloc, card, at_setup, line, word, vc, answers),
+        None => answer_other(alloc, card, at_setup, line, answers),
     }
 }
 
@@ -207,7 +207,7 @@ impl TimedCard {
             answer_command(
                 self.alloc,
                 &mut self.card,
-                &mut self.starts,
+                &mut self.at_setup,
                 &command.content,
                 answers,
             )?;
@@ -217,7 +217,7 @@ impl TimedCard {
         Ok(carried)
     }
 
-    /// The same. That nothing is due is found at once.
+    /// Like `carry_out_all`, with a fast path when nothing is due.
     #[inline(always)]
     pub(crate) fn carry_out(
         &mut self,
@@ -239,6 +239,6 @@ impl TimedCard {
         ensures arrives { ArrivesWithRoom self.old.card.core cell.now moment (option_map (λ decision. answer_to cell.now decision) result) self.new.card.core }
         ensures rest { self.new ≡ record self.old { card = record self.old.card { core = self.new.card.core } } }
     {
-        self.card.arrive_keeping(cell, moment, MOST_ENTRIES)
+        self.card.arrive_keeping(cell, moment, JOURNAL_DROPPED_AT)
     }
 }

@@ -1,6 +1,5 @@
 //! One module for each group of crates.
 
-mod at_once;
 mod choices;
 mod devices;
 mod lines;
@@ -8,3 +7,4 @@ mod ports;
 mod programs;
 mod scripts;
 mod subcommands;
+mod two_threads;

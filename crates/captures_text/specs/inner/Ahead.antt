@@ -8,34 +8,34 @@ use Rattle.captures_text.specs.CellRules.{CellRules}
 use Rattle.captures.specs.declared.reader.Reader.{Reader}
 use Rattle.captures_text.specs.inner.Following.{IsFollowing, with_clock}
 use Rattle.captures_text.specs.inner.Progress.{CaptureProgress, Texts}
-use Rattle.captures_text.specs.declared.one_thread.Going.{Going}
-use Rattle.captures_text.specs.declared.one_thread.Going.TheVariants as going
-use Rattle.captures_text.specs.declared.counted.CountedCell.{CountedCell}
+use Rattle.captures_text.specs.declared.answering.StepOutcome.{StepOutcome}
+use Rattle.captures_text.specs.declared.answering.StepOutcome.TheVariants as outcome
+use Rattle.captures_text.specs.declared.captured_cell.CapturedCell.{CapturedCell}
 use Rattle.captures_text.specs.declared.filter.CellFilter.{CellFilter}
 use Rattle.captures_text.specs.declared.filter.Following.{Following}
 use Rattle.captures_text.specs.declared.reading_ahead.Farther.{Farther}
-use Rattle.captures_text.specs.declared.reading_ahead.Coming.{Coming}
-use Rattle.captures_text.specs.declared.reading_ahead.Coming.TheVariants as coming
+use Rattle.captures_text.specs.declared.reading_ahead.StopReason.{StopReason}
+use Rattle.captures_text.specs.declared.reading_ahead.StopReason.TheVariants as stop
 use Rattle.captures_text.specs.declared.reading_ahead.ReadingAhead.{ReadingAhead}
 use Rattle.text_io.specs.declared.ending.Done.{Done}
 use Rattle.text_io.specs.declared.ending.Done.TheVariants.{Ended}
 
 -- From where the reading is, these cells of octets count, and end so.
-abbrev pub HasCellsFrom : ReadingAhead → List ℕ → List CountedCell → CellsEnd → Type 0
+abbrev pub HasCellsFrom : ReadingAhead → List ℕ → List CapturedCell → CellsEnd → Type 0
 HasCellsFrom reading octets cells end =
     HasCells (filter_state reading.filter) reading.reader.format reading.reader.count reading.reader.at octets cells end
 
 -- From this world, the text may answer these cells, which were read before, and then octets.
-abbrev pub IsQueuedText : {World : Type 0} → CellRules World → ReadingAhead → List CountedCell → World → Texts
+abbrev pub IsQueuedText : {World : Type 0} → CellRules World → ReadingAhead → List CapturedCell → World → Texts
 IsQueuedText rules reading cells world octets text done =
-    (later : List CountedCell) × (end : CellsEnd) × HasCellsFrom reading octets later end × IsTextOfCells rules world (cells ++ later) end text done
+    (later : List CapturedCell) × (end : CellsEnd) × HasCellsFrom reading octets later end × IsTextOfCells rules world (cells ++ later) end text done
 
 -- After what was read, and if these octets follow those that wait, these cells count, and end so.
-abbrev pub ComesAfter : ReadingAhead → Coming → List ℕ → List CountedCell → CellsEnd → Type 0
-ComesAfter after coming.Wants more later end = HasCellsFrom after (after.window ++ more) later end
-ComesAfter after coming.Enough more later end = HasCellsFrom after (after.window ++ more) later end
-ComesAfter after (coming.Several one other) more later end = (later ≡ []) × (end ≡ Crosses one other)
-ComesAfter after (coming.Broken fault) more later end = (later ≡ []) × (end ≡ Closes after.filter.passed (Some fault))
+abbrev pub ComesAfter : ReadingAhead → StopReason → List ℕ → List CapturedCell → CellsEnd → Type 0
+ComesAfter after stop.Wants more later end = HasCellsFrom after (after.window ++ more) later end
+ComesAfter after stop.Enough more later end = HasCellsFrom after (after.window ++ more) later end
+ComesAfter after (stop.SecondLink one other) more later end = (later ≡ []) × (end ≡ Crosses one other)
+ComesAfter after (stop.Broken fault) more later end = (later ≡ []) × (end ≡ Closes after.filter.summary (Some fault))
 
 -- The reading with this filter and reader, at these octets.
 abbrev pub reading_at : CellFilter → Reader → List ℕ → ReadingAhead
@@ -53,62 +53,62 @@ pub record WentOn (before after : ReadingAhead) : Type 0 where
   pub near : before.reader.at < 2 ^ 64 → after.reader.at < 2 ^ 64
 
 -- The reading went on through some frames. The cells that count among their records came to the others.
-pub record ReadsSoFar (before after : ReadingAhead) (old new : List CountedCell) : Type 0 where
+pub record ReadsSoFar (before after : ReadingAhead) (old new : List CapturedCell) : Type 0 where
   pub went : WentOn before after
   pub moved : (new ≡ old) ⊎ (before.reader.at < after.reader.at)
-  pub fresh : List CountedCell
+  pub fresh : List CapturedCell
   pub grew : new ≡ old ++ fresh
-  pub leads : (more : List ℕ) (later : List CountedCell) (end : CellsEnd) → HasCellsFrom after (after.window ++ more) later end
+  pub leads : (more : List ℕ) (later : List CapturedCell) (end : CellsEnd) → HasCellsFrom after (after.window ++ more) later end
       → HasCellsFrom before (before.window ++ more) (fresh ++ later) end
 
 -- Usual records were read so far among these octets, from this reader on, and their cells came to the others: what reading came to them came
 -- through them.
-abbrev pub ReadsUsual : Following → Reader → List ℕ → List CountedCell → Farther → List CountedCell → Type 0
-ReadsUsual following reader octets cells found cells' = (first : ReadingAhead) (filter : CellFilter) (old : List CountedCell)
+abbrev pub ReadsUsual : Following → Reader → List ℕ → List CapturedCell → Farther → List CapturedCell → Type 0
+ReadsUsual following reader octets cells found cells' = (first : ReadingAhead) (filter : CellFilter) (old : List CapturedCell)
     → IsFollowing filter following following.clock → ReadsSoFar first (reading_at filter reader octets) old cells
     → ReadsSoFar first (reading_farther filter octets found) old cells'
 
 -- How far the reading came: to where more octets are wanted, or through one frame at least.
-abbrev pub CameTo : Coming → ReadingAhead → ReadingAhead → List CountedCell → List CountedCell → Type 0
-CameTo coming.Wants before after old new = WentOn before after × (first_frame after.reader.format after.reader.at after.window ≡ None)
+abbrev pub CameTo : StopReason → ReadingAhead → ReadingAhead → List CapturedCell → List CapturedCell → Type 0
+CameTo stop.Wants before after old new = WentOn before after × (first_frame after.reader.format after.reader.at after.window ≡ None)
     × (length after.window < 131072) × ((new ≡ old) ⊎ (before.reader.at < after.reader.at))
-CameTo coming.Enough before after old new = WentOn before after × (before.reader.at < after.reader.at)
-CameTo (coming.Several one other) before after old new = Unit {0}
-CameTo (coming.Broken fault) before after old new = Unit {0}
+CameTo stop.Enough before after old new = WentOn before after × (before.reader.at < after.reader.at)
+CameTo (stop.SecondLink one other) before after old new = Unit {0}
+CameTo (stop.Broken fault) before after old new = Unit {0}
 
 -- The waiting octets were read so far. The cells that count came to the others.
-pub record ReadsCells (before : ReadingAhead) (how : Coming) (after : ReadingAhead) (old new : List CountedCell) : Type 0 where
+pub record ReadsCells (before : ReadingAhead) (how : StopReason) (after : ReadingAhead) (old new : List CapturedCell) : Type 0 where
   pub came : CameTo how before after old new
-  pub fresh : List CountedCell
+  pub fresh : List CapturedCell
   pub grew : new ≡ old ++ fresh
-  pub leads : (more : List ℕ) (later : List CountedCell) (end : CellsEnd) → ComesAfter after how more later end
+  pub leads : (more : List ℕ) (later : List CapturedCell) (end : CellsEnd) → ComesAfter after how more later end
       → HasCellsFrom before (before.window ++ more) (fresh ++ later) end
 
 -- The reading goes on, or is what was read before this comes.
-abbrev pub StepsTo : ReadingAhead → ReadingAhead → List CountedCell → List CountedCell → Option Coming → Type 0
+abbrev pub StepsTo : ReadingAhead → ReadingAhead → List CapturedCell → List CapturedCell → Option StopReason → Type 0
 StepsTo first after old new None = ReadsSoFar first after old new
 StepsTo first after old new (Some how) = ReadsCells first how after old new
 
 -- From this world, the answers grew by a text that answers the cells that were read and what comes after them, and ends the run.
-pub record EndsAfter {World : Type 0} (rules : CellRules World) (after : ReadingAhead) (how : Coming) (cells : List CountedCell) (world : World)
+pub record EndsAfter {World : Type 0} (rules : CellRules World) (after : ReadingAhead) (how : StopReason) (cells : List CapturedCell) (world : World)
     (old new : List ℕ) : Type 0 where
   pub here : List ℕ
   pub grew : new ≡ old ++ here
-  pub ends : (more : List ℕ) (later : List CountedCell) (end : CellsEnd) → ComesAfter after how more later end
+  pub ends : (more : List ℕ) (later : List CapturedCell) (end : CellsEnd) → ComesAfter after how more later end
       → IsTextOfCells rules world (cells ++ later) end here Ended
 
 -- Unless it ends, a run goes on by what comes after what was read.
-abbrev pub GoesBy : Going → Coming → Type 0
-GoesBy going.On how = how ≡ coming.Enough
-GoesBy going.Wants how = how ≡ coming.Wants
-GoesBy going.Ended how = Unit {0}
+abbrev pub GoesBy : StepOutcome → StopReason → Type 0
+GoesBy outcome.On how = how ≡ stop.Enough
+GoesBy outcome.Wants how = how ≡ stop.Wants
+GoesBy outcome.Ended how = Unit {0}
 
 -- How far the reading came, by how the run goes on: by one frame at least, or to where more octets are wanted, and then no cell waits.
-abbrev pub CameSoFar : Going → ReadingAhead → ReadingAhead → List CountedCell → Type 0
-CameSoFar going.On before after cells = WentOn before after × (before.reader.at < after.reader.at)
-CameSoFar going.Wants before after cells = WentOn before after
+abbrev pub CameSoFar : StepOutcome → ReadingAhead → ReadingAhead → List CapturedCell → Type 0
+CameSoFar outcome.On before after cells = WentOn before after × (before.reader.at < after.reader.at)
+CameSoFar outcome.Wants before after cells = WentOn before after
     × (first_frame after.reader.format after.reader.at after.window ≡ None) × (length after.window < 131072) × (cells ≡ [])
-CameSoFar going.Ended before after cells = Unit {0}
+CameSoFar outcome.Ended before after cells = Unit {0}
 
 -- The reading with these waiting octets.
 abbrev pub with_window : ReadingAhead → List ℕ → ReadingAhead
@@ -122,21 +122,21 @@ pub record FillsFirst (Known : Type 0) (rest rest' : List ℕ) (before : Reading
   pub bounded : length near ≤ 524288
 
 -- The same, and the frames among the octets that wait then were read. None: the input has ended, and nothing changed.
-abbrev pub FillsAndReads : Type 0 → List ℕ → List ℕ → ReadingAhead → Option Coming → ReadingAhead → List CountedCell → List CountedCell → Type 0
+abbrev pub FillsAndReads : Type 0 → List ℕ → List ℕ → ReadingAhead → Option StopReason → ReadingAhead → List CapturedCell → List CapturedCell → Type 0
 FillsAndReads Known rest rest' before None after old new = (after ≡ before) × (new ≡ old) × (Known → before.window ++ rest ≡ before.window ++ rest')
 FillsAndReads Known rest rest' before (Some how) after old new =
     (near : List ℕ) × FillsFirst Known rest rest' before near × ReadsCells (with_window before near) how after old new
 
 -- How far the reading came after more octets were read, by how the run goes on.
-abbrev pub CameAhead : Going → ReadingAhead → List ℕ → ReadingAhead → List CountedCell → Type 0
-CameAhead going.On before near after cells = WentOn (with_window before near) after × (length before.window < length near)
-CameAhead going.Wants before near after cells = (near ≡ before.window) × (after ≡ before) × (cells ≡ [])
-CameAhead going.Ended before near after cells = Unit {0}
+abbrev pub CameAhead : StepOutcome → ReadingAhead → List ℕ → ReadingAhead → List CapturedCell → Type 0
+CameAhead outcome.On before near after cells = WentOn (with_window before near) after × (length before.window < length near)
+CameAhead outcome.Wants before near after cells = (near ≡ before.window) × (after ≡ before) × (cells ≡ [])
+CameAhead outcome.Ended before near after cells = Unit {0}
 
 -- From this world, the answers grew by a text that leads to a sound world that is shown. Any text for the cells and the
 -- octets that wait after it completes a text for those that waited before it.
-pub record Advances {World : Type 0} (rules : CellRules World) (before : ReadingAhead) (cells : List CountedCell) (world : World) (after : ReadingAhead)
-    (cells' : List CountedCell) (shown : World → Type 0) (old new : List ℕ) : Type 0 where
+pub record Advances {World : Type 0} (rules : CellRules World) (before : ReadingAhead) (cells : List CapturedCell) (world : World) (after : ReadingAhead)
+    (cells' : List CapturedCell) (shown : World → Type 0) (old new : List ℕ) : Type 0 where
   pub here : List ℕ
   pub grew : new ≡ old ++ here
   pub next : World
@@ -146,14 +146,14 @@ pub record Advances {World : Type 0} (rules : CellRules World) (before : Reading
       → IsQueuedText rules before cells world (before.window ++ more) (here ++ text) done
 
 -- From this world, the answers grew by a text that answers what waits, whatever follows, and ends the run.
-pub record AdvancesToEnd {World : Type 0} (rules : CellRules World) (before : ReadingAhead) (cells : List CountedCell) (world : World)
+pub record AdvancesToEnd {World : Type 0} (rules : CellRules World) (before : ReadingAhead) (cells : List CapturedCell) (world : World)
     (old new : List ℕ) : Type 0 where
   pub here : List ℕ
   pub grew : new ≡ old ++ here
   pub ends : (more : List ℕ) → IsQueuedText rules before cells world (before.window ++ more) here Ended
 
 -- The run reached a sound world that is shown, and so far from the world in which it began.
-pub record ReachesQueue {World : Type 0} (rules : CellRules World) (shown : World → Type 0) (reading0 reading : ReadingAhead) (cells : List CountedCell)
+pub record ReachesQueue {World : Type 0} (rules : CellRules World) (shown : World → Type 0) (reading0 reading : ReadingAhead) (cells : List CapturedCell)
     (first : World) (Known Held : Type 0) (rest0 rest before now waiting : List ℕ) : Type 0 where
   pub present : World
   pub sound : rules.is_sound present
@@ -162,7 +162,7 @@ pub record ReachesQueue {World : Type 0} (rules : CellRules World) (shown : Worl
       reading0.window rest0 reading.window rest before now waiting
 
 -- So far the run came from each sound world that was shown at first.
-abbrev pub CameToQueue : {World : Type 0} → CellRules World → (World → Type 0) → (World → Type 0) → ReadingAhead → ReadingAhead → List CountedCell
+abbrev pub CameToQueue : {World : Type 0} → CellRules World → (World → Type 0) → (World → Type 0) → ReadingAhead → ReadingAhead → List CapturedCell
     → Type 0 → Type 0 → List ℕ → List ℕ → List ℕ → List ℕ → List ℕ → Type 0
 CameToQueue rules shown0 shown reading0 reading cells Known Held rest0 rest before now waiting = OfEachWorld rules shown0
     (λ first. ReachesQueue rules shown reading0 reading cells first Known Held rest0 rest before now waiting)
@@ -171,11 +171,11 @@ CameToQueue rules shown0 shown reading0 reading cells Known Held rest0 rest befo
 -- came before these were read, and then from there on. At the end of the input the cells that waited are answered, and
 -- none waits.
 pub record FillsAhead {World : Type 0} (rules : CellRules World) (shown shown' : World → Type 0) (Known : Type 0) (rest rest' : List ℕ)
-    (before : ReadingAhead) (cells : List CountedCell) (how : Going) (after : ReadingAhead) (cells' : List CountedCell) (old new : List ℕ) : Type 0 where
+    (before : ReadingAhead) (cells : List CapturedCell) (how : StepOutcome) (after : ReadingAhead) (cells' : List CapturedCell) (old new : List ℕ) : Type 0 where
   pub near : List ℕ
   pub front : take (length before.window) near ≡ before.window
   pub same : Known → before.window ++ rest ≡ near ++ rest'
   pub bounded : length before.window ≤ 524288 → length near ≤ 524288
-  pub goes_on : how ≢ going.Ended → OfEachWorld rules shown (λ world. Advances rules (with_window before near) cells world after cells' shown' old new)
-  pub ends : how ≡ going.Ended → OfEachWorld rules shown (λ world. AdvancesToEnd rules (with_window before near) cells world old new)
+  pub goes_on : how ≢ outcome.Ended → OfEachWorld rules shown (λ world. Advances rules (with_window before near) cells world after cells' shown' old new)
+  pub ends : how ≡ outcome.Ended → OfEachWorld rules shown (λ world. AdvancesToEnd rules (with_window before near) cells world old new)
   pub came : CameAhead how before near after cells'

@@ -4,4 +4,4 @@ use Rattle.cmd_fit.specs.declared.link_table.LinkTable.{LinkTable}
 
 -- The state of this table.
 abbrev pub links_state : LinkTable → LinksState
-links_state table = record { rows = table.rows.entries; left_out = table.left_out; passed = table.passed }
+links_state table = record { rows = table.rows.entries; left_out = table.left_out; summary = table.summary }

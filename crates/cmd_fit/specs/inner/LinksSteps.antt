@@ -3,14 +3,14 @@ use Rattle.std.specs.Prelude.{◌≡◌, ◌<◌, ℕ, List, length, drop, Resul
 use Rattle.captures.specs.Frames.{first_frame}
 use Rattle.captures.specs.Reading.{ComesNext, IsSamePlace, TakesFrame}
 use Rattle.captures.specs.declared.reader.Next.TheVariants.{Broken as BrokenNext}
-use Rattle.captures.specs.declared.reader.Passage.{Passage}
+use Rattle.captures.specs.declared.reader.SkippedBlock.{SkippedBlock}
 use Rattle.captures.specs.declared.reader.Record.{Record}
 use Rattle.text_io.specs.declared.ending.Done.{Done}
 use Rattle.cmd_fit.specs.LinkTallies.{links_given}
 use Rattle.cmd_fit.specs.inner.LinkStates.{links_state}
 use Rattle.cmd_fit.specs.LinksText.{IsLinksFrom}
-use Rattle.cmd_fit.specs.declared.links_reading.Going.{Going}
-use Rattle.cmd_fit.specs.declared.links_reading.Going.TheVariants as going
+use Rattle.cmd_fit.specs.declared.links_reading.StepOutcome.{StepOutcome}
+use Rattle.cmd_fit.specs.declared.links_reading.StepOutcome.TheVariants as outcome
 use Rattle.cmd_fit.specs.declared.links_reading.LinksReading.{LinksReading}
 
 -- From where the reading is, the text answers the octets.
@@ -19,7 +19,7 @@ LinksHere reading = IsLinksFrom (links_state reading.table) reading.reader.forma
 
 -- The reading went on by a frame.
 pub record ReadsFrame (before after : LinksReading) : Type 0 where
-  pub given : Result Record Passage
+  pub given : Result Record SkippedBlock
   pub own : ℕ
   pub takes : TakesFrame before.reader before.window given own after.reader
   pub window : after.window ≡ drop own before.window
@@ -34,8 +34,8 @@ pub record WantsMore (before after : LinksReading) : Type 0 where
   pub short : length before.window < 131072
 
 -- What a step of the reading does.
-abbrev pub StepsLinks : LinksReading → Going → LinksReading → Type 0
-StepsLinks before going.On after = ReadsFrame before after
-StepsLinks before going.Wants after = WantsMore before after
-StepsLinks before (going.Broken fault) after =
+abbrev pub StepsLinks : LinksReading → StepOutcome → LinksReading → Type 0
+StepsLinks before outcome.On after = ReadsFrame before after
+StepsLinks before outcome.Wants after = WantsMore before after
+StepsLinks before (outcome.Broken fault) after =
     ComesNext before.reader before.window (BrokenNext fault) after.reader × (after.table ≡ before.table)

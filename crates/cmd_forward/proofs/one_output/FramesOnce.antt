@@ -11,7 +11,7 @@ use Rattle.captures.specs.RecordOctets.{octets_held}
 use Rattle.captures.specs.declared.fault.Fault.{Fault}
 use Rattle.captures.specs.declared.fault.RecordFault.{RecordFault}
 use Rattle.captures.specs.declared.format.Format.{Format}
-use Rattle.captures.specs.declared.reader.Passage.{Passage}
+use Rattle.captures.specs.declared.reader.SkippedBlock.{SkippedBlock}
 use Rattle.captures.specs.declared.reader.Record.{Record}
 use Rattle.cmd_forward.specs.FramesRead.{AreFrames, FrameRead}
 use Rattle.cmd_forward.specs.RecordsWritten.{IsCellWritten, tagged_record}
@@ -19,7 +19,7 @@ use Rattle.cmd_forward.specs.declared.onward.Onward.{Onward}
 use Rattle.cmd_forward.specs.declared.onward.Onward.TheVariants.{Stays, Unchanged, Tagged}
 
 -- What is given of frames.
-abbrev pub givens : List FrameRead → List (Result Record Passage)
+abbrev pub givens : List FrameRead → List (Result Record SkippedBlock)
 givens frames = map (λ read. read.given) frames
 
 pub as_many : (frames : List FrameRead) → length (givens frames) ≡ length frames
@@ -48,7 +48,7 @@ read_once (read ∷ frames) (one ∷ others) format count at octets ending other
     let octets_same : read.octets ≡ one.octets = whole ∙ ap (λ (f : Frame). octets_held f.held) (sym frames_same) ∙ sym whole' in
     let later_here : AreFrames frame.after (count_after count read.given) (at + frame.size) (drop frame.size octets) others other =
     subst (λ (f : Frame). AreFrames f.after (count_after count read.given) (at + f.size) (drop f.size octets) others other) frames_same
-    (subst (λ (g : Result Record Passage). AreFrames frame'.after (count_after count g) (at + frame'.size) (drop frame'.size octets) others other) (sym given) later') in
+    (subst (λ (g : Result Record SkippedBlock). AreFrames frame'.after (count_after count g) (at + frame'.size) (drop frame'.size octets) others other) (sym given) later') in
     let tails = read_once frames others frame.after (count_after count read.given) (at + frame.size) (drop frame.size octets) ending other rest later later_here in
     λ i. record { given = given i; octets = octets_same i } ∷ tails i
 

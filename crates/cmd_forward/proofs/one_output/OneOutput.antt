@@ -7,14 +7,14 @@ use Rattle.captures.specs.declared.fault.Fault.{Fault}
 use Rattle.captures.specs.declared.link.Link.{Link}
 use Rattle.captures.specs.declared.opening.Opening.{Opening}
 use Rattle.captures.specs.declared.opening.Opening.TheVariants.{Opened, Undecided, Refused}
-use Rattle.captures.specs.declared.reader.Passage.{Passage}
+use Rattle.captures.specs.declared.reader.SkippedBlock.{SkippedBlock}
 use Rattle.captures.specs.declared.reader.Record.{Record}
 use Rattle.captures_text.specs.CaptureText.{short_fault}
-use Rattle.captures_text.specs.CellFilter.{FilterState, filter_passage, filter_record}
+use Rattle.captures_text.specs.CellFilter.{FilterState, filter_block, filter_record}
 use Rattle.captures_text.specs.RunLines.{several_line}
-use Rattle.captures_text.specs.declared.counted.CountedCell.{CountedCell}
+use Rattle.captures_text.specs.declared.captured_cell.CapturedCell.{CapturedCell}
 use Rattle.captures_text.specs.declared.filter.Filtered.{Filtered}
-use Rattle.captures_text.specs.declared.filter.Filtered.TheVariants.{Counts, Passed, Several}
+use Rattle.captures_text.specs.declared.filter.Filtered.TheVariants.{Counts, Skipped, SecondLink}
 use Rattle.text_io.specs.Lines.{lines_of}
 use Rattle.text_io.specs.declared.ending.Done.{Done}
 use Rattle.text_io.specs.declared.ending.Done.TheVariants.{Ended}
@@ -68,28 +68,28 @@ module _ (others : Others) where
       → WritesFiltered forward_rules others one number octets filtered filter here next → WritesFiltered forward_rules others other number octets filtered filter here' next'
       → (here ≡ here') × LeadOn left next next'
   filtered_once left one other alike number octets (Counts moment cell) filter here here' next next' p q =
-      let counted : CountedCell = record { number = number; moment = moment; cell = cell } in
-      let judged = cell_judged_alike left one other counted p.2.0 q.2.0 p.1 q.1 alike p.2.1 q.2.1 in
+      let captured : CapturedCell = record { number = number; moment = moment; cell = cell } in
+      let judged = cell_judged_alike left one other captured p.2.0 q.2.0 p.1 q.1 alike p.2.1 q.2.1 in
       let onwards : p.0 ≡ q.0 = p.2.2 ∙ ap onward_by judged.verdicts ∙ sym q.2.2 in (
         written_once q.0 octets here here' (subst (λ (onward : Onward). IsCellWritten onward octets here) onwards p.3) q.3,
         lead_on left next next' (Ok (record { filter = filter; world = p.1 })) (Ok (record { filter = filter; world = q.1 })) p.4 q.4 (record { filters = refl; states = judged.states }),
       )
-  filtered_once left one other alike number octets Passed filter here here' next next' p q = (
+  filtered_once left one other alike number octets Skipped filter here here' next next' p q = (
     p.0 ∙ sym q.0,
     lead_on left next next' (Ok (record { filter = filter; world = one })) (Ok (record { filter = filter; world = other })) p.1 q.1
         (record { filters = refl; states = one_less left one other alike }),
   )
-  filtered_once left one other alike number octets (Several link link') filter here here' next next' p q =
+  filtered_once left one other alike number octets (SecondLink link link') filter here here' next next' p q =
       (p.0 ∙ sym q.0, lead_on left next next' (Err (several_line link link')) (Err (several_line link link')) p.1 q.1 refl)
 
-  frame_once : (left : ℕ) (filter : FilterState) (one other : PolicedWorld) → PolicedAlike (left + 1) one other → (given : Result Record Passage) (octets here here' : List ℕ)
+  frame_once : (left : ℕ) (filter : FilterState) (one other : PolicedWorld) → PolicedAlike (left + 1) one other → (given : Result Record SkippedBlock) (octets here here' : List ℕ)
       (next next' : Result (ForwardState PolicedWorld) (List ℕ))
       → WritesFrame forward_rules others (record { filter = filter; world = one }) given octets here next
       → WritesFrame forward_rules others (record { filter = filter; world = other }) given octets here' next'
       → (here ≡ here') × LeadOn left next next'
-  frame_once left filter one other alike (Err passage) octets here here' next next' p q = (
+  frame_once left filter one other alike (Err block) octets here here' next next' p q = (
     p.0 ∙ sym q.0,
-    lead_on left next next' (Ok (record { filter = filter_passage filter passage; world = one })) (Ok (record { filter = filter_passage filter passage; world = other })) p.1 q.1
+    lead_on left next next' (Ok (record { filter = filter_block filter block; world = one })) (Ok (record { filter = filter_block filter block; world = other })) p.1 q.1
         (record { filters = refl; states = one_less left one other alike }),
   )
   frame_once left filter one other alike (Ok record_read) octets here here' next next' p q =
@@ -107,8 +107,8 @@ module _ (others : Others) where
       → Forwards forward_rules others one frames ending text report done → Forwards forward_rules others other frames ending text' report' done'
       → AreOne text text' report report' done done'
   frames_once [] ending one other alike text text' report report' done done' p q =
-      let reports = reports_alike 0 one.world other.world alike.states one.filter.passed ending
-      ∙ ap (λ (f : FilterState). forward_rules.closes other.world f.passed ending) alike.filters in
+      let reports = reports_alike 0 one.world other.world alike.states one.filter.summary ending
+      ∙ ap (λ (f : FilterState). forward_rules.closes other.world f.summary ending) alike.filters in
       (p.0 ∙ sym q.0, p.1 ∙ reports ∙ sym q.1, p.2 ∙ sym q.2)
   frames_once (read ∷ frames) ending one other alike text text' report report' done done' p q =
       let states : PolicedAlike (length frames + 1) one.world other.world = subst (λ n. PolicedAlike n one.world other.world) (omega arith) alike.states in
@@ -150,7 +150,7 @@ module _ (others : Others) where
       let first = forward_start tick link (policed_start tick one (waiting_at tick times (lines_of script))) in
       let none : 0 < 2 ^ 61 = omega arith in
       let reports = reports_alike 0 (policed_start tick one (waiting_at tick times (lines_of script))) (policed_start tick other (waiting_at tick times (lines_of script)))
-      (starts_alike tick script times one other set_up set_up' 0 none) first.filter.passed (Some (short_fault octets)) in
+      (starts_alike tick script times one other set_up set_up' 0 none) first.filter.summary (Some (short_fault octets)) in
       (p.0 ∙ sym q.0, p.1 ∙ reports ∙ sym q.1, p.2 ∙ sym q.2)
   opened_once tick link script times octets one other set_up set_up' (Refused fault) text text' report report' done done' p q = (p.0 ∙ sym q.0, p.1 ∙ sym q.1, p.2 ∙ sym q.2)
 

@@ -12,8 +12,8 @@ use Rattle.cmd_forward.specs.Forwarding.{ForwardState, ForwardsOctets, WritesFra
 use Rattle.cmd_forward.specs.JudgeRules.{JudgeRules, OfEachJudgeWorld}
 use Rattle.cmd_forward.specs.declared.others.Others.{Others}
 use Rattle.cmd_forward.specs.declared.stepping.ForwardReading.{ForwardReading}
-use Rattle.cmd_forward.specs.declared.stepping.Going.{Going}
-use Rattle.cmd_forward.specs.declared.stepping.Going.TheVariants as going
+use Rattle.cmd_forward.specs.declared.stepping.StepOutcome.{StepOutcome}
+use Rattle.cmd_forward.specs.declared.stepping.StepOutcome.TheVariants as outcome
 
 -- The state of a run with this filter in this world.
 abbrev pub at_state : {World : Type 0} → FilterState → World → ForwardState World
@@ -57,13 +57,13 @@ pub record ForwardsToEnd {World : Type 0} (rules : JudgeRules World) (others : O
   pub ends : (more : List ℕ) → ForwardsHere rules others before world last (before.window ++ more) [] Ended
 
 -- How far the reading came: by one frame, or to where more octets are wanted.
-abbrev pub ForwardedSoFar : Going → ForwardReading → ForwardReading → Type 0
-ForwardedSoFar going.On before after =
+abbrev pub ForwardedSoFar : StepOutcome → ForwardReading → ForwardReading → Type 0
+ForwardedSoFar outcome.On before after =
     (own : List ℕ) × (before.window ≡ own ++ after.window) × (0 < length own) × (after.reader.at ≡ before.reader.at + length own) × (after.reader.at < 2 ^ 64)
-ForwardedSoFar going.Wants before after =
+ForwardedSoFar outcome.Wants before after =
     (after.window ≡ before.window) × (after.reader.at ≡ before.reader.at)
     × (first_frame after.reader.format after.reader.at after.window ≡ None) × (length after.window < 131072)
-ForwardedSoFar going.Ended before after = Unit {0}
+ForwardedSoFar outcome.Ended before after = Unit {0}
 
 -- The run reached a sound world that is shown, and so far from the world in which it began.
 pub record ReachesForward {World : Type 0} (rules : JudgeRules World) (others : Others) (shown : World → Type 0) (reading0 reading : ForwardReading)

@@ -11,22 +11,22 @@ use Rattle.cmd_forward.specs.JudgeRules.{JudgesEachCell}
 -- The rules of `forward` are total.
 pub forward-total : JudgesEachCell forward_rules
 forward-total = record {
-  keeps = λ before counted onward after led goes.
+  keeps = λ before captured onward after led goes.
       let one = goes.1 in
-      room_led one.ready after.card counted.cell counted.moment one.given
-      (carries_led before.waiting after.waiting counted.moment before.card one.ready one.lines led one.carried) one.taken;
-  step = λ before counted led.
-      let some = carries_some before.waiting counted.moment before.card led in
-      let room = room_some some.after counted.cell counted.moment
-      (carries_led before.waiting some.left counted.moment before.card some.after some.text led some.carried) in
+      room_led one.ready after.card captured.cell captured.moment one.given
+      (carries_led before.waiting after.waiting captured.moment before.card one.ready one.lines led one.carried) one.taken;
+  step = λ before captured led.
+      let some = carries_some before.waiting captured.moment before.card led in
+      let room = room_some some.after captured.cell captured.moment
+      (carries_led before.waiting some.left captured.moment before.card some.after some.text led some.carried) in
       let after : PolicedWorld = record {
         card = room.1;
         waiting = some.left;
         answers = before.answers ++ some.text;
         tick = before.tick;
-        not_judged = not_judged_after before.not_judged counted.number room.0;
+        not_judged = not_judged_after before.not_judged captured.number room.0;
       } in
-      let one : PolicesOneCell before counted (verdict_given room.0) after = record {
+      let one : PolicesOneCell before captured (verdict_given room.0) after = record {
         lines = some.text;
         ready = some.after;
         carried = some.carried;

@@ -4,8 +4,8 @@ use Rattle.std.specs.Prelude.{option_and_then}
 use Rattle.card_core.specs.World.{Connection, connection_in}
 use Rattle.card_core.specs.declared.answer.Answer.{Answer}
 use Rattle.card_core.specs.declared.answer.Answer.TheVariants as answer
-use Rattle.captures_text.specs.declared.cell_lines.CellLines.{CellLines}
-use Rattle.captures_text.specs.declared.cell_lines.CellLines.TheVariants as lines
+use Rattle.captures_text.specs.declared.line_choice.LineChoice.{LineChoice}
+use Rattle.captures_text.specs.declared.line_choice.LineChoice.TheVariants as lines
 use Rattle.leaky.specs.Excess.{excess_at}
 use Rattle.leaky.specs.declared.excess.Excess.{Excess}
 use Rattle.leaky.specs.declared.verdict.Verdict.TheVariants as verdict
@@ -40,9 +40,9 @@ passes_shown answer.MomentTooLate = refl
 passes_shown answer.JournalFull = refl
 passes_shown answer.NoMemory = refl
 
-line_shown : (wanted : CellLines) (given : Answer) → has_line wanted given ≡ has_line wanted (shown_answer given)
+line_shown : (wanted : LineChoice) (given : Answer) → has_line wanted given ≡ has_line wanted (shown_answer given)
 line_shown lines.All given = refl
-line_shown lines.Refused given = ap (λ (b : Bool). if b then false else true) (passes_shown given)
+line_shown lines.NotPassed given = ap (λ (b : Bool). if b then false else true) (passes_shown given)
 line_shown lines.Nothing given = refl
 
 columns_shown : (excess : Option Excess) (given : Answer) → answer_columns given excess ≡ answer_columns (shown_answer given) excess
@@ -82,7 +82,7 @@ by_shown : {X : Type 0} (read : Answer → X) → ((given : Answer) → read giv
 by_shown read shown one other same = shown one ∙ ap read same ∙ sym (shown other)
 
 module _ (one other : Answer) (same : shown_answer one ≡ shown_answer other) where
-  pub lines_alike : (wanted : CellLines) → has_line wanted one ≡ has_line wanted other
+  pub lines_alike : (wanted : LineChoice) → has_line wanted one ≡ has_line wanted other
   lines_alike wanted = by_shown (has_line wanted) (line_shown wanted) one other same
 
   pub columns_alike : (excess : Option Excess) → answer_columns one excess ≡ answer_columns other excess

@@ -14,12 +14,12 @@ use Rattle.captures.specs.declared.fault.Fault.{Fault}
 use Rattle.captures.specs.declared.format.Format.{Format}
 use Rattle.captures.specs.declared.format.Format.TheVariants.{Erf, Pcap, PcapNg}
 use Rattle.captures.specs.declared.format.Order.{Order}
-use Rattle.captures.specs.declared.reader.Passage.{Passage}
+use Rattle.captures.specs.declared.reader.SkippedBlock.{SkippedBlock}
 use Rattle.captures.specs.declared.reader.Record.{Record}
-use Rattle.captures_text.specs.CellFilter.{CellsEnd, FilterState, HasCells, counted_cells, counted_then, filter_passage, filter_record}
-use Rattle.captures_text.specs.declared.counted.CountedCell.{CountedCell}
+use Rattle.captures_text.specs.CellFilter.{CellsEnd, FilterState, HasCells, captured_cells, captured_then, filter_block, filter_record}
+use Rattle.captures_text.specs.declared.captured_cell.CapturedCell.{CapturedCell}
 use Rattle.captures_text.specs.declared.filter.Filtered.{Filtered}
-use Rattle.captures_text.specs.declared.filter.Filtered.TheVariants.{Counts, Passed, Several}
+use Rattle.captures_text.specs.declared.filter.Filtered.TheVariants.{Counts, Skipped, SecondLink}
 
 same_Ok : (size other : ℕ) → ◌≡◌ {A = Result ℕ RecordFault} (Ok size) (Ok other) → size ≡ other
 same_Ok size other e = cc
@@ -99,7 +99,7 @@ first_wide format at octets frame is = by (nat_lt (length octets) (head_length f
     by true never = absurd (cc)
     by false is = of_size format at octets (frame_size format octets) frame refl is
 
-pub frames_few : (frames : List (Result Record Passage)) (format : Format) (count at : ℕ) (octets : List ℕ) (ending : Option Fault) → at ≤ 2 ^ 64
+pub frames_few : (frames : List (Result Record SkippedBlock)) (format : Format) (count at : ℕ) (octets : List ℕ) (ending : Option Fault) → at ≤ 2 ^ 64
     → IsReading format count at octets frames ending → at + 12 * length frames ≤ 2 ^ 64
 frames_few [] format count at octets ending near reading = omega (arith, near)
 frames_few (given ∷ frames) format count at octets ending near reading =
@@ -110,24 +110,24 @@ frames_few (given ∷ frames) format count at octets ending near reading =
     omega (arith, rest, least)
 
 -- Each cell that counts is in a frame.
-then_few : (filtered : Filtered) (number : ℕ) (later : List CountedCell) (many : ℕ) → length later ≤ many → length (counted_then filtered number later) ≤ many + 1
+then_few : (filtered : Filtered) (number : ℕ) (later : List CapturedCell) (many : ℕ) → length later ≤ many → length (captured_then filtered number later) ≤ many + 1
 then_few (Counts moment cell) number later many few = omega (arith, few)
-then_few Passed number later many few = omega (arith, few)
-then_few (Several one other) number later many few = omega arith
+then_few Skipped number later many few = omega (arith, few)
+then_few (SecondLink one other) number later many few = omega arith
 
-counted_few : (state : FilterState) (frames : List (Result Record Passage)) → length (counted_cells state frames) ≤ length frames
-counted_few state [] = omega arith
-counted_few state (Err passage ∷ frames) = let rest = counted_few (filter_passage state passage) frames in omega (arith, rest)
-counted_few state (Ok record_read ∷ frames) =
-    let rest = counted_few (filter_record state record_read).1 frames in
-    let here = then_few (filter_record state record_read).0 record_read.number (counted_cells (filter_record state record_read).1 frames) (length frames) rest in
+captured_few : (state : FilterState) (frames : List (Result Record SkippedBlock)) → length (captured_cells state frames) ≤ length frames
+captured_few state [] = omega arith
+captured_few state (Err block ∷ frames) = let rest = captured_few (filter_block state block) frames in omega (arith, rest)
+captured_few state (Ok record_read ∷ frames) =
+    let rest = captured_few (filter_record state record_read).1 frames in
+    let here = then_few (filter_record state record_read).0 record_read.number (captured_cells (filter_record state record_read).1 frames) (length frames) rest in
     omega (arith, here)
 
 -- So a capture has fewer than 2^61 cells.
-pub cells_few : (state : FilterState) (format : Format) (count at : ℕ) (octets : List ℕ) (cells : List CountedCell) (end : CellsEnd) → at ≤ 2 ^ 64
+pub cells_few : (state : FilterState) (format : Format) (count at : ℕ) (octets : List ℕ) (cells : List CapturedCell) (end : CellsEnd) → at ≤ 2 ^ 64
     → HasCells state format count at octets cells end → length cells < 2 ^ 61
 cells_few state format count at octets cells end near has =
     let frames = frames_few has.frames format count at octets has.ending near has.reading in
-    let counted = counted_few state has.frames in
-    let own : length (counted_cells state has.frames) < 2 ^ 61 = omega (arith, frames, counted) in
-    subst (λ (xs : List CountedCell). length xs < 2 ^ 61) (sym has.counted) own
+    let counted = captured_few state has.frames in
+    let own : length (captured_cells state has.frames) < 2 ^ 61 = omega (arith, frames, counted) in
+    subst (λ (xs : List CapturedCell). length xs < 2 ^ 61) (sym has.captured) own

@@ -9,7 +9,7 @@ use Rattle.captures.specs.declared.opening.Opening.TheVariants.{Opened, Undecide
 use Rattle.captures_text.proofs.CellsOfOctets.{one_cells}
 use Rattle.captures_text.specs.CaptureText.{IsOpenedText, IsTextOfCells, short_fault}
 use Rattle.captures_text.specs.CellFilter.{CellsEnd, Closes, FilterState, filter_start}
-use Rattle.captures_text.specs.declared.counted.CountedCell.{CountedCell}
+use Rattle.captures_text.specs.declared.captured_cell.CapturedCell.{CapturedCell}
 use Rattle.gen_arena.specs.Slot.{greatest_generation}
 use Rattle.text_io.specs.Limits.{most_input_lines}
 use Rattle.text_io.specs.Lines.{Line, line_content, lines_of}
@@ -109,12 +109,12 @@ module _ (scope : PoliceScope) (tick : ℕ) (rules : ShownRules) (script : List 
   unworn : 2 ^ 61 + 2000000 < 2 ^ 62
   unworn = omega arith
 
-  cells_one : (cells cells' : List CountedCell) (end end' : CellsEnd) (text text' : List ℕ) (done done' : Done) → cells ≡ cells' → end ≡ end' → length cells < 2 ^ 61
+  cells_one : (cells cells' : List CapturedCell) (end end' : CellsEnd) (text text' : List ℕ) (done done' : Done) → cells ≡ cells' → end ≡ end' → length cells < 2 ^ 61
       → IsTextOfCells police_rules (start card) cells end text done → IsTextOfCells police_rules (start card') cells' end' text' done' → (text ≡ text') × (done ≡ done')
   cells_one cells cells' end end' text text' done done' same ends few_cells p q =
       texts_alike 2000000 (2 ^ 61 + 2000000) few unworn cells end (start card) (start card') text text' done done'
       (start_alike scope tick rules script times card card' set_up set_up' (length cells) few_cells) p
-      (subst (λ (xs : List CountedCell). IsTextOfCells police_rules (start card') xs end text' done') (sym same)
+      (subst (λ (xs : List CapturedCell). IsTextOfCells police_rules (start card') xs end text' done') (sym same)
       (subst (λ (e : CellsEnd). IsTextOfCells police_rules (start card') cells' e text' done') (sym ends) q))
 
   opened_one : (opening : Opening) (text text' : List ℕ) (done done' : Done)
@@ -128,7 +128,7 @@ module _ (scope : PoliceScope) (tick : ℕ) (rules : ShownRules) (script : List 
       cells_one p.0 q.0 p.1 q.1 text text' done done' same.0 same.1 few_cells p.3 q.3
   opened_one Undecided text text' done done' p q =
       let none : 0 < 2 ^ 61 = omega arith in
-      cells_one [] [] (Closes filter.passed (Some (short_fault octets))) (Closes filter.passed (Some (short_fault octets))) text text' done done' refl refl none p q
+      cells_one [] [] (Closes filter.summary (Some (short_fault octets))) (Closes filter.summary (Some (short_fault octets))) text text' done done' refl refl none p q
   opened_one (Refused fault) text text' done done' p q = (p.0 ∙ sym q.0, p.1 ∙ sym q.1)
 
 -- ---- the faults of the script

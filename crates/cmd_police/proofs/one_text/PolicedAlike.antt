@@ -2,8 +2,8 @@
 use Rattle.std.proofs.Common.{◌≡◌, ℕ, ◌+◌, ◌≤◌, ◌<◌, ◌^◌, List, ◌++◌, length, Option, refl, sym, ap, ◌∙◌, subst, arith}
 use Rattle.captures.specs.declared.fault.Fault.{Fault}
 use Rattle.captures_text.specs.RunLines.{closing_lines}
-use Rattle.captures_text.specs.declared.counted.CountedCell.{CountedCell}
-use Rattle.captures_text.specs.declared.passed.PassedOver.{PassedOver}
+use Rattle.captures_text.specs.declared.captured_cell.CapturedCell.{CapturedCell}
+use Rattle.captures_text.specs.declared.reading_summary.ReadingSummary.{ReadingSummary}
 use Rattle.gen_arena.specs.Slot.{greatest_generation}
 use Rattle.leaky.specs.declared.verdict.Verdict.{Verdict}
 use Rattle.text_io.specs.Lines.{lines_of}
@@ -60,30 +60,30 @@ pub record JudgedAlike (left : ℕ) (verdict verdict' : Option Verdict) (after a
   pub verdicts : verdict ≡ verdict'
   pub states : PolicedAlike left after after'
 
-pub cell_judged_alike : (left : ℕ) (one other : PolicedWorld) (counted : CountedCell) (verdict verdict' : Option Verdict) (after after' : PolicedWorld)
-    → PolicedAlike (left + 1) one other → PolicesOneCell one counted verdict after → PolicesOneCell other counted verdict' after'
+pub cell_judged_alike : (left : ℕ) (one other : PolicedWorld) (captured : CapturedCell) (verdict verdict' : Option Verdict) (after after' : PolicedWorld)
+    → PolicedAlike (left + 1) one other → PolicesOneCell one captured verdict after → PolicesOneCell other captured verdict' after'
     → JudgedAlike left verdict verdict' after after'
-cell_judged_alike left one other counted verdict verdict' after after' alike p q =
+cell_judged_alike left one other captured verdict verdict' after after' alike p q =
     let few : 2000000 < greatest_generation = omega arith in
     let counts_left = alike.counts_left in
     let total = alike.most + length one.waiting in
     let unworn : total < 2 ^ 62 = omega (arith, counts_left) in
     let whole : alike.most + length one.waiting ≤ total = omega arith in
-    let carries : CarriesOutWaiting one.waiting counted.moment other.card q.lines q.ready after'.waiting =
-    subst (λ (waiting : List WaitingCommand). CarriesOutWaiting waiting counted.moment other.card q.lines q.ready after'.waiting)
+    let carries : CarriesOutWaiting one.waiting captured.moment other.card q.lines q.ready after'.waiting =
+    subst (λ (waiting : List WaitingCommand). CarriesOutWaiting waiting captured.moment other.card q.lines q.ready after'.waiting)
     (sym (ap (λ (w : PolicedWorld). w.waiting) alike.rest)) q.carried in
-    let carried = carried_alike 2000000 total counted.moment few unworn one.waiting alike.met alike.most one.card other.card alike.cards
+    let carried = carried_alike 2000000 total captured.moment few unworn one.waiting alike.met alike.most one.card other.card alike.cards
     alike.cards.first.led alike.cards.second.led alike.lines_left whole p.lines q.lines p.ready q.ready after.waiting after'.waiting p.carried carries in
     let now = carried.counts_left in
     let unworn_here : carried.most < 2 ^ 62 = omega (arith, unworn, now) in
-    let cell = room_alike carried.met carried.most unworn_here p.ready q.ready after.card after'.card carried.cards counted.cell counted.moment p.given q.given p.taken q.taken in
+    let cell = room_alike carried.met carried.most unworn_here p.ready q.ready after.card after'.card carried.cards captured.cell captured.moment p.given q.given p.taken q.taken in
     let waiting = carried.waiting in
     let texts = carried.texts in
     let answers : after.answers ≡ after'.answers = p.answered ∙ (λ i. (alike.rest i).answers ++ texts i) ∙ sym q.answered in
     let ticks : after.tick ≡ after'.tick = p.same ∙ ap (λ (w : PolicedWorld). w.tick) alike.rest ∙ sym q.same in
     let not_judged : after.not_judged ≡ after'.not_judged =
-    p.counts ∙ ap (λ (cells : NotJudged). not_judged_after cells counted.number p.given) (ap (λ (w : PolicedWorld). w.not_judged) alike.rest)
-    ∙ not_judged_alike p.given q.given cell.answers other.not_judged counted.number ∙ sym q.counts in
+    p.counts ∙ ap (λ (cells : NotJudged). not_judged_after cells captured.number p.given) (ap (λ (w : PolicedWorld). w.not_judged) alike.rest)
+    ∙ not_judged_alike p.given q.given cell.answers other.not_judged captured.number ∙ sym q.counts in
     record {
       verdicts = p.verdict_is ∙ verdicts_alike p.given q.given cell.answers ∙ sym q.verdict_is;
       states = record {
@@ -97,10 +97,10 @@ cell_judged_alike left one other counted verdict verdict' after after' alike p q
     }
 
 -- The reports at the end are equal.
-pub reports_alike : (left : ℕ) (one other : PolicedWorld) → PolicedAlike left one other → (passed : PassedOver) (ending : Option Fault)
-    → policed_report one passed ending ≡ policed_report other passed ending
-reports_alike left one other alike passed ending =
+pub reports_alike : (left : ℕ) (one other : PolicedWorld) → PolicedAlike left one other → (summary : ReadingSummary) (ending : Option Fault)
+    → policed_report one summary ending ≡ policed_report other summary ending
+reports_alike left one other alike summary ending =
     let table : counts_lines one.card.world ≡ counts_lines other.card.world = table_alike one.card other.card alike.cards.views (2 ^ 28) in
     ap (λ xs. one.answers ++ (police_gap (is_filled one.answers) ++ (counts_heading ++ (xs ++ (not_judged_lines one.not_judged
-    ++ (waiting_comment one.waiting ++ (run_comments one.tick passed ++ closing_lines passed ending))))))) table
-    ∙ ap (λ (w : PolicedWorld). policed_report w passed ending) alike.rest
+    ++ (waiting_comment one.waiting ++ (run_comments one.tick summary ++ closing_lines summary ending))))))) table
+    ∙ ap (λ (w : PolicedWorld). policed_report w summary ending) alike.rest

@@ -9,7 +9,7 @@ use Rattle.cmd_run.specs.ShownCard.{ShowsCard}
 use Rattle.text_script.specs.ReplyTexts.{connection_name, tally_text}
 use Rattle.text_words.specs.FaultLines.{bad_line, line}
 use Rattle.cmd_police.specs.CommandsUnderTraffic.{CarriesOutWaiting, is_taken_under_traffic}
-use Rattle.cmd_police.specs.LineStarts.{AreStarts}
+use Rattle.cmd_police.specs.CountsAtSetup.{AreCountsAtSetup}
 use Rattle.cmd_police.specs.TimedLines.{WaitingCommand}
 use Rattle.cmd_police.specs.declared.timed_card.TimedCard.{TimedCard}
 use Rattle.cmd_police.specs.StoredCommands.{waiting_in}
@@ -19,21 +19,21 @@ pub record CarriesTo (before : Card) (waiting : List WaitingCommand) (moment : �
   pub after : Card
   pub led : IsLed after
   pub shown : ShowsCard timed.card after
-  pub starts : AreStarts timed.starts.counts.items after.world
+  pub at_setup : AreCountsAtSetup timed.at_setup.counts.items after.world
   pub carried : CarriesOutWaiting waiting moment before text after (waiting_in timed.commands)
 
 -- The answers grew by the lines of the commands whose moment has come, for each card that was shown, and this is whether there are any.
 abbrev pub CarriesShown : TimedCard → ℕ → Bool → TimedCard → List ℕ → List ℕ → Type 0
 CarriesShown timed moment carried timed' old new =
     (text : List ℕ) × (new ≡ old ++ text) × (carried ≡ is_filled text)
-    × ((before : Card) → IsLed before → ShowsCard timed.card before → AreStarts timed.starts.counts.items before.world → CarriesTo before (waiting_in timed.commands) moment text timed')
+    × ((before : Card) → IsLed before → ShowsCard timed.card before → AreCountsAtSetup timed.at_setup.counts.items before.world → CarriesTo before (waiting_in timed.commands) moment text timed')
 
 -- Where a card is while commands are carried out: what is still carried out from there completes what was carried out from the first card.
 pub record CarriesOn (before : Card) (waiting : List WaitingCommand) (moment : ℕ) (text : List ℕ) (timed : TimedCard) : Type 0 where
   pub present : Card
   pub led : IsLed present
   pub shown : ShowsCard timed.card present
-  pub starts : AreStarts timed.starts.counts.items present.world
+  pub at_setup : AreCountsAtSetup timed.at_setup.counts.items present.world
   pub completes : (more : List ℕ) (after : Card) (left : List WaitingCommand) → CarriesOutWaiting (waiting_in timed.commands) moment present more after left
       → CarriesOutWaiting waiting moment before (text ++ more) after left
 
@@ -41,7 +41,7 @@ pub record CarriesOn (before : Card) (waiting : List WaitingCommand) (moment : �
 abbrev pub CarriesSoFar : TimedCard → ℕ → Bool → TimedCard → List ℕ → List ℕ → Type 0
 CarriesSoFar timed moment carried timed' old new =
     (text : List ℕ) × (new ≡ old ++ text) × (carried ≡ is_filled text)
-    × ((before : Card) → IsLed before → ShowsCard timed.card before → AreStarts timed.starts.counts.items before.world → CarriesOn before (waiting_in timed.commands) moment text timed')
+    × ((before : Card) → IsLed before → ShowsCard timed.card before → AreCountsAtSetup timed.at_setup.counts.items before.world → CarriesOn before (waiting_in timed.commands) moment text timed')
 
 -- ---- one command
 

@@ -15,11 +15,11 @@ use Rattle.line_record.specs.StateAfter.{IsStateAfter}
 use Rattle.upc_cell.specs.declared.vc.Vc.{Vc}
 
 -- The buckets after a cell with this verdict, as far as its excess depends on them: a tagged cell conformed to bucket 1, and filled it.
-abbrev pub met_after : Verdict → Buckets → Buckets
-met_after Pass buckets = buckets
-met_after Tag buckets = record { first = opening; second = buckets.second }
-met_after Discard buckets = buckets
-met_after Refuse buckets = buckets
+abbrev pub buckets_to_explain : Verdict → Buckets → Buckets
+buckets_to_explain Pass buckets = buckets
+buckets_to_explain Tag buckets = record { first = opening; second = buckets.second }
+buckets_to_explain Discard buckets = buckets
+buckets_to_explain Refuse buckets = buckets
 
 -- The same of the arrival time of bucket 1: that of an empty bucket is 0.
 abbrev pub first_met : Verdict → ℕ → ℕ
@@ -36,7 +36,7 @@ pub record IsKeptOnLine (connection : Connection) (line : LineView) : Type 0 whe
 -- The excess of the last cell of a connection, which had this verdict and did not pass.
 abbrev pub excess_left : Connection → ℕ → Verdict → Bool → ℕ → Option Excess
 excess_left connection value verdict clp moment =
-    option_and_then (λ contract. excess_at contract (met_after verdict (buckets_after_cells connection.contracts empty_buckets connection.history value)) clp moment)
+    option_and_then (λ contract. excess_at contract (buckets_to_explain verdict (buckets_after_cells connection.contracts empty_buckets connection.history value)) clp moment)
     (numbered connection.contracts value)
 
 -- From the one list of connections to the other, the connection came to have one more cell, with this verdict.

@@ -8,7 +8,7 @@ use Rattle.text_io.specs.Words.{words_of}
 use Rattle.upc_cell.specs.declared.vc.Vc.{Vc}
 use Rattle.cmd_run.specs.RunText.{Card, IsLed, RunWorld}
 use Rattle.cmd_run.specs.ShownCard.{Held, ShowsCard}
-use Rattle.cmd_police.specs.LineStarts.{AreStarts, start_of}
+use Rattle.cmd_police.specs.CountsAtSetup.{AreCountsAtSetup, counts_of_line}
 
 -- The connection that a command sets up.
 abbrev pub set_up_by : Option Command → Option Vc
@@ -31,32 +31,32 @@ pub record IsNewIn (world : World) (command : Option Command) (found : Option Vc
   pub absent : (vc : Vc) → found ≡ Some vc → connection_in world.connections vc ≡ None
 
 -- The list has these counts for a line, and the same for others.
-abbrev pub SetsStart : List Tally → ℕ → Tally → List Tally → Type 0
-SetsStart old line counts new = (number : ℕ) → start_of new number ≡ (if number == line then counts else start_of old number)
+abbrev pub SetsCounts : List Tally → ℕ → Tally → List Tally → Type 0
+SetsCounts old line counts new = (number : ℕ) → counts_of_line new number ≡ (if number == line then counts else counts_of_line old number)
 
--- The present counts of the line of this connection are its start, if there is such a connection.
+-- The present counts of the line of this connection are those at the setup, if there is such a connection.
 abbrev pub NotesLine : World → Option Connection → List Tally → List Tally → Type 0
 NotesLine world None old new = new ≡ old
-NotesLine world (Some connection) old new = SetsStart old connection.line (tally_of (world.verdicts connection.line)) new
+NotesLine world (Some connection) old new = SetsCounts old connection.line (tally_of (world.verdicts connection.line)) new
 
 -- The same of a connection, if there is one.
 abbrev pub NotesSetup : World → Option Vc → List Tally → List Tally → Type 0
 NotesSetup world None old new = new ≡ old
 NotesSetup world (Some vc) old new = NotesLine world (connection_in world.connections vc) old new
 
--- For each card that was shown with its starts, this text leads to a card that is shown with its starts.
+-- For each card that was shown with what its lines had counted at the setups, this text leads to a card that is shown so.
 abbrev pub MovesNotingBy : (Card → List ℕ → Card → Type 0) → Held → List Tally → List ℕ → Held → List Tally → Type 0
-MovesNotingBy Goes held starts text held' starts' = (before : Card) → IsLed before → ShowsCard held before → AreStarts starts before.world
-    → (after : Card) × ShowsCard held' after × AreStarts starts' after.world × Goes before text after
+MovesNotingBy Goes held at_setup text held' at_setup' = (before : Card) → IsLed before → ShowsCard held before → AreCountsAtSetup at_setup before.world
+    → (after : Card) × ShowsCard held' after × AreCountsAtSetup at_setup' after.world × Goes before text after
 
 -- The answers grew by such a text.
 abbrev pub MovesNoting : (Card → List ℕ → Card → Type 0) → Held → List Tally → Held → List Tally → List ℕ → List ℕ → Type 0
-MovesNoting Goes held starts held' starts' old new = (text : List ℕ) × (new ≡ old ++ text) × MovesNotingBy Goes held starts text held' starts'
+MovesNoting Goes held at_setup held' at_setup' old new = (text : List ℕ) × (new ≡ old ++ text) × MovesNotingBy Goes held at_setup text held' at_setup'
 
--- The starts of a run. Without a card there is nothing to note.
-abbrev pub AreRunStarts : List Tally → RunWorld → Type 0
-AreRunStarts starts None = Unit {0}
-AreRunStarts starts (Some card) = AreStarts starts card.world
+-- What the lines of the card of a run had counted at the setups. Without a card there is nothing to record.
+abbrev pub AreRunCountsAtSetup : List Tally → RunWorld → Type 0
+AreRunCountsAtSetup at_setup None = Unit {0}
+AreRunCountsAtSetup at_setup (Some card) = AreCountsAtSetup at_setup card.world
 
 -- The connection that a line sets up, if there is a card and it doesn't have the connection.
 abbrev pub IsNewInRun : RunWorld → List ℕ → Option Vc → Type 0

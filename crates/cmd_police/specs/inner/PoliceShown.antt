@@ -4,8 +4,8 @@ use Rattle.card_core.specs.Agreement.{CoreAgrees}
 use Rattle.cmd_police.specs.StoredCommands.{ShowsTimed}
 use Rattle.card_core.specs.World.{World}
 use Rattle.card_core.specs.declared.answer.Answer.{Answer}
-use Rattle.captures_text.specs.declared.cell_lines.CellLines.{CellLines}
-use Rattle.captures_text.specs.declared.counted.CountedCell.{CountedCell}
+use Rattle.captures_text.specs.declared.line_choice.LineChoice.{LineChoice}
+use Rattle.captures_text.specs.declared.captured_cell.CapturedCell.{CapturedCell}
 use Rattle.gen_arena.specs.declared.id.Id.{Id}
 use Rattle.text_card.specs.Replies.{number_of_judging}
 use Rattle.upc_cell.specs.Header.{has_low_priority}
@@ -33,21 +33,21 @@ pub record ShowsPolice (run : PoliceRun) (world : PoliceWorld) : Type 0 where
   pub not_judged : run.not_judged ≡ world.not_judged
 
 -- The line of a cell with this answer and this excess, after the heading if that isn't written yet.
-abbrev pub headed_line : Side → ShownRules → Bool → List Id → CountedCell → Vc → Answer → Option Excess → List ℕ
-headed_line side rules begun names counted vc given excess =
+abbrev pub headed_line : Side → ShownRules → Bool → List Id → CapturedCell → Vc → Answer → Option Excess → List ℕ
+headed_line side rules begun names captured vc given excess =
     (if begun then [] else verdict_heading rules)
-    ++ (cell_columns side counted.number counted.moment vc (has_low_priority counted.cell) given excess ++ line_end rules (number_of_judging names given) counted.cell)
+    ++ (cell_columns side captured.number captured.moment vc (has_low_priority captured.cell) given excess ++ line_end rules (number_of_judging names given) captured.cell)
 
 -- The text for a cell with this answer and this excess.
-abbrev pub lined : Side → CellLines → ShownRules → Bool → List Id → CountedCell → Vc → Answer → Option Excess → List ℕ
-lined side lines rules begun names counted vc given excess =
-    if has_line lines given then headed_line side rules begun names counted vc given excess else []
+abbrev pub lined : Side → LineChoice → ShownRules → Bool → List Id → CapturedCell → Vc → Answer → Option Excess → List ℕ
+lined side lines rules begun names captured vc given excess =
+    if has_line lines given then headed_line side rules begun names captured vc given excess else []
 
 -- The answers grew by such a text, whose excess is right if the card is as the cell left it, and this is whether the heading is written.
-pub record AddsCell (side : Side) (lines : CellLines) (rules : ShownRules) (begun : Bool) (counted : CountedCell) (vc : Vc) (given : Answer) (card : Held)
+pub record AddsCell (side : Side) (lines : LineChoice) (rules : ShownRules) (begun : Bool) (captured : CapturedCell) (vc : Vc) (given : Answer) (card : Held)
     (old new : List ℕ) (now : Bool) : Type 0 where
   pub excess : Option Excess
-  pub added : new ≡ old ++ lined side lines rules begun card.names counted vc given excess
+  pub added : new ≡ old ++ lined side lines rules begun card.names captured vc given excess
   pub right : has_line lines given ≡ true → (before after : World) → CoreAgrees card.core after
-      → LeavesConnection before.connections after.connections vc (has_low_priority counted.cell) given → excess ≡ excess_of_answer before vc (has_low_priority counted.cell) given
+      → LeavesConnection before.connections after.connections vc (has_low_priority captured.cell) given → excess ≡ excess_of_answer before vc (has_low_priority captured.cell) given
   pub written : now ≡ (begun || has_line lines given)

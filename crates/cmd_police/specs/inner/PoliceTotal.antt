@@ -43,18 +43,18 @@ room_some before cell moment led =
 -- The rules of `police` are total.
 pub police-total : AnswersEachCell police_rules
 police-total = record {
-  keeps = λ before counted text after led polices.
+  keeps = λ before captured text after led polices.
       let arrived = polices.policed in
-      let ready_led = due_state_led before polices.ready counted.moment polices.first led polices.commands in
-      subst (λ (world : PoliceWorld). IsLed world.card) (sym (same_Some after (after_cell polices.ready counted arrived.given arrived.card) arrived.after))
-      (room_led polices.ready.card arrived.card counted.cell counted.moment arrived.given ready_led arrived.taken);
-  step = λ before counted led.
-      let due = due_state_some before counted.moment led in
+      let ready_led = due_state_led before polices.ready captured.moment polices.first led polices.commands in
+      subst (λ (world : PoliceWorld). IsLed world.card) (sym (same_Some after (after_cell polices.ready captured arrived.given arrived.card) arrived.after))
+      (room_led polices.ready.card arrived.card captured.cell captured.moment arrived.given ready_led arrived.taken);
+  step = λ before captured led.
+      let due = due_state_some before captured.moment led in
       let ready = due.1 in
-      let room = room_some ready.card counted.cell counted.moment (due_state_led before ready counted.moment due.0 led due.2) in
-      let rest = ended_text ready.spans counted.moment ++ policed_text ready counted room.0 in (
+      let room = room_some ready.card captured.cell captured.moment (due_state_led before ready captured.moment due.0 led due.2) in
+      let rest = ended_text ready.spans captured.moment ++ policed_text ready captured room.0 in (
         due.0 ++ rest,
-        Some (after_cell ready counted room.0 room.1),
+        Some (after_cell ready captured room.0 room.1),
         record {
           first = due.0;
           ready = ready;

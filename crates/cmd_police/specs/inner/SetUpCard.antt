@@ -7,7 +7,7 @@ use Rattle.line_record.specs.declared.tally.Tally.{Tally}
 use Rattle.cmd_run.specs.RunText.{Card, IsLed}
 use Rattle.cmd_run.specs.ShownCard.{Held, ShowsCard}
 use Rattle.cmd_police.specs.PoliceText.{IsFaultAtTimes, IsSetUpAtTimes, IsSetUpBy}
-use Rattle.cmd_police.specs.LineStarts.{AreStarts}
+use Rattle.cmd_police.specs.CountsAtSetup.{AreCountsAtSetup}
 use Rattle.cmd_police.specs.TimedLines.{waiting_at}
 use Rattle.cmd_police.specs.declared.setting_up.SetUp.{SetUp}
 use Rattle.cmd_police.specs.declared.setting_up.SetUp.TheVariants.{Faulty, Ready}
@@ -18,13 +18,13 @@ use Rattle.cmd_police.specs.StoredCommands.{ShowsTimed}
 abbrev pub RunsWhole : List ℕ → Type 0
 RunsWhole script = (explanation : List ℕ) × IsScriptExplained script explanation Whole
 
--- The stored card shows a card that the script leads to, and that a log leads to, and these are the starts of its lines.
+-- The stored card shows a card that the script leads to, and that a log leads to, and these are what its lines had counted at the setups.
 pub record IsSetUpAs (script : List ℕ) (held : Held) (noted : List Tally) : Type 0 where
   pub card : Card
   pub reached : IsSetUpBy script card
   pub led : IsLed card
   pub shown : ShowsCard held card
-  pub starts : AreStarts noted card.world
+  pub at_setup : AreCountsAtSetup noted card.world
 
 -- The same of a script whose lines have these times, with the commands that wait.
 pub record IsTimedAs (tick : ℕ) (script : List ℕ) (times : List (Option ℕ)) (timed : TimedCard) : Type 0 where

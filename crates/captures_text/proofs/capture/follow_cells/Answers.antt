@@ -9,7 +9,7 @@ use Rattle.captures_text.specs.CaptureFaults.{file_fault_line}
 use Rattle.captures_text.specs.CaptureText.{IsCaptureText, short_fault}
 use Rattle.captures_text.specs.CellFilter.{FilterState, filter_start, filter_state}
 use Rattle.captures_text.specs.declared.reading_ahead.ReadingAhead.{ReadingAhead}
-use Rattle.captures_text.specs.declared.passed.PassedOver.{PassedOver}
+use Rattle.captures_text.specs.declared.reading_summary.ReadingSummary.{ReadingSummary}
 use Rattle.text_io.specs.Devices.{IsPart}
 use Rattle.text_io.specs.Failures.{read_failures}
 use Rattle.text_io.specs.declared.ending.Done.TheVariants.{Ended, Whole}
@@ -93,7 +93,7 @@ returns-in-Ok-Undecided g c = λ world sound is_shown.
     let near = c.find_opening.new.window in
     let rest = g.I.Input.rest c.find_opening.new.input in
     let octets = c.octets.result.now in
-    let here = rules.closes world first.passed (Some (short_fault octets)) in
+    let here = rules.closes world first.summary (Some (short_fault octets)) in
     let IsText = IsCaptureText rules first world in
     let same : octets ≡ near = c.octets.ensures in
     let is : file_opening octets ≡ Undecided = ap file_opening same ∙ sym c.in-Ok-Undecided.ensures.opening ∙ c.in-Ok-Undecided.field-0-is in
@@ -107,12 +107,12 @@ returns-in-Ok-Undecided g c = λ world sound is_shown.
     c.close_short.result c.new-filter.ensures
     (record {
       text = λ ki ko. if_given c.close_short.result Ended _ _ c.close_short.ensures.done (c.close_short.ensures.given ko)
-          (λ gives. (here, gives world sound is_shown ∙ ap (λ (p : PassedOver). g.O.Output.held c.args.output.now ++ g.F.CellFollower.rules.closes world p (Some (short_fault octets))) c.passed.ensures, printed ki));
+          (λ gives. (here, gives world sound is_shown ∙ ap (λ (p : ReadingSummary). g.O.Output.held c.args.output.now ++ g.F.CellFollower.rules.closes world p (Some (short_fault octets))) c.summary.ensures, printed ki));
       front = λ ki ko.
           on_fault c.close_short.result _ _ (c.close_short.ensures.front ko)
           (λ part. a_front (IsText all) (g.O.Output.held c.args.output.now) (g.O.Output.held c.close_short.new.output) here Ended (printed ki)
-          (subst (λ (p : PassedOver). IsPart (g.O.Output.held c.args.output.now) (g.O.Output.held c.close_short.new.output)
-          (g.F.CellFollower.rules.closes world p (Some (short_fault octets)))) c.passed.ensures (part world sound is_shown)));
+          (subst (λ (p : ReadingSummary). IsPart (g.O.Output.held c.args.output.now) (g.O.Output.held c.close_short.new.output)
+          (g.F.CellFollower.rules.closes world p (Some (short_fault octets)))) c.summary.ensures (part world sound is_shown)));
       left = λ ki.
           if_done c.close_short.result Ended _ c.close_short.ensures.done
           (all_needed IsText all octets rest here Ended (whole ki ∙ sym (append-nil octets) ∙ ap (λ xs. octets ++ xs) (sym (at_end ki))) short);

@@ -12,8 +12,8 @@ returns-in-Err-clause-front g c = λ known world sound is_shown.
 pub returns-in-Ok-clause-given : goal.returns-in-Ok-clause-given
 returns-in-Ok-clause-given g c = λ known.
     let f = g.F.CellFollower in
-    let finished = queue_finished f.rules (f.shows c.args.follower.now) c.args.reading.now c.octets.result.now c.passed.result c.end-ending.result
-    c.done_at-done.result c.args.answers.now.items c.close.new.answers.items c.in-Ok.ensures c.passed.ensures c.octets.ensures c.requires
+    let finished = queue_finished f.rules (f.shows c.args.follower.now) c.args.reading.now c.octets.result.now c.summary.result c.end-ending.result
+    c.done_at-done.result c.args.answers.now.items c.close.new.answers.items c.in-Ok.ensures c.summary.ensures c.octets.ensures c.requires
     c.end-ending.ensures c.done_at-done.ensures in
     if_given c.give_last.result c.done_at-done.result _ _ c.give_last.ensures.done (c.give_last.ensures.given known)
     (λ gives world sound is_shown.
@@ -23,8 +23,8 @@ returns-in-Ok-clause-given g c = λ known.
 pub returns-in-Ok-clause-front : goal.returns-in-Ok-clause-front
 returns-in-Ok-clause-front g c = λ known.
     let f = g.F.CellFollower in
-    let finished = queue_finished f.rules (f.shows c.args.follower.now) c.args.reading.now c.octets.result.now c.passed.result c.end-ending.result
-    c.done_at-done.result c.args.answers.now.items c.close.new.answers.items c.in-Ok.ensures c.passed.ensures c.octets.ensures c.requires
+    let finished = queue_finished f.rules (f.shows c.args.follower.now) c.args.reading.now c.octets.result.now c.summary.result c.end-ending.result
+    c.done_at-done.result c.args.answers.now.items c.close.new.answers.items c.in-Ok.ensures c.summary.ensures c.octets.ensures c.requires
     c.end-ending.ensures c.done_at-done.ensures in
     on_fault c.give_last.result _ _ (c.give_last.ensures.front known)
     (λ part world sound is_shown.
@@ -34,8 +34,8 @@ returns-in-Ok-clause-front g c = λ known.
 pub returns-in-Ok-clause-text : goal.returns-in-Ok-clause-text
 returns-in-Ok-clause-text g c =
     let f = g.F.CellFollower in
-    let finished = queue_finished f.rules (f.shows c.args.follower.now) c.args.reading.now c.octets.result.now c.passed.result c.end-ending.result
-    c.done_at-done.result c.args.answers.now.items c.close.new.answers.items c.in-Ok.ensures c.passed.ensures c.octets.ensures c.requires
+    let finished = queue_finished f.rules (f.shows c.args.follower.now) c.args.reading.now c.octets.result.now c.summary.result c.end-ending.result
+    c.done_at-done.result c.args.answers.now.items c.close.new.answers.items c.in-Ok.ensures c.summary.ensures c.octets.ensures c.requires
     c.end-ending.ensures c.done_at-done.ensures in
     if_done c.give_last.result c.done_at-done.result _ c.give_last.ensures.done
     (λ world sound is_shown.

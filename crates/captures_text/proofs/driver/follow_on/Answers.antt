@@ -8,8 +8,8 @@ use Rattle.text_io.specs.Failures.{read_failures, write_failures}
 use Rattle.text_io.specs.declared.ending.Done.{Done}
 use Rattle.text_io.specs.declared.ending.Done.TheVariants.{Ended, Whole}
 use Rattle.captures_text.specs.inner.Ahead.{CameSoFar, FillsAhead, IsQueuedText, with_window}
-use Rattle.captures_text.specs.declared.one_thread.Going.{Going}
-use Rattle.captures_text.specs.declared.one_thread.Going.TheVariants as going
+use Rattle.captures_text.specs.declared.answering.StepOutcome.{StepOutcome}
+use Rattle.captures_text.specs.declared.answering.StepOutcome.TheVariants as outcome
 use Rattle.captures_text.specs.declared.reading_ahead.ReadingAhead.{ReadingAhead}
 use Rattle.captures_text.proofs.CaptureTexts.{not_read, not_read_at_end}
 use Rattle.captures_text.proofs.Progresses.{all_given, if_done, if_given, on_fault, reprinted}
@@ -59,11 +59,11 @@ pub returns-in-Err-refill-clause-front : goal.returns-in-Err-refill-clause-front
 returns-in-Err-refill-clause-front g c = λ ki ko.
     let f = g.F.CellFollower in
     let reading = c.advance.new.reading in
-    let came = subst (λ (going : Going). CameSoFar going c.loop-reading.reading c.advance.new.reading c.advance.new.queue.cells.items) c.in-Ok-Wants-advance.field-0-is c.in-Ok-Wants-advance.ensures.came in
+    let came = subst (λ (outcome : StepOutcome). CameSoFar outcome c.loop-reading.reading c.advance.new.reading c.advance.new.queue.cells.items) c.in-Ok-Wants-advance.field-0-is c.in-Ok-Wants-advance.ensures.came in
     let wants = came.0 in
     let on = queue_advanced (f.shows c.advance.new.follower) reading c.advance.new.queue.cells.items wants.own c.advance.new.answers.items
     c.loop-reading.invariant.goes wants.cut (c.in-Ok-Wants-advance.ensures.goes_on
-    (λ ended. let bad : going.Wants ≡ going.Ended = sym c.in-Ok-Wants-advance.field-0-is ∙ ended in cc)) in
+    (λ ended. let bad : outcome.Wants ≡ outcome.Ended = sym c.in-Ok-Wants-advance.field-0-is ∙ ended in cc)) in
     queue_front (g.O.Output.held c.refill.new.output) c.answers_each_cell.ensures on ki ko (c.in-Err-refill.ensures.front ko)
 
 pub loop-reading-preserved : goal.loop-reading-preserved
@@ -74,11 +74,11 @@ loop-reading-preserved g c =
     let now = g.O.Output.held c.loop-reading.output in
     let now' = g.O.Output.held c.refill.new.output in
     let rest' = g.I.Input.rest c.refill.new.input in
-    let came = subst (λ (going : Going). CameSoFar going c.loop-reading.reading c.advance.new.reading c.advance.new.queue.cells.items) c.in-Ok-Wants-advance.field-0-is c.in-Ok-Wants-advance.ensures.came in
+    let came = subst (λ (outcome : StepOutcome). CameSoFar outcome c.loop-reading.reading c.advance.new.reading c.advance.new.queue.cells.items) c.in-Ok-Wants-advance.field-0-is c.in-Ok-Wants-advance.ensures.came in
     let wants = came.0 in
     let on = queue_advanced (f.shows c.advance.new.follower) reading c.advance.new.queue.cells.items wants.own c.advance.new.answers.items
     c.loop-reading.invariant.goes wants.cut (c.in-Ok-Wants-advance.ensures.goes_on
-    (λ ended. let bad : going.Wants ≡ going.Ended = sym c.in-Ok-Wants-advance.field-0-is ∙ ended in cc)) in
+    (λ ended. let bad : outcome.Wants ≡ outcome.Ended = sym c.in-Ok-Wants-advance.field-0-is ∙ ended in cc)) in
     record {
       bounded = c.in-Ok.ensures.bounded;
       near = wants.near c.loop-reading.invariant.near;
@@ -92,21 +92,21 @@ loop-reading-preserved g c =
 pub returns-then-is_err-clause-front : goal.returns-then-is_err-clause-front
 returns-then-is_err-clause-front g c = λ ki ko.
     let f = g.F.CellFollower in
-    let came = subst (λ (going : Going). CameSoFar going c.loop-reading.reading c.advance.new.reading c.advance.new.queue.cells.items) c.in-Ok-On-advance.field-0-is c.in-Ok-On-advance.ensures.came in
+    let came = subst (λ (outcome : StepOutcome). CameSoFar outcome c.loop-reading.reading c.advance.new.reading c.advance.new.queue.cells.items) c.in-Ok-On-advance.field-0-is c.in-Ok-On-advance.ensures.came in
     let on = queue_advanced (f.shows c.advance.new.follower) c.advance.new.reading c.advance.new.queue.cells.items came.0.own c.advance.new.answers.items
     c.loop-reading.invariant.goes came.0.cut (c.in-Ok-On-advance.ensures.goes_on
-    (λ ended. let bad : going.On ≡ going.Ended = sym c.in-Ok-On-advance.field-0-is ∙ ended in cc)) in
+    (λ ended. let bad : outcome.On ≡ outcome.Ended = sym c.in-Ok-On-advance.field-0-is ∙ ended in cc)) in
     queue_front (g.O.Output.held c.give_if_enough.new.output) c.answers_each_cell.ensures on ki ko
     (at-err c.give_if_enough.result _ (sym c.is_err.ensures.value ∙ c.if-is_err.true) (c.give_if_enough.ensures.front ko))
 
 pub loop-reading-preserved-else-is_err : goal.loop-reading-preserved-else-is_err
 loop-reading-preserved-else-is_err g c =
     let f = g.F.CellFollower in
-    let came = subst (λ (going : Going). CameSoFar going c.loop-reading.reading c.advance.new.reading c.advance.new.queue.cells.items) c.in-Ok-On-advance.field-0-is c.in-Ok-On-advance.ensures.came in
+    let came = subst (λ (outcome : StepOutcome). CameSoFar outcome c.loop-reading.reading c.advance.new.reading c.advance.new.queue.cells.items) c.in-Ok-On-advance.field-0-is c.in-Ok-On-advance.ensures.came in
     let cut = ap (λ (xs : List ℕ). length xs) came.0.cut in
     let on = queue_advanced (f.shows c.advance.new.follower) c.advance.new.reading c.advance.new.queue.cells.items came.0.own c.advance.new.answers.items
     c.loop-reading.invariant.goes came.0.cut (c.in-Ok-On-advance.ensures.goes_on
-    (λ ended. let bad : going.On ≡ going.Ended = sym c.in-Ok-On-advance.field-0-is ∙ ended in cc)) in
+    (λ ended. let bad : outcome.On ≡ outcome.Ended = sym c.in-Ok-On-advance.field-0-is ∙ ended in cc)) in
     let fine = sym c.is_err.ensures.value ∙ c.if-is_err.false in
     record {
       bounded = omega (arith, cut, length-append came.0.own c.advance.new.reading.window, c.loop-reading.invariant.bounded);
@@ -127,11 +127,11 @@ returns-in-Ok-eq0-clause-text g c = λ ki ko.
     let now = g.O.Output.held c.loop-reading.output in
     let now' = g.O.Output.held c.refill.new.output in
     let rest' = g.I.Input.rest c.refill.new.input in
-    let came = subst (λ (going : Going). CameSoFar going c.loop-reading.reading c.advance.new.reading c.advance.new.queue.cells.items) c.in-Ok-Wants-advance.field-0-is c.in-Ok-Wants-advance.ensures.came in
+    let came = subst (λ (outcome : StepOutcome). CameSoFar outcome c.loop-reading.reading c.advance.new.reading c.advance.new.queue.cells.items) c.in-Ok-Wants-advance.field-0-is c.in-Ok-Wants-advance.ensures.came in
     let wants = came.0 in
     let on = queue_advanced (f.shows c.advance.new.follower) reading cells wants.own c.advance.new.answers.items
     c.loop-reading.invariant.goes wants.cut (c.in-Ok-Wants-advance.ensures.goes_on
-    (λ ended. let bad : going.Wants ≡ going.Ended = sym c.in-Ok-Wants-advance.field-0-is ∙ ended in cc)) in
+    (λ ended. let bad : outcome.Wants ≡ outcome.Ended = sym c.in-Ok-Wants-advance.field-0-is ∙ ended in cc)) in
     let last = queue_refilled reading' rest' now' c.refill.new.answers.items (queue_empty on came.3) refl c.in-Ok-eq0.ensures.front_octets c.in-Ok-eq0.ensures.octets
     (λ ko. all_given now now' c.advance.new.answers.items c.refill.new.answers.items (c.in-Ok-eq0.ensures.given ko) c.in-Ok-eq0.ensures.none) in
     let none : c.in-Ok-eq0.field-0 ≡ 0 = omega arith in
@@ -156,11 +156,11 @@ returns-in-Ok-eq0-clause-front g c = λ ki ko.
     let now = g.O.Output.held c.loop-reading.output in
     let now' = g.O.Output.held c.refill.new.output in
     let rest' = g.I.Input.rest c.refill.new.input in
-    let came = subst (λ (going : Going). CameSoFar going c.loop-reading.reading c.advance.new.reading c.advance.new.queue.cells.items) c.in-Ok-Wants-advance.field-0-is c.in-Ok-Wants-advance.ensures.came in
+    let came = subst (λ (outcome : StepOutcome). CameSoFar outcome c.loop-reading.reading c.advance.new.reading c.advance.new.queue.cells.items) c.in-Ok-Wants-advance.field-0-is c.in-Ok-Wants-advance.ensures.came in
     let wants = came.0 in
     let on = queue_advanced (f.shows c.advance.new.follower) reading cells wants.own c.advance.new.answers.items
     c.loop-reading.invariant.goes wants.cut (c.in-Ok-Wants-advance.ensures.goes_on
-    (λ ended. let bad : going.Wants ≡ going.Ended = sym c.in-Ok-Wants-advance.field-0-is ∙ ended in cc)) in
+    (λ ended. let bad : outcome.Wants ≡ outcome.Ended = sym c.in-Ok-Wants-advance.field-0-is ∙ ended in cc)) in
     let last = queue_refilled reading' rest' now' c.refill.new.answers.items (queue_empty on came.3) refl c.in-Ok-eq0.ensures.front_octets c.in-Ok-eq0.ensures.octets
     (λ ko. all_given now now' c.advance.new.answers.items c.refill.new.answers.items (c.in-Ok-eq0.ensures.given ko) c.in-Ok-eq0.ensures.none) in
     let none : c.in-Ok-eq0.field-0 ≡ 0 = omega arith in
@@ -185,11 +185,11 @@ returns-in-Ok-eq0-clause-left g c = λ ki.
     let now = g.O.Output.held c.loop-reading.output in
     let now' = g.O.Output.held c.refill.new.output in
     let rest' = g.I.Input.rest c.refill.new.input in
-    let came = subst (λ (going : Going). CameSoFar going c.loop-reading.reading c.advance.new.reading c.advance.new.queue.cells.items) c.in-Ok-Wants-advance.field-0-is c.in-Ok-Wants-advance.ensures.came in
+    let came = subst (λ (outcome : StepOutcome). CameSoFar outcome c.loop-reading.reading c.advance.new.reading c.advance.new.queue.cells.items) c.in-Ok-Wants-advance.field-0-is c.in-Ok-Wants-advance.ensures.came in
     let wants = came.0 in
     let on = queue_advanced (f.shows c.advance.new.follower) reading cells wants.own c.advance.new.answers.items
     c.loop-reading.invariant.goes wants.cut (c.in-Ok-Wants-advance.ensures.goes_on
-    (λ ended. let bad : going.Wants ≡ going.Ended = sym c.in-Ok-Wants-advance.field-0-is ∙ ended in cc)) in
+    (λ ended. let bad : outcome.Wants ≡ outcome.Ended = sym c.in-Ok-Wants-advance.field-0-is ∙ ended in cc)) in
     let last = queue_refilled reading' rest' now' c.refill.new.answers.items (queue_empty on came.3) refl c.in-Ok-eq0.ensures.front_octets c.in-Ok-eq0.ensures.octets
     (λ ko. all_given now now' c.advance.new.answers.items c.refill.new.answers.items (c.in-Ok-eq0.ensures.given ko) c.in-Ok-eq0.ensures.none) in
     IfOk-weaker c.finish.result _ _ (λ done ends. queue_enough done last ki ends) c.finish.ensures.text
@@ -207,7 +207,7 @@ loop-reading-preserved-in-Ok-On g c =
     let now' = g.O.Output.held c.give_and_go_ahead.new.output in
     let cells = c.loop-reading.queue.cells.items in
     let cells' = c.give_and_go_ahead.new.queue.cells.items in
-    let fills = subst (λ (how : Going). FillsAhead f.rules shown shown' g.I.Input.is_known rest rest' before cells how after cells' []
+    let fills = subst (λ (how : StepOutcome). FillsAhead f.rules shown shown' g.I.Input.is_known rest rest' before cells how after cells' []
     c.give_and_go_ahead.new.answers.items) c.in-Ok-On.field-0-is c.in-Ok-On.ensures.ahead in
     let filled = queue_refilled (with_window before fills.near) rest' now' [] c.loop-reading.invariant.goes refl fills.front fills.same
     (λ ko. all_given now now' c.loop-reading.answers.items [] (c.in-Ok-On.ensures.given ko) refl) in
@@ -235,7 +235,7 @@ loop-reading-preserved-in-Ok-Wants g c =
     let now' = g.O.Output.held c.give_and_go_ahead.new.output in
     let cells = c.loop-reading.queue.cells.items in
     let cells' = c.give_and_go_ahead.new.queue.cells.items in
-    let fills = subst (λ (how : Going). FillsAhead f.rules shown shown' g.I.Input.is_known rest rest' before cells how after cells' []
+    let fills = subst (λ (how : StepOutcome). FillsAhead f.rules shown shown' g.I.Input.is_known rest rest' before cells how after cells' []
     c.give_and_go_ahead.new.answers.items) c.in-Ok-Wants.field-0-is c.in-Ok-Wants.ensures.ahead in
     let filled = queue_refilled (with_window before fills.near) rest' now' [] c.loop-reading.invariant.goes refl fills.front fills.same
     (λ ko. all_given now now' c.loop-reading.answers.items [] (c.in-Ok-Wants.ensures.given ko) refl) in
@@ -269,7 +269,7 @@ returns-in-Ok-Ended-clause-text g c = λ ki ko.
     let now' = g.O.Output.held c.give_and_go_ahead.new.output in
     let cells = c.loop-reading.queue.cells.items in
     let cells' = c.give_and_go_ahead.new.queue.cells.items in
-    let fills = subst (λ (how : Going). FillsAhead f.rules shown shown' g.I.Input.is_known rest rest' before cells how after cells' []
+    let fills = subst (λ (how : StepOutcome). FillsAhead f.rules shown shown' g.I.Input.is_known rest rest' before cells how after cells' []
     c.give_and_go_ahead.new.answers.items) c.in-Ok-Ended.field-0-is c.in-Ok-Ended.ensures.ahead in
     let filled = queue_refilled (with_window before fills.near) rest' now' [] c.loop-reading.invariant.goes refl fills.front fills.same
     (λ ko. all_given now now' c.loop-reading.answers.items [] (c.in-Ok-Ended.ensures.given ko) refl) in
@@ -290,7 +290,7 @@ returns-in-Ok-Ended-clause-front g c = λ ki ko.
     let now' = g.O.Output.held c.give_and_go_ahead.new.output in
     let cells = c.loop-reading.queue.cells.items in
     let cells' = c.give_and_go_ahead.new.queue.cells.items in
-    let fills = subst (λ (how : Going). FillsAhead f.rules shown shown' g.I.Input.is_known rest rest' before cells how after cells' []
+    let fills = subst (λ (how : StepOutcome). FillsAhead f.rules shown shown' g.I.Input.is_known rest rest' before cells how after cells' []
     c.give_and_go_ahead.new.answers.items) c.in-Ok-Ended.field-0-is c.in-Ok-Ended.ensures.ahead in
     let filled = queue_refilled (with_window before fills.near) rest' now' [] c.loop-reading.invariant.goes refl fills.front fills.same
     (λ ko. all_given now now' c.loop-reading.answers.items [] (c.in-Ok-Ended.ensures.given ko) refl) in
@@ -311,7 +311,7 @@ returns-in-Ok-Ended-clause-left g c = λ ki.
     let now' = g.O.Output.held c.give_and_go_ahead.new.output in
     let cells = c.loop-reading.queue.cells.items in
     let cells' = c.give_and_go_ahead.new.queue.cells.items in
-    let fills = subst (λ (how : Going). FillsAhead f.rules shown shown' g.I.Input.is_known rest rest' before cells how after cells' []
+    let fills = subst (λ (how : StepOutcome). FillsAhead f.rules shown shown' g.I.Input.is_known rest rest' before cells how after cells' []
     c.give_and_go_ahead.new.answers.items) c.in-Ok-Ended.field-0-is c.in-Ok-Ended.ensures.ahead in
     let filled = queue_refilled (with_window before fills.near) rest' now' [] c.loop-reading.invariant.goes refl fills.front fills.same
     (λ ko. all_given now now' c.loop-reading.answers.items [] (c.in-Ok-Ended.ensures.given ko) refl) in

@@ -1,4 +1,4 @@
-use Rattle.captures_text.proofs.CountedLemmas.{cells-are-written}
+use Rattle.captures_text.proofs.CapturedLemmas.{cells-are-written}
 use Rattle.captures_text.proofs.laws.cells_are_written.Goals as goal
 
 pub returns : goal.returns

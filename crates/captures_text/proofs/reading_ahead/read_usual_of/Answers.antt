@@ -2,7 +2,7 @@
 use Rattle.std.proofs.Common.{ℕ, List, Ok, ap, arith, subst}
 use Rattle.std.proofs.lemmas.List.{length-drop, take_rest}
 use Rattle.captures.specs.Reading.{TakesFrame}
-use Rattle.captures_text.specs.declared.counted.CountedCell.{CountedCell}
+use Rattle.captures_text.specs.declared.captured_cell.CapturedCell.{CapturedCell}
 use Rattle.captures_text.proofs.ReadingLemmas.{reads_no_usual, reads_usual}
 use Rattle.captures_text.proofs.reading_ahead.read_usual_of.Goals as goal
 
@@ -21,14 +21,14 @@ loop-cells-preserved c =
     let takes = subst
     (λ (octets : List ℕ). TakesFrame c.loop-cells.reader octets (Ok record_read) c.in-Taken.own c.next.new.self)
     (take_rest c.args.octets.now place) c.in-Taken.ensures in
-    let counted : CountedCell = record { number = record_read.number; moment = c.in-Some.moment; cell = c.cell.result } in (
+    let captured : CapturedCell = record { number = record_read.number; moment = c.in-Some.moment; cell = c.cell.result } in (
       omega (arith, c.loop-cells.invariant.0, takes.within, length-drop place c.args.octets.now),
       reads_usual c.args.following c.args.reader c.next.new.self c.args.octets.now c.args.cells.now.items c.loop-cells.cells.items c.push_reserved.new.self.items
           (record { reader = c.loop-cells.reader; clock = c.loop-cells.clock; place = place })
-          record_read c.in-Some.moment c.in-Ok.cell c.in-Taken.own c.moment_of.new.clock counted
+          record_read c.in-Some.moment c.in-Ok.cell c.in-Taken.own c.moment_of.new.clock captured
           c.loop-cells.invariant.1 takes
           (λ filter follows. c.in-Some.ensures filter c.in-Ok.cell follows c.in-Ok.is)
-          (ap (λ (octets : List ℕ). record counted { cell = octets }) c.cell.ensures)
+          (ap (λ (octets : List ℕ). record captured { cell = octets }) c.cell.ensures)
           c.push_reserved.ensures.items,
     )
 

@@ -1,8 +1,8 @@
 -- Each way through a step on two threads.
 use Rattle.std.proofs.Common.{List, Option, inl, inr, subst, sym}
 use Rattle.captures_text.specs.inner.Ahead.{FillsAndReads}
-use Rattle.captures_text.specs.declared.counted.CountedCell.{CountedCell}
-use Rattle.captures_text.specs.declared.reading_ahead.Coming.{Coming}
+use Rattle.captures_text.specs.declared.captured_cell.CapturedCell.{CapturedCell}
+use Rattle.captures_text.specs.declared.reading_ahead.StopReason.{StopReason}
 use Rattle.captures_text.proofs.CellTexts.{answers_same, answers_turn}
 use Rattle.captures_text.proofs.FillsAheadLemmas.{ahead_at_cell, ahead_ended, ahead_on, ahead_to_end, ends_by}
 use Rattle.captures_text.proofs.two_threads.go_ahead.Goals as goal
@@ -18,16 +18,16 @@ returns-in-Ends-clause-ahead g c =
     let last = c.read_beside.new.reading in
     let cells = c.args.queue.now.cells.items in
     let spare = c.args.queue.now.spare.items in
-    let fresh = c.turn.new.self.cells.items in
+    let fresh = c.take_next_cells.new.self.cells.items in
     let rest = g.I.Input.rest c.args.input.now in
     let rest' = g.I.Input.rest c.read_beside.new.input in
     let old = c.args.answers.now.items in
     let new = c.read_beside.new.answers.items in
     let answers = answers_same f.rules shown shown' c.deref.result.now cells Ends old new c.deref.ensures.value
-    (answers_turn f.rules shown shown' c.deref.result.now c.in_ok-coming.turn Ends old new c.in-Ends.is c.in_ok-coming.ensures.answered) in
-    let all = subst (λ (cells : List CountedCell). FillsAndReads known rest rest' first c.in_ok-coming.coming last spare cells)
-    (sym c.turn.ensures.cells) c.in_ok-coming.ensures.filled in
-    ahead_at_cell f.rules shown shown' shown' known rest rest' first last c.in_ok-coming.coming cells spare fresh fresh old new answers all
+    (answers_turn f.rules shown shown' c.deref.result.now c.in_ok-stop.turn Ends old new c.in-Ends.is c.in_ok-stop.ensures.answered) in
+    let all = subst (λ (cells : List CapturedCell). FillsAndReads known rest rest' first c.in_ok-stop.stop last spare cells)
+    (sym c.take_next_cells.ensures.cells) c.in_ok-stop.ensures.filled in
+    ahead_at_cell f.rules shown shown' shown' known rest rest' first last c.in_ok-stop.stop cells spare fresh fresh old new answers all
 
 pub returns-in_default-clause-ahead : goal.returns-in_default-clause-ahead
 returns-in_default-clause-ahead g c =
@@ -39,16 +39,16 @@ returns-in_default-clause-ahead g c =
     let last = c.read_beside.new.reading in
     let cells = c.args.queue.now.cells.items in
     let spare = c.args.queue.now.spare.items in
-    let fresh = c.turn.new.self.cells.items in
+    let fresh = c.take_next_cells.new.self.cells.items in
     let rest = g.I.Input.rest c.args.input.now in
     let rest' = g.I.Input.rest c.read_beside.new.input in
     let old = c.args.answers.now.items in
     let new = c.read_beside.new.answers.items in
     let answers = answers_same f.rules shown shown' c.deref.result.now cells GoesOn old new c.deref.ensures.value
-    (answers_turn f.rules shown shown' c.deref.result.now c.in_ok-coming.turn GoesOn old new c.in-GoesOn.is c.in_ok-coming.ensures.answered) in
-    let all = subst (λ (cells : List CountedCell). FillsAndReads known rest rest' first c.in_ok-coming.coming last spare cells)
-    (sym c.turn.ensures.cells) c.in_ok-coming.ensures.filled in
-    let filled = subst (λ (coming : Option Coming). FillsAndReads known rest rest' first coming last spare fresh) c.in_default.is all in
+    (answers_turn f.rules shown shown' c.deref.result.now c.in_ok-stop.turn GoesOn old new c.in-GoesOn.is c.in_ok-stop.ensures.answered) in
+    let all = subst (λ (cells : List CapturedCell). FillsAndReads known rest rest' first c.in_ok-stop.stop last spare cells)
+    (sym c.take_next_cells.ensures.cells) c.in_ok-stop.ensures.filled in
+    let filled = subst (λ (stop : Option StopReason). FillsAndReads known rest rest' first stop last spare fresh) c.in_default.is all in
     ahead_ended f.rules shown shown' known rest rest' first last cells spare fresh old new answers filled c.requires.spare
 
 pub returns-in-Wants-clause-ahead : goal.returns-in-Wants-clause-ahead
@@ -61,17 +61,17 @@ returns-in-Wants-clause-ahead g c =
     let last = c.read_beside.new.reading in
     let cells = c.args.queue.now.cells.items in
     let spare = c.args.queue.now.spare.items in
-    let fresh = c.turn.new.self.cells.items in
+    let fresh = c.take_next_cells.new.self.cells.items in
     let rest = g.I.Input.rest c.args.input.now in
     let rest' = g.I.Input.rest c.read_beside.new.input in
     let old = c.args.answers.now.items in
     let new = c.read_beside.new.answers.items in
     let answers = answers_same f.rules shown shown' c.deref.result.now cells GoesOn old new c.deref.ensures.value
-    (answers_turn f.rules shown shown' c.deref.result.now c.in_ok-coming.turn GoesOn old new c.in-GoesOn.is c.in_ok-coming.ensures.answered) in
-    let all = subst (λ (cells : List CountedCell). FillsAndReads known rest rest' first c.in_ok-coming.coming last spare cells)
-    (sym c.turn.ensures.cells) c.in_ok-coming.ensures.filled in
-    let filled = subst (λ (coming : Option Coming). FillsAndReads known rest rest' first coming last spare fresh) c.in-Some.is all in
-    ahead_on f.rules shown shown' known rest rest' filled.0 first last c.in-Some.coming cells spare fresh old new answers filled.1 filled.2 c.requires.spare
+    (answers_turn f.rules shown shown' c.deref.result.now c.in_ok-stop.turn GoesOn old new c.in-GoesOn.is c.in_ok-stop.ensures.answered) in
+    let all = subst (λ (cells : List CapturedCell). FillsAndReads known rest rest' first c.in_ok-stop.stop last spare cells)
+    (sym c.take_next_cells.ensures.cells) c.in_ok-stop.ensures.filled in
+    let filled = subst (λ (stop : Option StopReason). FillsAndReads known rest rest' first stop last spare fresh) c.in-Some.is all in
+    ahead_on f.rules shown shown' known rest rest' filled.0 first last c.in-Some.stop cells spare fresh old new answers filled.1 filled.2 c.requires.spare
     (inl c.in-Wants.is)
 
 pub returns-in-Enough-clause-ahead : goal.returns-in-Enough-clause-ahead
@@ -84,17 +84,17 @@ returns-in-Enough-clause-ahead g c =
     let last = c.read_beside.new.reading in
     let cells = c.args.queue.now.cells.items in
     let spare = c.args.queue.now.spare.items in
-    let fresh = c.turn.new.self.cells.items in
+    let fresh = c.take_next_cells.new.self.cells.items in
     let rest = g.I.Input.rest c.args.input.now in
     let rest' = g.I.Input.rest c.read_beside.new.input in
     let old = c.args.answers.now.items in
     let new = c.read_beside.new.answers.items in
     let answers = answers_same f.rules shown shown' c.deref.result.now cells GoesOn old new c.deref.ensures.value
-    (answers_turn f.rules shown shown' c.deref.result.now c.in_ok-coming.turn GoesOn old new c.in-GoesOn.is c.in_ok-coming.ensures.answered) in
-    let all = subst (λ (cells : List CountedCell). FillsAndReads known rest rest' first c.in_ok-coming.coming last spare cells)
-    (sym c.turn.ensures.cells) c.in_ok-coming.ensures.filled in
-    let filled = subst (λ (coming : Option Coming). FillsAndReads known rest rest' first coming last spare fresh) c.in-Some.is all in
-    ahead_on f.rules shown shown' known rest rest' filled.0 first last c.in-Some.coming cells spare fresh old new answers filled.1 filled.2 c.requires.spare
+    (answers_turn f.rules shown shown' c.deref.result.now c.in_ok-stop.turn GoesOn old new c.in-GoesOn.is c.in_ok-stop.ensures.answered) in
+    let all = subst (λ (cells : List CapturedCell). FillsAndReads known rest rest' first c.in_ok-stop.stop last spare cells)
+    (sym c.take_next_cells.ensures.cells) c.in_ok-stop.ensures.filled in
+    let filled = subst (λ (stop : Option StopReason). FillsAndReads known rest rest' first stop last spare fresh) c.in-Some.is all in
+    ahead_on f.rules shown shown' known rest rest' filled.0 first last c.in-Some.stop cells spare fresh old new answers filled.1 filled.2 c.requires.spare
     (inr c.in-Enough.is)
 
 pub returns-in-Ok-clause-ahead : goal.returns-in-Ok-clause-ahead
@@ -107,16 +107,16 @@ returns-in-Ok-clause-ahead g c =
     let last = c.read_beside.new.reading in
     let cells = c.args.queue.now.cells.items in
     let spare = c.args.queue.now.spare.items in
-    let fresh = c.turn.new.self.cells.items in
+    let fresh = c.take_next_cells.new.self.cells.items in
     let rest = g.I.Input.rest c.args.input.now in
     let rest' = g.I.Input.rest c.read_beside.new.input in
     let old = c.args.answers.now.items in
     let new = c.read_beside.new.answers.items in
     let answers = answers_same f.rules shown shown' c.deref.result.now cells GoesOn old new c.deref.ensures.value
-    (answers_turn f.rules shown shown' c.deref.result.now c.in_ok-coming.turn GoesOn old new c.in-GoesOn.is c.in_ok-coming.ensures.answered) in
-    let all = subst (λ (cells : List CountedCell). FillsAndReads known rest rest' first c.in_ok-coming.coming last spare cells)
-    (sym c.turn.ensures.cells) c.in_ok-coming.ensures.filled in
-    let filled = subst (λ (coming : Option Coming). FillsAndReads known rest rest' first coming last spare fresh) c.in-Some.is all in
-    let ended = ends_by c.in-Ok.field-0 c.in-Some.coming c.in-Several.is c.in-Ok.ensures.by in
-    ahead_to_end f.rules shown shown' (f.shows c.answer_read.new.follower) known rest rest' first last c.in-Some.coming cells spare fresh
+    (answers_turn f.rules shown shown' c.deref.result.now c.in_ok-stop.turn GoesOn old new c.in-GoesOn.is c.in_ok-stop.ensures.answered) in
+    let all = subst (λ (cells : List CapturedCell). FillsAndReads known rest rest' first c.in_ok-stop.stop last spare cells)
+    (sym c.take_next_cells.ensures.cells) c.in_ok-stop.ensures.filled in
+    let filled = subst (λ (stop : Option StopReason). FillsAndReads known rest rest' first stop last spare fresh) c.in-Some.is all in
+    let ended = ends_by c.in-Ok.field-0 c.in-Some.stop c.in-SecondLink.is c.in-Ok.ensures.by in
+    ahead_to_end f.rules shown shown' (f.shows c.answer_read.new.follower) known rest rest' first last c.in-Some.stop cells spare fresh
     c.answer_read.new.cells.items old new c.answer_read.new.answers.items answers filled c.requires.spare (c.in-Ok.ensures.ends ended)

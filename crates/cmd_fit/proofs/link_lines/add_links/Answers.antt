@@ -11,7 +11,7 @@ returns c =
     let one = c.add_text.new.answers.items in
     on_done c.add_closing.result _ _ c.add_closing.ensures
     (λ grew. four_grow c.args.answers.now.items links_heading (flat_map link_line table.rows.entries) (left_out_line table.left_out)
-    (closing_lines table.passed c.args.ending)
+    (closing_lines table.summary c.args.ending)
     one c.add_link_lines.new.answers.items c.add_left_out.new.answers.items c.add_closing.new.answers.items
     c.in_ok-add_text.ensures c.in_ok-add_link_lines.ensures
     c.in_ok-add_left_out.ensures grew)

@@ -7,8 +7,8 @@ use Rattle.text_io.specs.declared.ending.Done.TheVariants.{Ended}
 use Rattle.cmd_fit.specs.inner.LinkStates.{links_state}
 use Rattle.cmd_fit.specs.LinksText.{links_lines}
 use Rattle.cmd_fit.specs.declared.link_table.LinkTable.{LinkTable}
-use Rattle.cmd_fit.specs.declared.links_reading.Going.{Going}
-use Rattle.cmd_fit.specs.declared.links_reading.Going.TheVariants as going
+use Rattle.cmd_fit.specs.declared.links_reading.StepOutcome.{StepOutcome}
+use Rattle.cmd_fit.specs.declared.links_reading.StepOutcome.TheVariants as outcome
 use Rattle.cmd_fit.specs.inner.LinksSteps.{ReadsFrame, LinksHere, StepsLinks, WantsMore}
 use Rattle.cmd_fit.proofs.LinksOfOctets.{end_before, fault_before, goes_near, goes_shorter, wants_none}
 use Rattle.cmd_fit.proofs.LinksProgress.{enough_of, read_more, read_on, read_still, said_of, with_near}
@@ -26,7 +26,7 @@ loop-reading-init g c = record {
 pub loop-reading-preserved-in-Ok-On : goal.loop-reading-preserved-in-Ok-On
 loop-reading-preserved-in-Ok-On g c =
     let before = c.loop-reading.reading in
-    let on : ReadsFrame before c.step.new.self = subst (λ (how : Going). StepsLinks before how c.step.new.self) c.in-Ok-On.field-0-is c.in-Ok-On.ensures in
+    let on : ReadsFrame before c.step.new.self = subst (λ (how : StepOutcome). StepsLinks before how c.step.new.self) c.in-Ok-On.field-0-is c.in-Ok-On.ensures in
     record {
       bounded = goes_shorter before c.step.new.self 524288 on c.loop-reading.invariant.bounded;
       near = goes_near before c.step.new.self on;
@@ -41,7 +41,7 @@ returns-in-Ok-Broken-clause-text g c = λ ki.
     let before = c.loop-reading.reading in
     let after = c.step.new.self in
     let fault = c.in-Ok-Broken.fault in
-    let broken : StepsLinks before (going.Broken fault) after = subst (λ (how : Going). StepsLinks before how after) c.in-Ok-Broken.field-0-is c.in-Ok-Broken.ensures in
+    let broken : StepsLinks before (outcome.Broken fault) after = subst (λ (how : StepOutcome). StepsLinks before how after) c.in-Ok-Broken.field-0-is c.in-Ok-Broken.ensures in
     let here = links_lines (links_state before.table) (Some fault) in
     let said = fault_before (links_state before.table) before.reader after.reader fault before.window (g.I.Input.rest c.loop-reading.input) broken.0 in
     let whole = said_of c.args.reading before g.I.Input.is_known (g.I.Input.rest c.args.input.now) (g.I.Input.rest c.loop-reading.input) here Ended
@@ -58,7 +58,7 @@ returns-in-Ok-Broken-clause-left g c = λ ki.
     let before = c.loop-reading.reading in
     let after = c.step.new.self in
     let fault = c.in-Ok-Broken.fault in
-    let broken : StepsLinks before (going.Broken fault) after = subst (λ (how : Going). StepsLinks before how after) c.in-Ok-Broken.field-0-is c.in-Ok-Broken.ensures in
+    let broken : StepsLinks before (outcome.Broken fault) after = subst (λ (how : StepOutcome). StepsLinks before how after) c.in-Ok-Broken.field-0-is c.in-Ok-Broken.ensures in
     let here = links_lines (links_state before.table) (Some fault) in
     let said = fault_before (links_state before.table) before.reader after.reader fault before.window [] broken.0 in
     if_done c.finish.result Ended _ c.finish.ensures.done
@@ -76,7 +76,7 @@ returns-in-Ok-eq0-clause-text g c = λ ki.
     let zero : c.in-Ok-eq0.field-0 ≡ 0 = omega arith in
     let same : near ≡ still.window = c.in-Ok-eq0.ensures.none (ap (λ n. Ok n) zero) in
     let at_end : rest' ≡ [] = c.in-Ok-eq0.ensures.end ki (ap (λ n. Ok n) zero) in
-    let wants : WantsMore before still = subst (λ (how : Going). StepsLinks before how still) c.in-Ok-Wants.field-0-is c.in-Ok-Wants.ensures in
+    let wants : WantsMore before still = subst (λ (how : StepOutcome). StepsLinks before how still) c.in-Ok-Wants.field-0-is c.in-Ok-Wants.ensures in
     let waits : c.octets.result.now ≡ near = c.octets.ensures in
     let ending = c.end-ending.result in
     let ends : EndsReading still.reader.format still.reader.at near ending =
@@ -105,7 +105,7 @@ returns-in-Ok-eq0-clause-left g c = λ ki.
     let rest' = g.I.Input.rest c.fill.new.input in
     let zero : c.in-Ok-eq0.field-0 ≡ 0 = omega arith in
     let same : near ≡ still.window = c.in-Ok-eq0.ensures.none (ap (λ n. Ok n) zero) in
-    let wants : WantsMore before still = subst (λ (how : Going). StepsLinks before how still) c.in-Ok-Wants.field-0-is c.in-Ok-Wants.ensures in
+    let wants : WantsMore before still = subst (λ (how : StepOutcome). StepsLinks before how still) c.in-Ok-Wants.field-0-is c.in-Ok-Wants.ensures in
     let waits : c.octets.result.now ≡ near = c.octets.ensures in
     let ending = c.end-ending.result in
     let ends : EndsReading still.reader.format still.reader.at near ending =
@@ -128,7 +128,7 @@ loop-reading-preserved g c =
     let before = c.loop-reading.reading in
     let still = c.step.new.self in
     let rest = g.I.Input.rest c.loop-reading.input in
-    let wants : WantsMore before still = subst (λ (how : Going). StepsLinks before how still) c.in-Ok-Wants.field-0-is c.in-Ok-Wants.ensures in
+    let wants : WantsMore before still = subst (λ (how : StepOutcome). StepsLinks before how still) c.in-Ok-Wants.field-0-is c.in-Ok-Wants.ensures in
     record {
       bounded = c.in-Ok.ensures.bounded;
       near = omega (arith, wants.place.at, c.loop-reading.invariant.near);

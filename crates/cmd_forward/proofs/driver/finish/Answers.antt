@@ -7,5 +7,5 @@ pub returns-in-Ok-clause-said : goal.returns-in-Ok-clause-said
 returns-in-Ok-clause-said g c =
     let j = g.J.CellJudge in
     if_done c.give_last.result c.done_at.result _ c.give_last.ensures.done
-    (said_at_last j.rules c.args.others (j.shows c.args.judge.now) c.args.reading.now c.octets.result.now c.passed.result c.end-ending.result c.done_at.result
-    c.args.report.now.items c.close.new.report.items c.in-Ok.ensures c.passed.ensures c.octets.ensures c.requires c.end-ending.ensures c.done_at.ensures)
+    (said_at_last j.rules c.args.others (j.shows c.args.judge.now) c.args.reading.now c.octets.result.now c.summary.result c.end-ending.result c.done_at.result
+    c.args.report.now.items c.close.new.report.items c.in-Ok.ensures c.summary.ensures c.octets.ensures c.requires c.end-ending.ensures c.done_at.ensures)

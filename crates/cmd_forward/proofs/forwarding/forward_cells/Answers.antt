@@ -10,7 +10,7 @@ use Rattle.captures.specs.declared.packet_time.TimeSource.TheVariants as source
 use Rattle.captures_text.specs.CaptureFaults.{file_fault_line}
 use Rattle.captures_text.specs.CaptureText.{short_fault}
 use Rattle.captures_text.specs.CellFilter.{filter_start, filter_state}
-use Rattle.captures_text.specs.declared.passed.PassedOver.{PassedOver}
+use Rattle.captures_text.specs.declared.reading_summary.ReadingSummary.{ReadingSummary}
 use Rattle.captures_text.proofs.Progresses.{on_fault}
 use Rattle.text_io.specs.Failures.{read_failures}
 use Rattle.text_io.specs.declared.ending.Done.TheVariants.{Ended}
@@ -108,13 +108,13 @@ returns-in-Ok-Undecided g c = λ world sound is_shown.
     let how : ending ≡ Some (short_fault near) = ap Some (c.short_fault-fault.ensures ∙ ap short_fault same) in
     let is : file_opening near ≡ Undecided = sym c.in-Ok-Undecided.ensures.opening ∙ c.in-Ok-Undecided.field-0-is in
     let at_end : g.I.Input.is_known → rest ≡ [] = λ ki. c.in-Ok-Undecided.ensures.end ki (file_undecided near is) in
-    let report = rules.closes world first.passed (Some (short_fault near)) in
+    let report = rules.closes world first.summary (Some (short_fault near)) in
     let here : IsText near [] report Ended = short_text rules c.args.others state near is in
     let whole : g.I.Input.is_known → all ≡ near = λ ki. c.in-Ok-Undecided.ensures.octets ki ∙ ap (λ xs. near ++ xs) (at_end ki) ∙ append-nil near in
     let said : said' ≡ c.args.report.now.items ++ report =
     c.in-Ok-close.ensures world sound is_shown
-    ∙ ap (λ (p : PassedOver). c.args.report.now.items ++ rules.closes world p ending) c.passed.ensures
-    ∙ ap (λ e. c.args.report.now.items ++ rules.closes world first.passed e) how in
+    ∙ ap (λ (p : ReadingSummary). c.args.report.now.items ++ rules.closes world p ending) c.summary.ensures
+    ∙ ap (λ e. c.args.report.now.items ++ rules.closes world first.summary e) how in
     served_from rules c.args.others first (filter_start c.args.tick.nanoseconds c.args.link source.Record) world g.I.Input g.O.Output c.args.input.now c.find_opening.new.input
     c.args.output.now c.args.output.now c.args.report.now.items said' _ c.new-filter.ensures
     (served_report g.I.Input g.O.Output c.args.input.now c.find_opening.new.input c.args.output.now c.args.report.now.items said'

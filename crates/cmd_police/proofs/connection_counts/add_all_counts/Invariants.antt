@@ -3,7 +3,7 @@ use Rattle.std.proofs.Common.{◌≡◌, ◌-◌, ◌≤◌, ◌^◌, ◌++◌}
 use Rattle.card_core.specs.Agreement.{CoreAgrees}
 use Rattle.card_core.specs.World.{World}
 use Rattle.cmd_police.specs.ConnectionCounts.{counts_below}
-use Rattle.cmd_police.specs.LineStarts.{AreStarts}
+use Rattle.cmd_police.specs.CountsAtSetup.{AreCountsAtSetup}
 use Rattle.cmd_police.proofs.CountsLemmas.{IsSmall, number_after}
 use Rattle.cmd_police.proofs.connection_counts.add_all_counts.Given as goal
 
@@ -13,7 +13,7 @@ invariant-loop-vc l =
       number : l.least ≡ number_after l.earlier;
       small : IsSmall l.earlier;
       bounded : l.least ≤ 2 ^ 28;
-      lines : (world : World) → CoreAgrees l.core world → AreStarts l.starts.counts.items world → l.answers.items ≡ l.fn.answers.items ++ counts_below world l.least;
+      lines : (world : World) → CoreAgrees l.core world → AreCountsAtSetup l.at_setup.counts.items world → l.answers.items ≡ l.fn.answers.items ++ counts_below world l.least;
     }
 
 abbrev pub decreases-loop-vc : goal.decreases-loop-vc

@@ -13,22 +13,22 @@ use Rattle.cmd_police.proofs.police.add_cell.Goals as goal
 
 pub returns : goal.returns
 returns c =
-    let counted = c.args.counted.now in
-    let given = answer_to counted.cell c.args.decision.now in
+    let captured = c.args.captured.now in
+    let given = answer_to captured.cell c.args.decision.now in
     let vc = c.vc_at-vc.result in
-    let clp : c.clp-clp.result ≡ has_low_priority counted.cell = c.clp-clp.ensures.test in
+    let clp : c.clp-clp.result ≡ has_low_priority captured.cell = c.clp-clp.ensures.test in
     let excess = c.excess_of-excess.result in
-    subst (λ (named : Vc). AddsCell c.args.side c.args.lines (shown_stored c.args.rules.now) c.args.begun counted named given c.args.card.now
+    subst (λ (named : Vc). AddsCell c.args.side c.args.lines (shown_stored c.args.rules.now) c.args.begun captured named given c.args.card.now
     c.args.answers.now.items c.end_line.new.answers.items true) c.vc_at-vc.ensures.connection
-    (adds_line c.args.side c.args.lines (shown_stored c.args.rules.now) c.args.begun counted vc given c.args.card.now excess
+    (adds_line c.args.side c.args.lines (shown_stored c.args.rules.now) c.args.begun captured vc given c.args.card.now excess
     c.args.answers.now.items c.add_heading_once.new.answers.items c.add_cell_columns.new.answers.items c.end_line.new.answers.items
-    (sym (c.has_line.ensures counted.cell) ∙ c.if-not-has_line.false)
+    (sym (c.has_line.ensures captured.cell) ∙ c.if-not-has_line.false)
     c.in_ok-add_heading_once.ensures
-    (c.in_ok-add_cell_columns.ensures counted.cell
-    ∙ ap (λ b. c.add_heading_once.new.answers.items ++ cell_columns c.args.side counted.number counted.moment vc b given excess) clp)
+    (c.in_ok-add_cell_columns.ensures captured.cell
+    ∙ ap (λ b. c.add_heading_once.new.answers.items ++ cell_columns c.args.side captured.number captured.moment vc b given excess) clp)
     c.in_ok-end_line.ensures
     (λ before after agrees leaves.
     let near : CoreAgrees c.core.result.now after = subst (λ (core : CoreView). CoreAgrees core after) (sym c.core.ensures) agrees in
     let leaves_so : LeavesConnection before.connections after.connections vc c.clp-clp.result given =
     subst (λ b. LeavesConnection before.connections after.connections vc b given) (sym clp) leaves in
-    c.excess_of-excess.ensures before after counted.cell near leaves_so ∙ ap (λ b. excess_of_answer before vc b given) clp))
+    c.excess_of-excess.ensures before after captured.cell near leaves_so ∙ ap (λ b. excess_of_answer before vc b given) clp))

@@ -15,5 +15,5 @@ returns c = λ connection is late.
     let two : numbered line.state.levels.items judged.value ≡ Some c.in_ok-levels.levels =
     ap (λ (state : State). numbered state.levels.items judged.value) (sym c.state.ensures.state)
     ∙ ap (λ (xs : List Levels). numbered xs judged.value) (sym c.as_slice.ensures.value) ∙ sym c.numbered-2.ensures ∙ c.in_ok-levels.was in
-    left_is connection line judged.value judged.verdict c.args.clp judged.moment c.in_ok-contract.contract c.in_ok-levels.levels c.met_after-met.result c.excess_at.result is
-    late one two c.met_after-met.ensures.first c.met_after-met.ensures.second c.excess_at.ensures.excess
+    left_is connection line judged.value judged.verdict c.args.clp judged.moment c.in_ok-contract.contract c.in_ok-levels.levels c.levels_to_explain-met.result c.excess_at.result is
+    late one two c.levels_to_explain-met.ensures.first c.levels_to_explain-met.ensures.second c.excess_at.ensures.excess

@@ -5,7 +5,7 @@ use Rattle.text_io.specs.Printing.{EndsAt, Prints}
 use Rattle.text_io.specs.declared.ending.Done.TheVariants.{Ended}
 use Rattle.cmd_run.specs.RunText.{RunWorld, run_rules}
 use Rattle.cmd_run.specs.ShownCard.{Held, ShowsRun}
-use Rattle.cmd_police.specs.inner.NotedSetups.{AreRunStarts}
+use Rattle.cmd_police.specs.inner.NotedSetups.{AreRunCountsAtSetup}
 use Rattle.cmd_police.proofs.SetUpLemmas.{ends_card, never_ended}
 use Rattle.cmd_police.proofs.setting_up.card_of.Goals as goal
 
@@ -26,7 +26,7 @@ returns-in-Some c =
       };
       led = card.2;
       shown = subst (λ (it : RunWorld). ShowsRun (Some c.in-Some.card) it) card.1 shown;
-      starts = subst (λ (it : RunWorld). AreRunStarts c.into_parts-card.result.1.counts.items it) card.1 (c.into_parts-card.ensures.starts end.1 end.2);
+      at_setup = subst (λ (it : RunWorld). AreRunCountsAtSetup c.into_parts-card.result.1.counts.items it) card.1 (c.into_parts-card.ensures.at_setup end.1 end.2);
     }
 
 pub unreachable-requires : goal.unreachable-requires

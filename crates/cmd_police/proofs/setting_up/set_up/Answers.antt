@@ -21,5 +21,5 @@ returns c =
         before = subst (λ (before : List ℕ). IsSetUpBy before card.card) c.before_times-before.ensures card.reached;
       };
       led = card.led;
-      shown = record { held = card.shown; starts = card.starts; waits = c.in_ok-commands.ensures };
+      shown = record { held = card.shown; at_setup = card.at_setup; waits = c.in_ok-commands.ensures };
     }

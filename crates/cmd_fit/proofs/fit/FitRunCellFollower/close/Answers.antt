@@ -11,14 +11,14 @@ pub returns : goal.returns
 returns c =
     let run = c.args.self.now in
     let old = c.args.answers.now.items in
-    let passed = c.args.passed.now in
+    let summary = c.args.summary.now in
     let valued = is_some (rules_held run.values) in
     let one = c.add_heading.new.answers.items in
     let two = c.add_lines.new.answers.items in
     on_done c.add_closing.result _ _ c.add_closing.ensures
     (λ grew world sound is.
-    closing-grows old (heading valued) (fit_lines run.side valued run.flows) (closing_lines passed c.args.ending)
+    closing-grows old (heading valued) (fit_lines run.side valued run.flows) (closing_lines summary c.args.ending)
     one two c.add_closing.new.answers.items
     (c.in_ok-add_heading.ensures ∙ ap (λ (v : Bool). old ++ heading v) c.is_valued-valued.ensures)
     (c.in_ok-add_lines.ensures ∙ ap (λ (v : Bool). one ++ fit_lines run.side v run.flows) c.is_valued-valued.ensures) grew
-    ∙ ap (λ (w : FitWorld). old ++ fit_closes w passed c.args.ending) (sym is))
+    ∙ ap (λ (w : FitWorld). old ++ fit_closes w summary c.args.ending) (sym is))

@@ -3,12 +3,12 @@ use Rattle.std.proofs.Common.{◌≡◌, List, ℕ, Some, Ok, Err, subst}
 use Rattle.captures.specs.Frames.{first_frame}
 use Rattle.captures.specs.Reading.{ComesNext}
 use Rattle.captures.specs.RecordOctets.{octets_of_first}
-use Rattle.captures.specs.declared.reader.Next.TheVariants.{Broken, Passed, Taken}
+use Rattle.captures.specs.declared.reader.Next.TheVariants.{Broken, Skipped, Taken}
 use Rattle.captures_text.specs.CellFilter.{filter_state}
 use Rattle.text_io.specs.declared.machine.Turn.{Turn}
 use Rattle.cmd_forward.specs.declared.stepping.ForwardReading.{ForwardReading}
 use Rattle.cmd_forward.specs.inner.ForwardSteps.{TurnsAtRecord}
-use Rattle.cmd_forward.proofs.StepLemmas.{advances_passed, advances_record, came_on, ends_fault, ends_record}
+use Rattle.cmd_forward.proofs.StepLemmas.{advances_skipped, advances_record, came_on, ends_fault, ends_record}
 use Rattle.cmd_forward.proofs.stepping.ForwardReading.step.Goals as goal
 
 pub returns-in_ok-close_at-in-Broken-clause-ends : goal.returns-in_ok-close_at-in-Broken-clause-ends
@@ -19,21 +19,21 @@ returns-in_ok-close_at-in-Broken-clause-ends g c = λ ended.
     (subst (λ (octets : List ℕ). ComesNext before.reader octets (Broken c.in-Broken.fault) c.next.new.self) c.octets-octets.ensures c.in-Broken.ensures)
     c.in_ok-close_at-in-Broken.ensures
 
-pub returns-in-Passed-clause-goes_on : goal.returns-in-Passed-clause-goes_on
-returns-in-Passed-clause-goes_on g c = λ going.
+pub returns-in-Skipped-clause-goes_on : goal.returns-in-Skipped-clause-goes_on
+returns-in-Skipped-clause-goes_on g c = λ outcome.
     let j = g.J.CellJudge in
     let before = c.args.self.now in
-    let after : ForwardReading = record { window = c.skip.new.self; reader = c.next.new.self; filter = c.pass.new.self } in
-    advances_passed j.rules c.args.others (j.shows c.args.judge.now) before after c.in-Passed.passage c.in-Passed.own c.args.written.now.items
-    (subst (λ (octets : List ℕ). ComesNext before.reader octets (Passed c.in-Passed.passage c.in-Passed.own) c.next.new.self) c.octets-octets.ensures c.in-Passed.ensures)
-    c.pass.ensures c.skip.ensures.octets
+    let after : ForwardReading = record { window = c.skip.new.self; reader = c.next.new.self; filter = c.skip_block.new.self } in
+    advances_skipped j.rules c.args.others (j.shows c.args.judge.now) before after c.in-Skipped.block c.in-Skipped.own c.args.written.now.items
+    (subst (λ (octets : List ℕ). ComesNext before.reader octets (Skipped c.in-Skipped.block c.in-Skipped.own) c.next.new.self) c.octets-octets.ensures c.in-Skipped.ensures)
+    c.skip_block.ensures c.skip.ensures.octets
 
-pub returns-in-Passed-clause-came : goal.returns-in-Passed-clause-came
-returns-in-Passed-clause-came g c =
+pub returns-in-Skipped-clause-came : goal.returns-in-Skipped-clause-came
+returns-in-Skipped-clause-came g c =
     let before = c.args.self.now in
-    let after : ForwardReading = record { window = c.skip.new.self; reader = c.next.new.self; filter = c.pass.new.self } in
-    came_on before after (Err c.in-Passed.passage) c.in-Passed.own
-    (subst (λ (octets : List ℕ). ComesNext before.reader octets (Passed c.in-Passed.passage c.in-Passed.own) c.next.new.self) c.octets-octets.ensures c.in-Passed.ensures)
+    let after : ForwardReading = record { window = c.skip.new.self; reader = c.next.new.self; filter = c.skip_block.new.self } in
+    came_on before after (Err c.in-Skipped.block) c.in-Skipped.own
+    (subst (λ (octets : List ℕ). ComesNext before.reader octets (Skipped c.in-Skipped.block c.in-Skipped.own) c.next.new.self) c.octets-octets.ensures c.in-Skipped.ensures)
     c.skip.ensures.octets
 
 pub returns-in-Ends-clause-ends : goal.returns-in-Ends-clause-ends
@@ -50,7 +50,7 @@ returns-in-Ends-clause-ends g c = λ ended.
     (filter_state on.filter) (j.shows on.judge) c.args.written.now.items on.written.items c.args.report.now.items on.report.items) c.in-Ends.is c.in_ok-forward_record-in-Taken.ensures)
 
 pub returns-in-GoesOn-clause-goes_on : goal.returns-in-GoesOn-clause-goes_on
-returns-in-GoesOn-clause-goes_on g c = λ going.
+returns-in-GoesOn-clause-goes_on g c = λ outcome.
     let j = g.J.CellJudge in
     let before = c.args.self.now in
     let whole = c.record_octets-whole.result.now in

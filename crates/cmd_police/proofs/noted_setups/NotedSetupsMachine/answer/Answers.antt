@@ -4,6 +4,6 @@ use Rattle.cmd_police.proofs.noted_setups.NotedSetupsMachine.answer.Goals as goa
 
 pub returns : goal.returns
 returns c =
-    machine_notes c.args.line.now c.in_ok-turn.turn c.args.self.now.run.card c.note.new.self.run.card c.args.self.now.starts.counts.items c.note.new.self.starts.counts.items
-    c.new_in-vc.result c.args.answers.now.items c.answer.new.answers.items
-    (rw c.note.ensures.kept c.in_ok-turn.ensures) c.new_in-vc.ensures (rw c.note.ensures.kept c.in_ok-note.ensures.noted)
+    machine_notes c.args.line.now c.in_ok-turn.turn c.args.self.now.run.card c.record_setup.new.self.run.card c.args.self.now.at_setup.counts.items c.record_setup.new.self.at_setup.counts.items
+    c.connection_to_set_up-vc.result c.args.answers.now.items c.answer.new.answers.items
+    (rw c.record_setup.ensures.kept c.in_ok-turn.ensures) c.connection_to_set_up-vc.ensures (rw c.record_setup.ensures.kept c.in_ok-record_setup.ensures.noted)
