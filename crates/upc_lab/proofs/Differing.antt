@@ -1,17 +1,13 @@
 -- The status of subcommands that end in their own ways is that of the program.
-use Rattle.std.proofs.Common.{◌≡◌, ℕ, true, Result, Ok, Err, refl, ◌∙◌}
+use Rattle.std.proofs.Common.{◌≡◌, ℕ, Result, Ok, Err, refl, ◌∙◌}
 use Rattle.text_io.specs.declared.ending.Done.{Done}
 use Rattle.text_io.specs.declared.ending.Done.TheVariants.{Whole, Ended}
 use Rattle.text_io.specs.declared.ending.RunFault.{RunFault}
 use Rattle.text_io.specs.declared.ending.RunFault.TheVariants.{NoMemory}
 use Rattle.text_command_line.specs.ExitStatus.{status_of}
-use Rattle.text_command_line.specs.Invocation.{IsStatusFor}
-use Rattle.text_command_line.specs.declared.stop.Stop.{Stop}
 use Rattle.cmd_differ.specs.declared.finding.Finding.{Finding}
 use Rattle.cmd_differ.specs.declared.finding.Finding.TheVariants.{Nothing, Something, Faulty, Undecided}
 use Rattle.upc_lab.specs.Comparison.{finding_status}
-use Rattle.upc_lab.specs.SetupFile.{explains_setup}
-use Rattle.upc_lab.specs.declared.choice.Asked.{Asked}
 
 -- A run with the status of a finding.
 run_with : (ended : Result Finding RunFault) → (run : Result Done RunFault) × (finding_status ended ≡ status_of run)
@@ -24,7 +20,3 @@ run_with (Err fault) = (Err fault, refl)
 -- A run with a finding ends with the status of a run.
 pub finding_ends : (status : ℕ) → (ended : Result Finding RunFault) × (status ≡ finding_status ended) → (run : Result Done RunFault) × (status ≡ status_of run)
 finding_ends status ends = let run = run_with ends.0 in (run.0, ends.1 ∙ run.1)
-
-pub explain_status : (chosen : Result Asked Stop) (status : ℕ) → explains_setup chosen ≡ true → (ended : Result Done RunFault) × (status ≡ status_of ended) → IsStatusFor chosen status
-explain_status (Ok asked) status is ends = ends
-explain_status (Err stop) status is ends = absurd (cc)

@@ -25,15 +25,15 @@ some-lab_text lab.Trace octets = some-trace_text octets
 some-lab_text lab.Size octets = some-sizes_text octets
 some-lab_text lab.Links octets = some_links_text octets
 
-pub some-asked_text : (asked : Asked) (setup : List ℕ) (tick : Option ℕ) (rules : List (List ℕ)) (old octets : List ℕ)
-    → (answer : List ℕ) × (done : Done) × IsAskedText setup tick rules old asked octets answer done
-some-asked_text (Plain subcommand) setup tick rules old octets = some-lab_text subcommand octets
-some-asked_text (Why options) setup tick rules old octets = some-why_text options.count octets
-some-asked_text (Cells options) setup tick rules old octets = some_cells_text options.tick.nanoseconds options.link options.timing options.numbered octets
-some-asked_text (Police options) setup tick rules old octets =
+pub some-asked_text : (asked : Asked) (setup : List ℕ) (tick : Option ℕ) (rules : List (List ℕ)) (other octets : List ℕ)
+    → (answer : List ℕ) × (done : Done) × IsAskedText setup tick rules other asked octets answer done
+some-asked_text (Plain subcommand) setup tick rules other octets = some-lab_text subcommand octets
+some-asked_text (Why options) setup tick rules other octets = some-why_text options.count octets
+some-asked_text (Cells options) setup tick rules other octets = some_cells_text options.tick.nanoseconds options.link options.timing options.numbered octets
+some-asked_text (Police options) setup tick rules other octets =
     some_agreed_text (scope_asked options) tick (option_map (λ it. it.nanoseconds) options.tick) setup rules octets
-some-asked_text (Fit options) setup tick rules old octets = some_fit_text (fit_choice options) (rules_asked options old) octets
-some-asked_text (Forward options) setup tick rules old octets =
+some-asked_text (Fit options) setup tick rules other octets = some_fit_text (fit_choice options) (rules_asked options other) octets
+some-asked_text (Forward options) setup tick rules other octets =
     some_agreed_records (others_asked options.others) tick (option_map (λ it. it.nanoseconds) options.tick) options.link setup rules octets
-some-asked_text (Differ options) setup tick rules old octets = some-differ_text (kinds_asked options.programs) options.all old octets
-some-asked_text (Explain options) setup tick rules old octets = some-explain_text octets
+some-asked_text (Differ options) setup tick rules other octets = some-differ_text (kinds_asked options.programs) options.all other octets
+some-asked_text (Explain options) setup tick rules other octets = some-explain_text octets

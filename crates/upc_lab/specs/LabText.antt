@@ -81,12 +81,12 @@ kinds_asked which.Both = record { old = Program; new = Program }
 -- `police` and `forward` have the first three, and only `differ` and `fit` the last. `explain` is the one without
 -- `--setup`, with which it reads no input (`CarriesExplained`).
 abbrev pub IsAskedText : List ℕ → Option ℕ → List (List ℕ) → List ℕ → Asked → List ℕ → List ℕ → Done → Type 0
-IsAskedText setup tick rules old (Plain subcommand) = IsLabText subcommand
-IsAskedText setup tick rules old (Why options) = MayBeWhyText options.count
-IsAskedText setup tick rules old (Cells options) = IsCellsText options.tick.nanoseconds options.link options.timing options.numbered
-IsAskedText setup tick rules old (Police options) = MayBePolicedAsAgreed (scope_asked options) tick (option_map (λ asked. asked.nanoseconds) options.tick) setup rules
-IsAskedText setup tick rules old (Fit options) = IsFitAsked (fit_choice options) (rules_asked options old)
-IsAskedText setup tick rules old (Forward options) = HasReportedText (MayBeForwardedAsAgreed (others_asked options.others) tick
+IsAskedText setup tick rules other (Plain subcommand) = IsLabText subcommand
+IsAskedText setup tick rules other (Why options) = MayBeWhyText options.count
+IsAskedText setup tick rules other (Cells options) = IsCellsText options.tick.nanoseconds options.link options.timing options.numbered
+IsAskedText setup tick rules other (Police options) = MayBePolicedAsAgreed (scope_asked options) tick (option_map (λ asked. asked.nanoseconds) options.tick) setup rules
+IsAskedText setup tick rules other (Fit options) = IsFitAsked (fit_choice options) (rules_asked options other)
+IsAskedText setup tick rules other (Forward options) = HasReportedText (MayBeForwardedAsAgreed (others_asked options.others) tick
     (option_map (λ asked. asked.nanoseconds) options.tick) options.link setup rules)
-IsAskedText setup tick rules old (Differ options) = IsDifferAnswer (kinds_asked options.programs) options.all old
-IsAskedText setup tick rules old (Explain options) = IsExplainText
+IsAskedText setup tick rules other (Differ options) = IsDifferAnswer (kinds_asked options.programs) options.all other
+IsAskedText setup tick rules other (Explain options) = IsExplainText

@@ -9,6 +9,7 @@ pub mod ForwardRun
 pub mod ExplainRun
 pub mod RulesRun
 pub mod SetupHints
-pub mod SetupFile
+pub mod NamedFiles
+pub mod LabEffects
 pub mod Progress
 pub mod inner

@@ -6,7 +6,7 @@ ghost use Rattle.std.specs.List.{list_any};
 ghost use Rattle.std.specs.Str.{bytes_eq};
 ghost use Rattle.std.specs.String.{string_bytes};
 ghost use Rattle.text_command_line.specs.ShownWords.{shown_word};
-ghost use Rattle.upc_lab.specs.SetupFile.{IsGivenAs};
+ghost use Rattle.upc_lab.specs.NamedFiles.{IsGivenAs};
 ghost use Rattle.upc_lab.specs.ShownNames.{is_terminal_text, shown_name};
 ghost use Rattle.upc_lab.specs.inner.OnlyWord.{is_only};
 

@@ -6,12 +6,12 @@ mod file_names;
 mod help_words;
 mod invocation;
 mod laws;
+mod named_files;
 mod notice;
 mod progress;
 mod reason;
 mod reporting;
 mod running;
-mod setup_file;
 mod setup_hints;
 
 pub use captures_text::cells_of_capture;
@@ -30,11 +30,11 @@ pub use cmd_rules::{assemble_rules, compile_rules, decide_cells};
 pub use cmd_size::size_contracts;
 pub use invocation::carry_out;
 use invocation::explains_setup;
+pub use named_files::{NamedFiles, Unreadable, read_named_files};
 pub use notice::awaited;
 pub use progress::{Counted, reads_capture};
 pub use reason::{Knowing, Reasoned, Work};
 pub use reporting::shell_status;
-pub use setup_file::{SetupFiles, Unreadable, read_setup};
 use std::alloc::Global;
 use std::io::{BufReader, IsTerminal, Read};
 use std::process::ExitCode;
@@ -58,9 +58,9 @@ fn main(rt: HostRuntime) -> ExitCode {
         Ok(words) => choose(rt.alloc(), words),
         Err(_) => Err(Stop::NoMemory),
     };
-    let setup = read_setup(&rt, &line, &chosen);
+    let named = read_named_files(&rt, &line, &chosen);
     if let Ok(asked) = &chosen
-        && setup.is_ok()
+        && named.is_ok()
         && !explains_setup(&chosen)
         && rt.stdin().is_terminal()
     {
@@ -84,7 +84,7 @@ fn main(rt: HostRuntime) -> ExitCode {
         &rt,
         rt.alloc(),
         &chosen,
-        &setup,
+        &named,
         &mut input,
         &mut output,
         &mut errors,

@@ -8,7 +8,7 @@ ghost use Rattle.upc_lab.specs.Comparison.{finding_status};
 ghost use Rattle.upc_lab.specs.LabMessages.{lab_failure_line, shell_status_of};
 
 use crate::reason::Reasoned;
-use cmd_differ::Finding;
+use cmd_differ::{Finding, ended_by};
 use text_command_line::{status, write_message};
 use text_io::{Done, Output, RunFault};
 
@@ -80,13 +80,9 @@ pub(crate) fn report_finding<I: Reasoned, O: Reasoned, E: Output>(
         (lab_failure_line (I.message input.now) (O.message output.now) (O.is_closed output.now))
         E.Output errors.old errors.new (ended_by ended) }
 {
-    match ended {
-        Ok(_) => finding_status(&ended),
-        Err(fault) => {
-            write_message(errors, line_of(fault, input, output));
-            finding_status(&ended)
-        }
-    }
+    let status = finding_status(&ended);
+    let _ = report(ended_by(ended), input, output, errors);
+    status
 }
 
 /// Writes what is reported of a run, or the message for a failed one, and returns the exit status.

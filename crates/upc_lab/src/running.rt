@@ -1,45 +1,24 @@
-//! Runs what the words ask for over the whole input.
+//! Runs the subcommands that read a capture and write nothing but their answer, as their options say.
 
 ghost use Rattle.std.specs.Prelude.{◌≡◌, option_map};
 ghost use Rattle.text_io.specs.Serving.{IsServed};
-ghost use Rattle.upc_lab.specs.LabText.{IsAskedText, IsLabText, fit_choice, kinds_asked, others_asked, rules_asked, scope_asked};
-ghost use Rattle.upc_lab.specs.SetupFile.{rules_in_files, tick_in_files};
+ghost use Rattle.captures_text.specs.CellsText.{IsCellsText};
+ghost use Rattle.cmd_fit.specs.FitAsked.{IsFitAsked};
+ghost use Rattle.cmd_police.specs.SetupText.{MayBePolicedAsAgreed};
+ghost use Rattle.upc_lab.specs.LabText.{fit_choice, kinds_asked, others_asked, rules_asked, scope_asked};
+ghost use Rattle.upc_lab.specs.NamedFiles.{rules_in_files, tick_in_files};
 
-use crate::choice::{Asked, Subcommand};
-use crate::setup_file::SetupFiles;
+use crate::named_files::NamedFiles;
 use captures_text::cells_of_capture;
-use cmd_differ::{TextKind, TextKinds, compare_texts, ended_by, unused_in_text};
-use cmd_explain::{Ahead, explain_faults};
-use cmd_fit::{FitChoice, fit_capture, links_of_capture};
-use cmd_forward::{Others, forward_as_agreed};
-use cmd_list::{list_program, trace_cells};
-use cmd_options::{FitOptions, PoliceOptions, Programs};
+use cmd_differ::{TextKind, TextKinds};
+use cmd_explain::Ahead;
+use cmd_fit::{FitChoice, fit_capture};
+use cmd_forward::Others;
+use cmd_options::{CellsOptions, FitOptions, PoliceOptions, Programs};
 use cmd_police::{PoliceChoice, PoliceScope, police_as_agreed};
-use cmd_rules::{assemble_rules, compile_rules, decide_cells};
-use cmd_size::size_contracts;
 use std::alloc::Global;
 use std::thread::Threads;
 use text_io::{Done, Output, RunFault};
-
-/// Runs a subcommand without options over the whole input.
-pub(crate) fn run_plain<I: Ahead, O: Output>(
-    alloc: Global,
-    subcommand: Subcommand,
-    input: &mut I,
-    output: &mut O,
-) -> Result<Done, RunFault>
-    ensures { IsServed (IsLabText subcommand) I.Input input.old input.new O.Output output.old output.new result }
-{
-    match subcommand {
-        Subcommand::Rules => compile_rules(alloc, input, output),
-        Subcommand::Asm => assemble_rules(alloc, input, output),
-        Subcommand::Unused => ended_by(unused_in_text(alloc, input, output)),
-        Subcommand::List => list_program(alloc, input, output),
-        Subcommand::Trace => trace_cells(alloc, input, output),
-        Subcommand::Size => size_contracts(alloc, input, output),
-        Subcommand::Links => links_of_capture(alloc, input, output),
-    }
-}
 
 /// How many threads may work at once where no option says so.
 const THREADS: usize = 2;
@@ -101,74 +80,78 @@ pub(crate) fn kinds_asked(programs: Programs) -> TextKinds
     TextKinds { old, new }
 }
 
-/// Runs what was asked for over the whole input, with the files that the words name.
-pub(crate) fn run<R: Threads, I: Ahead + Send, O: Output>(
+/// Writes the cells of the capture as lines of a script, as options of `cells` say.
+pub(crate) fn run_cells<R: Threads, I: Ahead + Send, O: Output>(
     rt: &R,
     alloc: Global,
-    asked: &Asked,
-    files: &SetupFiles,
+    options: &CellsOptions,
     input: &mut I,
     output: &mut O,
 ) -> Result<Done, RunFault>
-    ensures { IsServed (IsAskedText files.now.script.items (tick_in_files files.now) (rules_in_files files.now) files.now.old.items asked.now) I.Input input.old input.new O.Output output.old output.new result }
+    ensures { IsServed (IsCellsText options.now.tick.nanoseconds options.now.link options.now.timing options.now.numbered)
+        I.Input input.old input.new O.Output output.old output.new result }
 {
-    match asked {
-        Asked::Plain(subcommand) => run_plain(alloc, *subcommand, input, output),
-        Asked::Why(options) => decide_cells(alloc, options.count, input, output),
-        Asked::Cells(options) => cells_of_capture(
-            rt,
-            THREADS,
-            alloc,
-            options.tick,
-            options.link,
-            options.timing,
-            options.numbered,
-            input,
-            output,
-        ),
-        Asked::Fit(options) => fit_capture(
-            rt,
-            THREADS,
-            alloc,
-            fit_choice(options),
-            rules_asked(options, files.old.as_slice()),
-            input,
-            output,
-        ),
-        Asked::Police(options) => police_as_agreed(
-            rt,
-            alloc,
-            files.script.as_slice(),
-            files.rules.as_slice(),
-            PoliceChoice {
-                threads: usize::from(options.threads),
-                scope: scope_asked(options),
-            },
-            files.tick,
-            options.tick,
-            input,
-            output,
-        ),
-        Asked::Forward(options) => forward_as_agreed(
-            alloc,
-            files.script.as_slice(),
-            files.rules.as_slice(),
-            others_asked(options.others),
-            files.tick,
-            options.tick,
-            options.link,
-            input,
-            output,
-            &mut Vec::new(alloc),
-        ),
-        Asked::Differ(options) => ended_by(compare_texts(
-            alloc,
-            kinds_asked(options.programs),
-            files.old.as_slice(),
-            options.all,
-            input,
-            output,
-        )),
-        Asked::Explain(_) => explain_faults(alloc, input, output),
-    }
+    cells_of_capture(
+        rt,
+        THREADS,
+        alloc,
+        options.tick,
+        options.link,
+        options.timing,
+        options.numbered,
+        input,
+        output,
+    )
+}
+
+/// Writes the least limit of each connection of the capture, as options of `fit` and the rules that they name say.
+pub(crate) fn run_fit<R: Threads, I: Ahead + Send, O: Output>(
+    rt: &R,
+    alloc: Global,
+    options: &FitOptions,
+    files: &NamedFiles,
+    input: &mut I,
+    output: &mut O,
+) -> Result<Done, RunFault>
+    ensures { IsServed (IsFitAsked (fit_choice options.now) (rules_asked options.now files.now.other_text.items))
+        I.Input input.old input.new O.Output output.old output.new result }
+{
+    fit_capture(
+        rt,
+        THREADS,
+        alloc,
+        fit_choice(options),
+        rules_asked(options, files.other_text.as_slice()),
+        input,
+        output,
+    )
+}
+
+/// Writes the verdicts on the cells of the capture, as options of `police` and the setup script that they name say.
+pub(crate) fn run_police<R: Threads, I: Ahead + Send, O: Output>(
+    rt: &R,
+    alloc: Global,
+    options: &PoliceOptions,
+    files: &NamedFiles,
+    input: &mut I,
+    output: &mut O,
+) -> Result<Done, RunFault>
+    ensures { IsServed (MayBePolicedAsAgreed (scope_asked options.now) (tick_in_files files.now)
+        (option_map (λ asked. asked.nanoseconds) options.now.tick) files.now.script.items (rules_in_files files.now))
+        I.Input input.old input.new O.Output output.old output.new result }
+{
+    police_as_agreed(
+        rt,
+        alloc,
+        files.script.as_slice(),
+        files.rules.as_slice(),
+        PoliceChoice {
+            threads: usize::from(options.threads),
+            scope: scope_asked(options),
+        },
+        files.tick,
+        options.tick,
+        input,
+        output,
+    )
 }

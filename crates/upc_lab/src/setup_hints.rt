@@ -6,12 +6,12 @@ ghost use Rattle.cmd_explain.specs.HintComments.{AreHintsAbout, text_of_comments
 ghost use Rattle.cmd_police.specs.FilesRead.{octets_of_name, octets_of_names};
 ghost use Rattle.cmd_police.specs.RulesFiles.{octets_of_texts};
 ghost use Rattle.text_io.specs.Devices.{Adds};
-ghost use Rattle.upc_lab.specs.SetupFile.{rules_in_files};
+ghost use Rattle.upc_lab.specs.NamedFiles.{rules_in_files};
 ghost use Rattle.upc_lab.specs.SetupHints.{AreFileHints, AreFilesHints, AreOwnHints, AreSetupHints, MayBeSetupHints, file_front, names_with_file};
 ghost use Rattle.upc_lab.specs.inner.NamesMet.{HasNames, has_name};
 
 use crate::file_names::add_shown_name;
-use crate::setup_file::SetupFiles;
+use crate::named_files::NamedFiles;
 use cmd_explain::{Comments, add_hints_about};
 use cmd_police::{SharedText, files_read, hints_of_setup};
 use std::alloc::{AllocError, Global};
@@ -147,7 +147,7 @@ fn setup_hints(
 /// Returns the hints about a setup script as comments: those about the files of rules that it names, each with the name
 /// of its file, and those about the script itself, if they are wanted. A file that several lines name has its hints
 /// once.
-pub(crate) fn setup_comments(alloc: Global, own: bool, files: &SetupFiles) -> Comments
+pub(crate) fn setup_comments(alloc: Global, own: bool, files: &NamedFiles) -> Comments
     ensures { MayBeSetupHints own files.now.script.items (rules_in_files files.now) (text_of_comments result) }
 {
     match setup_hints(alloc, own, &files.script, &files.rules) {
