@@ -327,7 +327,8 @@ def answers(sources):
     for module in sources.specs.modules.values():
         for it in module.definitions.values():
             context = f"{module.crate} {module.inside}"
-            yield Answer("definition", it, (0.6 if module.helps() else 1.0) * OF_DEFINITIONS, [(NAME, it.name), (SENTENCE, it.sentence), (TEXT, it.text), (CONTEXT, context)])
+            counts = (0.6 if module.helps() else 1.0) * OF_DEFINITIONS
+            yield Answer("definition", it, counts, [(NAME, it.name), (SENTENCE, it.sentence), (TEXT, it.text), (CONTEXT, context)])
     for crate in sources.crates:
         for it in types_of(crate):
             if "/src/tests" not in it.path:
