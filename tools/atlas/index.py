@@ -3,6 +3,7 @@ import math
 import re
 from array import array
 
+from .asked import Asked
 from .outlines import scripts, sources_and_modules
 from .parts import HEADER, all_parts, all_sections, cases, types_of
 from .words import IDLE, NAME as SPELLED, meanings_of, names_in, pairs_asked, searched_stems, stems_of
@@ -25,12 +26,17 @@ REASONING = ("docs/ARCHITECTURE.md", "docs/DECISIONS.md")
 NAMING = ("docs/GLOSSARY.md",)
 # Files as wholes count little, unless code is asked for; of the scripts those that users call count most.
 OF_SCRIPTS = {"bin": 0.65, "tests": 0.35, "bench": 0.35, "reference": 0.35}
-RULES, CALLS, OTHERS, OF_CRATES, OF_FILES, ASKED, SECTION = 1.3, 1.2, 0.75, 0.6, 0.42, 1.8, 0.9
+RULES, CALLS, OTHERS, OF_CRATES, OF_FILES, ASKED, SECTION = 1.3, 1.5, 0.75, 0.6, 0.42, 1.8, 0.9
+# Functions, types and definitions count less than pages, unless a question is about code or proofs.
+OF_FUNCTIONS, OF_DEFINITIONS = 0.7, 0.3
 HOW = re.compile(r"(how|where|what|which \w+) (do|can|should|must) (i|we|you)\b|how to\b|(add|adding|build|building|install|installing|run|running|change|changing|contribute)\b")
 WHY = re.compile(r"why\b|reasons?\b")
 WHAT = re.compile(r"what (is|are) (a|an|the)? ?\w+$|what does \w+ mean$|(definition|meaning) of\b")
+# How much words count that earlier questions taught, and a place of an earlier question that is the same; and how much less each
+# further place of it counts.
+LEARNED, ASKED_BEFORE, ANOTHER_PLACE = 0.3, 1.0, 0.9
 # How much more an answer of these kinds, or a section, counts whose name is what was asked for.
-TITLE, TITLED = 1.0, ("function", "law", "source", "module", "script")
+TITLE, TITLED = 2.0, ("function", "law", "source", "module", "script")
 # What a whole question is about first, by its form: where something is done about code, one of proofs about definitions and laws too,
 # and any other about pages, and then about the header. The word for what is asked for, as in "which function", is no subject.
 ASKS = re.compile(r"(how|what|where|when|which|why|who|whose|do|does|did|is|are|am|can|could|may|must|should|will|would|if|has|have)\b")
@@ -39,8 +45,8 @@ WHERE = re.compile(rf"(where (is|are|does|do|was)|(in )?(which|what) ({CODE}|cra
 PROOFS = re.compile(r"\b(laws?|lemmas?|theorems?|definitions?|defined|formal|formally|stated|premises?|specifications?|invariants?)\b")
 KIND = re.compile(rf"(which|what) ({CODE}|laws?|definitions?) ")
 OF_ANY = {"page": 1.4, "declaration": 1.2}
-OF_CODE = {"function": 1.8, "type": 1.8, "source": 2.5, "script": 2.5, "module": 1.5, "definition": 1.2}
-OF_PROOFS = {"page": 1.2, "definition": 1.5, "law": 1.5, "module": 2.5, "source": 1.2}
+OF_CODE = {"function": 1.8, "type": 1.8, "source": 2.5, "script": 2.5, "module": 1.5, "definition": 2.0}
+OF_PROOFS = {"page": 1.2, "definition": 2.5, "law": 1.5, "module": 2.5, "source": 1.2}
 # How much an answer counts for each better one of its section, or of its name.
 REPEATED = 0.8
 # What a question how something is done has besides its subject.
@@ -124,10 +130,11 @@ class Index:
     def __init__(self, answers, places, together):
         self.answers, self.places, self.together = answers, places, together
         self.usual = sum(it.length for it in answers) / len(answers)
+        self.asked = Asked([], {}, {})
 
     @classmethod
     def of(cls, answers):
-        """Makes the index of these answers. The sentences of one part have its number."""
+        """Makes the index of these answers, which knows no question yet. The sentences of one part have its number."""
         numbers, having, together, asked = {}, {}, {}, pairs_asked()
         for place, answer in enumerate(answers):
             answer.number = numbers.setdefault(id(answer.it), len(numbers))
@@ -148,16 +155,25 @@ class Index:
             it.number = number
         return found
 
+    def learn(self, asked):
+        """Learns of questions that were asked, each with its answers. Those that this index hasn't don't count. Returns the index."""
+        mine = {id(it) for it in self.answers}
+        asked = [(words, [it for it in found if id(it) in mine]) for words, found in asked]
+        self.asked = Asked.of(self, [(words, found) for words, found in asked if found])
+        return self
+
     @property
     def kept(self):
         """Returns what is kept of it."""
-        return [it.kept for it in self.answers], self.places.packed, self.together
+        return [it.kept for it in self.answers], self.places.packed, self.together, self.asked.kept
 
     @classmethod
     def of_kept(cls, kept):
         """Returns an index that was kept."""
-        answers, packed, together = kept
-        return cls([Answer.of_kept(it) for it in answers], Places(packed), together)
+        answers, packed, together, asked = kept
+        self = cls([Answer.of_kept(it) for it in answers], Places(packed), together)
+        self.asked = Asked(*asked)
+        return self
 
     def rarity(self, stem):
         """Returns how rare a word is: the fewer answers have it, the greater the number."""
@@ -193,26 +209,58 @@ class Index:
                 asked = asked.replace(name, " ")
         return found + (meanings_of(asked.split()) if asked.strip() else [])
 
+    def learned_fits(self, meanings):
+        """Returns for each part of a question the places of the answers that have words which earlier questions with its words taught, each
+        with how well."""
+        known, found = {}, []
+        for own, *_ in meanings:
+            fits = {}
+            for weight, stem in [it for word in own for it in self.asked.learned.get(word, ())]:
+                if stem not in known:
+                    known[stem] = self.fit((stem,))
+                for place, fit in known[stem].items():
+                    fits[place] = fits.get(place, 0) + LEARNED * weight * fit
+            found.append(fits)
+        return found
+
+    def scored(self, meanings, kinds, favoured):
+        """Returns for each part of a page, and for all else, the answer that fits a question best, by its number, with its score."""
+        fits, learned, best = [self.fits(it) for it in meanings], self.learned_fits(meanings), {}
+        rarities = [math.log(1 + len(self.answers) / (1 + len(it))) for it in fits]
+        whole = sum(rarities)
+        for place in {place for it in (*fits, *learned) for place in it}:
+            answer, each = self.answers[place], [(own.get(place, 0), taught.get(place, 0)) for own, taught in zip(fits, learned)]
+            # What was learned covers a part of a question as far as it fits.
+            covered = sum([rarity if own else min(rarity, taught) for rarity, (own, taught) in zip(rarities, each)]) / whole
+            answer.score = sum([own + taught for own, taught in each]) * covered * answer.counts * kinds.get(answer.kind, 1)
+            answer.score *= 1 + TITLE * titled(answer.title, meanings) if answer.title else 1
+            answer.score *= ASKED if answer.path in favoured else 1
+            if answer.number not in best or best[answer.number].score < answer.score:
+                best[answer.number] = answer
+        return best
+
+    def add_asked_before(self, best, meanings):
+        """Adds to the scores of answers at the places of known questions what these are like the new one. The places of one question count
+        one less than the other, so that several questions have a place among the first answers."""
+        top, bonuses = max((it.score for it in best.values()), default=1), {}
+        for likeness, places in self.asked.bonuses(self, meanings):
+            found = [self.answers[place] for place in places]
+            bonus = ASKED_BEFORE * top * likeness**2
+            for it in sorted(found, key=lambda it: -best[it.number].score if it.number in best else 0):
+                bonuses[it.number] = (bonuses.get(it.number, (0, it))[0] + bonus, it)
+                bonus *= ANOTHER_PLACE
+        for number, (bonus, answer) in bonuses.items():
+            if number not in best:
+                answer.score, best[number] = 0, answer
+            best[number].score += bonus
+
     def search(self, words):
         """Returns the answers to a question, the best first: each by its sentence that fits best."""
         asked = " ".join(words).lower()
-        favoured = DOING if HOW.match(asked) else REASONING if WHY.match(asked) else NAMING if WHAT.match(asked) else ()
-        if favoured == DOING:
-            words = [it for it in words if it.lower() not in ANOTHER] or words
-        words = words[2:] if KIND.match(asked) and words[2:] else words
-        meanings = self.meanings(words)
-        fits = [self.fits(it) for it in meanings]
-        rarities = [math.log(1 + len(self.answers) / (1 + len(it))) for it in fits]
-        asked_of, whole, best = kinds_asked(asked), sum(rarities), {}
-        for place in {place for it in fits for place in it}:
-            answer, each = self.answers[place], [it.get(place, 0) for it in fits]
-            covered = sum([rarity for rarity, fit in zip(rarities, each) if fit]) / whole
-            answer.score = sum(each) * covered * answer.counts * (1 + TITLE * titled(answer.title, meanings))
-            answer.score *= asked_of.get(answer.kind, 1)
-            if answer.path in favoured:
-                answer.score *= ASKED
-            if answer.number not in best or best[answer.number].score < answer.score:
-                best[answer.number] = answer
+        favoured = favoured_by(asked)
+        meanings = self.meanings(subject_of(words))
+        best = self.scored(meanings, kinds_asked(asked), favoured)
+        self.add_asked_before(best, meanings)
         topics = {}
         for it in sorted(best.values(), key=lambda it: (-it.score, it.number)):
             it.score *= REPEATED ** topics.get(it.topic, 0)
@@ -223,6 +271,19 @@ class Index:
         named = {it.number: it for it in self.answers if it.name in names}
         found = {at: it for at, it in best.items() if it.score >= least} | {at: best.get(at, it) for at, it in named.items()}
         return sorted(found.values(), key=lambda it: (it.rank, it.number not in named, -it.score, it.number))
+
+
+def favoured_by(asked):
+    """Returns the pages that a question of this form is about most often."""
+    return DOING if HOW.match(asked) else REASONING if WHY.match(asked) else NAMING if WHAT.match(asked) else ()
+
+
+def subject_of(words):
+    """Returns the words of a question that are about its subject."""
+    asked = " ".join(words).lower()
+    if HOW.match(asked):
+        words = [it for it in words if it.lower() not in ANOTHER] or words
+    return words[2:] if KIND.match(asked) and words[2:] else words
 
 
 def titled(title, meanings):
@@ -261,16 +322,17 @@ def answers(sources):
         clauses = " ".join(f"{clause.name} {clause.sentence}" for clause in it.clauses)
         is_test = it.is_test or it.module.startswith("tests")
         kind = "test" if is_test else "law" if it.is_law else "function"
-        counts = 0.8 if is_test else 0.9 if sources.is_open(it) else 0.6
+        counts = 0.8 if is_test else (0.9 if sources.is_open(it) else 0.6) * OF_FUNCTIONS
         yield Answer(kind, it, counts, [(NAME, it.name), (CONTEXT, it.full), (SENTENCE, it.sentence), (TEXT, clauses), (TEXT, strings), (REST, comments)])
     for module in sources.specs.modules.values():
         for it in module.definitions.values():
             context = f"{module.crate} {module.inside}"
-            yield Answer("definition", it, 0.6 if module.helps() else 1.0, [(NAME, it.name), (SENTENCE, it.sentence), (TEXT, it.text), (CONTEXT, context)])
+            counts = (0.6 if module.helps() else 1.0) * OF_DEFINITIONS
+            yield Answer("definition", it, counts, [(NAME, it.name), (SENTENCE, it.sentence), (TEXT, it.text), (CONTEXT, context)])
     for crate in sources.crates:
         for it in types_of(crate):
             if "/src/tests" not in it.path:
-                yield Answer("type", it, 0.9, [(NAME, it.name), (SENTENCE, it.text), (TEXT, it.about), (CONTEXT, crate)])
+                yield Answer("type", it, 0.9 * OF_FUNCTIONS, [(NAME, it.name), (SENTENCE, it.text), (TEXT, it.about), (CONTEXT, crate)])
     for kind, it in (*sources_and_modules(), *(("script", it) for it in scripts())):
         yield Answer(kind, it, OF_SCRIPTS.get(it.heading, OF_FILES), [(NAME, it.name), (SENTENCE, it.text), (CONTEXT, f"{it.path} {it.heading}"), (REST, it.about)])
     for it in all_sections():

@@ -74,13 +74,16 @@ def sum_of_texts():
 
 def made():
     """Makes both indexes and the texts, as octets."""
+    from .asked import known_questions
     from .finding import text_of_answer
     from .index import answers
     from .sources import Sources
 
     sources = Sources()
     index = Index.of(list(answers(sources)))
-    code, texts, ends = index.of_code(), [], []
+    asked = known_questions(index.answers)
+    index.learn(asked)
+    code, texts, ends = index.of_code().learn(asked), [], []
     for answer in index.answers:
         if answer.number == len(texts):
             texts.append(text_of_answer(sources, answer).encode())

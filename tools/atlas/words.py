@@ -7,9 +7,9 @@ from .parts import OTHERS, parts_of
 
 # Words that any question may have, whatever it is about.
 IDLE = frozenset(
-    "a able about across actually after again against also am an and another anybody anyone anything anywhere are arent around as at available be been before behave behaves being between both by can cannot cant code could defined described did difference differences differ do documented does doesnt done dont during "
-    "each else ever everybody everyone everything exactly explained for from get gets give gives giving going good had happen happened happens has have here how i if implemented in into is isnt it its itself just kind "
-    "kinds know like made makes maybe many matter matters may me mean means might much must my myself of often on one only or our per please possible possibly provide provided provides really said say says see shall should so some somebody someone something stated still support supported supports "
+    "a able about across actually after again against almost already also am an and another anybody anyone anything anywhere are arent around as at available be been before behave behaves being between big bigger both by can cannot cant code could defined described did difference differences differ do documented does doesnt done dont during "
+    "each else ever everybody everyone everything exactly explained for from get gets give gives giving going good had happen happened happens has have here how i if implemented in instead into is isnt it its itself just kind "
+    "kinds know like made makes maybe many matter matters may me mean means might much must my myself of often on one only or our per please possible possibly provide provided provides rather really said say says see shall should so some somebody someone something stated still support supported supports "
     "struct such tell tells than that the their them then there these they thing things this those through to too toward towards treat treated treats two upon us use used uses using very via want wants was way ways well "
     "we were what when where whether which while who whose why will with work works would written yet you your".split()
 )
@@ -36,6 +36,8 @@ LEFT = re.compile(r"(?<=\w{3}[^e])at$")
 def words_of(text):
     """Returns the words of a text. `VBR.1` is `vbr1`, and a name of several words is these words."""
     text = re.sub(r"\b[cC]\+\+", " cplusplus ", text)
+    # VCIs are several of a VCI.
+    text = re.sub(r"\b([A-Z]{2,})s\b", r"\1", text)
     text = re.sub(r"(?<=[a-z0-9])(?=[A-Z])|(?<=[A-Z])(?=[A-Z][a-z])", " ", re.sub(r"(?<=\w)\.(?:rt|antt|md)\b", " ", text))
     return re.findall(r"[a-z0-9]+", re.sub(r"(?<=[a-z])\.(?=\d)|(?<=[a-z])'(?=[a-z])", "", text.lower()))
 
