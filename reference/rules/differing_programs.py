@@ -63,7 +63,7 @@ class OfProgram:
 
 def code_of(program, text):
     """Returns the digits of the code of a text of rules, or those of a program that returns 0 if it has none."""
-    run = subprocess.run([program, "rules"], input=text.encode(), stdout=subprocess.PIPE, check=False)
+    run = subprocess.run([program, "rules"], input=text.encode(), stdout=subprocess.PIPE, stderr=subprocess.DEVNULL, check=False)
     return run.stdout.decode().split("\n")[1] if run.returncode == 0 else "0006000000000000"
 
 

@@ -47,7 +47,7 @@ def values(text):
 
 def values_here(program, text):
     """Returns the same values by the code that the program makes."""
-    ran = subprocess.run([program, "rules"], input=text.encode(), stdout=subprocess.PIPE, check=False)
+    ran = subprocess.run([program, "rules"], input=text.encode(), stdout=subprocess.PIPE, stderr=subprocess.DEVNULL, check=False)
     lines = ran.stdout.decode().split("\n")
     if not lines[0].startswith("accepted"):
         return lines[0]
