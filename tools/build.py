@@ -17,12 +17,14 @@ from pathlib import Path
 
 import kit
 
-# About the seconds of a processor that a crate takes. Only their proportions matter, for the order. A crate that isn't here takes one
-# for each LINES lines.
+# About the seconds that one processor takes for a crate, where four are at work. Only their proportions matter, for the order. A crate that isn't
+# here takes one for each LINES lines.
 SECONDS = {
-    "bpf_code": 80, "bpf_verify": 80, "bpf_interp": 70, "bpf_asm": 205, "upc_cell": 30, "gen_arena": 70, "leaky": 40, "line_record": 125,
-    "card_core": 300, "text_io": 100, "text_words": 55, "text_script": 130, "text_card": 30,
-    "cmd_programs": 60, "cmd_run": 230, "cmd_ports": 470, "text_command_line": 100,
+    "upc_cell": 30, "gen_arena": 50, "leaky": 60, "vc_table": 60, "bpf_code": 65, "bpf_verify": 65, "bpf_interp": 65, "bpf_asm": 130, "line_record": 105,
+    "card_core": 140, "port_card": 350, "text_io": 100, "text_words": 100, "text_script": 100, "text_card": 65, "text_command_line": 100,
+    "rules_code": 95, "rules_cells": 55, "rules_diagrams": 185, "rules_text": 185, "captures": 120, "captures_text": 200, "cmd_programs": 50, "cmd_run": 60,
+    "cmd_ports": 260, "cmd_list": 80, "cmd_rules": 95, "cmd_size": 60, "cmd_differ": 160, "cmd_explain_script": 100, "cmd_explain": 270, "cmd_fit": 150,
+    "cmd_police": 230, "cmd_forward": 75, "cmd_options": 75,
 }
 LINES = 12
 
