@@ -40,6 +40,7 @@ CONTENTS = (
     (0x87, 0x02, 80, 28),
     (2, 0x04, 68, OTHER.format(2)),
     (0x82, 0x34, 68, OTHER.format(2)),
+    (48, 0x04, 16, OTHER.format(48)),
     (3, 0x14, 68, ERRORED),
     (7, 0x20, 72, ERRORED),
     (3, 0x04, 67, SHORT),
@@ -116,6 +117,7 @@ FILES = (
     (bytes(16), "capture 2 ShortLength 0 0"),
     (b"\xa1\xb2\xc3\xd4            ", "capture 1 CutOff 0"),
     (b"\x4d\x3c\xb2\xa1            ", "capture 1 CutOff 0"),
+    (b"\x0a\x0d\x0d\x0a            ", "capture 8 OtherMagic 538976288 0"),
     (b"\x1f\x8b\x08\x00            ", "file 1 Gzip"),
     (b"\xfd7zXZ\x00\x00\x04        ", "file 4 Xz"),
     (b"BZh91AY&SY\x00\x00\x00\x00\x00\x00", "file 5 Bzip2"),
@@ -209,7 +211,8 @@ def of_times():
     before = octets_of(3, 4, 68, START - 1)[:68]
     yield of_cells(first + before, line(16) + passed_over("a time before that of an earlier cell", 2))
     first, last = octets_of(3, 4, 68, 0)[:68], octets_of(3, 4, 68, 2**64 - 1)[:68]
-    yield of_cells(first + last, line(16) + line(16, 4_294_967_296_000_000_000), "--tick", "1ns")
+    for tick, moment in ((1, 4_294_967_296_000_000_000), (2**64 - 1, 0)):
+        yield of_cells(first + last, line(16) + line(16, moment), "--tick", f"{tick}ns")
 
 
 def cases():

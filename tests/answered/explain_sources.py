@@ -1,5 +1,5 @@
 """Each fault of a source, as `upc-lab explain` explains it."""
-from .case import explained
+from .case import check_variants, explained
 
 # The first lines of a source, the number of lines `tax` after them, the last lines, and the whole answer.
 SOURCES = (
@@ -153,7 +153,14 @@ SOURCES = (
 )
 
 
+# No source has a jump that leaves the program: a label names one of its lines.
+NEVER = {"verify": {"JumpOutside"}, "asm": {"NoMemory"}}
+
+
 def cases():
     """Yields the explanation of each source."""
+    for group, path, name in (("asm", "crates/bpf_asm/src/fault.rt", "AsmKind"), ("verify", "crates/bpf_verify/src/fault.rt", "Fault")):
+        met = {answer.split()[3].decode() for *_, answer in SOURCES if answer.startswith(f"fault {group} ".encode())}
+        check_variants(path, name, met, NEVER[group])
     for first, count, last, answer in SOURCES:
         yield explained(b"source\n" + first + count * b"tax\n" + last, answer)

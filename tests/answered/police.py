@@ -120,12 +120,23 @@ LIMITS = (
 )
 
 
+# Captures of 65,536 cells of one moment, the increment, and the fault: together the cells of one connection are 2^64 ticks, the second has a
+# connection for each cell.
+TOO_MUCH = (
+    (65_536 * record_of(0, 5), 2**48, "2 TooLarge"),
+    (b"".join(record_of(0, number) for number in range(65_536)), 1, "1 TooManyConnections"),
+)
+
+
 def of_fit():
     """Yields least limits."""
     for count, words, rules, answer in LIMITS:
         files = {} if rules is None else {"rules": rules}
         words = ("upc-lab", "fit", "--tick", "1s", *words.split())
         yield Case(words, capture_of(*RECORDS[:count]), answer.encode(), int("fault " in answer), files)
+    for capture, increment, fault in TOO_MUCH:
+        words = ("upc-lab", "fit", "--increment", str(increment))
+        yield Case(words, capture, f"fault fit {fault} 65536\n".encode(), 1)
 
 
 # Words that a subcommand refuses.
@@ -138,6 +149,13 @@ WRONG = (
         "a --threads two", "--lines none"),
     ("explain", "a.setup", "--setup", "--setup=", "--setup a --setup b"),
 )
+# The output for two cells, of which the second is of another link.
+LINKED = b"""\
+vpi\tvci\tpassed\ttagged\tdiscarded\trefused
+1\t5\t1\t0\t0\t0
+# a tick is 100 ns
+# 1 passed over: another link; first record 2
+"""
 # Words that a subcommand takes, and what it prints of a cell at interface 1 that comes first and of one at interface 3, a second and a half later.
 TAKEN = (
     ("cells --link 1", "cell 0 {one}\n# 1 passed over: another link; first record 2\n"),
@@ -156,6 +174,10 @@ def of_words():
             yield Case(("upc-lab", name, *line.split()), b"", b"", 2, errors=None)
     for line in ("--help", "-h", "--tick 1us --help"):
         yield Case(("upc-lab", "cells", *line.split()), b"", b"", 0, seen=lambda text: text[:0] if b"--link <LINK>" in text else text)
+    # The setup is a file with the name of a word.
+    words = "--lines=none --threads=2 --link=3 -- --tick".split()
+    yield Case(("upc-lab", "police", *words), capture_of((0, 5, 3), (1, 5)), LINKED, 0, {"--tick": ONE})
+    yield Case(("upc-lab", "explain", "--setup=--tick"), b"", b"no fault in 3 lines\n", 0, {"--tick": ONE})
     one, other = record_of(0, 5, 1), struct.pack("<II", 0x8000_0000, 1) + record_of(0, 5, 3)[8:]
     for line, answer in TAKEN:
         text = answer.format(one=one[16:].hex(), other=other[16:].hex())

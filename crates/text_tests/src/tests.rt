@@ -1,7 +1,10 @@
 //! One module for each group of crates.
 
 mod choices;
+mod comparisons;
 mod devices;
+mod expecting;
+mod faults;
 mod lines;
 mod ports;
 mod programs;

@@ -1,0 +1,65 @@
+//! The text of each fault of captures, of records that hold no cell, and of least limits. No one input shows all their numbers.
+
+use super::expecting::expect_printed;
+use captures::{Fault, FileFault, NoCell, RecordFault};
+use cmd_fit::FitFault;
+use std::test::Fail;
+
+/// Why octets are no record.
+const REASONS: [(RecordFault, &str); 14] = [
+    (RecordFault::CutOff, "1 CutOff"),
+    (RecordFault::ShortLength(15), "2 ShortLength 15"),
+    (RecordFault::LongLength(65536), "3 LongLength 65536"),
+    (RecordFault::ShortRecord, "4 ShortRecord"),
+    (RecordFault::TooFar, "5 TooFar"),
+    (RecordFault::OddLength(30), "6 OddLength 30"),
+    (RecordFault::LengthsDiffer(32), "7 LengthsDiffer 32"),
+    (RecordFault::OtherMagic(1), "8 OtherMagic 1"),
+    (RecordFault::OtherVersion(2), "9 OtherVersion 2"),
+    (RecordFault::ShortBlock(24), "10 ShortBlock 24"),
+    (RecordFault::OtherLink(1), "11 OtherLink 1"),
+    (RecordFault::NoInterface(1), "12 NoInterface 1"),
+    (RecordFault::LongPacket(69), "13 LongPacket 69"),
+    (RecordFault::ShortText, "14 ShortText"),
+];
+
+/// Why files aren't read.
+const FILE_FAULTS: [(FileFault, &str); 7] = [
+    (FileFault::Gzip, "1 Gzip"),
+    (FileFault::OtherLink(1), "2 OtherLink 1"),
+    (FileFault::Text, "3 Text"),
+    (FileFault::Xz, "4 Xz"),
+    (FileFault::Bzip2, "5 Bzip2"),
+    (FileFault::Zstd, "6 Zstd"),
+    (FileFault::Empty, "7 Empty"),
+];
+
+/// Why records hold no cell.
+const NO_CELLS: [(NoCell, &str); 3] = [
+    (NoCell::OtherType(48), "1 OtherType 48"),
+    (NoCell::Errored, "2 Errored"),
+    (NoCell::CutShort(51), "3 CutShort 51"),
+];
+
+/// Why there are no least limits.
+const FIT_FAULTS: [(FitFault, &str); 2] = [
+    (FitFault::TooManyConnections, "1 TooManyConnections"),
+    (FitFault::TooLarge, "2 TooLarge"),
+];
+
+#[test]
+fn faults_of_captures_as_text(rt: HostRuntime) -> Result<(), Fail> {
+    let fault = Fault {
+        at: 136,
+        reason: RecordFault::ShortLength(15),
+    };
+    expect_printed(&rt, rt.alloc(), &[(fault, "136 2 ShortLength 15")])?;
+    expect_printed(&rt, rt.alloc(), &REASONS)?;
+    expect_printed(&rt, rt.alloc(), &FILE_FAULTS)?;
+    expect_printed(&rt, rt.alloc(), &NO_CELLS)
+}
+
+#[test]
+fn faults_of_least_limits_as_text(rt: HostRuntime) -> Result<(), Fail> {
+    expect_printed(&rt, rt.alloc(), &FIT_FAULTS)
+}
