@@ -16,8 +16,8 @@ use Rattle.cmd_explain.specs.Explained.{ExplainsCode, ExplainsSource, ExplainsWi
 use Rattle.cmd_explain.specs.FaultSentences.{IsFaultsText, PrintsFaults, most_fault_octets}
 use Rattle.cmd_explain.specs.InputKinds.{faults_after, rules_after, source_after}
 use Rattle.cmd_explain.specs.inner.FaultsTotal.{faults-answered}
-use Rattle.cmd_explain.proofs.RulesAnswered.{ended-rules_explained}
-use Rattle.cmd_explain.specs.RulesExplained.{MayBeRulesExplained}
+use Rattle.cmd_explain_rules.proofs.Public.{ended-rules_explained}
+use Rattle.cmd_explain_rules.specs.RulesExplained.{MayBeRulesExplained}
 use Rattle.cmd_explain.specs.SourceHints.{hints_of}
 use Rattle.cmd_explain.specs.LinesFound.{instruction_lines}
 use Rattle.cmd_explain.specs.SourceReasons.{source_explanation}
@@ -132,20 +132,3 @@ some-input_answer octets (Some source) = some-source_text source
 
 pub some-explain_text : (octets : List ℕ) → (text : List ℕ) × (done : Done) × IsExplainText octets text done
 some-explain_text octets = some-input_answer octets (source_after octets)
-
--- One octet more than the limit is over the limit.
-gathered-none : (octets : List ℕ) → length octets ≡ most_source_octets + 1 → gathered most_source_octets octets ≡ None
-gathered-none octets sized = ap (λ n. if nat_lt most_source_octets n then None else Some octets) sized
-
--- The octets read are enough for the answer, whatever is printed for an input within the limit.
-pub enough : (Prints : List ℕ → List ℕ → Done → Type 0) (octets left : List ℕ) (found : Option (List ℕ)) (text : List ℕ) (done : Done)
-    → found ≡ gathered most_source_octets octets → LeavesAfter most_source_octets found octets left → AnswersGathered too_long Prints found text done
-    → TakesEnough (λ needed. (answered : List ℕ) × AnswersGathered too_long Prints (gathered most_source_octets needed) answered done) most_ahead octets left
-enough Prints octets left None text done is later prints =
-    let P : Option (List ℕ) → Type 0 = λ found. AnswersGathered too_long Prints found text done in
-    let none : length {A = ℕ} [] ≤ most_ahead = omega arith in
-    (later.0, [], later.1, none, (text, subst P (sym (gathered-none later.0 later.2)) prints))
-enough Prints octets left (Some source) text done is later prints =
-    let P : Option (List ℕ) → Type 0 = λ found. AnswersGathered too_long Prints found text done in
-    let none : length {A = ℕ} [] ≤ most_ahead = omega arith in
-    (octets, [], sym (append-nil octets) ∙ ap (λ xs. octets ++ xs) (sym later), none, (text, subst P is prints))

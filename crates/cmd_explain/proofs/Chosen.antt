@@ -21,8 +21,8 @@ use Rattle.cmd_explain.specs.Explained.{IsExplainText, IsExplainedBy, IsFaultsOr
 use Rattle.cmd_explain.specs.FaultSentences.{IsFaultsText}
 use Rattle.cmd_explain.specs.InputKinds.{PassesFirst, after_first, after_word, is_alone, is_word_line, faults_after, rules_after, source_after}
 use Rattle.cmd_explain.specs.declared.first_line.InputKind.TheVariants.{Script}
-use Rattle.cmd_explain.proofs.RulesAnswered.{ended-rules_explained}
-use Rattle.cmd_explain.specs.RulesExplained.{MayBeRulesExplained}
+use Rattle.cmd_explain_rules.proofs.Public.{ended-rules_explained}
+use Rattle.cmd_explain_rules.specs.RulesExplained.{MayBeRulesExplained}
 use Rattle.cmd_explain.proofs.Answered.{empty-source_answer, no-faults_answer}
 use Rattle.cmd_explain.proofs.WordFront.{WordFront, last_line, word_front}
 use Rattle.cmd_explain_script.specs.ScriptText.{ExplainsLine, IsScriptExplained, ScriptWorld, after_answer, before_script, script_rules}

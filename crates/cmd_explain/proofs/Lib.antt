@@ -1,10 +1,7 @@
 pub mod Answered
 pub mod Chosen
-pub mod HintedAnswers
-pub mod Joined
 pub mod Outside
 pub mod Public
-pub mod RulesAnswered
 pub mod SameFaults
 pub mod WordFront
 pub mod FirstLineRead

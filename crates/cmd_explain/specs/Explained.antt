@@ -14,7 +14,7 @@ use Rattle.cmd_explain.specs.CodeReasons.{IsCodeExplanation}
 use Rattle.cmd_explain.specs.SourceHints.{hints_of}
 use Rattle.cmd_explain.specs.FaultSentences.{IsFaultsText}
 use Rattle.cmd_explain.specs.InputKinds.{faults_after, rules_after, source_after}
-use Rattle.cmd_explain.specs.RulesExplained.{IsRulesExplained, MayBeRulesExplained}
+use Rattle.cmd_explain_rules.specs.RulesExplained.{IsRulesExplained, MayBeRulesExplained}
 use Rattle.cmd_explain.specs.SourceReasons.{source_explanation}
 use Rattle.cmd_explain_script.specs.ScriptText.{IsScriptExplained}
 use Rattle.text_io.specs.Gathered.{gathered}

@@ -7,17 +7,6 @@ pub mod SourceReasons
 pub mod CodePaths
 pub mod CodeReasons
 pub mod SourceHints
-pub mod WordsFound
-pub mod Parts
-pub mod Spots
-pub mod Reasons
-pub mod RuleLines
-pub mod NearNames
-pub mod MeantWords
-pub mod RuleReasons
-pub mod RuleHints
-pub mod HintComments
-pub mod RulesExplained
 pub mod FaultSentences
 pub mod InputKinds
 pub mod Explained

@@ -2,5 +2,3 @@
 pub mod FaultsTotal
 pub mod FirstLines
 pub mod Leading
-pub mod CommentsFound
-pub mod SomeAnswer

@@ -8,8 +8,9 @@ ghost use Rattle.cmd_explain.specs.Forms.{known_mnemonics, near_among};
 ghost use Rattle.cmd_explain.specs.FoundTokens.{token_octets};
 
 use crate::forms::{Form, form_of, most_fitting, near, operands_text};
-use crate::tokens::{FoundToken, digit, is_name, token_octets};
+use crate::tokens::{FoundToken, is_name, token_octets};
 use bpf_asm::number;
+use cmd_explain_rules::digit;
 use cmd_explain_script::{add_perhaps, add_quoted};
 use std::alloc::AllocError;
 use text_words::add_text;

@@ -8,12 +8,12 @@ ghost use Rattle.cmd_explain.specs.Explained.{ExplainsCode, ExplainsSource, Expl
 use crate::code_faults::add_code_explanation;
 use crate::fault_sentences::explain_fault_lines;
 use crate::first_line::{Ahead, InputKind};
-use crate::rules_explained::explain_rules;
 use crate::source_faults::add_source_explanation;
 use crate::source_hints::add_hints;
 use bpf_asm::{AsmFault, AsmKind, assemble};
 use bpf_code::Instr;
 use bpf_verify::first_fault;
+use cmd_explain_rules::explain_rules;
 use cmd_explain_script::explain_script;
 use cmd_programs::{add_accepted, add_asm_fault, add_verify_fault};
 use std::alloc::{AllocError, Global};

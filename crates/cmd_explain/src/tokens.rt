@@ -7,6 +7,7 @@ ghost use Rattle.text_io.specs.Words.{is_blank, is_digit};
 ghost use Rattle.cmd_explain.specs.FoundTokens.{after_label, begins_token, found_tokens, is_label, is_name, label_of, run_size, token_here, token_octets, token_size};
 ghost use Rattle.cmd_explain.specs.LinesFound.{is_same_label};
 
+use cmd_explain_rules::{after, digit, front, word_octet};
 use std::alloc::{AllocError, Global};
 
 /// A token of a line.
@@ -16,23 +17,6 @@ pub struct FoundToken {
     pub column: usize,
     /// How many octets it has.
     pub size: usize,
-}
-
-/// Returns whether an octet belongs to words: an ASCII letter, a digit or `_`.
-pub(crate) fn word_octet(octet: u8) -> bool
-    ensures { result ≡ is_word octet }
-{
-    digit(octet)
-        || (b'A' <= octet && octet <= b'Z')
-        || (b'a' <= octet && octet <= b'z')
-        || octet == b'_'
-}
-
-/// Returns whether an octet is an ASCII digit.
-pub(crate) fn digit(octet: u8) -> bool
-    ensures { result ≡ is_digit octet }
-{
-    b'0' <= octet && octet <= b'9'
 }
 
 /// Returns how many octets of a word a text begins with.
@@ -131,28 +115,6 @@ pub(crate) fn tokens_of(alloc: Global, text: &[u8]) -> Result<Vec<FoundToken>, A
         left = rest;
     }
     Ok(tokens)
-}
-
-/// Returns the first octets of a text, at most this many.
-pub(crate) fn front(text: &[u8], size: usize) -> &[u8]
-    ensures { result.now ≡ take size text.now }
-{
-    if size < text.len() {
-        &text[..size]
-    } else {
-        text
-    }
-}
-
-/// Returns what follows this many octets of a text.
-pub(crate) fn after(text: &[u8], size: usize) -> &[u8]
-    ensures { result.now ≡ drop size text.now }
-{
-    if size < text.len() {
-        &text[size..]
-    } else {
-        &text[text.len()..]
-    }
 }
 
 /// Returns the octets of a token of a line.

@@ -9,8 +9,8 @@ use Rattle.text_io.specs.declared.ending.Done.{Done}
 use Rattle.text_io.specs.declared.ending.Done.TheVariants.{Ended}
 use Rattle.cmd_police.specs.declared.scope.PoliceScope.{PoliceScope}
 use Rattle.cmd_police.proofs.EachCapture.{some_police_text}
-use Rattle.cmd_explain.specs.RuleReasons.{rule_explanation}
-use Rattle.cmd_explain.specs.RulesExplained.{IsFaultOfText}
+use Rattle.cmd_explain_rules.specs.RuleReasons.{rule_explanation}
+use Rattle.cmd_explain_rules.specs.RulesExplained.{IsFaultOfText}
 use Rattle.cmd_rules.specs.RuleFaults.{rule_fault}
 use Rattle.cmd_rules.specs.RulesAnswers.{most_rules_octets}
 use Rattle.text_words.specs.FaultLines.{too_long}

@@ -6,8 +6,8 @@ use Rattle.rules_text.specs.TextOfRules.{PlacedRulesRead, placed_rules_in, place
 use Rattle.rules_text.specs.declared.fault.RuleFault.{RuleFault}
 use Rattle.rules_text.specs.declared.fault.RuleKind.TheVariants.{NoMemory}
 use Rattle.text_io.specs.Gathered.{gathered}
-use Rattle.cmd_explain.specs.RuleReasons.{rule_explanation}
-use Rattle.cmd_explain.specs.RulesExplained.{IsFaultOfText}
+use Rattle.cmd_explain_rules.specs.RuleReasons.{rule_explanation}
+use Rattle.cmd_explain_rules.specs.RulesExplained.{IsFaultOfText}
 use Rattle.cmd_rules.specs.RuleFaults.{rule_fault}
 use Rattle.cmd_rules.specs.RulesAnswers.{most_rules_octets}
 use Rattle.cmd_police.specs.RulesFiles.{IsFaultOfRules, TellsFault}

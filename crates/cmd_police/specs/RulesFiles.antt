@@ -5,8 +5,8 @@ use Rattle.bpf_code.specs.OctetSpelling.{SpellsCode}
 use Rattle.bpf_code.specs.declared.instr.Instr.{Instr}
 use Rattle.bpf_verify.specs.Accepted.{IsAccepted}
 use Rattle.hex.specs.Hex.{encode_lower}
-use Rattle.cmd_explain.specs.RuleReasons.{rule_explanation}
-use Rattle.cmd_explain.specs.RulesExplained.{IsFaultOfText}
+use Rattle.cmd_explain_rules.specs.RuleReasons.{rule_explanation}
+use Rattle.cmd_explain_rules.specs.RulesExplained.{IsFaultOfText}
 use Rattle.cmd_rules.specs.RuleFaults.{rule_fault}
 use Rattle.cmd_rules.specs.RulesAnswers.{most_rules_octets}
 use Rattle.rules_text.specs.CodeOfText.{IsCodeOfText}

@@ -3,7 +3,7 @@
 ghost use Rattle.std.specs.Prelude.{◌≡◌, ◌++◌, IfOk, OnOk, MatchOption};
 ghost use Rattle.std.specs.String.{string_bytes};
 ghost use Rattle.hex.specs.Hex.{IsBytes, encode_lower};
-ghost use Rattle.cmd_explain.specs.RuleReasons.{rule_explanation};
+ghost use Rattle.cmd_explain_rules.specs.RuleReasons.{rule_explanation};
 ghost use Rattle.cmd_rules.specs.RuleFaults.{rule_fault};
 ghost use Rattle.text_words.specs.FaultLines.{too_long};
 ghost use Rattle.cmd_police.specs.RulesFiles.{IsFaultOfRules, IsReadAgain, program_digits, too_large_text};
@@ -11,7 +11,7 @@ ghost use Rattle.cmd_police.specs.SetupPrograms.{load_line};
 ghost use Rattle.cmd_police.specs.inner.Expansion.{CompilesTo, GrowsByProgram};
 
 use bpf_code::{Instr, encode};
-use cmd_explain::add_rule_explanation;
+use cmd_explain_rules::add_rule_explanation;
 use cmd_rules::add_rule_fault;
 use rules_text::{RuleFault, RuleKind, compile_text};
 use std::alloc::{AllocError, Global};

@@ -6,7 +6,7 @@ use Rattle.text_io.specs.declared.device.Output.{Ghosts as OutputView}
 use Rattle.text_io.specs.declared.ending.Done.{Done}
 use Rattle.text_io.specs.declared.ending.RunFault.{RunFault}
 use Rattle.text_command_line.specs.Messages.{WritesMessage}
-use Rattle.cmd_explain.specs.HintComments.{MayBeHintComments}
+use Rattle.cmd_explain_rules.specs.HintComments.{MayBeHintComments}
 use Rattle.upc_lab.specs.RulesRun.{ReportsHints}
 
 pub reports_hints : {Errors : Type 0} (message : RunFault → List ℕ) (octets : List ℕ) (E : OutputView Errors) (errors errors' : Errors) (ended : Result Done RunFault) (comments : List ℕ)

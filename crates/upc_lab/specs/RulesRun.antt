@@ -8,7 +8,7 @@ use Rattle.text_io.specs.declared.ending.Done.{Done}
 use Rattle.text_io.specs.declared.ending.RunFault.{RunFault}
 use Rattle.text_command_line.specs.ExitStatus.{status_of}
 use Rattle.text_command_line.specs.Messages.{WritesMessage}
-use Rattle.cmd_explain.specs.HintComments.{MayBeHintComments}
+use Rattle.cmd_explain_rules.specs.HintComments.{MayBeHintComments}
 use Rattle.cmd_rules.specs.RulesText.{IsRulesText, MayBeRulesText}
 
 -- After a run the comments about these octets were written to the error output. After a failed one only the message of its fault was.

@@ -2,7 +2,7 @@
 
 ghost use Rattle.std.specs.Prelude.{◌≡◌, ◌||◌, not, ℕ, List, [], IfOk, OnOk};
 ghost use Rattle.std.specs.Str.{bytes_eq};
-ghost use Rattle.cmd_explain.specs.HintComments.{AreHintsAbout, text_of_comments};
+ghost use Rattle.cmd_explain_rules.specs.HintComments.{AreHintsAbout, text_of_comments};
 ghost use Rattle.cmd_police.specs.FilesRead.{octets_of_name, octets_of_names};
 ghost use Rattle.cmd_police.specs.RulesFiles.{octets_of_texts};
 ghost use Rattle.text_io.specs.Devices.{Adds};
@@ -12,7 +12,7 @@ ghost use Rattle.upc_lab.specs.inner.NamesMet.{HasNames, has_name};
 
 use crate::file_names::add_shown_name;
 use crate::named_files::NamedFiles;
-use cmd_explain::{Comments, add_hints_about};
+use cmd_explain_rules::{Comments, add_hints_about};
 use cmd_police::{SharedText, files_read, hints_of_setup};
 use std::alloc::{AllocError, Global};
 use std::collections::BTreeSet;

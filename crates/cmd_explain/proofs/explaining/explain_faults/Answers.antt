@@ -5,7 +5,7 @@ use Rattle.cmd_explain.specs.Explained.{IsExplainText, IsSourceText, IsWholeExpl
 use Rattle.cmd_explain.specs.FaultSentences.{IsFaultsText}
 use Rattle.cmd_explain.specs.InputKinds.{PassesFirst}
 use Rattle.cmd_explain.specs.declared.first_line.InputKind.{InputKind}
-use Rattle.cmd_explain.specs.RulesExplained.{IsRulesExplained, MayBeRulesExplained}
+use Rattle.cmd_explain_rules.specs.RulesExplained.{IsRulesExplained, MayBeRulesExplained}
 use Rattle.cmd_explain.proofs.Answered.{some-explain_text}
 use Rattle.cmd_explain.proofs.Chosen.{adds_after, faults_follow, rules_follow, script_printed, served_after, served_script, source_follows}
 use Rattle.cmd_explain.proofs.explaining.explain_faults.Goals as goal

@@ -6,7 +6,8 @@ use Rattle.text_io.specs.Limits.{most_ahead}
 use Rattle.text_io.specs.declared.ending.Done.{Done}
 use Rattle.text_io.proofs.Public.{nothing-begins}
 use Rattle.cmd_explain.specs.Explained.{ExplainsSource, IsSourceText}
-use Rattle.cmd_explain.proofs.Answered.{enough, some-source_text}
+use Rattle.cmd_explain.proofs.Answered.{some-source_text}
+use Rattle.cmd_explain_rules.proofs.Public.{enough}
 use Rattle.cmd_explain.proofs.explaining.explain_gathered.Goals as goal
 
 pub returns-in-Err : goal.returns-in-Err

@@ -1,5 +1,5 @@
 -- The effect is that of the run, and of its hints or its message.
-use Rattle.cmd_explain.specs.HintComments.{text_of_comments}
+use Rattle.cmd_explain_rules.specs.HintComments.{text_of_comments}
 use Rattle.upc_lab.proofs.Hinting.{reports_hints}
 use Rattle.upc_lab.proofs.invocation.compile_and_write_hints.Goals as goal
 

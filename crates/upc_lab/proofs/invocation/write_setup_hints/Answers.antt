@@ -1,6 +1,6 @@
 -- The words name a setup script, whose hints are written, or they don't.
 use Rattle.std.proofs.Common.{refl, sym, ◌∙◌}
-use Rattle.cmd_explain.specs.HintComments.{text_of_comments}
+use Rattle.cmd_explain_rules.specs.HintComments.{text_of_comments}
 use Rattle.upc_lab.specs.NamedFiles.{setup_name}
 use Rattle.upc_lab.proofs.Hinting.{with_setup, without_setup}
 use Rattle.upc_lab.proofs.invocation.write_setup_hints.Goals as goal

@@ -1,0 +1,13 @@
+-- Texts of rules, explained. Read the modules in this order:
+pub mod WordsFound
+pub mod Parts
+pub mod Spots
+pub mod Reasons
+pub mod RuleLines
+pub mod NearNames
+pub mod MeantWords
+pub mod RuleReasons
+pub mod RuleHints
+pub mod HintComments
+pub mod RulesExplained
+pub mod inner

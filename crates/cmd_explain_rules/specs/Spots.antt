@@ -1,0 +1,112 @@
+-- What may come next in a line of rules, by the tokens before it.
+use Rattle.std.specs.Prelude.{ℕ, Bool, true, false, if◌then◌else◌, nat_lt, List, [], ◌∷◌}
+use Rattle.cmd_explain_rules.specs.Parts.{part_of}
+use Rattle.cmd_explain_rules.specs.WordsFound.{rule_word_octets}
+use Rattle.cmd_explain_rules.specs.declared.token_parts.Part.{Part}
+use Rattle.cmd_explain_rules.specs.declared.token_parts.Part.TheVariants as part
+use Rattle.cmd_explain_rules.specs.declared.token_parts.Subject.{Subject}
+use Rattle.cmd_explain_rules.specs.declared.token_parts.Subject.TheVariants as about
+use Rattle.cmd_explain_rules.specs.declared.spots.Place.{Place}
+use Rattle.cmd_explain_rules.specs.declared.spots.Place.TheVariants as here
+use Rattle.cmd_explain_rules.specs.declared.spots.Spot.{Spot}
+use Rattle.cmd_explain_rules.specs.declared.rule_tokens.RuleWord.{RuleWord}
+
+-- What comes after a number. A number where a test may begin is a path.
+abbrev pub after_number : Place → Place
+after_number here.Start = here.Slash
+after_number here.Unit = here.Slash
+after_number here.Body = here.Dots
+after_number here.Offset = here.Relation
+after_number here.Mask = here.Sign
+after_number here.Constant = here.Operator
+after_number here.Relation = here.Dots
+after_number here.Sign = here.Dots
+after_number here.Low = here.Dots
+after_number here.Channel = here.Dots
+after_number here.High = here.Comma
+after_number here.Value = here.End
+after_number other = other
+
+-- What comes after a name: it is a test where one may begin, a list where a number may come, and a contract where a value may.
+abbrev pub after_name : Place → Place
+after_name here.Start = here.Operator
+after_name here.Unit = here.Operator
+after_name here.Body = here.Comma
+after_name here.Relation = here.Comma
+after_name here.Sign = here.Comma
+after_name here.Low = here.Comma
+after_name here.Channel = here.Comma
+after_name here.NewName = here.Equal
+after_name here.Value = here.End
+after_name other = other
+
+-- What comes after `=` or `!=`: what a new name means, or a number.
+abbrev pub after_equal : Bool → Place → Place
+after_equal true here.Equal = here.Body
+after_equal false here.Equal = here.Value
+after_equal defines other = here.Low
+
+-- What comes after a token, where this came before it. `defines` says whether the line begins with `define`.
+abbrev pub place_after : Bool → Place → Part → Place
+place_after defines before part.Test = here.Operator
+place_after defines before (part.Field compared) = here.Relation
+place_after defines before (part.Size compared) = here.Offset
+place_after defines before part.Not = here.Unit
+place_after defines before part.And = here.Unit
+place_after defines before part.Or = here.Unit
+place_after defines before part.Otherwise = here.Arrow
+place_after defines before part.Refuse = here.End
+place_after defines before part.Side = here.Side
+place_after defines before part.SideName = here.End
+place_after defines before part.Define = here.NewName
+place_after defines before part.Contract = here.NewName
+place_after defines before part.Arrow = here.Value
+place_after defines before part.LeftBrace = here.End
+place_after defines before part.RightBrace = here.End
+place_after defines before part.LeftParenthesis = here.Unit
+place_after defines before part.RightParenthesis = here.Operator
+place_after defines before part.Mask = here.Mask
+place_after defines before part.Comma = here.Low
+place_after defines before part.Dots = here.High
+place_after defines before part.Slash = here.Channel
+place_after defines before part.Star = here.Operator
+place_after defines before part.Equal = after_equal defines before
+place_after defines before part.Order = here.Constant
+place_after defines before part.Number = after_number before
+place_after defines before part.Name = after_name before
+place_after defines before part.Other = before
+
+-- What numbers after a token are compared with. A new name may mean any numbers.
+abbrev pub subject_after : Subject → Part → Subject
+subject_after before (part.Field compared) = compared
+subject_after before (part.Size compared) = compared
+subject_after before part.Not = about.Vpi
+subject_after before part.And = about.Vpi
+subject_after before part.Or = about.Vpi
+subject_after before part.LeftParenthesis = about.Vpi
+subject_after before part.Slash = about.Vci
+subject_after before part.Define = about.Word
+subject_after before _ = before
+
+-- Whether a line begins with `define`.
+abbrev pub defines_after : Bool → Part → Bool
+defines_after before part.Define = true
+defines_after before _ = before
+
+-- The place after a token.
+abbrev pub spot_after : Spot → Part → Spot
+spot_after spot token = record {
+  place = place_after spot.defines spot.place token;
+  subject = subject_after spot.subject token;
+  defines = defines_after spot.defines token;
+}
+
+-- The beginning of a line.
+abbrev pub first_spot : Spot
+first_spot = record { place = here.Start; subject = about.Vpi; defines = false }
+
+-- The place of the token at a column, or of the end of the line, after these tokens.
+abbrev pub spot_from : List ℕ → ℕ → Spot → List RuleWord → Spot
+spot_from text column spot [] = spot
+spot_from text column spot (word ∷ words) =
+    if nat_lt word.column column then spot_from text column (spot_after spot (part_of (rule_word_octets text word))) words else spot

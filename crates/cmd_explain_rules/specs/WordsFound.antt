@@ -1,0 +1,16 @@
+-- The tokens of a line of rules, by their columns.
+use Rattle.std.specs.Prelude.{ℕ, ◌-◌, List, map, take, drop}
+use Rattle.rules_text.specs.RuleTokens.{RuleFound, rule_tokens}
+use Rattle.cmd_explain_rules.specs.declared.rule_tokens.RuleWord.{RuleWord}
+
+-- Where a token is.
+abbrev pub place_of : RuleFound → RuleWord
+place_of found = record { column = found.column; after = found.after }
+
+-- Where the tokens of a line are.
+abbrev pub words_found : List ℕ → List RuleWord
+words_found text = map place_of (rule_tokens text)
+
+-- The octets of a token.
+abbrev pub rule_word_octets : List ℕ → RuleWord → List ℕ
+rule_word_octets text word = take (word.after - word.column) (drop (word.column - 1) text)

@@ -1,0 +1,91 @@
+//! The hints about a text of rules that a run has beside its answer, each after the same octets.
+
+ghost use Rattle.std.specs.Prelude.{◌≡◌, OnOk, option_map};
+ghost use Rattle.rules_text.specs.TextOfRules.{placed_rules_in};
+ghost use Rattle.text_io.specs.Devices.{Adds};
+ghost use Rattle.cmd_explain_rules.specs.HintComments.{AreHintsAbout, AreHintsOn, text_of_comments};
+ghost use Rattle.cmd_explain_rules.specs.inner.CommentsFound.{MayBeCommentsFound};
+
+use crate::rule_hints::add_rule_hints;
+use rules_text::{RuleFault, RuleKind, read_with_places};
+use std::alloc::{AllocError, Global};
+
+/// The maximum number of octets of a text of rules.
+pub(crate) const MOST_RULES_OCTETS: u32 = 1048576;
+
+/// The hints about rules as comments.
+#[derive(Debug, Drop)]
+pub enum Comments {
+    /// These were made.
+    Made(Vec<u8>),
+    /// No memory was left for them.
+    NoMemory,
+}
+
+impl Comments {
+    /// Returns the text of the comments, or one that says that no memory was left for them.
+    pub fn text(&self) -> &[u8]
+        ensures { result.now ≡ text_of_comments self.now }
+    {
+        match self {
+            Comments::Made(text) => text,
+            Comments::NoMemory => b"# hint: not decided: out of memory\n",
+        }
+    }
+}
+
+/// Appends the hints about a text within the limit, each after these octets.
+fn add_hints_on(
+    alloc: Global,
+    answers: &mut Vec<u8>,
+    front: &[u8],
+    text: &[u8],
+) -> Result<(), AllocError>
+    ensures { OnOk result (Adds (AreHintsOn front.now (placed_rules_in text.now)) answers.old.items answers.new.items) }
+{
+    match read_with_places(alloc, text) {
+        Ok(placed_rules) => add_rule_hints(alloc, answers, front, &placed_rules),
+        Err(
+            RuleFault {
+                kind: RuleKind::NoMemory,
+                ..
+            },
+        ) => Err(AllocError),
+        Err(_) => Ok(()),
+    }
+}
+
+/// Appends the hints about a text of rules, each after these octets. A text with a fault or over its limit has none. If too much would have
+/// to be looked at, only this is said.
+///
+/// # Errors
+///
+/// `AllocError` if an allocation fails.
+pub fn add_hints_about(
+    alloc: Global,
+    answers: &mut Vec<u8>,
+    front: &[u8],
+    octets: &[u8],
+) -> Result<(), AllocError>
+    ensures { OnOk result (Adds (AreHintsAbout front.now octets.now) answers.old.items answers.new.items) }
+{
+    if octets.len() > MOST_RULES_OCTETS as usize {
+        return Ok(());
+    }
+    add_hints_on(alloc, answers, front, octets)
+}
+
+/// Returns the comments about a text that was found.
+pub(crate) fn comments_found(alloc: Global, found: &Option<Vec<u8>>) -> Comments
+    ensures { MayBeCommentsFound (option_map (λ text. text.items) found.now) (text_of_comments result) }
+{
+    let mut comments = Vec::new(alloc);
+    let added = match found {
+        Some(text) => add_hints_on(alloc, &mut comments, b"# ", text),
+        None => Ok(()),
+    };
+    match added {
+        Ok(()) => Comments::Made(comments),
+        Err(_) => Comments::NoMemory,
+    }
+}

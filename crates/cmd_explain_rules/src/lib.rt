@@ -1,0 +1,25 @@
+//! What is wrong in a text of rules, what would be right, and hints about rules that decide no cell.
+#![tactic(auto)]
+
+mod hint_comments;
+mod hinted_rules;
+mod meant_words;
+mod near_names;
+mod octets;
+mod reasons;
+mod rule_faults;
+mod rule_hints;
+mod rule_lines;
+mod rule_tokens;
+mod rules_explained;
+mod spots;
+mod token_parts;
+
+pub use hint_comments::{Comments, add_hints_about};
+pub use hinted_rules::compile_with_hints;
+pub use octets::{after, digit, front, word_octet};
+pub use rule_faults::add_rule_explanation;
+pub use rule_tokens::RuleWord;
+pub use rules_explained::explain_rules;
+pub use spots::{Place, Spot};
+pub use token_parts::{Part, Subject};

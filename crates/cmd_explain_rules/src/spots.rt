@@ -1,0 +1,207 @@
+//! What may come next in a line of rules.
+
+ghost use Rattle.std.specs.Prelude.{◌≡◌};
+ghost use Rattle.cmd_explain_rules.specs.Spots.{after_equal, after_name, after_number, defines_after, first_spot, place_after, spot_after, spot_from, subject_after};
+
+use crate::rule_tokens::{RuleWord, rule_word_octets};
+use crate::token_parts::{Part, Subject, part_of};
+
+/// What comes next in a line.
+#[derive(Clone, Copy)]
+pub enum Place {
+    /// The first token.
+    Start,
+    /// A unit of a test.
+    Unit,
+    /// `and`, `or`, or the end of the test.
+    Operator,
+    /// The offset of octets.
+    Offset,
+    /// After a field: `&`, a sign or a number.
+    Relation,
+    /// A mask.
+    Mask,
+    /// After a mask: a sign or a number.
+    Sign,
+    /// The number after `<` and its like.
+    Constant,
+    /// After the first number of a range.
+    Dots,
+    /// The number after `..`.
+    High,
+    /// After a range.
+    Comma,
+    /// A number of a list.
+    Low,
+    /// `/` after a path.
+    Slash,
+    /// The channels of a path.
+    Channel,
+    /// `->` after `otherwise`.
+    Arrow,
+    /// A value.
+    Value,
+    /// The name of a side.
+    Side,
+    /// Nothing more.
+    End,
+    /// A new name.
+    NewName,
+    /// `=` after a new name.
+    Equal,
+    /// What a new name means.
+    Body,
+}
+
+/// A place in a line.
+#[derive(Clone, Copy)]
+pub struct Spot {
+    /// What comes next.
+    pub place: Place,
+    /// What the numbers here are compared with.
+    pub subject: Subject,
+    /// Whether the line begins with `define`.
+    pub defines: bool,
+}
+
+/// Returns what comes after a number.
+fn after_number(place: Place) -> Place
+    ensures { result ≡ after_number place }
+{
+    match place {
+        Place::Start => Place::Slash,
+        Place::Unit => Place::Slash,
+        Place::Body => Place::Dots,
+        Place::Offset => Place::Relation,
+        Place::Mask => Place::Sign,
+        Place::Constant => Place::Operator,
+        Place::Relation => Place::Dots,
+        Place::Sign => Place::Dots,
+        Place::Low => Place::Dots,
+        Place::Channel => Place::Dots,
+        Place::High => Place::Comma,
+        Place::Value => Place::End,
+        _ => place,
+    }
+}
+
+/// Returns what comes after a name.
+fn after_name(place: Place) -> Place
+    ensures { result ≡ after_name place }
+{
+    match place {
+        Place::Start => Place::Operator,
+        Place::Unit => Place::Operator,
+        Place::Body => Place::Comma,
+        Place::Relation => Place::Comma,
+        Place::Sign => Place::Comma,
+        Place::Low => Place::Comma,
+        Place::Channel => Place::Comma,
+        Place::NewName => Place::Equal,
+        Place::Value => Place::End,
+        _ => place,
+    }
+}
+
+/// Returns what comes after `=` or `!=`.
+fn after_equal(defines: bool, place: Place) -> Place
+    ensures { result ≡ after_equal defines place }
+{
+    match place {
+        Place::Equal => { if defines { Place::Body } else { Place::Value } }
+        _ => Place::Low,
+    }
+}
+
+/// Returns what comes after a token.
+fn place_after(defines: bool, place: Place, part: Part) -> Place
+    ensures { result ≡ place_after defines place part }
+{
+    match part {
+        Part::Test => Place::Operator,
+        Part::Field(_) => Place::Relation,
+        Part::Size(_) => Place::Offset,
+        Part::Not => Place::Unit,
+        Part::And => Place::Unit,
+        Part::Or => Place::Unit,
+        Part::Otherwise => Place::Arrow,
+        Part::Refuse => Place::End,
+        Part::Side => Place::Side,
+        Part::SideName => Place::End,
+        Part::Define => Place::NewName,
+        Part::Contract => Place::NewName,
+        Part::Arrow => Place::Value,
+        Part::LeftBrace => Place::End,
+        Part::RightBrace => Place::End,
+        Part::LeftParenthesis => Place::Unit,
+        Part::RightParenthesis => Place::Operator,
+        Part::Mask => Place::Mask,
+        Part::Comma => Place::Low,
+        Part::Dots => Place::High,
+        Part::Slash => Place::Channel,
+        Part::Star => Place::Operator,
+        Part::Equal => after_equal(defines, place),
+        Part::Order => Place::Constant,
+        Part::Number => after_number(place),
+        Part::Name => after_name(place),
+        Part::Other => place,
+    }
+}
+
+/// Returns what numbers after a token are compared with.
+fn subject_after(before: Subject, part: Part) -> Subject
+    ensures { result ≡ subject_after before part }
+{
+    match part {
+        Part::Field(subject) => subject,
+        Part::Size(subject) => subject,
+        Part::Not => Subject::Vpi,
+        Part::And => Subject::Vpi,
+        Part::Or => Subject::Vpi,
+        Part::LeftParenthesis => Subject::Vpi,
+        Part::Slash => Subject::Vci,
+        Part::Define => Subject::Word,
+        _ => before,
+    }
+}
+
+/// Returns whether a line begins with `define`.
+fn defines_after(before: bool, part: Part) -> bool
+    ensures { result ≡ defines_after before part }
+{
+    match part {
+        Part::Define => true,
+        _ => before,
+    }
+}
+
+/// Returns the place after a token.
+fn spot_after(spot: Spot, part: Part) -> Spot
+    ensures { result ≡ spot_after spot part }
+{
+    Spot {
+        place: place_after(spot.defines, spot.place, part),
+        subject: subject_after(spot.subject, part),
+        defines: defines_after(spot.defines, part),
+    }
+}
+
+/// Returns the place of the token at a column, or of the end of the line.
+pub(crate) fn spot_before(text: &[u8], column: usize, words: &[RuleWord]) -> Spot
+    ensures { result ≡ spot_from text.now column first_spot words.now }
+{
+    let mut left = words;
+    let mut spot = Spot {
+        place: Place::Start,
+        subject: Subject::Vpi,
+        defines: false,
+    };
+    while let [word, rest @ ..] = left {
+        if word.column >= column {
+            return spot;
+        }
+        spot = spot_after(spot, part_of(rule_word_octets(text, *word)));
+        left = rest;
+    }
+    spot
+}
