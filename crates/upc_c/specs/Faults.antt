@@ -31,7 +31,7 @@ levels_too_late = plain_fault 1 4 0
 abbrev pub moment_too_late : UpcFault
 moment_too_late = plain_fault 8 5 0
 
--- The side is neither 0 nor 1: UPC_UNKNOWN_SIDE.
+-- The side is none of 0 to 3: UPC_UNKNOWN_SIDE.
 abbrev pub unknown_side : UpcFault
 unknown_side = plain_fault 1 5 0
 
