@@ -1,5 +1,5 @@
 -- Every input has an answer.
-use Rattle.std.proofs.Common.{◌≡◌, ℕ, ◌+◌, ◌<◌, ◌≤◌, inl, inr, List, [], ◌∷◌, ◌++◌, Option, Some, None, length, reverse, codes, decimal, refl, ap, sym, ◌∙◌, subst, arith, append-nil, nat_lt, if◌then◌else◌}
+use Rattle.std.proofs.Common.{◌≡◌, ℕ, ◌+◌, ◌<◌, inl, inr, List, [], ◌∷◌, ◌++◌, Option, Some, None, length, reverse, codes, decimal, refl, ap, arith}
 use Rattle.bpf_asm.proofs.Public.{meaning-or_fault}
 use Rattle.bpf_asm.specs.Grammar.{AreLines, SourceLine}
 use Rattle.bpf_asm.specs.Labels.{statements_of}
@@ -24,9 +24,7 @@ use Rattle.cmd_explain.specs.SourceReasons.{source_explanation}
 use Rattle.cmd_explain_script.proofs.Public.{some-script_text}
 use Rattle.cmd_explain_script.specs.ScriptText.{IsScriptExplained}
 use Rattle.std.specs.Option.{MatchOption}
-use Rattle.text_io.specs.Devices.{TakesEnough}
-use Rattle.text_io.specs.Gathered.{AnswersGathered, gathered, LeavesAfter}
-use Rattle.text_io.specs.Limits.{most_ahead}
+use Rattle.text_io.specs.Gathered.{AnswersGathered, gathered}
 use Rattle.text_io.specs.declared.ending.Done.{Done}
 use Rattle.text_io.specs.declared.ending.Done.TheVariants.{Whole, Ended}
 use Rattle.cmd_programs.specs.CodeFaults.{verify_fault}

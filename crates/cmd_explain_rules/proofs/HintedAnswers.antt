@@ -1,5 +1,5 @@
 -- The answer that was given is that of `upc-lab rules`.
-use Rattle.std.proofs.Common.{◌≡◌, ℕ, List, [], ◌++◌, inl, Option, Some, None, Result, Ok, Err, IfOk, OnOk, OnErr, refl, sym, ap, ◌∙◌, subst}
+use Rattle.std.proofs.Common.{◌≡◌, ℕ, List, [], ◌++◌, Option, Some, None, Result, Ok, Err, IfOk, OnOk, OnErr, refl, sym, ap, subst}
 use Rattle.cmd_rules.specs.RulesAnswers.{AnswersBy, most_rules_octets}
 use Rattle.cmd_rules.specs.RulesText.{PrintsRules}
 use Rattle.text_io.specs.Devices.{Adds, IsPart, TakesEnough}
