@@ -85,13 +85,14 @@ def main(name):
             while free and len(running) < lanes:
                 crate = free.pop(0)
                 left.remove(crate)
-                # The crate that the longest chain waits for takes as many processors as it can use, before the others. With four
-                # jobs it takes 1.6 times the processor time and 0.6 of the time.
-                leads = all(longest[crate.name] >= longest[it.name] for it in running.values())
-                jobs = lanes if leads else max(1, (lanes - len(running)) // (len(free) + 1))
-                running[pool.submit(built, crate, jobs, 0 if leads else 5)] = crate
+                # A crate takes the processors that no other one waits for. The crate that the longest chain waits for comes before the
+                # others, and takes half of all processors at least: more jobs cost more than they save while others wait.
+                leads = all(longest[crate.name] >= longest[it.name] for it, _ in running.values())
+                idle = lanes - sum(it for _, it in running.values())
+                jobs = max(lanes // 2 if leads else 1, idle // (len(free) + 1), 1)
+                running[pool.submit(built, crate, jobs, 0 if leads else 5)] = crate, jobs
             for it in wait(running, return_when=FIRST_COMPLETED).done:
-                crate = running.pop(it)
+                crate, _ = running.pop(it)
                 output = it.result()
                 if output:
                     report(f"{crate.name} is not proved\n{output}")
@@ -104,8 +105,8 @@ def main(name):
     if os.path.exists(product):
         os.remove(product)
     # A program is only to be built: with no input it ends at once.
-    word = "lib" if program.is_static else "run"
-    ended = subprocess.run(["rt", word], cwd=program.folder, stdin=subprocess.DEVNULL, stdout=subprocess.PIPE, stderr=subprocess.STDOUT)
+    words = ["rt", "lib"] if program.is_static else ["rt", "run", "--jobs", str(lanes)]
+    ended = subprocess.run(words, cwd=program.folder, stdin=subprocess.DEVNULL, stdout=subprocess.PIPE, stderr=subprocess.STDOUT)
     if not os.path.exists(product):
         report("it is not built\n" + ended.stdout.decode(errors="replace"))
         return 1
