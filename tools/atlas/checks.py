@@ -20,6 +20,15 @@ def comments(sources):
             yield f"{it.path}:{it.line}: {it.full} has no doc comment"
 
 
+def is_named(path, function, crates):
+    """Returns whether a path, or the end of one, is that of a function. The prover puts a method under the module of its type, which may be
+    another file, so only the crate and the type of its path count."""
+    if not function.owner:
+        return f"::{function.full}".endswith(f"::{path}")
+    *before, _ = path.split("::")
+    return (before[:1] == [function.crate] or before[0] not in crates) and before[-1].startswith(function.owner) if before else True
+
+
 def turned(sources):
     """Yields each public function with a promise that no bug turns and that doesn't say why, and bugs that serve nothing."""
     known = {}
@@ -32,8 +41,8 @@ def turned(sources):
     for it in sources.edits:
         if it.fault:
             yield f"{it.where}: {it.fault}"
-        last = it.function.rpartition("::")[2]
-        if it.function and (it.crate, last) not in known:
+        named = known.get((it.crate, it.function.rpartition("::")[2]), [])
+        if it.function and not any(is_named(it.function, other, sources.crates) for other in named):
             yield f"{it.where}: {it.crate} has no function {it.function}"
 
 

@@ -2,7 +2,8 @@
 import unittest
 from types import SimpleNamespace
 
-from atlas.checks import anchors_of, differing, drawn, layers_of, meant, rising, twice
+from atlas.checks import anchors_of, differing, drawn, is_named, layers_of, meant, rising, twice
+from atlas.functions import Function
 
 
 def specs(**modules):
@@ -19,6 +20,20 @@ class OneMeaning(unittest.TestCase):
 
     def test_a_name_twice(self):
         self.assertEqual(list(meant(specs(one=["IsRun"], other=["IsRun"]))), ["one:1: IsRun is also defined in other:1"])
+
+
+class RefusedAt(unittest.TestCase):
+    CRATES = ("doors", "keys")
+
+    def test_a_free_function(self):
+        close = Function("doors", "", 1, "hinge", "", "", "close")
+        for path, named in (("hinge::close", True), ("doors::hinge::close", True), ("keys::hinge::close", False), ("lock::close", False)):
+            self.assertEqual(is_named(path, close, self.CRATES), named, path)
+
+    def test_a_method(self):
+        close = Function("doors", "", 1, "hinge", "Door", "Drop", "close")
+        for path, named in (("Door::close", True), ("doors::door::DoorDrop::close", True), ("keys::door::Door::close", False), ("doors::Lock::close", False)):
+            self.assertEqual(is_named(path, close, self.CRATES), named, path)
 
 
 class Anchors(unittest.TestCase):
