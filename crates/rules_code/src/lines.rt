@@ -16,7 +16,7 @@ use crate::tests_code::{known_after, put_test};
 use bpf_code::Instr;
 use bpf_verify::MOST_INSTRUCTIONS;
 use std::alloc::{AllocError, Global};
-use std::marker::Model;
+use std::collections::VecDeque;
 
 /// A line: a rule, the head of a block, or its end. Lines are tried in order.
 #[derive(Debug, Drop)]
@@ -37,51 +37,6 @@ pub enum Line {
     End,
 }
 
-/// The labels after the ends of blocks. Contracts see the list of them, that of the first end first.
-#[derive(Drop)]
-struct Ends {
-    /// The labels, that of the last end first.
-    reversed: Vec<usize>,
-}
-
-impl Model for Ends {
-    ghost use Rattle.std.specs.Prelude.{ℕ, List, reverse};
-
-    ghost Value = { List ℕ };
-
-    ghost view = { λ e. reverse e.reversed.items };
-}
-
-impl Ends {
-    /// Returns the labels of no ends.
-    fn new(alloc: Global) -> Ends
-        ensures { result ≡ [] }
-    {
-        Ends {
-            reversed: Vec::new(alloc),
-        }
-    }
-
-    /// Puts the label after an end that comes before the others.
-    fn put(&mut self, label: usize) -> Result<(), AllocError>
-        ensures { OnOk result (self.new ≡ label ∷ self.old) }
-    {
-        self.reversed.push(label)?;
-        Ok(())
-    }
-
-    /// Takes the label after the first end, or that of the last return if there is no end.
-    fn take(&mut self) -> usize
-        ensures label { result ≡ first_after self.old }
-        ensures left { self.new ≡ later_after self.old }
-    {
-        match self.reversed.pop() {
-            None => 1,
-            Some(label) => label,
-        }
-    }
-}
-
 /// The code of the last lines.
 #[derive(Drop)]
 struct Coding {
@@ -89,8 +44,19 @@ struct Coding {
     draft: Draft,
     /// The label where the lines begin.
     entry: usize,
-    /// The labels after the ends of the blocks that they leave.
-    after: Ends,
+    /// The labels after the ends of the blocks that they leave, that of the first end first.
+    after: VecDeque<usize>,
+}
+
+/// Takes the label after the first end, or that of the last return if there is no end.
+fn take_first(after: &mut VecDeque<usize>) -> usize
+    ensures label { result ≡ first_after after.old.items }
+    ensures left { after.new.items ≡ later_after after.old.items }
+{
+    match after.pop_front() {
+        None => 1,
+        Some(label) => label,
+    }
 }
 
 /// Puts a line in front.
@@ -106,11 +72,11 @@ fn put_line(coding: &mut Coding, line: &Line, held: Option<Part>) -> Result<(), 
             coding.entry = ways.entry;
         }
         Line::Block { test } => {
-            let unmet = coding.after.take();
+            let unmet = take_first(&mut coding.after);
             let ways = put_test(&mut coding.draft, test, held, coding.entry, unmet)?;
             coding.entry = ways.entry;
         }
-        Line::End => coding.after.put(coding.entry)?,
+        Line::End => coding.after.push_front(coding.entry)?,
     }
     Ok(())
 }
@@ -179,7 +145,7 @@ fn first_coding(alloc: Global, otherwise: u32) -> Result<Coding, AllocError>
     Ok(Coding {
         draft,
         entry: 1,
-        after: Ends::new(alloc),
+        after: VecDeque::new(alloc),
     })
 }
 

@@ -7,85 +7,49 @@ ghost use Rattle.rules_code.specs.inner.Joining.{joined_to, with_span, joined_sp
 
 use crate::packet_part::Span;
 use std::alloc::{AllocError, Global};
-use std::marker::Model;
+use std::collections::VecDeque;
 
-/// Spans in order, made from the last to the first. Contracts see the list of them.
-#[derive(Drop)]
-struct Joining {
-    /// The spans, the last first.
-    reversed: Vec<Span>,
+/// Puts a span that isn't empty in front: joins it to the first if no number is between them.
+fn join(spans: &mut VecDeque<Span>, span: Span) -> Result<(), AllocError>
+    ensures { OnOk result (spans.new.items ≡ joined_to span spans.old.items) }
+{
+    let Some(next) = spans.pop_front() else {
+        spans.push_front(span)?;
+        return Ok(());
+    };
+    if next.low.saturating_sub(1) <= span.high {
+        spans.push_front(Span {
+            low: next.low.min(span.low),
+            high: next.high,
+        })?;
+        return Ok(());
+    }
+    spans.push_front(next)?;
+    spans.push_front(span)?;
+    Ok(())
 }
 
-impl Model for Joining {
-    ghost use Rattle.std.specs.Prelude.{List, reverse};
-    ghost use Rattle.rules_code.specs.declared.packet_part.Span.{Span};
-
-    ghost Value = { List Span };
-
-    ghost view = { λ j. reverse j.reversed.items };
+/// Puts a span in front, unless it is empty.
+fn put(spans: &mut VecDeque<Span>, span: Span) -> Result<(), AllocError>
+    ensures { OnOk result (spans.new.items ≡ with_span span spans.old.items) }
+{
+    if span.high < span.low {
+        return Ok(());
+    }
+    join(spans, span)
 }
 
-impl Joining {
-    /// Returns no spans.
-    fn new(alloc: Global) -> Joining
-        ensures { result ≡ [] }
-    {
-        Joining {
-            reversed: Vec::new(alloc),
-        }
-    }
-
-    /// Puts a span that isn't empty in front: joins it to the first if no number is between them.
-    fn join(&mut self, span: Span) -> Result<(), AllocError>
-        ensures { OnOk result (self.new ≡ joined_to span self.old) }
-    {
-        let Some(next) = self.reversed.pop() else {
-            self.reversed.push(span)?;
-            return Ok(());
-        };
-        if next.low.saturating_sub(1) <= span.high {
-            self.reversed.push(Span {
-                low: next.low.min(span.low),
-                high: next.high,
-            })?;
-            return Ok(());
-        }
-        self.reversed.push(next)?;
-        self.reversed.push(span)?;
-        Ok(())
-    }
-
-    /// Puts a span in front, unless it is empty.
-    fn put(&mut self, span: Span) -> Result<(), AllocError>
-        ensures { OnOk result (self.new ≡ with_span span self.old) }
-    {
-        if span.high < span.low {
-            return Ok(());
-        }
-        self.join(span)
-    }
-
-    /// The spans, the first first.
-    fn into_spans(self) -> Vec<Span>
-        ensures { result.items ≡ self }
-    {
-        let mut spans = self.reversed;
-        spans.reverse();
-        spans
-    }
-}
-
-/// Joins spans of which none ends before those in front of it.
+/// Joins spans of which none ends before those in front of it, from the last to the first.
 fn joined_spans(alloc: Global, sorted: &[Span]) -> Result<Vec<Span>, AllocError>
     ensures { IfOk result (λ ordered. ordered.items ≡ joined_spans sorted.now) }
 {
-    let mut joining = Joining::new(alloc);
+    let mut joined = VecDeque::new(alloc);
     let mut left = sorted.len();
     while left > 0 {
         left -= 1;
-        joining.put(sorted[left])?;
+        put(&mut joined, sorted[left])?;
     }
-    Ok(joining.into_spans())
+    Ok(Vec::from(joined))
 }
 
 /// The spans, sorted by their highest numbers.

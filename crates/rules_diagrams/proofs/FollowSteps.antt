@@ -16,32 +16,34 @@ use Rattle.bpf_interp.specs.State.{State, At, Ended}
 use Rattle.bpf_interp.specs.Step.{Does, LoadsNumber}
 use Rattle.rules_cells.specs.Fields.{IsCell}
 use Rattle.rules_diagrams.specs.CellNumbers.{octets_number}
-use Rattle.rules_diagrams.specs.inner.Following.{AreContents, AreLoaded, AreOperand, IsCalculable, IsComputed, IsFollowed, IsOperand, LoadsAt, MakesA, MakesX}
+use Rattle.rules_diagrams.specs.inner.Following.{AreContents, AreLoaded, AreOperand, IsCalculable, IsComputed, IsFollowed, IsOperand, LoadsAt, PutsInto}
+use Rattle.rules_diagrams.specs.inner.Registers.{contents_with}
 use Rattle.rules_diagrams.specs.inner.Spans.{bits_number}
 use Rattle.rules_diagrams.specs.inner.Words.{word_number, AreResult, IsBitwise}
 use Rattle.rules_diagrams.specs.declared.contents.Contents.{Contents}
-use Rattle.rules_diagrams.specs.declared.contents.Followed.TheVariants.{Ends, Continues}
+use Rattle.rules_diagrams.specs.declared.contents.Followed.TheVariants.{Continues}
+use Rattle.rules_diagrams.specs.declared.contents.Register.{Register}
+use Rattle.rules_diagrams.specs.declared.contents.Register.TheVariants.{A as InA, X as InX}
 use Rattle.rules_diagrams.specs.declared.word.Bit.{Bit}
 use Rattle.rules_diagrams.proofs.FieldBits.{octets_bits}
 
 -- ---- registers
 
--- What an instruction makes of A, at the next place.
-pub a_made : (i : Instr) (place : ℕ) (contents : Contents) (bits : List Bit) → MakesA i place contents bits → IsFollowed i place contents (Continues (place + 1) (record contents { a = bits }))
-a_made i place contents bits makes = λ cell there a x m are. record {
+-- What an instruction makes of a register, at the next place.
+pub made_follows : (register : Register) (i : Instr) (place : ℕ) (contents : Contents) (bits : List Bit) → PutsInto register i contents bits
+    → IsFollowed i place contents (Continues (place + 1) (contents_with register contents bits))
+made_follows InA i place contents bits makes = λ cell there a x m are. record {
   new_a = word_number bits (octets_number cell);
   new_x = x;
   new_m = m;
-  does = makes cell there a x m are;
+  does = makes place cell there a x m are;
   contents = record { a_is = refl; x_is = are.x_is; scratch = are.scratch };
 }
-
-pub x_made : (i : Instr) (place : ℕ) (contents : Contents) (bits : List Bit) → MakesX i place contents bits → IsFollowed i place contents (Continues (place + 1) (record contents { x = bits }))
-x_made i place contents bits makes = λ cell there a x m are. record {
+made_follows InX i place contents bits makes = λ cell there a x m are. record {
   new_a = a;
   new_x = word_number bits (octets_number cell);
   new_m = m;
-  does = makes cell there a x m are;
+  does = makes place cell there a x m are;
   contents = record { a_is = are.a_is; x_is = refl; scratch = are.scratch };
 }
 
@@ -63,9 +65,9 @@ by_bits Lsh by cell place a x n m is e = absurd is
 by_bits Rsh by cell place a x n m is e = absurd is
 by_bits Mod by cell place a x n m is e = absurd is
 
-pub bits_make : (op : Op) (by : By) (place : ℕ) (contents : Contents) (other bits : List Bit) → IsBitwise op → AreOperand by contents other → AreResult op contents.a other bits
-    → MakesA (Alu op by) place contents bits
-bits_make op by place contents other bits is operand result = λ cell there a x m are.
+pub bits_make : (op : Op) (by : By) (contents : Contents) (other bits : List Bit) → IsBitwise op → AreOperand by contents other → AreResult op contents.a other bits
+    → PutsInto InA (Alu op by) contents bits
+bits_make op by contents other bits is operand result = λ place cell there a x m are.
     let number = octets_number cell in
     by_bits op by cell place a x (word_number bits number) m is
     (result number
@@ -90,25 +92,14 @@ calculated_does Xor by cell place a x n m is e = absurd is
 calculated_does Lsh by cell place a x n m is e = absurd is
 calculated_does Rsh by cell place a x n m is e = absurd is
 
-pub number_makes : (op : Op) (by : By) (place : ℕ) (contents : Contents) (one k number : ℕ) (bits : List Bit) → ((cell : ℕ) → word_number contents.a cell ≡ one) → IsOperand by contents k
-    → IsComputed op one k number → ((cell : ℕ) → word_number bits cell ≡ number) → MakesA (Alu op by) place contents bits
-number_makes op by place contents one k number bits first operand computed are_bits = λ cell there a x m are.
+pub number_makes : (op : Op) (by : By) (contents : Contents) (one k number : ℕ) (bits : List Bit) → ((cell : ℕ) → word_number contents.a cell ≡ one) → IsOperand by contents k
+    → IsComputed op one k number → ((cell : ℕ) → word_number bits cell ≡ number) → PutsInto InA (Alu op by) contents bits
+number_makes op by contents one k number bits first operand computed are_bits = λ place cell there a x m are.
     let at = octets_number cell in
     let is = operand_is by contents at a x m k operand are in
     let same : one ≡ a = sym (first at) ∙ are.a_is in
     calculated_does op by cell place a x (word_number bits at) m (subst (λ n. IsCalculable op n) (sym is) computed.calculable)
     (are_bits at ∙ (computed.is ∙ (ap (λ n. result_of op n k) same ∙ ap (λ n. result_of op a n) (sym is))))
-
-none_left : (x : ℕ) (one other : State) → x ≡ 0 → (if x == 0 then one else other) ≡ one
-none_left x one other none = let e : (x == 0) ≡ true = grind (arith, nat_tests) in ap (λ b. if b then one else other) e
-
-pub div_ends : (place k : ℕ) (contents : Contents) → IsOperand X contents k → k ≡ 0 → IsFollowed (Alu Div X) place contents (Ends 0)
-div_ends place k contents operand none = λ cell there a x m are.
-    sym (none_left x (Ended 0) (At (place + 1) (result_of Div a x) x m) (operand_is X contents (octets_number cell) a x m k operand are ∙ none))
-
-pub mod_ends : (place k : ℕ) (contents : Contents) → IsOperand X contents k → k ≡ 0 → IsFollowed (Alu Mod X) place contents (Ends 0)
-mod_ends place k contents operand none = λ cell there a x m are.
-    sym (none_left x (Ended 0) (At (place + 1) (result_of Mod a x) x m) (operand_is X contents (octets_number cell) a x m k operand are ∙ none))
 
 -- ---- shifts
 
@@ -128,45 +119,45 @@ right_does : (by : By) (cell : List ℕ) (place a x n : ℕ) (m : List (ℕ × �
 right_does (Imm k) cell place a x n m lt e = (lt, ap (λ v. At (place + 1) v x m) (e ∙ sym (near k (a / 2 ^ k) lt)))
 right_does X cell place a x n m lt e = ap (λ v. At (place + 1) v x m) (e ∙ sym (near x (a / 2 ^ x) lt))
 
-pub left_makes : (by : By) (place k : ℕ) (contents : Contents) (bits : List Bit) → IsOperand by contents k → k < 32 → ((cell : ℕ) → word_number bits cell ≡ (word_number contents.a cell * 2 ^ k) % 2 ^ 32)
-    → MakesA (Alu Lsh by) place contents bits
-left_makes by place k contents bits operand lt shifted = λ cell there a x m are.
+pub left_makes : (by : By) (k : ℕ) (contents : Contents) (bits : List Bit) → IsOperand by contents k → k < 32 → ((cell : ℕ) → word_number bits cell ≡ (word_number contents.a cell * 2 ^ k) % 2 ^ 32)
+    → PutsInto InA (Alu Lsh by) contents bits
+left_makes by k contents bits operand lt shifted = λ place cell there a x m are.
     let at = octets_number cell in
     let is = operand_is by contents at a x m k operand are in
     left_does by cell place a x (word_number bits at) m (subst (λ n. n < 32) (sym is) lt)
     (shifted at ∙ (ap (λ n. (n * 2 ^ k) % 2 ^ 32) are.a_is ∙ ap (λ n. (a * 2 ^ n) % 2 ^ 32) (sym is)))
 
-pub right_makes : (by : By) (place k : ℕ) (contents : Contents) (bits : List Bit) → IsOperand by contents k → k < 32 → ((cell : ℕ) → word_number bits cell ≡ word_number contents.a cell / 2 ^ k)
-    → MakesA (Alu Rsh by) place contents bits
-right_makes by place k contents bits operand lt shifted = λ cell there a x m are.
+pub right_makes : (by : By) (k : ℕ) (contents : Contents) (bits : List Bit) → IsOperand by contents k → k < 32 → ((cell : ℕ) → word_number bits cell ≡ word_number contents.a cell / 2 ^ k)
+    → PutsInto InA (Alu Rsh by) contents bits
+right_makes by k contents bits operand lt shifted = λ place cell there a x m are.
     let at = octets_number cell in
     let is = operand_is by contents at a x m k operand are in
     right_does by cell place a x (word_number bits at) m (subst (λ n. n < 32) (sym is) lt)
     (shifted at ∙ (ap (λ n. n / 2 ^ k) are.a_is ∙ ap (λ n. a / 2 ^ n) (sym is)))
 
-pub far_left : (place k : ℕ) (contents : Contents) (bits : List Bit) → IsOperand X contents k → 32 ≤ k → ((cell : ℕ) → word_number bits cell ≡ 0) → MakesA (Alu Lsh X) place contents bits
-far_left place k contents bits operand far none = λ cell there a x m are.
+pub far_left : (k : ℕ) (contents : Contents) (bits : List Bit) → IsOperand X contents k → 32 ≤ k → ((cell : ℕ) → word_number bits cell ≡ 0) → PutsInto InA (Alu Lsh X) contents bits
+far_left k contents bits operand far none = λ place cell there a x m are.
     let at = octets_number cell in
     let is : x ≡ k = operand_is X contents at a x m k operand are in
     ap (λ v. At (place + 1) v x m) (none at ∙ sym (out x ((a * 2 ^ x) % 2 ^ 32) (subst (λ n. 32 ≤ n) (sym is) far)))
 
-pub far_right : (place k : ℕ) (contents : Contents) (bits : List Bit) → IsOperand X contents k → 32 ≤ k → ((cell : ℕ) → word_number bits cell ≡ 0) → MakesA (Alu Rsh X) place contents bits
-far_right place k contents bits operand far none = λ cell there a x m are.
+pub far_right : (k : ℕ) (contents : Contents) (bits : List Bit) → IsOperand X contents k → 32 ≤ k → ((cell : ℕ) → word_number bits cell ≡ 0) → PutsInto InA (Alu Rsh X) contents bits
+far_right k contents bits operand far none = λ place cell there a x m are.
     let at = octets_number cell in
     let is : x ≡ k = operand_is X contents at a x m k operand are in
     ap (λ v. At (place + 1) v x m) (none at ∙ sym (out x (a / 2 ^ x) (subst (λ n. 32 ≤ n) (sym is) far)))
 
-pub far_makes_left : (op : Op) (by : By) (place k : ℕ) (contents : Contents) (bits : List Bit) → op ≡ Lsh → by ≡ X → IsOperand by contents k → 32 ≤ k → ((cell : ℕ) → word_number bits cell ≡ 0)
-    → MakesA (Alu op by) place contents bits
-far_makes_left op by place k contents bits left by_x operand far none =
-    subst (λ (o : Op). MakesA (Alu o by) place contents bits) (sym left)
-    (subst (λ (b : By). MakesA (Alu Lsh b) place contents bits) (sym by_x) (far_left place k contents bits (subst (λ (b : By). IsOperand b contents k) by_x operand) far none))
+pub far_makes_left : (op : Op) (by : By) (k : ℕ) (contents : Contents) (bits : List Bit) → op ≡ Lsh → by ≡ X → IsOperand by contents k → 32 ≤ k → ((cell : ℕ) → word_number bits cell ≡ 0)
+    → PutsInto InA (Alu op by) contents bits
+far_makes_left op by k contents bits left by_x operand far none =
+    subst (λ (o : Op). PutsInto InA (Alu o by) contents bits) (sym left)
+    (subst (λ (b : By). PutsInto InA (Alu Lsh b) contents bits) (sym by_x) (far_left k contents bits (subst (λ (b : By). IsOperand b contents k) by_x operand) far none))
 
-pub far_makes_right : (op : Op) (by : By) (place k : ℕ) (contents : Contents) (bits : List Bit) → op ≡ Rsh → by ≡ X → IsOperand by contents k → 32 ≤ k → ((cell : ℕ) → word_number bits cell ≡ 0)
-    → MakesA (Alu op by) place contents bits
-far_makes_right op by place k contents bits right by_x operand far none =
-    subst (λ (o : Op). MakesA (Alu o by) place contents bits) (sym right)
-    (subst (λ (b : By). MakesA (Alu Rsh b) place contents bits) (sym by_x) (far_right place k contents bits (subst (λ (b : By). IsOperand b contents k) by_x operand) far none))
+pub far_makes_right : (op : Op) (by : By) (k : ℕ) (contents : Contents) (bits : List Bit) → op ≡ Rsh → by ≡ X → IsOperand by contents k → 32 ≤ k → ((cell : ℕ) → word_number bits cell ≡ 0)
+    → PutsInto InA (Alu op by) contents bits
+far_makes_right op by k contents bits right by_x operand far none =
+    subst (λ (o : Op). PutsInto InA (Alu o by) contents bits) (sym right)
+    (subst (λ (b : By). PutsInto InA (Alu Rsh b) contents bits) (sym by_x) (far_right k contents bits (subst (λ (b : By). IsOperand b contents k) by_x operand) far none))
 
 -- ---- loads
 
@@ -192,18 +183,18 @@ none_loaded cell at many there out_of =
 loads_some : (number : Option ℕ) (n : ℕ) (on : ℕ → State) → number ≡ Some n → LoadsNumber number on (on n)
 loads_some number n on e = subst (λ (o : Option ℕ). LoadsNumber o on (on n)) (sym e) refl
 
-pub loads_made : (i : Instr) (at many place : ℕ) (contents : Contents) (bits : List Bit) → LoadsAt i at many contents → AreLoaded at many (Some bits) → MakesA i place contents bits
-loads_made i at many place contents bits loads are_loaded = λ cell there a x m are.
+pub loads_made : (i : Instr) (at many : ℕ) (contents : Contents) (bits : List Bit) → LoadsAt i at many contents → AreLoaded at many (Some bits) → PutsInto InA i contents bits
+loads_made i at many contents bits loads are_loaded = λ place cell there a x m are.
     loads cell there a x m are place (At (place + 1) (word_number bits (octets_number cell)) x m)
     (loads_some (number_at cell at many) (word_number bits (octets_number cell)) (λ n. At (place + 1) n x m) (are_loaded cell there))
 
 quarter : (n : ℕ) → (((n * 2 ^ 0) % 2 ^ 4) * 2 ^ 2) % 2 ^ 32 ≡ 4 * (n % 16)
 quarter n = omega arith
 
-pub quarter_made : (k place : ℕ) (contents : Contents) (octet octet_now low low_now bits : List Bit) → AreLoaded k 1 (Some octet) → octet_now ≡ octet
+pub quarter_made : (k : ℕ) (contents : Contents) (octet octet_now low low_now bits : List Bit) → AreLoaded k 1 (Some octet) → octet_now ≡ octet
     → ((cell : ℕ) → word_number low cell ≡ (word_number octet_now cell * 2 ^ 0) % 2 ^ 4) → low_now ≡ low
-    → ((cell : ℕ) → word_number bits cell ≡ (word_number low_now cell * 2 ^ 2) % 2 ^ 32) → MakesX (LdxMsh k) place contents bits
-quarter_made k place contents octet octet_now low low_now bits are_loaded one first other second = λ cell there a x m are.
+    → ((cell : ℕ) → word_number bits cell ≡ (word_number low_now cell * 2 ^ 2) % 2 ^ 32) → PutsInto InX (LdxMsh k) contents bits
+quarter_made k contents octet octet_now low low_now bits are_loaded one first other second = λ place cell there a x m are.
     let at = octets_number cell in
     let n = word_number octet at in
     let low_is : word_number low_now at ≡ (n * 2 ^ 0) % 2 ^ 4 =

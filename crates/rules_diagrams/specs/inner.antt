@@ -17,5 +17,6 @@ pub mod Numbers
 pub mod Holding
 pub mod Words
 pub mod WordTests
+pub mod Registers
 pub mod Following
 pub mod Programs

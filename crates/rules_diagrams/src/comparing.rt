@@ -68,34 +68,23 @@ pub fn compare(alloc: Global, old: &Rules, new: &Rules) -> Result<Vec<Case>, Und
     Ok(cases)
 }
 
-/// The diagram of what is old.
-fn old_shown(
+/// The diagram of what is old or new.
+fn side_shown(
     alloc: Global,
     diagrams: &mut Diagrams,
-    old: Compared<'_>,
+    compared: Compared<'_>,
+    is_old: bool,
 ) -> Result<Diagram, Uncompared>
     ensures within { IfOk result (IsWithin diagrams.new) }
-    ensures shown { IfOk result (IsShown diagrams.new old.entry) }
+    ensures shown { IfOk result (IsShown diagrams.new compared.entry) }
 {
-    match shown(alloc, diagrams, old) {
+    match shown(alloc, diagrams, compared) {
         Ok(diagram) => Ok(diagram),
-        Err(Unfollowed::At(place)) => Err(Uncompared::Old(place)),
-        Err(Unfollowed::Undecided(why)) => Err(Uncompared::Undecided(why)),
-    }
-}
-
-/// The diagram of what is new.
-fn new_shown(
-    alloc: Global,
-    diagrams: &mut Diagrams,
-    new: Compared<'_>,
-) -> Result<Diagram, Uncompared>
-    ensures within { IfOk result (IsWithin diagrams.new) }
-    ensures shown { IfOk result (IsShown diagrams.new new.entry) }
-{
-    match shown(alloc, diagrams, new) {
-        Ok(diagram) => Ok(diagram),
-        Err(Unfollowed::At(place)) => Err(Uncompared::New(place)),
+        Err(Unfollowed::At(place)) => Err(if is_old {
+            Uncompared::Old(place)
+        } else {
+            Uncompared::New(place)
+        }),
         Err(Unfollowed::Undecided(why)) => Err(Uncompared::Undecided(why)),
     }
 }
@@ -118,8 +107,8 @@ pub fn compare_sides(
     let mut one = Diagrams::new(alloc)?;
     let mut other = Diagrams::new(alloc)?;
     let both = Both {
-        one: old_shown(alloc, &mut one, old)?,
-        other: new_shown(alloc, &mut other, new)?,
+        one: side_shown(alloc, &mut one, old, true)?,
+        other: side_shown(alloc, &mut other, new, false)?,
     };
     let met = meetings(alloc, &one, &other, both)?;
     let cases = cases_of(alloc, old, new, &met)?;

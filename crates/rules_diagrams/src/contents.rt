@@ -1,6 +1,7 @@
 //! What is known of a machine at a place of its program.
 
 ghost use Rattle.std.specs.Prelude.{◌≡◌, IsTrue};
+ghost use Rattle.rules_diagrams.specs.inner.Registers.{contents_with};
 
 use crate::diagram::Diagram;
 use crate::word::Bit;
@@ -77,6 +78,42 @@ pub(crate) fn are_same(one: &Contents, other: &Contents) -> bool
     same_bits(&one.a, &other.a)
         && same_bits(&one.x, &other.x)
         && same_words(&one.scratch, &other.scratch)
+}
+
+/// A register.
+#[derive(Clone, Copy, Debug)]
+pub(crate) enum Register {
+    /// A.
+    A,
+    /// X.
+    X,
+}
+
+/// The contents with another word in a register.
+pub(crate) fn with_word(contents: &Contents, register: Register, word: [Bit; 32]) -> Contents
+    ensures { result ≡ contents_with register contents.now word }
+{
+    match register {
+        Register::A => Contents {
+            a: word,
+            ..*contents
+        },
+        Register::X => Contents {
+            x: word,
+            ..*contents
+        },
+    }
+}
+
+/// What one instruction makes of a register.
+#[derive(Debug, Drop)]
+pub(crate) enum Made {
+    /// It puts these bits into it.
+    Bits(Vec<Bit>),
+    /// It ends the program with this value.
+    Ends(u32),
+    /// It isn't followed.
+    Unknown,
 }
 
 /// What one instruction does.

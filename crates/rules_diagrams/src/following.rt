@@ -7,10 +7,12 @@ ghost use Rattle.bpf_interp.specs.Packet.{octets_loaded};
 ghost use Rattle.bpf_interp.specs.State.{At};
 ghost use Rattle.bpf_interp.specs.Step.{Does};
 ghost use Rattle.rules_diagrams.specs.CellNumbers.{octets_number};
-ghost use Rattle.rules_diagrams.specs.inner.Following.{AreLoaded, IsFollowed, LoadsAt, MakesA, MakesX, OnEach};
+ghost use Rattle.rules_diagrams.specs.inner.Following.{AreLoaded, IsFollowed, IsPutInto, LoadsAt, OnEach};
+ghost use Rattle.rules_diagrams.specs.inner.Registers.{at_with};
 ghost use Rattle.rules_diagrams.specs.inner.Words.{word_number};
+ghost use Rattle.rules_diagrams.specs.declared.contents.Register.{Register as Into};
 
-use crate::contents::{Contents, Followed};
+use crate::contents::{Contents, Followed, Made, Register, with_word};
 use crate::operations::{operand_constant, operated};
 use crate::word::{Bit, constant, constant_of, shifted_left, spelled};
 use bpf_code::{By, Instr, Size, Test};
@@ -29,30 +31,20 @@ fn word_of(bits: &[Bit]) -> Option<[Bit; 32]>
     Some(word)
 }
 
-/// Continues at the next place with another A.
-pub(crate) fn with_a(place: usize, contents: &Contents, bits: &[Bit]) -> Followed
+/// Continues at the next place with what an instruction makes of a register.
+fn with(register: Register, place: usize, contents: &Contents, made: &Made) -> Followed
     requires { place + 1 < 2 ^ 64 }
-    ensures { (i : Written) → MakesA i place contents.now bits.now → IsFollowed i place contents.now result }
+    ensures { (i : Written) → IsPutInto register i contents.now made.now → IsFollowed i place contents.now result }
 {
-    match word_of(bits) {
-        None => Followed::Stops,
-        Some(a) => Followed::Continues {
-            place: place + 1,
-            contents: Contents { a, ..*contents },
-        },
-    }
-}
-
-/// Continues at the next place with another X.
-fn with_x(place: usize, contents: &Contents, bits: &[Bit]) -> Followed
-    requires { place + 1 < 2 ^ 64 }
-    ensures { (i : Written) → MakesX i place contents.now bits.now → IsFollowed i place contents.now result }
-{
-    match word_of(bits) {
-        None => Followed::Stops,
-        Some(x) => Followed::Continues {
-            place: place + 1,
-            contents: Contents { x, ..*contents },
+    match made {
+        Made::Unknown => Followed::Stops,
+        Made::Ends(value) => Followed::Ends(*value),
+        Made::Bits(bits) => match word_of(bits) {
+            None => Followed::Stops,
+            Some(word) => Followed::Continues {
+                place: place + 1,
+                contents: with_word(contents, register, word),
+            },
         },
     }
 }
@@ -118,82 +110,62 @@ fn load(
     instr: &Instr,
     at: u64,
     size: Size,
-    place: usize,
     contents: &Contents,
-) -> Result<Followed, AllocError>
-    requires place { place + 1 < 2 ^ 64 }
-    requires loads { LoadsAt instr.now at (octets_loaded size) contents.now }
-    ensures { IfOk result (IsFollowed instr.now place contents.now) }
+) -> Result<Made, AllocError>
+    requires { LoadsAt instr.now at (octets_loaded size) contents.now }
+    ensures { IfOk result (IsPutInto Into.A instr.now contents.now) }
 {
     match loaded(alloc, at, size)? {
-        None => Ok(Followed::Ends(0)),
-        Some(bits) => Ok(with_a(place, contents, &bits)),
+        None => Ok(Made::Ends(0)),
+        Some(bits) => Ok(Made::Bits(bits)),
     }
 }
 
 /// A load of four times the low four bits of an octet into X.
-fn quarter_loaded(
-    alloc: Global,
-    k: u32,
-    place: usize,
-    contents: &Contents,
-) -> Result<Followed, AllocError>
-    requires place { place + 1 < 2 ^ 64 }
-    ensures { IfOk result (IsFollowed (Written.LdxMsh k) place contents.now) }
+fn quarter_loaded(alloc: Global, k: u32, contents: &Contents) -> Result<Made, AllocError>
+    ensures { IfOk result (IsPutInto Into.X (Written.LdxMsh k) contents.now) }
 {
     match loaded(alloc, u64::from(k), Size::Octet)? {
-        None => Ok(Followed::Ends(0)),
+        None => Ok(Made::Ends(0)),
         Some(octet) => {
             let low = shifted_left(alloc, &octet, 0, 4)?;
             let bits = shifted_left(alloc, &low, 2, 32)?;
-            Ok(with_x(place, contents, &bits))
+            Ok(Made::Bits(bits))
         }
     }
 }
 
 /// A load of octets from X on.
-fn indirect(
-    alloc: Global,
-    size: Size,
-    k: u32,
-    place: usize,
-    contents: &Contents,
-) -> Result<Followed, AllocError>
-    requires place { place + 1 < 2 ^ 64 }
-    ensures { IfOk result (IsFollowed (Written.LoadInd size k) place contents.now) }
+fn indirect(alloc: Global, size: Size, k: u32, contents: &Contents) -> Result<Made, AllocError>
+    ensures { IfOk result (IsPutInto Into.A (Written.LoadInd size k) contents.now) }
 {
     match constant_of(&contents.x) {
-        None => Ok(Followed::Stops),
+        None => Ok(Made::Unknown),
         Some(x) => load(
             alloc,
             &Instr::LoadInd { size, k },
             u64::from(x) + u64::from(k),
             size,
-            place,
             contents,
         ),
     }
 }
 
-/// A load of a scratch word into A.
-fn recalled_a(k: u32, place: usize, contents: &Contents) -> Followed
-    requires { place + 1 < 2 ^ 64 }
-    ensures { IsFollowed (Written.LoadMem k) place contents.now result }
+/// The bits of a word.
+fn copied(alloc: Global, word: &[Bit; 32]) -> Result<Vec<Bit>, AllocError>
+    ensures { IfOk result (λ bits. bits.items ≡ word.now) }
 {
-    match recalled(contents, k) {
-        None => Followed::Stops,
-        Some(word) => with_a(place, contents, &word),
-    }
+    word.to_vec(alloc)
 }
 
-/// A load of a scratch word into X.
-fn recalled_x(k: u32, place: usize, contents: &Contents) -> Followed
-    requires { place + 1 < 2 ^ 64 }
-    ensures { IsFollowed (Written.LdxMem k) place contents.now result }
+/// A load of a scratch word.
+fn recall(alloc: Global, k: u32, contents: &Contents) -> Result<Made, AllocError>
+    ensures a { IfOk result (IsPutInto Into.A (Written.LoadMem k) contents.now) }
+    ensures x { IfOk result (IsPutInto Into.X (Written.LdxMem k) contents.now) }
 {
     match recalled(contents, k) {
-        None => Followed::Stops,
-        Some(word) => with_x(place, contents, &word),
+        None => Ok(Made::Unknown),
+        Some(word) => Ok(Made::Bits(copied(alloc, &word)?)),
     }
 }
 
@@ -205,15 +177,14 @@ fn negative(a: u32) -> u32
 }
 
 /// The negative of A, if it is a constant.
-fn negated(alloc: Global, place: usize, contents: &Contents) -> Result<Followed, AllocError>
-    requires { place + 1 < 2 ^ 64 }
-    ensures { IfOk result (IsFollowed Written.Neg place contents.now) }
+fn negated(alloc: Global, contents: &Contents) -> Result<Made, AllocError>
+    ensures { IfOk result (IsPutInto Into.A Written.Neg contents.now) }
 {
     match constant_of(&contents.a) {
-        None => Ok(Followed::Stops),
+        None => Ok(Made::Unknown),
         Some(a) => {
             let bits = constant(alloc, negative(a), 32)?;
-            Ok(with_a(place, contents, &bits))
+            Ok(Made::Bits(bits))
         }
     }
 }
@@ -244,36 +215,50 @@ fn returned(place: usize, contents: &Contents) -> Followed
     }
 }
 
-/// A load of a constant into A.
-fn constant_a(
+/// A load of a constant.
+fn load_constant(
     alloc: Global,
+    register: Register,
     instr: &Instr,
     k: u32,
-    place: usize,
     contents: &Contents,
-) -> Result<Followed, AllocError>
-    requires place { place + 1 < 2 ^ 64 }
-    requires loads { (cell : List ℕ) (a x : ℕ) (m : List (ℕ × ℕ)) → Does cell instr.now place a x m (At (place + 1) k x m) }
-    ensures { IfOk result (IsFollowed instr.now place contents.now) }
+) -> Result<Made, AllocError>
+    requires { (cell : List ℕ) (place a x : ℕ) (m : List (ℕ × ℕ)) → Does cell instr.now place a x m (at_with register (place + 1) k a x m) }
+    ensures { IfOk result (IsPutInto register instr.now contents.now) }
 {
     let bits = constant(alloc, k, 32)?;
-    Ok(with_a(place, contents, &bits))
+    Ok(Made::Bits(bits))
 }
 
-/// A load of a constant into X.
-fn constant_x(
-    alloc: Global,
-    instr: &Instr,
-    k: u32,
-    place: usize,
-    contents: &Contents,
-) -> Result<Followed, AllocError>
-    requires place { place + 1 < 2 ^ 64 }
-    requires loads { (cell : List ℕ) (a x : ℕ) (m : List (ℕ × ℕ)) → Does cell instr.now place a x m (At (place + 1) a k m) }
-    ensures { IfOk result (IsFollowed instr.now place contents.now) }
+/// What an instruction makes of A, if it changes that alone.
+fn made_of_a(alloc: Global, instr: &Instr, contents: &Contents) -> Result<Made, AllocError>
+    ensures { IfOk result (IsPutInto Into.A instr.now contents.now) }
 {
-    let bits = constant(alloc, k, 32)?;
-    Ok(with_x(place, contents, &bits))
+    match *instr {
+        Instr::LoadAbs { size, k } => load(alloc, instr, k.into(), size, contents),
+        Instr::LoadInd { size, k } => indirect(alloc, size, k, contents),
+        Instr::LoadImm(k) => load_constant(alloc, Register::A, instr, k, contents),
+        Instr::LoadLen => load_constant(alloc, Register::A, instr, CELL_OCTETS as u32, contents),
+        Instr::LoadMem(k) => recall(alloc, k, contents),
+        Instr::Alu { op, by } => operated(alloc, op, by, contents),
+        Instr::Neg => negated(alloc, contents),
+        Instr::Txa => Ok(Made::Bits(copied(alloc, &contents.x)?)),
+        _ => Ok(Made::Unknown),
+    }
+}
+
+/// What an instruction makes of X, if it changes that alone.
+fn made_of_x(alloc: Global, instr: &Instr, contents: &Contents) -> Result<Made, AllocError>
+    ensures { IfOk result (IsPutInto Into.X instr.now contents.now) }
+{
+    match *instr {
+        Instr::LdxImm(k) => load_constant(alloc, Register::X, instr, k, contents),
+        Instr::LdxLen => load_constant(alloc, Register::X, instr, CELL_OCTETS as u32, contents),
+        Instr::LdxMem(k) => recall(alloc, k, contents),
+        Instr::LdxMsh(k) => quarter_loaded(alloc, k, contents),
+        Instr::Tax => Ok(Made::Bits(copied(alloc, &contents.a)?)),
+        _ => Ok(Made::Unknown),
+    }
 }
 
 /// What an instruction makes of what is known of a machine at this place.
@@ -287,19 +272,8 @@ pub(crate) fn follow(
     ensures { IfOk result (IsFollowed instr.now place contents.now) }
 {
     match *instr {
-        Instr::LoadAbs { size, k } => load(alloc, instr, k.into(), size, place, contents),
-        Instr::LoadInd { size, k } => indirect(alloc, size, k, place, contents),
-        Instr::LoadImm(k) => constant_a(alloc, instr, k, place, contents),
-        Instr::LoadMem(k) => Ok(recalled_a(k, place, contents)),
-        Instr::LoadLen => constant_a(alloc, instr, CELL_OCTETS as u32, place, contents),
-        Instr::LdxImm(k) => constant_x(alloc, instr, k, place, contents),
-        Instr::LdxMem(k) => Ok(recalled_x(k, place, contents)),
-        Instr::LdxLen => constant_x(alloc, instr, CELL_OCTETS as u32, place, contents),
-        Instr::LdxMsh(k) => quarter_loaded(alloc, k, place, contents),
         Instr::Store(k) => Ok(stored(place, contents, k, contents.a)),
         Instr::StoreX(k) => Ok(stored(place, contents, k, contents.x)),
-        Instr::Alu { op, by } => operated(alloc, op, by, place, contents),
-        Instr::Neg => negated(alloc, place, contents),
         Instr::Jump(k) => Ok(Followed::Continues {
             place: place + 1 + k as usize,
             contents: *contents,
@@ -307,7 +281,13 @@ pub(crate) fn follow(
         Instr::Branch { test, by, jt, jf } => Ok(branched(test, by, jt, jf, place, contents)),
         Instr::RetK(k) => Ok(Followed::Ends(k)),
         Instr::RetA => Ok(returned(place, contents)),
-        Instr::Tax => Ok(with_x(place, contents, &contents.a)),
-        Instr::Txa => Ok(with_a(place, contents, &contents.x)),
+        Instr::LdxImm(_) | Instr::LdxLen | Instr::LdxMem(_) | Instr::LdxMsh(_) | Instr::Tax => {
+            let made = made_of_x(alloc, instr, contents)?;
+            Ok(with(Register::X, place, contents, &made))
+        }
+        _ => {
+            let made = made_of_a(alloc, instr, contents)?;
+            Ok(with(Register::A, place, contents, &made))
+        }
     }
 }

@@ -11,78 +11,42 @@ use crate::fault::Undecided;
 use crate::met_tests::{both, met};
 use crate::store::Diagrams;
 use rules_cells::{RuleLine, Rules, Test};
-use std::alloc::{AllocError, Global};
-use std::marker::Model;
+use std::collections::VecDeque;
 use upc_cell::Side;
 
-/// The diagrams of the cells for which no block around a line is passed over. Contracts see the list of them, that of the innermost block
-/// first.
-#[derive(Drop)]
-pub(crate) struct Inside {
-    /// The diagrams, that of the outermost block first.
-    reversed: Vec<Diagram>,
-}
-
-impl Model for Inside {
-    ghost use Rattle.std.specs.Prelude.{List, reverse};
-    ghost use Rattle.rules_diagrams.specs.declared.diagram.Diagram.{Diagram};
-
-    ghost Value = { List Diagram };
-
-    ghost view = { λ i. reverse i.reversed.items };
-}
-
-impl Inside {
-    /// The diagrams of no blocks.
-    pub(crate) fn new(alloc: Global) -> Inside
-        ensures { result ≡ [] }
-    {
-        Inside {
-            reversed: Vec::new(alloc),
-        }
-    }
-
-    /// The first diagram, or that of all cells if there is none.
-    pub(crate) fn first(&self) -> Diagram
-        ensures { result ≡ first_inside self.now }
-    {
-        match self.reversed.last() {
-            None => Diagram::Leaf(1),
-            Some(diagram) => *diagram,
-        }
-    }
-
-    /// Puts the diagram of a block before the others.
-    fn put(&mut self, diagram: Diagram) -> Result<(), AllocError>
-        ensures { OnOk result (self.new ≡ diagram ∷ self.old) }
-    {
-        self.reversed.push(diagram)?;
-        Ok(())
-    }
-
-    /// Removes the first diagram, if there is one.
-    fn leave(&mut self)
-        ensures { self.new ≡ left_inside self.old }
-    {
-        self.reversed.pop();
+/// The first of the diagrams of blocks, or that of all cells if there is none.
+fn first_of(inside: &VecDeque<Diagram>) -> Diagram
+    ensures { result ≡ first_inside inside.now.items }
+{
+    match inside.front() {
+        None => Diagram::Leaf(1),
+        Some(diagram) => *diagram,
     }
 }
 
-/// The diagram of the cells of which a rule with this test holds, within these blocks.
+/// Removes the first diagram, if there is one.
+fn leave(inside: &mut VecDeque<Diagram>)
+    ensures { inside.new.items ≡ left_inside inside.old.items }
+{
+    inside.pop_front();
+}
+
+/// The diagram of the cells of which a rule with this test holds, within these blocks: the diagrams of the cells for which no block around
+/// the rule is passed over, that of the innermost block first.
 #[tactic(auto, using(crate::proofs::Nodes::keeps_both, crate::proofs::Nodes::keeps_itself))]
 pub(crate) fn held(
     diagrams: &mut Diagrams,
     side: Side,
     test: &Test,
-    inside: &Inside,
+    inside: &VecDeque<Diagram>,
 ) -> Result<Diagram, Undecided>
-    requires { IsWithin diagrams.old (first_inside inside.now) }
+    requires { IsWithin diagrams.old (first_inside inside.now.items) }
     ensures keeps { Keeps diagrams.old diagrams.new }
-    ensures tells { IfOk result (λ made. (within : List ℕ → Bool) → Tells diagrams.old within (first_inside inside.now)
+    ensures tells { IfOk result (λ made. (within : List ℕ → Bool) → Tells diagrams.old within (first_inside inside.now.items)
         → Tells diagrams.new (λ cell. within cell && is_met side test.now cell) made) }
 {
     let one = met(diagrams, side, test)?;
-    both(diagrams, one, inside.first())
+    both(diagrams, one, first_of(inside))
 }
 
 /// The blocks around the line after one that is in these.
@@ -91,22 +55,22 @@ pub(crate) fn enter(
     diagrams: &mut Diagrams,
     rules: &Rules,
     place: usize,
-    inside: &mut Inside,
+    inside: &mut VecDeque<Diagram>,
 ) -> Result<(), Undecided>
     requires place { place < length rules.now.lines.items }
-    requires inside { AreInside diagrams.old (passed_before rules.now place) inside.old }
+    requires inside { AreInside diagrams.old (passed_before rules.now place) inside.old.items }
     ensures keeps { Keeps diagrams.old diagrams.new }
-    ensures inside { OnOk result (AreInside diagrams.new (passed_before rules.now (place + 1)) inside.new) }
+    ensures inside { OnOk result (AreInside diagrams.new (passed_before rules.now (place + 1)) inside.new.items) }
 {
     match &rules.lines[place] {
         RuleLine::Rule { .. } => Ok(()),
         RuleLine::Block { test } => {
             let within = held(diagrams, rules.side, test, inside)?;
-            inside.put(within)?;
+            inside.push_front(within)?;
             Ok(())
         }
         RuleLine::End => {
-            inside.leave();
+            leave(inside);
             Ok(())
         }
     }

@@ -13,56 +13,22 @@ use crate::met_tests::met;
 use crate::store::Diagrams;
 use rules_cells::{RuleLine, Rules};
 use std::alloc::{AllocError, Global};
-use std::marker::Model;
+use std::collections::VecDeque;
 use upc_cell::Side;
 
-/// The diagrams of what comes after the ends of blocks. Contracts see the list of them, that of the first end first.
-#[derive(Drop)]
-struct Outer {
-    /// The diagrams, that of the last end first.
-    reversed: Vec<Diagram>,
-}
-
-impl Model for Outer {
-    ghost use Rattle.std.specs.Prelude.{List, reverse};
-    ghost use Rattle.rules_diagrams.specs.declared.diagram.Diagram.{Diagram};
-
-    ghost Value = { List Diagram };
-
-    ghost view = { λ o. reverse o.reversed.items };
-}
-
-impl Outer {
-    /// The diagrams of no ends.
-    fn new(alloc: Global) -> Outer
-        ensures { result ≡ [] }
-    {
-        Outer {
-            reversed: Vec::new(alloc),
-        }
-    }
-
-    /// Puts the diagram of what comes after an end before the others.
-    fn put(&mut self, diagram: Diagram) -> Result<(), AllocError>
-        ensures { OnOk result (self.new ≡ diagram ∷ self.old) }
-    {
-        self.reversed.push(diagram)?;
-        Ok(())
-    }
-
-    /// Takes the first diagram, or that of no line if there is none.
-    fn take(&mut self) -> Diagram
-        ensures first { result ≡ first_outer self.old }
-        ensures left { self.new ≡ later_outer self.old }
-    {
-        match self.reversed.pop() {
-            None => Diagram::Leaf(0),
-            Some(diagram) => diagram,
-        }
+/// Takes the diagram of what comes after the first end, or that of no line if there is no end.
+fn take_first(outer: &mut VecDeque<Diagram>) -> Diagram
+    ensures first { result ≡ first_outer outer.old.items }
+    ensures left { outer.new.items ≡ later_outer outer.old.items }
+{
+    match outer.pop_front() {
+        None => Diagram::Leaf(0),
+        Some(diagram) => diagram,
     }
 }
 
-/// The diagram with one line more, which comes before those so far.
+/// The diagram with one line more, which comes before those so far. The outer ones are those of what comes after the ends of blocks, that of
+/// the first end first.
 #[tactic(auto, using(crate::proofs::Nodes::keeps_both, crate::proofs::Nodes::keeps_itself))]
 fn with_line(
     diagrams: &mut Diagrams,
@@ -70,13 +36,13 @@ fn with_line(
     line: &RuleLine,
     place: u32,
     so_far: Diagram,
-    outer: &mut Outer,
+    outer: &mut VecDeque<Diagram>,
 ) -> Result<Diagram, Undecided>
-    requires within { AreAllWithin diagrams.old so_far outer.old }
+    requires within { AreAllWithin diagrams.old so_far outer.old.items }
     requires place { place + 1 < 2 ^ 32 }
     ensures keeps { Keeps diagrams.old diagrams.new }
-    ensures lined { IfOk result (λ made. (rest : List Written) (otherwise : ℕ) → AreLined diagrams.old side rest (place + 1) otherwise so_far outer.old
-        → AreLined diagrams.new side (line.now ∷ rest) place otherwise made outer.new) }
+    ensures lined { IfOk result (λ made. (rest : List Written) (otherwise : ℕ) → AreLined diagrams.old side rest (place + 1) otherwise so_far outer.old.items
+        → AreLined diagrams.new side (line.now ∷ rest) place otherwise made outer.new.items) }
 {
     match line {
         RuleLine::Rule { test, value: _ } => {
@@ -85,11 +51,11 @@ fn with_line(
         }
         RuleLine::Block { test } => {
             let test = met(diagrams, side, test)?;
-            let after = outer.take();
+            let after = take_first(outer);
             diagrams.choose(test, so_far, after)
         }
         RuleLine::End => {
-            outer.put(so_far)?;
+            outer.push_front(so_far)?;
             Ok(so_far)
         }
     }
@@ -114,7 +80,7 @@ pub(crate) fn deciding_lines(
     if lines.len() >= u32::MAX as usize {
         return Err(Undecided::TooLarge);
     }
-    let mut outer = Outer::new(alloc);
+    let mut outer = VecDeque::new(alloc);
     let mut so_far = Diagram::Leaf(0);
     let mut left = lines.len();
     while left > 0 {

@@ -1,14 +1,13 @@
 //! What an operation makes of what is known of a machine.
 
-ghost use Rattle.std.specs.Prelude.{◌<◌, ◌≤◌, ◌+◌, ◌^◌, ℕ, List, IfOk, IfSome};
+ghost use Rattle.std.specs.Prelude.{◌≤◌, IfOk, IfSome};
 ghost use Rattle.bpf_code.specs.declared.instr.Instr.{Instr as Written};
-ghost use Rattle.rules_diagrams.specs.inner.Following.{AreOperand, IsComputed, IsFollowed, IsOperand, MakesA};
-ghost use Rattle.rules_diagrams.specs.inner.Words.{AreNumber, IsBitwise};
-ghost use Rattle.rules_diagrams.specs.declared.word.Bit.{Bit as Kind};
+ghost use Rattle.rules_diagrams.specs.inner.Following.{AreOperand, IsComputed, IsPutInto, IsOperand};
+ghost use Rattle.rules_diagrams.specs.inner.Words.{IsBitwise};
 ghost use Rattle.rules_diagrams.specs.declared.contents.Contents.{Contents as Known};
+ghost use Rattle.rules_diagrams.specs.declared.contents.Register.{Register as Into};
 
-use crate::contents::{Contents, Followed};
-use crate::following::with_a;
+use crate::contents::{Contents, Made};
 use crate::word::{Bit, constant, constant_of, shifted_left, shifted_right};
 use crate::word_results::bitwise;
 use bpf_code::{By, Op};
@@ -35,38 +34,15 @@ fn operand(alloc: Global, by: By, contents: &Contents) -> Result<Vec<Bit>, Alloc
 }
 
 /// A bitwise operation.
-fn bits_operated(
-    alloc: Global,
-    op: Op,
-    by: By,
-    place: usize,
-    contents: &Contents,
-) -> Result<Followed, AllocError>
-    requires place { place + 1 < 2 ^ 64 }
-    requires bitwise { IsBitwise op }
-    ensures { IfOk result (IsFollowed (Written.Alu op by) place contents.now) }
+fn bits_operated(alloc: Global, op: Op, by: By, contents: &Contents) -> Result<Made, AllocError>
+    requires { IsBitwise op }
+    ensures { IfOk result (IsPutInto Into.A (Written.Alu op by) contents.now) }
 {
     let other = operand(alloc, by, contents)?;
     match bitwise(alloc, op, &contents.a, &other)? {
-        None => Ok(Followed::Stops),
-        Some(bits) => Ok(with_a(place, contents, &bits)),
+        None => Ok(Made::Unknown),
+        Some(bits) => Ok(Made::Bits(bits)),
     }
-}
-
-/// A shift that leaves no bit.
-fn nothing_left(
-    alloc: Global,
-    op: Op,
-    by: By,
-    place: usize,
-    contents: &Contents,
-) -> Result<Followed, AllocError>
-    requires place { place + 1 < 2 ^ 64 }
-    requires none { (bits : List Kind) → AreNumber (λ _. 0) bits → MakesA (Written.Alu op by) place contents.now bits }
-    ensures { IfOk result (IsFollowed (Written.Alu op by) place contents.now) }
-{
-    let bits = constant(alloc, 0, 32)?;
-    Ok(with_a(place, contents, &bits))
 }
 
 /// A shift by 32 or more, which only X can be.
@@ -75,54 +51,39 @@ fn shifted_out(
     op: Op,
     by: By,
     k: u32,
-    place: usize,
     contents: &Contents,
-) -> Result<Followed, AllocError>
-    requires place { place + 1 < 2 ^ 64 }
+) -> Result<Made, AllocError>
     requires far { 32 ≤ k }
     requires operand { IsOperand by contents.now k }
-    ensures { IfOk result (IsFollowed (Written.Alu op by) place contents.now) }
+    ensures { IfOk result (IsPutInto Into.A (Written.Alu op by) contents.now) }
 {
     match by {
-        By::Imm(_) => Ok(Followed::Stops),
+        By::Imm(_) => Ok(Made::Unknown),
         By::X => match op {
-            Op::Lsh => nothing_left(alloc, op, by, place, contents),
-            Op::Rsh => nothing_left(alloc, op, by, place, contents),
+            Op::Lsh => Ok(Made::Bits(constant(alloc, 0, 32)?)),
+            Op::Rsh => Ok(Made::Bits(constant(alloc, 0, 32)?)),
             Op::Add | Op::Sub | Op::Mul | Op::Div | Op::Or | Op::And | Op::Mod | Op::Xor => {
-                Ok(Followed::Stops)
+                Ok(Made::Unknown)
             }
         },
     }
 }
 
 /// A shift by a constant.
-fn shifted(
-    alloc: Global,
-    op: Op,
-    by: By,
-    place: usize,
-    contents: &Contents,
-) -> Result<Followed, AllocError>
-    requires place { place + 1 < 2 ^ 64 }
-    ensures { IfOk result (IsFollowed (Written.Alu op by) place contents.now) }
+fn shifted(alloc: Global, op: Op, by: By, contents: &Contents) -> Result<Made, AllocError>
+    ensures { IfOk result (IsPutInto Into.A (Written.Alu op by) contents.now) }
 {
     let Some(k) = operand_constant(by, contents) else {
-        return Ok(Followed::Stops);
+        return Ok(Made::Unknown);
     };
     if k >= 32 {
-        return shifted_out(alloc, op, by, k, place, contents);
+        return shifted_out(alloc, op, by, k, contents);
     }
     match op {
-        Op::Lsh => {
-            let bits = shifted_left(alloc, &contents.a, k, 32)?;
-            Ok(with_a(place, contents, &bits))
-        }
-        Op::Rsh => {
-            let bits = shifted_right(alloc, &contents.a, k, k)?;
-            Ok(with_a(place, contents, &bits))
-        }
+        Op::Lsh => Ok(Made::Bits(shifted_left(alloc, &contents.a, k, 32)?)),
+        Op::Rsh => Ok(Made::Bits(shifted_right(alloc, &contents.a, k, k)?)),
         Op::Add | Op::Sub | Op::Mul | Op::Div | Op::Or | Op::And | Op::Mod | Op::Xor => {
-            Ok(Followed::Stops)
+            Ok(Made::Unknown)
         }
     }
 }
@@ -142,46 +103,36 @@ fn computed(op: Op, a: u32, k: u32) -> Option<u32>
 }
 
 /// A division by an X of 0 ends the program with 0.
-fn divided_by_none(op: Op, by: By, k: u32) -> Followed
-    ensures { (place : ℕ) (contents : Known) → IsOperand by contents k → IsFollowed (Written.Alu op by) place contents result }
+fn divided_by_none(op: Op, by: By, k: u32) -> Made
+    ensures { (contents : Known) → IsOperand by contents k → IsPutInto Into.A (Written.Alu op by) contents result }
 {
     if k > 0 {
-        return Followed::Stops;
+        return Made::Unknown;
     }
     match by {
-        By::Imm(_) => Followed::Stops,
+        By::Imm(_) => Made::Unknown,
         By::X => match op {
-            Op::Div | Op::Mod => Followed::Ends(0),
+            Op::Div | Op::Mod => Made::Ends(0),
             Op::Add | Op::Sub | Op::Mul | Op::Or | Op::And | Op::Lsh | Op::Rsh | Op::Xor => {
-                Followed::Stops
+                Made::Unknown
             }
         },
     }
 }
 
 /// An operation on two constants.
-fn calculated(
-    alloc: Global,
-    op: Op,
-    by: By,
-    place: usize,
-    contents: &Contents,
-) -> Result<Followed, AllocError>
-    requires { place + 1 < 2 ^ 64 }
-    ensures { IfOk result (IsFollowed (Written.Alu op by) place contents.now) }
+fn calculated(alloc: Global, op: Op, by: By, contents: &Contents) -> Result<Made, AllocError>
+    ensures { IfOk result (IsPutInto Into.A (Written.Alu op by) contents.now) }
 {
     let Some(a) = constant_of(&contents.a) else {
-        return Ok(Followed::Stops);
+        return Ok(Made::Unknown);
     };
     let Some(k) = operand_constant(by, contents) else {
-        return Ok(Followed::Stops);
+        return Ok(Made::Unknown);
     };
     match computed(op, a, k) {
         None => Ok(divided_by_none(op, by, k)),
-        Some(number) => {
-            let bits = constant(alloc, number, 32)?;
-            Ok(with_a(place, contents, &bits))
-        }
+        Some(number) => Ok(Made::Bits(constant(alloc, number, 32)?)),
     }
 }
 
@@ -190,17 +141,13 @@ pub(crate) fn operated(
     alloc: Global,
     op: Op,
     by: By,
-    place: usize,
     contents: &Contents,
-) -> Result<Followed, AllocError>
-    requires { place + 1 < 2 ^ 64 }
-    ensures { IfOk result (IsFollowed (Written.Alu op by) place contents.now) }
+) -> Result<Made, AllocError>
+    ensures { IfOk result (IsPutInto Into.A (Written.Alu op by) contents.now) }
 {
     match op {
-        Op::And | Op::Or | Op::Xor => bits_operated(alloc, op, by, place, contents),
-        Op::Lsh | Op::Rsh => shifted(alloc, op, by, place, contents),
-        Op::Add | Op::Sub | Op::Mul | Op::Div | Op::Mod => {
-            calculated(alloc, op, by, place, contents)
-        }
+        Op::And | Op::Or | Op::Xor => bits_operated(alloc, op, by, contents),
+        Op::Lsh | Op::Rsh => shifted(alloc, op, by, contents),
+        Op::Add | Op::Sub | Op::Mul | Op::Div | Op::Mod => calculated(alloc, op, by, contents),
     }
 }

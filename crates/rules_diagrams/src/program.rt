@@ -152,33 +152,9 @@ fn diagram_from(
     }
 }
 
-/// Tells the diagram from a place with these contents on.
-fn tell(
-    alloc: Global,
-    diagrams: &mut Diagrams,
-    tellings: &mut Tellings,
-    code: &[Instr],
-    place: usize,
-    contents: &Contents,
-) -> Result<(), Unfollowed>
-    requires place { place < length code.now }
-    requires size { length code.now < 2 ^ 32 }
-    requires told { All (IsTold diagrams.old code.now) tellings.old.told.items }
-    ensures keeps { Keeps diagrams.old diagrams.new }
-    ensures told { OnOk result (All (IsTold diagrams.new code.now) tellings.new.told.items) }
-{
-    let diagram = diagram_from(alloc, diagrams, tellings, code, place, contents)?;
-    tellings.told.push(Told {
-        place,
-        contents: *contents,
-        diagram,
-    })?;
-    Ok(())
-}
-
 /// Tells the diagram from a place on, if there are contents.
 #[tactic(auto, using(crate::proofs::Nodes::keeps_itself))]
-fn tell_found(
+fn tell(
     alloc: Global,
     diagrams: &mut Diagrams,
     tellings: &mut Tellings,
@@ -192,10 +168,16 @@ fn tell_found(
     ensures keeps { Keeps diagrams.old diagrams.new }
     ensures told { OnOk result (All (IsTold diagrams.new code.now) tellings.new.told.items) }
 {
-    match contents {
-        None => Ok(()),
-        Some(contents) => tell(alloc, diagrams, tellings, code, place, &contents),
-    }
+    let Some(contents) = contents else {
+        return Ok(());
+    };
+    let diagram = diagram_from(alloc, diagrams, tellings, code, place, &contents)?;
+    tellings.told.push(Told {
+        place,
+        contents,
+        diagram,
+    })?;
+    Ok(())
 }
 
 /// Tells the diagrams from a place on, with each of the contents that are reached there.
@@ -216,7 +198,7 @@ fn tell_place(
     tellings.begin(place);
     for index in 0..reached.count(place) {
         let contents = reached.contents(place, index);
-        tell_found(alloc, diagrams, tellings, code, place, contents)?;
+        tell(alloc, diagrams, tellings, code, place, contents)?;
     }
     Ok(())
 }

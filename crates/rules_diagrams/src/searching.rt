@@ -10,14 +10,14 @@ ghost use Rattle.rules_diagrams.specs.inner.Holding.{AreDeciders, AreInside, Are
 
 use crate::diagram::Diagram;
 use crate::fault::Undecided;
-use crate::holding::{Inside, enter, held};
+use crate::holding::{enter, held};
 use crate::lines::deciding_lines;
 use crate::numbers::{numbers, places_of};
 use crate::store::Diagrams;
 use crate::unused::Unused;
 use rules_cells::{RuleLine, Rules, laws};
 use std::alloc::{AllocError, Global};
-use std::collections::BTreeSet;
+use std::collections::{BTreeSet, VecDeque};
 
 /// The most work of a search, in steps: one for each node there is, for each rule that is found to decide no cell, and
 /// some for each rule that is named with it. It bounds time and memory where many rules decide no cell.
@@ -55,13 +55,13 @@ fn unused_at(
     place: usize,
     deciding: Diagram,
     deciders: &BTreeSet<u32>,
-    inside: &Inside,
+    inside: &VecDeque<Diagram>,
 ) -> Result<Option<Unused>, Undecided>
     requires place { place < length rules.now.lines.items }
     requires few { length rules.now.lines.items < 2 ^ 32 - 1 }
     requires deciding { GivesNumber diagrams.old (deciding_line rules.now) deciding }
     requires deciders { AreDeciders (deciding_line rules.now) deciders.now }
-    requires inside { AreInside diagrams.old (passed_before rules.now place) inside.now }
+    requires inside { AreInside diagrams.old (passed_before rules.now place) inside.now.items }
     ensures keeps { Keeps diagrams.old diagrams.new }
     ensures found { IfOk result (IsFoundAt rules.now place) }
 {
@@ -122,7 +122,7 @@ pub fn unused_rules(alloc: Global, rules: &Rules) -> Result<Vec<Unused>, Undecid
     let mut diagrams = Diagrams::new(alloc)?;
     let deciding = deciding_lines(alloc, &mut diagrams, rules)?;
     let deciders = numbers(alloc, &diagrams, deciding)?;
-    let mut inside = Inside::new(alloc);
+    let mut inside = VecDeque::new(alloc);
     let mut unused = Vec::new(alloc);
     let mut left = MOST_WORK;
     for place in 0..rules.lines.len() {

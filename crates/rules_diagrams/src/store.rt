@@ -130,7 +130,7 @@ fn first_step() -> Step
 }
 
 impl Diagrams {
-    /// Makes a store without nodes.
+    /// PutsInto a store without nodes.
     ///
     /// # Errors
     ///

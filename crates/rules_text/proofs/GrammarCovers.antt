@@ -8,7 +8,7 @@ use Rattle.rules_text.specs.RuleGrammar.{HeadForm, bare_head, equal_head, unequa
 use Rattle.rules_text.specs.RulesRead.{SignRead, any_cell, equal_sign, unequal_sign, less_sign, at_most_sign, greater_sign, at_least_sign, TestRead, block_line, comparing, compared, end_line, rule_line}
 use Rattle.rules_text.specs.RuleTokens.{RuleFound, RuleToken, and_word, arrow_mark, close_brace, close_parenthesis, comma_mark, dots_mark, mask_mark, number_word, open_brace, or_word, otherwise_word, side_word, sign_mark, size_word, slash_mark, star_mark, uni_word, nni_word}
 use Rattle.rules_text.specs.Subjects.{most_of_field, number_within, octets_at_token, value_read}
-use Rattle.rules_text.specs.TextOfRules.{fault_column, placed_fault, read_then, statement_from}
+use Rattle.rules_text.specs.TextOfRules.{fault_column, read_then, statement_from, fault_in_line}
 use Rattle.rules_text.specs.declared.fault.RuleKind.TheVariants.{BadLine, TooDeep, TooLarge, TooLong, Unbalanced, UnknownName}
 use Rattle.rules_text.proofs.TestBeginnings.{AreOpen, Explained, ExplainedAt, InClosed, InList, InOpen, IsOpen, StatementWritten, grown, in_moved, made_by, no_form, number_ok, octets_ok, ok_is, range_span, range_tokens, ranges_tokens, renamed, same_statement, step_to, then_ok, unit_begins, unit_closes, unit_read, unless_ok}
 use Rattle.rules_text.proofs.GrammarGroups.{after_and, after_or, parenthesis_closes, whole_ok}
@@ -381,26 +381,26 @@ read_ok : {A E F B : Type 0} (found : Result A E) (fault : E → F) (next : A �
 read_ok (Ok it) fault next result e = (it, refl, e)
 read_ok (Err error) fault next result e = absurd (cc)
 
-line_ok : (context : LineContext) (number : ℕ) (reading : Reading) (column : ℕ) (tokens : List RuleToken) (found : List RuleFound) (statement : StatementRead)
-    → statement_from context number reading column found ≡ Ok statement → Explained tokens reading → StatementWritten (tokens ++ map (λ it. it.token) found) statement
+line_ok : (context : LineContext) (reading : Reading) (column : ℕ) (tokens : List RuleToken) (found : List RuleFound) (statement : StatementRead)
+    → statement_from context reading column found ≡ Ok statement → Explained tokens reading → StatementWritten (tokens ++ map (λ it. it.token) found) statement
 unfolding statement_from
-line_ok context number reading column tokens [] statement e h =
-    let ended = read_ok (statement_at_end reading.awaited reading.statement) (λ kind. placed_fault number column kind) (λ it. Ok it) statement e in
+line_ok context reading column tokens [] statement e h =
+    let ended = read_ok (statement_at_end reading.awaited reading.statement) (λ kind. fault_in_line column kind) (λ it. Ok it) statement e in
     let is : ended.0 ≡ statement = same_statement ended.0 statement (Ok ended.0) refl ended.2 in
     subst (StatementWritten (tokens ++ [])) is
     (subst (λ ts. StatementWritten ts ended.0) (sym (append-nil tokens)) (end_ok reading.awaited tokens reading ended.0 ended.1 h))
-line_ok context number reading column tokens (first ∷ rest) statement e h =
-    let step = read_ok (read_token context first.column reading first.token) (λ kind. placed_fault number (fault_column reading kind first.column) kind)
-    (λ next. statement_from context number next first.after rest) statement e in
+line_ok context reading column tokens (first ∷ rest) statement e h =
+    let step = read_ok (read_token context first.column reading first.token) (λ kind. fault_in_line (fault_column reading kind first.column) kind)
+    (λ next. statement_from context next first.after rest) statement e in
     subst (λ ts. StatementWritten ts statement) (append_assoc tokens (first.token ∷ []) (map (λ it. it.token) rest))
-    (line_ok context number step.0 first.after (tokens ++ (first.token ∷ [])) rest statement step.2 (token_ok context first.column tokens reading step.0 first.token step.1 h))
+    (line_ok context step.0 first.after (tokens ++ (first.token ∷ [])) rest statement step.2 (token_ok context first.column tokens reading step.0 first.token step.1 h))
 
 -- A rule.
-pub rule_is_written : (context : LineContext) (number : ℕ) (found : List RuleFound) (read : TestRead) (value : ℕ)
-    → statement_from context number nothing_read 1 found ≡ Ok (line_statement (rule_line read value)) → IsRuleWritten (map (λ it. it.token) found) read value
-rule_is_written context number found read value e = line_ok context number nothing_read 1 [] found (line_statement (rule_line read value)) e (refl, refl)
+pub rule_is_written : (context : LineContext) (found : List RuleFound) (read : TestRead) (value : ℕ)
+    → statement_from context nothing_read 1 found ≡ Ok (line_statement (rule_line read value)) → IsRuleWritten (map (λ it. it.token) found) read value
+rule_is_written context found read value e = line_ok context nothing_read 1 [] found (line_statement (rule_line read value)) e (refl, refl)
 
 -- The head of a block.
-pub head_is_written : (context : LineContext) (number : ℕ) (found : List RuleFound) (read : TestRead)
-    → statement_from context number nothing_read 1 found ≡ Ok (line_statement (block_line read)) → IsHeadWritten (map (λ it. it.token) found) read
-head_is_written context number found read e = line_ok context number nothing_read 1 [] found (line_statement (block_line read)) e (refl, refl)
+pub head_is_written : (context : LineContext) (found : List RuleFound) (read : TestRead)
+    → statement_from context nothing_read 1 found ≡ Ok (line_statement (block_line read)) → IsHeadWritten (map (λ it. it.token) found) read
+head_is_written context found read e = line_ok context nothing_read 1 [] found (line_statement (block_line read)) e (refl, refl)

@@ -176,33 +176,33 @@ block_step context column group outermost comparisons test e h = rw (e, lt-leb 6
 abbrev EndsWith : StatementRead → Reading → Type 0
 EndsWith statement reading = statement_at_end reading.awaited reading.statement ≡ Ok statement
 
-statement_read : (context : LineContext) (number : ℕ) (found : List RuleFound) (reading : Reading) (column : ℕ) (statement : StatementRead)
-    → Reads context reading (map (λ it. it.token) found) (EndsWith statement) → statement_from context number reading column found ≡ Ok statement
-statement_read context number [] reading column statement h = statement_end context number column reading statement h
-statement_read context number (first ∷ rest) reading column statement h =
-    statement_more context number column reading (h first.column).0 first rest (h first.column).1 ∙ statement_read context number rest (h first.column).0 first.after statement (h first.column).2
+statement_read : (context : LineContext) (found : List RuleFound) (reading : Reading) (column : ℕ) (statement : StatementRead)
+    → Reads context reading (map (λ it. it.token) found) (EndsWith statement) → statement_from context reading column found ≡ Ok statement
+statement_read context [] reading column statement h = statement_end context column reading statement h
+statement_read context (first ∷ rest) reading column statement h =
+    statement_more context column reading (h first.column).0 first rest (h first.column).1 ∙ statement_read context rest (h first.column).0 first.after statement (h first.column).2
 
 -- The statement of a line that begins with the tokens of a test depends on the tokens after them.
-line_begins : (context : LineContext) (number : ℕ) (found : List RuleFound) (test : TestForm) (rest : List RuleToken) (statement : StatementRead)
+line_begins : (context : LineContext) (found : List RuleFound) (test : TestForm) (rest : List RuleToken) (statement : StatementRead)
     → TestFits context context.blocks test → test_count test ≤ 4096 → map (λ it. it.token) found ≡ test_tokens test ++ rest
     → ((last : ℕ) (end : Reading) → Ended context end (after_unit nothing_read (group_written test) last (test_count test)) → Reads context end rest (EndsWith statement))
-    → statement_from context number nothing_read 1 found ≡ Ok statement
-line_begins context number found test rest statement fits bound same h =
+    → statement_from context nothing_read 1 found ≡ Ok statement
+line_begins context found test rest statement fits bound same h =
     let none : context.blocks ≡ context.blocks + length nothing_read.around = omega arith in
     let count : test_count test ≡ 0 + test_count test = omega arith in
-    statement_read context number found nothing_read 1 statement
+    statement_read context found nothing_read 1 statement
     (subst (λ (tokens : List RuleToken). Reads context nothing_read tokens (EndsWith statement)) (sym same)
     (reads_append context (test_tokens test) rest nothing_read (EndsWith statement)
     (test_reads context test awaits_start nothing_read 0 (test_count test) (λ next. Reads context next rest (EndsWith statement)) (begins_start context)
     (subst (λ (k : ℕ). TestFits context k test) none fits) count bound h)))
 
 -- A rule.
-pub rule_is_read : (context : LineContext) (number : ℕ) (found : List RuleFound) (test : TestForm) (token : RuleToken) (value : ℕ)
+pub rule_is_read : (context : LineContext) (found : List RuleFound) (test : TestForm) (token : RuleToken) (value : ℕ)
     → TestFits context context.blocks test → test_count test ≤ 4096 → value_read token ≡ Ok value
     → map (λ it. it.token) found ≡ test_tokens test ++ (arrow_mark ∷ token ∷ [])
-    → statement_from context number nothing_read 1 found ≡ Ok (line_statement (rule_line (test_written test) value))
-rule_is_read context number found test token value fits bound is_value same =
-    line_begins context number found test (arrow_mark ∷ token ∷ []) (line_statement (rule_line (test_written test) value)) fits bound same (λ last end ended.
+    → statement_from context nothing_read 1 found ≡ Ok (line_statement (rule_line (test_written test) value))
+rule_is_read context found test token value fits bound is_value same =
+    line_begins context found test (arrow_mark ∷ token ∷ []) (line_statement (rule_line (test_written test) value)) fits bound same (λ last end ended.
     λ column. (
       _,
       ended column arrow_mark refl ∙ arrow_step context column (group_written test) last (test_count test) (test_written test) (written_test test),
@@ -210,10 +210,10 @@ rule_is_read context number found test token value fits bound is_value same =
     ))
 
 -- The head of a block.
-pub head_is_read : (context : LineContext) (number : ℕ) (found : List RuleFound) (test : TestForm)
+pub head_is_read : (context : LineContext) (found : List RuleFound) (test : TestForm)
     → TestFits context context.blocks test → test_count test ≤ 4096 → context.blocks < 64
     → map (λ it. it.token) found ≡ test_tokens test ++ (open_brace ∷ [])
-    → statement_from context number nothing_read 1 found ≡ Ok (line_statement (block_line (test_written test)))
-head_is_read context number found test fits bound room same =
-    line_begins context number found test (open_brace ∷ []) (line_statement (block_line (test_written test))) fits bound same (λ last end ended.
+    → statement_from context nothing_read 1 found ≡ Ok (line_statement (block_line (test_written test)))
+head_is_read context found test fits bound room same =
+    line_begins context found test (open_brace ∷ []) (line_statement (block_line (test_written test))) fits bound same (λ last end ended.
     λ column. (_, ended column open_brace refl ∙ block_step context column (group_written test) last (test_count test) (test_written test) (written_test test) room, refl))

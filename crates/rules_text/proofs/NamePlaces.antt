@@ -3,7 +3,7 @@ use Rattle.std.proofs.Common.{◌≡◌, ◌≢◌, IfOk, ℕ, ◌+◌, ◌-◌,
 use Rattle.std.proofs.lemmas.List.{append-nil, length-append}
 use Rattle.rules_text.specs.Names.{NameRead, letters_of}
 use Rattle.rules_text.specs.RuleTokens.{RuleFound, RuleToken}
-use Rattle.rules_text.specs.TextOfRules.{is_equal, name_found, name_with_sign, new_name, placed_fault, read_then}
+use Rattle.rules_text.specs.TextOfRules.{is_equal, name_found, name_with_sign, new_name, placed_fault, read_then, fault_in_line}
 use Rattle.rules_text.specs.declared.fault.RuleKind.{RuleKind}
 use Rattle.rules_text.specs.declared.fault.RuleKind.TheVariants.{BadLine, BadNumber, TooLarge, OutsideCell, AfterOtherwise, Unbalanced, TooDeep, TooLong, NoMemory, UnknownName, NameTaken}
 use Rattle.rules_text.specs.declared.lexer.Found.{Found}
@@ -31,37 +31,37 @@ has_place line column NoMemory other = absurd (other refl)
 has_place line column UnknownName other = refl
 has_place line column NameTaken other = refl
 
-module _ (names : List NameRead) (number : ℕ) (line : List ℕ) (after : ℕ) (tokens : List RuleFound) (name : RuleFound) (rest : List RuleFound) (letters : List ℕ) where
+module _ (names : List NameRead) (line : List ℕ) (after : ℕ) (tokens : List RuleFound) (name : RuleFound) (rest : List RuleFound) (letters : List ℕ) where
   -- A name that may not be given.
   pub name_bad : (kind : RuleKind) → tokens ≡ name ∷ rest → letters_of line name ≡ letters → new_name names letters name.token ≡ Err kind
-      → name_found names number line after tokens ≡ Err (placed_fault number name.column kind)
+      → name_found names line after tokens ≡ Err (fault_in_line name.column kind)
   name_bad kind e same bad =
-      ap (name_found names number line after) e
-      ∙ ap (λ (r : Result (List ℕ) RuleKind). read_then r (λ k. placed_fault number name.column k) (λ found. name_with_sign number found name.column name.after rest))
+      ap (name_found names line after) e
+      ∙ ap (λ (r : Result (List ℕ) RuleKind). read_then r (λ k. fault_in_line name.column k) (λ found. name_with_sign found name.column name.after rest))
       (ap (λ (found : List ℕ). new_name names found name.token) same ∙ bad)
 
   -- A new name.
   pub name_good : tokens ≡ name ∷ rest → letters_of line name ≡ letters → new_name names letters name.token ≡ Ok letters
-      → name_found names number line after tokens ≡ name_with_sign number letters name.column name.after rest
+      → name_found names line after tokens ≡ name_with_sign letters name.column name.after rest
   name_good e same good =
-      ap (name_found names number line after) e
-      ∙ ap (λ (r : Result (List ℕ) RuleKind). read_then r (λ k. placed_fault number name.column k) (λ found. name_with_sign number found name.column name.after rest))
+      ap (name_found names line after) e
+      ∙ ap (λ (r : Result (List ℕ) RuleKind). read_then r (λ k. fault_in_line name.column k) (λ found. name_with_sign found name.column name.after rest))
       (ap (λ (found : List ℕ). new_name names found name.token) same ∙ good)
 
-module _ (number : ℕ) (letters : List ℕ) (column after : ℕ) (tokens : List RuleFound) where
+module _ (letters : List ℕ) (column after : ℕ) (tokens : List RuleFound) where
   -- Nothing comes after a name.
-  pub sign_none : tokens ≡ [] → name_with_sign number letters column after tokens ≡ Err (placed_fault number after BadLine)
-  sign_none e = ap (name_with_sign number letters column after) e
+  pub sign_none : tokens ≡ [] → name_with_sign letters column after tokens ≡ Err (fault_in_line after BadLine)
+  sign_none e = ap (name_with_sign letters column after) e
 
   -- Something else than `=` comes after a name.
   pub sign_bad : (sign : RuleFound) (rest : List RuleFound) → tokens ≡ sign ∷ rest → is_equal sign.token ≡ false
-      → name_with_sign number letters column after tokens ≡ Err (placed_fault number sign.column BadLine)
-  sign_bad sign rest e other = ap (name_with_sign number letters column after) e ∙ rw other refl
+      → name_with_sign letters column after tokens ≡ Err (fault_in_line sign.column BadLine)
+  sign_bad sign rest e other = ap (name_with_sign letters column after) e ∙ rw other refl
 
   -- `=` comes after a name.
   pub sign_good : (sign : RuleFound) (rest : List RuleFound) → tokens ≡ sign ∷ rest → is_equal sign.token ≡ true
-      → name_with_sign number letters column after tokens ≡ Ok (record { letters = letters; column = column; after = sign.after; tokens = rest })
-  sign_good sign rest e equal = ap (name_with_sign number letters column after) e ∙ rw equal refl
+      → name_with_sign letters column after tokens ≡ Ok (record { letters = letters; column = column; after = sign.after; tokens = rest })
+  sign_good sign rest e equal = ap (name_with_sign letters column after) e ∙ rw equal refl
 
 -- Too many tokens of a definition.
 pub body_many : (made here rest wanted : List RuleToken) → made ++ (here ++ rest) ≡ wanted → 4096 < length made + length here → 4096 < length wanted

@@ -38,7 +38,7 @@ same_tokens names room other form line column (found ∷ rest) h g =
 pub no_limit_within : RoomIsNoLimitWithin
 no_limit_within = same_tokens
 
-module _ (context : LineContext) (number column after : ℕ) (statement : StatementRead) where
+module _ (context : LineContext) (column after : ℕ) (statement : StatementRead) where
   ok_by : {G : Type 0} (read : LineStep) (fault : RuleKind → RuleFault) (onward : Reading → Result StatementRead RuleFault)
       → read_then read fault onward ≡ Ok statement → ((next : Reading) → onward next ≡ Ok statement → G) → G
   ok_by (Ok next) fault onward e deep = deep next e
@@ -46,55 +46,55 @@ module _ (context : LineContext) (number column after : ℕ) (statement : Statem
 
   -- After tokens without a fault the rest is read.
   placed_ok : {G : Type 0} (reading : Reading) (before : ℕ) (token : RuleToken) (tokens : List RuleToken) (rest : List RuleFound)
-      → statement_from context number reading before (all_at column after (token ∷ tokens) ++ rest) ≡ Ok statement
-      → ((next : Reading) → statement_from context number next after rest ≡ Ok statement → G) → G
+      → statement_from context reading before (all_at column after (token ∷ tokens) ++ rest) ≡ Ok statement
+      → ((next : Reading) → statement_from context next after rest ≡ Ok statement → G) → G
   unfolding statement_from
   placed_ok reading before token [] rest e deep = ok_by (read_token context column reading token) _ _ e deep
   placed_ok reading before token (second ∷ tokens) rest e deep =
       ok_by (read_token context column reading token) _ _ e (λ next f. placed_ok next after second tokens rest f deep)
 
   for_ok : {G : Type 0} (reading : Reading) (before : ℕ) (form : FormRead) (token : RuleToken) (tokens : List RuleToken) (rest : List RuleFound)
-      → statement_from context number reading before (all_at column after (read_for form token tokens) ++ rest) ≡ Ok statement
-      → ((next : Reading) → statement_from context number next after rest ≡ Ok statement → G) → G
+      → statement_from context reading before (all_at column after (read_for form token tokens) ++ rest) ≡ Ok statement
+      → ((next : Reading) → statement_from context next after rest ≡ Ok statement → G) → G
   for_ok reading before form token [] rest e deep = placed_ok reading before (admitted form token) [] rest e deep
   for_ok reading before form token (first ∷ tokens) rest e deep = placed_ok reading before first tokens rest e deep
 
   -- A name without room is a fault.
   roomless : {G : Type 0} (reading : Reading) (before : ℕ) (rest : List RuleFound)
-      → statement_from context number reading before (all_at column after (no_room ∷ []) ++ rest) ≡ Ok statement → G
+      → statement_from context reading before (all_at column after (no_room ∷ []) ++ rest) ≡ Ok statement → G
   unfolding statement_from
   roomless reading before rest e = absurd (cc)
 
-module _ (context : LineContext) (number : ℕ) (names : List NameRead) (form : FormRead) (line : List ℕ) (statement : StatementRead) where
+module _ (context : LineContext) (names : List NameRead) (form : FormRead) (line : List ℕ) (statement : StatementRead) where
   -- What is left and what was added, after this many tokens.
   abbrev Adds : ℕ → List RuleFound → Type 0
   Adds room rest = room_left names room line rest + tokens_added names line rest ≡ room
 
   by_room : (reading : Reading) (before room : ℕ) (found : RuleFound) (rest : List RuleFound) (tokens : List RuleToken) (lacks : Bool) → nat_lt room (length tokens) ≡ lacks
-      → statement_from context number reading before (all_at found.column found.after (read_for form found.token (if lacks then no_room ∷ [] else tokens))
+      → statement_from context reading before (all_at found.column found.after (read_for form found.token (if lacks then no_room ∷ [] else tokens))
       ++ expanded names (room - length (if lacks then no_room ∷ [] else tokens)) form line found.after rest) ≡ Ok statement
-      → ((next : Reading) (left : ℕ) → statement_from context number next found.after (expanded names left form line found.after rest) ≡ Ok statement → Adds left rest)
+      → ((next : Reading) (left : ℕ) → statement_from context next found.after (expanded names left form line found.after rest) ≡ Ok statement → Adds left rest)
       → room_left names (room - length (if lacks then no_room ∷ [] else tokens)) line rest + (length tokens + tokens_added names line rest) ≡ room
-  by_room reading before room found rest tokens true is e deep = roomless context number found.column found.after statement reading before _ e
+  by_room reading before room found rest tokens true is e deep = roomless context found.column found.after statement reading before _ e
   by_room reading before room found rest tokens false is e deep =
       let fits : length tokens ≤ room = ltb-false room (length tokens) is in
-      let more = for_ok context number found.column found.after statement reading before form found.token tokens _ e (λ next f. deep next (room - length tokens) f) in
+      let more = for_ok context found.column found.after statement reading before form found.token tokens _ e (λ next f. deep next (room - length tokens) f) in
       omega (arith, fits, more)
 
   by_word : (reading : Reading) (before room : ℕ) (found : RuleFound) (rest : List RuleFound) (is_word : Bool) (meaning : Option (List RuleToken))
-      → statement_from context number reading before (all_at found.column found.after (read_for form found.token (if is_word then within_room room meaning else []))
+      → statement_from context reading before (all_at found.column found.after (read_for form found.token (if is_word then within_room room meaning else []))
       ++ expanded names (room - length (if is_word then within_room room meaning else [])) form line found.after rest) ≡ Ok statement
-      → ((next : Reading) (left : ℕ) → statement_from context number next found.after (expanded names left form line found.after rest) ≡ Ok statement → Adds left rest)
+      → ((next : Reading) (left : ℕ) → statement_from context next found.after (expanded names left form line found.after rest) ≡ Ok statement → Adds left rest)
       → room_left names (room - length (if is_word then within_room room meaning else [])) line rest + (length (tokens_of_word is_word meaning) + tokens_added names line rest) ≡ room
   by_word reading before room found rest false meaning e deep =
-      let more = for_ok context number found.column found.after statement reading before form found.token [] _ e (λ next f. deep next (room - 0) f) in
+      let more = for_ok context found.column found.after statement reading before form found.token [] _ e (λ next f. deep next (room - 0) f) in
       omega (arith, more)
   by_word reading before room found rest true None e deep =
-      let more = for_ok context number found.column found.after statement reading before form found.token [] _ e (λ next f. deep next (room - 0) f) in
+      let more = for_ok context found.column found.after statement reading before form found.token [] _ e (λ next f. deep next (room - 0) f) in
       omega (arith, more)
   by_word reading before room found rest true (Some tokens) e deep = by_room reading before room found rest tokens (nat_lt room (length tokens)) refl e deep
 
-  adds : (reading : Reading) (before room : ℕ) (tokens : List RuleFound) → statement_from context number reading before (expanded names room form line before tokens) ≡ Ok statement → Adds room tokens
+  adds : (reading : Reading) (before room : ℕ) (tokens : List RuleFound) → statement_from context reading before (expanded names room form line before tokens) ≡ Ok statement → Adds room tokens
   unfolding expanded room_left tokens_added
   adds reading before room [] e = omega arith
   adds reading before room (found ∷ rest) e =
@@ -103,4 +103,4 @@ module _ (context : LineContext) (number : ℕ) (names : List NameRead) (form : 
 
 -- For every line.
 pub lines_add : LinesAddWhatNamesMean
-lines_add context names form number line column tokens statement e = adds context number names form line statement (form_start form) column context.room tokens e
+lines_add context names form line column tokens statement e = adds context names form line statement (form_start form) column context.room tokens e

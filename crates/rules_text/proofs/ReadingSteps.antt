@@ -7,7 +7,7 @@ use Rattle.rules_text.specs.Names.{NameRead, rule_form}
 use Rattle.rules_text.specs.RulesInMemory.{placed_rules_read}
 use Rattle.rules_text.specs.RuleTokens.{RuleFound, rule_tokens}
 use Rattle.rules_text.specs.TextFaults.{IsFaultOf}
-use Rattle.rules_text.specs.TextOfRules.{PlacedRulesRead, TextReading, context_of, fault_column, fault_of_line, formed_statement, gives_name, name_given, no_text_read, placed_fault, placed_rules_at_end, placed_rules_from, placed_rules_in, read_then, rules_in, statement_from, text_with, text_with_line, text_with_name, text_with_room, text_with_tokens}
+use Rattle.rules_text.specs.TextOfRules.{PlacedRulesRead, TextReading, context_of, fault_column, fault_of_line, formed_statement, gives_name, name_given, no_text_read, placed_rules_at_end, placed_rules_from, placed_rules_in, read_then, rules_in, statement_from, text_with, text_with_line, text_with_name, text_with_room, text_with_tokens, fault_in_line}
 use Rattle.rules_text.specs.declared.fault.RuleFault.{RuleFault}
 use Rattle.rules_text.specs.declared.fault.RuleKind.{RuleKind}
 use Rattle.rules_text.specs.declared.fault.RuleKind.TheVariants.{BadLine, BadNumber, TooLarge, OutsideCell, AfterOtherwise, Unbalanced, TooDeep, TooLong, NoMemory, UnknownName, NameTaken}
@@ -15,30 +15,30 @@ use Rattle.rules_text.specs.declared.reader.PlacedRules.{PlacedRules}
 use Rattle.rules_text.specs.inner.SeenFaults.{fault_seen}
 
 -- One more token.
-pub statement_more : (context : LineContext) (number column : ℕ) (reading next : Reading) (found : RuleFound) (rest : List RuleFound)
+pub statement_more : (context : LineContext) (column : ℕ) (reading next : Reading) (found : RuleFound) (rest : List RuleFound)
     → read_token context found.column reading found.token ≡ Ok next
-    → statement_from context number reading column (found ∷ rest) ≡ statement_from context number next found.after rest
+    → statement_from context reading column (found ∷ rest) ≡ statement_from context next found.after rest
 unfolding statement_from
-statement_more context number column reading next found rest e = rw e refl
+statement_more context column reading next found rest e = rw e refl
 
 -- A token that is a fault.
-pub statement_fault : (context : LineContext) (number column : ℕ) (reading : Reading) (found : RuleFound) (rest : List RuleFound) (kind : RuleKind)
+pub statement_fault : (context : LineContext) (column : ℕ) (reading : Reading) (found : RuleFound) (rest : List RuleFound) (kind : RuleKind)
     → read_token context found.column reading found.token ≡ Err kind
-    → statement_from context number reading column (found ∷ rest) ≡ Err (placed_fault number (fault_column reading kind found.column) kind)
+    → statement_from context reading column (found ∷ rest) ≡ Err (fault_in_line (fault_column reading kind found.column) kind)
 unfolding statement_from
-statement_fault context number column reading found rest kind e = rw e refl
+statement_fault context column reading found rest kind e = rw e refl
 
 -- The end of a line that may end here.
-pub statement_end : (context : LineContext) (number column : ℕ) (reading : Reading) (statement : StatementRead)
-    → statement_at_end reading.awaited reading.statement ≡ Ok statement → statement_from context number reading column [] ≡ Ok statement
+pub statement_end : (context : LineContext) (column : ℕ) (reading : Reading) (statement : StatementRead)
+    → statement_at_end reading.awaited reading.statement ≡ Ok statement → statement_from context reading column [] ≡ Ok statement
 unfolding statement_from
-statement_end context number column reading statement e = rw e refl
+statement_end context column reading statement e = rw e refl
 
 -- The end of a line that ends too early.
-pub statement_early : (context : LineContext) (number column : ℕ) (reading : Reading) (kind : RuleKind)
-    → statement_at_end reading.awaited reading.statement ≡ Err kind → statement_from context number reading column [] ≡ Err (placed_fault number column kind)
+pub statement_early : (context : LineContext) (column : ℕ) (reading : Reading) (kind : RuleKind)
+    → statement_at_end reading.awaited reading.statement ≡ Err kind → statement_from context reading column [] ≡ Err (fault_in_line column kind)
 unfolding statement_from
-statement_early context number column reading kind e = rw e refl
+statement_early context column reading kind e = rw e refl
 
 -- One more line.
 pub rules_more : (text next : TextReading) (begin : TextPlace) (line : List ℕ) (rest : List (List ℕ))
@@ -64,7 +64,7 @@ line_empty text begin line e = rw e refl
 
 -- A line after `otherwise`.
 pub line_closed : (text : TextReading) (begin : TextPlace) (line : List ℕ) (first : RuleFound) (rest : List RuleFound)
-    → rule_tokens line ≡ first ∷ rest → text.closed ≡ true → text_with_line text begin line ≡ Err (placed_fault begin.line first.column AfterOtherwise)
+    → rule_tokens line ≡ first ∷ rest → text.closed ≡ true → text_with_line text begin line ≡ Err (fault_in_line first.column AfterOtherwise)
 unfolding text_with_line
 line_closed text begin line first rest e closed = rw (e, closed) refl
 
@@ -76,37 +76,37 @@ open_by false fault read e = refl
 line_open : (text : TextReading) (begin : TextPlace) (line : List ℕ) (first : RuleFound) (rest : List RuleFound) → text.closed ≡ false
     → text_with_tokens text begin line (first ∷ rest) ≡ (
     if gives_name first.token
-    then read_then (name_given text begin.line line first rest) (λ fault. fault) (λ name. Ok (text_with_name (text_with_room text line (first ∷ rest)) name))
-    else read_then (formed_statement (context_of text) text.names rule_form begin.line line 1 (first ∷ rest)) (λ fault. fault)
+    then read_then (name_given text line first rest) (λ fault. fault) (λ name. Ok (text_with_name (text_with_room text line (first ∷ rest)) name))
+    else read_then (formed_statement (context_of text) text.names rule_form line 1 (first ∷ rest)) (λ fault. fault)
     (λ statement. Ok (text_with (text_with_room text line (first ∷ rest)) begin first.column statement)))
 line_open text begin line first rest closed = open_by text.closed _ _ closed
 
 -- A line with a statement.
 pub line_with_statement : (text : TextReading) (begin : TextPlace) (line : List ℕ) (first : RuleFound) (rest : List RuleFound) (statement : StatementRead) (spent : TextReading)
     → text_with_room text line (rule_tokens line) ≡ spent → rule_tokens line ≡ first ∷ rest → text.closed ≡ false → gives_name first.token ≡ false
-    → formed_statement (context_of text) text.names rule_form begin.line line 1 (rule_tokens line) ≡ Ok statement
+    → formed_statement (context_of text) text.names rule_form line 1 (rule_tokens line) ≡ Ok statement
     → text_with_line text begin line ≡ Ok (text_with spent begin first.column statement)
 unfolding text_with_line
 line_with_statement text begin line first rest statement spent spends e closed gives s =
     let room : text_with_room text line (first ∷ rest) ≡ spent = ap (text_with_room text line) (sym e) ∙ spends in
-    let t : formed_statement (context_of text) text.names rule_form begin.line line 1 (first ∷ rest) ≡ Ok statement =
-    ap (formed_statement (context_of text) text.names rule_form begin.line line 1) (sym e) ∙ s in
+    let t : formed_statement (context_of text) text.names rule_form line 1 (first ∷ rest) ≡ Ok statement =
+    ap (formed_statement (context_of text) text.names rule_form line 1) (sym e) ∙ s in
     ap (text_with_tokens text begin line) e ∙ line_open text begin line first rest closed ∙ rw (gives, t) (ap (λ (x : TextReading). Ok (text_with x begin first.column statement)) room)
 
 -- A line with a fault.
 pub line_fault : (text : TextReading) (begin : TextPlace) (line : List ℕ) (first : RuleFound) (rest : List RuleFound) (fault : RuleFault)
     → rule_tokens line ≡ first ∷ rest → text.closed ≡ false → gives_name first.token ≡ false
-    → formed_statement (context_of text) text.names rule_form begin.line line 1 (rule_tokens line) ≡ Err fault
+    → formed_statement (context_of text) text.names rule_form line 1 (rule_tokens line) ≡ Err fault
     → text_with_line text begin line ≡ Err fault
 unfolding text_with_line
 line_fault text begin line first rest fault e closed gives s =
-    let t : formed_statement (context_of text) text.names rule_form begin.line line 1 (first ∷ rest) ≡ Err fault =
-    ap (formed_statement (context_of text) text.names rule_form begin.line line 1) (sym e) ∙ s in
+    let t : formed_statement (context_of text) text.names rule_form line 1 (first ∷ rest) ≡ Err fault =
+    ap (formed_statement (context_of text) text.names rule_form line 1) (sym e) ∙ s in
     rw (e, closed, gives, t) refl
 
 -- A line that gives a name.
 pub line_with_name : (text : TextReading) (begin : TextPlace) (line : List ℕ) (first : RuleFound) (rest : List RuleFound) (name : NameRead) (spent : TextReading)
-    → text_with_room text line (rule_tokens line) ≡ spent → rule_tokens line ≡ first ∷ rest → text.closed ≡ false → gives_name first.token ≡ true → name_given text begin.line line first rest ≡ Ok name
+    → text_with_room text line (rule_tokens line) ≡ spent → rule_tokens line ≡ first ∷ rest → text.closed ≡ false → gives_name first.token ≡ true → name_given text line first rest ≡ Ok name
     → text_with_line text begin line ≡ Ok (text_with_name spent name)
 unfolding text_with_line
 line_with_name text begin line first rest name spent spends e closed gives s =
@@ -115,26 +115,26 @@ line_with_name text begin line first rest name spent spends e closed gives s =
 
 -- A line that gives a name with a fault.
 pub line_name_fault : (text : TextReading) (begin : TextPlace) (line : List ℕ) (first : RuleFound) (rest : List RuleFound) (fault : RuleFault)
-    → rule_tokens line ≡ first ∷ rest → text.closed ≡ false → gives_name first.token ≡ true → name_given text begin.line line first rest ≡ Err fault
+    → rule_tokens line ≡ first ∷ rest → text.closed ≡ false → gives_name first.token ≡ true → name_given text line first rest ≡ Err fault
     → text_with_line text begin line ≡ Err fault
 unfolding text_with_line
 line_name_fault text begin line first rest fault e closed gives s = rw (e, closed, gives, s) refl
 
 -- A fault that has no place but its token's.
-pub other_fault : {A : Type 0} (read : Result A RuleFault) (reading : Reading) (number column : ℕ) (fault : RuleFault) (kind : RuleKind)
-    → kind ≢ Unbalanced → fault ≡ fault_seen number column kind
-    → (kind ≢ NoMemory → read ≡ Err (placed_fault number (fault_column reading kind column) kind)) → IsFaultOf read fault
-other_fault read reading number column fault BadLine n f g = inr (g (λ e. cc) ∙ ap (λ (x : RuleFault). Err x) (sym f))
-other_fault read reading number column fault BadNumber n f g = inr (g (λ e. cc) ∙ ap (λ (x : RuleFault). Err x) (sym f))
-other_fault read reading number column fault TooLarge n f g = inr (g (λ e. cc) ∙ ap (λ (x : RuleFault). Err x) (sym f))
-other_fault read reading number column fault OutsideCell n f g = inr (g (λ e. cc) ∙ ap (λ (x : RuleFault). Err x) (sym f))
-other_fault read reading number column fault AfterOtherwise n f g = inr (g (λ e. cc) ∙ ap (λ (x : RuleFault). Err x) (sym f))
-other_fault read reading number column fault Unbalanced n f g = absurd (n refl)
-other_fault read reading number column fault TooDeep n f g = inr (g (λ e. cc) ∙ ap (λ (x : RuleFault). Err x) (sym f))
-other_fault read reading number column fault TooLong n f g = inr (g (λ e. cc) ∙ ap (λ (x : RuleFault). Err x) (sym f))
-other_fault read reading number column fault UnknownName n f g = inr (g (λ e. cc) ∙ ap (λ (x : RuleFault). Err x) (sym f))
-other_fault read reading number column fault NameTaken n f g = inr (g (λ e. cc) ∙ ap (λ (x : RuleFault). Err x) (sym f))
-other_fault read reading number column fault NoMemory n f g = inl f
+pub other_fault : {A : Type 0} (read : Result A RuleFault) (reading : Reading) (column : ℕ) (fault : RuleFault) (kind : RuleKind)
+    → kind ≢ Unbalanced → fault ≡ fault_seen 0 column kind
+    → (kind ≢ NoMemory → read ≡ Err (fault_in_line (fault_column reading kind column) kind)) → IsFaultOf read fault
+other_fault read reading column fault BadLine n f g = inr (g (λ e. cc) ∙ ap (λ (x : RuleFault). Err x) (sym f))
+other_fault read reading column fault BadNumber n f g = inr (g (λ e. cc) ∙ ap (λ (x : RuleFault). Err x) (sym f))
+other_fault read reading column fault TooLarge n f g = inr (g (λ e. cc) ∙ ap (λ (x : RuleFault). Err x) (sym f))
+other_fault read reading column fault OutsideCell n f g = inr (g (λ e. cc) ∙ ap (λ (x : RuleFault). Err x) (sym f))
+other_fault read reading column fault AfterOtherwise n f g = inr (g (λ e. cc) ∙ ap (λ (x : RuleFault). Err x) (sym f))
+other_fault read reading column fault Unbalanced n f g = absurd (n refl)
+other_fault read reading column fault TooDeep n f g = inr (g (λ e. cc) ∙ ap (λ (x : RuleFault). Err x) (sym f))
+other_fault read reading column fault TooLong n f g = inr (g (λ e. cc) ∙ ap (λ (x : RuleFault). Err x) (sym f))
+other_fault read reading column fault UnknownName n f g = inr (g (λ e. cc) ∙ ap (λ (x : RuleFault). Err x) (sym f))
+other_fault read reading column fault NameTaken n f g = inr (g (λ e. cc) ∙ ap (λ (x : RuleFault). Err x) (sym f))
+other_fault read reading column fault NoMemory n f g = inl f
 
 -- A fault of a part is one of the whole.
 pub fault_onward : {A B : Type 0} (part : Result A RuleFault) (whole : Result B RuleFault) (fault : RuleFault)
@@ -155,14 +155,14 @@ returned_fault (Ok value) fault P e p = tt
 returned_fault (Err other) fault P e p = subst P (sym e) p
 
 -- A fault at an equal column.
-pub placed_same : (fault : RuleFault) (number column other : ℕ) (kind : RuleKind) → fault ≡ placed_fault number column kind → column ≡ other → fault ≡ placed_fault number other kind
-placed_same fault number column other kind e same = e ∙ ap (λ (k : ℕ). placed_fault number k kind) same
+pub placed_same : (fault : RuleFault) (column other : ℕ) (kind : RuleKind) → fault ≡ fault_in_line column kind → column ≡ other → fault ≡ fault_in_line other kind
+placed_same fault column other kind e same = e ∙ ap (λ (k : ℕ). fault_in_line k kind) same
 
 -- A line that ends too early has a place.
-pub early_same : (fault : RuleFault) (number column : ℕ) (kind : RuleKind) → fault ≡ fault_seen number column kind → kind ≡ BadLine → fault ≡ placed_fault number column kind
-early_same fault number column kind e bad =
-    let seen : fault_seen number column kind ≡ placed_fault number column BadLine = ap (fault_seen number column) bad in
-    e ∙ seen ∙ ap (placed_fault number column) (sym bad)
+pub early_same : (fault : RuleFault) (column : ℕ) (kind : RuleKind) → fault ≡ fault_seen 0 column kind → kind ≡ BadLine → fault ≡ fault_in_line column kind
+early_same fault column kind e bad =
+    let seen : fault_seen 0 column kind ≡ fault_in_line column BadLine = ap (fault_seen 0 column) bad in
+    e ∙ seen ∙ ap (fault_in_line column) (sym bad)
 
 -- The rules of a text, from its first line on.
 pub rules_begun : (octets : List ℕ) → placed_rules_in octets ≡ placed_rules_from no_text_read (line_begin 1) (rule_lines octets)

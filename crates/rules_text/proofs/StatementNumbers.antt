@@ -9,7 +9,7 @@ use Rattle.rules_text.specs.LineGrammar.{LineContext, StatementRead, blank_state
 use Rattle.rules_text.specs.Names.{NameRead, rule_form}
 use Rattle.rules_text.specs.RulesRead.{LineRead, rule_line, block_line, end_line}
 use Rattle.rules_text.specs.RuleTokens.{RuleFound, before_feed, first_cut, found_at, rule_tokens, separates, tokens_from}
-use Rattle.rules_text.specs.TextOfRules.{PlacedRulesRead, TextReading, context_of, fault_in_text, fault_of_line, formed_statement, gives_name, name_given, no_text_read, placed_rules_from, placed_fault, read_then, text_with, text_with_line, text_with_tokens, text_with_name, text_with_room}
+use Rattle.rules_text.specs.TextOfRules.{PlacedRulesRead, TextReading, context_of, fault_in_text, fault_of_line, formed_statement, gives_name, name_given, no_text_read, placed_rules_from, read_then, text_with, text_with_line, text_with_tokens, text_with_name, text_with_room, fault_in_line}
 use Rattle.rules_text.specs.declared.fault.RuleFault.{RuleFault}
 use Rattle.rules_text.specs.declared.fault.RuleKind.TheVariants.{AfterOtherwise, Unbalanced}
 use Rattle.rules_text.specs.declared.place.RulePlace.{RulePlace}
@@ -174,19 +174,19 @@ module _ (octets : List ℕ) where
   abbrev Reads : TextPlace → List ℕ → List RuleFound → Type 0
   Reads begin line tokens =
       (first : RuleFound) (rest : List RuleFound) → tokens ≡ first ∷ rest
-      → (context : LineContext) (names : List NameRead) (l : LineRead) → formed_statement context names rule_form begin.line line 1 tokens ≡ Ok (line_statement l) → IsLineReadAt octets (rule_place begin first.column) l
+      → (context : LineContext) (names : List NameRead) (l : LineRead) → formed_statement context names rule_form line 1 tokens ≡ Ok (line_statement l) → IsLineReadAt octets (rule_place begin first.column) l
 
   by_first : (closed gives : Bool) (text next : TextReading) (begin : TextPlace) (line : List ℕ) (first : RuleFound) (rest : List RuleFound)
-      → (if closed then Err (placed_fault begin.line first.column AfterOtherwise) else (
+      → (if closed then Err (fault_in_line first.column AfterOtherwise) else (
       if gives
-      then read_then (name_given text begin.line line first rest) (λ fault. fault) (λ name. Ok (text_with_name (text_with_room text line (first ∷ rest)) name))
-      else read_then (formed_statement (context_of text) text.names rule_form begin.line line 1 (first ∷ rest)) (λ fault. fault)
+      then read_then (name_given text line first rest) (λ fault. fault) (λ name. Ok (text_with_name (text_with_room text line (first ∷ rest)) name))
+      else read_then (formed_statement (context_of text) text.names rule_form line 1 (first ∷ rest)) (λ fault. fault)
       (λ statement. Ok (text_with (text_with_room text line (first ∷ rest)) begin first.column statement)))) ≡ Ok next
       → Holds text → Reads begin line (first ∷ rest) → Holds next
   by_first true gives text next begin line first rest e held is = cc
-  by_first false true text next begin line first rest e held is = by_name text next (text_with_room text line (first ∷ rest)).room (name_given text begin.line line first rest) e held
+  by_first false true text next begin line first rest e held is = by_name text next (text_with_room text line (first ∷ rest)).room (name_given text line first rest) e held
   by_first false false text next begin line first rest e held is =
-      by_found text next begin first.column (text_with_room text line (first ∷ rest)).room (formed_statement (context_of text) text.names rule_form begin.line line 1 (first ∷ rest)) e held (is first rest refl (context_of text) text.names)
+      by_found text next begin first.column (text_with_room text line (first ∷ rest)).room (formed_statement (context_of text) text.names rule_form line 1 (first ∷ rest)) e held (is first rest refl (context_of text) text.names)
 
   by_tokens : (text next : TextReading) (begin : TextPlace) (line : List ℕ) (tokens : List RuleFound) → text_with_tokens text begin line tokens ≡ Ok next → Holds text → Reads begin line tokens → Holds next
   by_tokens text next begin line [] e held is = let same : text ≡ next = cc in subst Holds same held

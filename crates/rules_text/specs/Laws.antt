@@ -22,19 +22,19 @@ use Rattle.rules_text.specs.ValuesRead.{FollowsText}
 -- its tokens are, if the numbers fit and the limits are kept.
 abbrev pub RulesAreReadAsTheyAreWritten : Type 0
 RulesAreReadAsTheyAreWritten =
-    (context : LineContext) (source_line : ℕ) (found : List RuleFound) (test : TestForm) (token : RuleToken) (value : ℕ)
+    (context : LineContext) (found : List RuleFound) (test : TestForm) (token : RuleToken) (value : ℕ)
     → TestFits context context.blocks test → test_count test ≤ 4096 → value_read token ≡ Ok value
     → map (λ it. it.token) found ≡ test_tokens test ++ (arrow_mark ∷ token ∷ [])
-    → statement_from context source_line nothing_read 1 found ≡ Ok (line_statement (rule_line (test_written test) value))
+    → statement_from context nothing_read 1 found ≡ Ok (line_statement (rule_line (test_written test) value))
 
 -- A line that has the tokens of a test of the grammar and `{` is the head of a block with this test, with the same limits
 -- and fewer than 64 open blocks.
 abbrev pub HeadsAreReadAsTheyAreWritten : Type 0
 HeadsAreReadAsTheyAreWritten =
-    (context : LineContext) (source_line : ℕ) (found : List RuleFound) (test : TestForm)
+    (context : LineContext) (found : List RuleFound) (test : TestForm)
     → TestFits context context.blocks test → test_count test ≤ 4096 → context.blocks < 64
     → map (λ it. it.token) found ≡ test_tokens test ++ (open_brace ∷ [])
-    → statement_from context source_line nothing_read 1 found ≡ Ok (line_statement (block_line (test_written test)))
+    → statement_from context nothing_read 1 found ≡ Ok (line_statement (block_line (test_written test)))
 
 -- These tokens are those of a test of the grammar that means this test, `->` and a token that is this value.
 pub record IsRuleWritten (tokens : List RuleToken) (read : TestRead) (value : ℕ) : Type 0 where
@@ -54,15 +54,15 @@ pub record IsHeadWritten (tokens : List RuleToken) (read : TestRead) : Type 0 wh
 -- token that is its value.
 abbrev pub OnlyWrittenRulesAreRead : Type 0
 OnlyWrittenRulesAreRead =
-    (context : LineContext) (source_line : ℕ) (found : List RuleFound) (read : TestRead) (value : ℕ)
-    → statement_from context source_line nothing_read 1 found ≡ Ok (line_statement (rule_line read value))
+    (context : LineContext) (found : List RuleFound) (read : TestRead) (value : ℕ)
+    → statement_from context nothing_read 1 found ≡ Ok (line_statement (rule_line read value))
     → IsRuleWritten (map (λ it. it.token) found) read value
 
 -- The same of the head of a block.
 abbrev pub OnlyWrittenHeadsAreRead : Type 0
 OnlyWrittenHeadsAreRead =
-    (context : LineContext) (source_line : ℕ) (found : List RuleFound) (read : TestRead)
-    → statement_from context source_line nothing_read 1 found ≡ Ok (line_statement (block_line read))
+    (context : LineContext) (found : List RuleFound) (read : TestRead)
+    → statement_from context nothing_read 1 found ≡ Ok (line_statement (block_line read))
     → IsHeadWritten (map (λ it. it.token) found) read
 
 -- The column of the first of these tokens of a line of rules, before which these octets stand in its source line; none if no octet does.
@@ -93,7 +93,7 @@ pub record IsLineReadAt (octets : List ℕ) (place : RulePlace) (read : LineRead
   -- which is read in this way
   pub context : LineContext
   pub names : List NameRead
-  pub read_as : formed_statement context names rule_form place.line line 1 (rule_tokens line) ≡ Ok (line_statement read)
+  pub read_as : formed_statement context names rule_form line 1 (rule_tokens line) ≡ Ok (line_statement read)
 
 -- Lines of rules that begin at these places are read as these lines: as many, in order.
 abbrev pub AreLinesReadAt : List ℕ → List RulePlace → List LineRead → Type 0

@@ -28,8 +28,8 @@ tokens_added names line (found ∷ rest) = length (tokens_meant names line found
 -- what they may add after it.
 abbrev pub LinesAddWhatNamesMean : Type 0
 LinesAddWhatNamesMean =
-    (context : LineContext) (names : List NameRead) (form : FormRead) (source_line : ℕ) (line : List ℕ) (column : ℕ) (tokens : List RuleFound) (statement : StatementRead)
-    → formed_statement context names form source_line line column tokens ≡ Ok statement
+    (context : LineContext) (names : List NameRead) (form : FormRead) (line : List ℕ) (column : ℕ) (tokens : List RuleFound) (statement : StatementRead)
+    → formed_statement context names form line column tokens ≡ Ok statement
     → room_left names context.room line tokens + tokens_added names line tokens ≡ context.room
 
 -- Where names may add as much as they do in a line, the same tokens are read as where they may add any more.

@@ -30,19 +30,23 @@ fault_column reading _ column = column
 abbrev pub placed_fault : ℕ → ℕ → RuleKind → RuleFault
 placed_fault line column kind = record { line = line; column = column; kind = kind }
 
--- The statement of the tokens, read on from here. The column is the one after the last token. Lines and columns count from 1.
-unfoldable pub statement_from : LineContext → ℕ → Reading → ℕ → List RuleFound → Result StatementRead RuleFault
-statement_from context source_line reading column [] =
-    read_then (statement_at_end reading.awaited reading.statement) (λ kind. placed_fault source_line column kind) (λ statement. Ok statement)
-statement_from context source_line reading column (found ∷ rest) =
+-- A fault of a line of rules, at this column of it. Where the line is in the text isn't known yet, so it has no line.
+abbrev pub fault_in_line : ℕ → RuleKind → RuleFault
+fault_in_line column kind = placed_fault 0 column kind
+
+-- The statement of the tokens, read on from here. The column is the one after the last token. Columns count from 1.
+unfoldable pub statement_from : LineContext → Reading → ℕ → List RuleFound → Result StatementRead RuleFault
+statement_from context reading column [] =
+    read_then (statement_at_end reading.awaited reading.statement) (λ kind. fault_in_line column kind) (λ statement. Ok statement)
+statement_from context reading column (found ∷ rest) =
     read_then (read_token context found.column reading found.token)
-    (λ kind. placed_fault source_line (fault_column reading kind found.column) kind)
-    (λ next. statement_from context source_line next found.after rest)
+    (λ kind. fault_in_line (fault_column reading kind found.column) kind)
+    (λ next. statement_from context next found.after rest)
 
 -- The statement of the tokens of a line from this column on, or what is read there in this form, where names mean this.
-abbrev pub formed_statement : LineContext → List NameRead → FormRead → ℕ → List ℕ → ℕ → List RuleFound → Result StatementRead RuleFault
-formed_statement context names form source_line line column tokens =
-    statement_from context source_line (form_start form) column (expanded names context.room form line column tokens)
+abbrev pub formed_statement : LineContext → List NameRead → FormRead → List ℕ → ℕ → List RuleFound → Result StatementRead RuleFault
+formed_statement context names form line column tokens =
+    statement_from context (form_start form) column (expanded names context.room form line column tokens)
 
 -- What was read of a text.
 pub record TextReading : Type 0 where
@@ -135,19 +139,19 @@ is_equal (sign_mark equal_sign) = true
 is_equal _ = false
 
 -- The `=` after a name.
-abbrev pub name_with_sign : ℕ → List ℕ → ℕ → ℕ → List RuleFound → Result NameFound RuleFault
-name_with_sign source_line letters column after [] = Err (placed_fault source_line after BadLine)
-name_with_sign source_line letters column after (sign ∷ rest) =
+abbrev pub name_with_sign : List ℕ → ℕ → ℕ → List RuleFound → Result NameFound RuleFault
+name_with_sign letters column after [] = Err (fault_in_line after BadLine)
+name_with_sign letters column after (sign ∷ rest) =
     if is_equal sign.token
     then Ok (record { letters = letters; column = column; after = sign.after; tokens = rest })
-    else Err (placed_fault source_line sign.column BadLine)
+    else Err (fault_in_line sign.column BadLine)
 
 -- The name that these tokens give, which come after `define` or `contract`.
-abbrev pub name_found : List NameRead → ℕ → List ℕ → ℕ → List RuleFound → Result NameFound RuleFault
-name_found names source_line line after [] = Err (placed_fault source_line after BadLine)
-name_found names source_line line after (name ∷ rest) =
-    read_then (new_name names (letters_of line name) name.token) (λ kind. placed_fault source_line name.column kind)
-    (λ letters. name_with_sign source_line letters name.column name.after rest)
+abbrev pub name_found : List NameRead → List ℕ → ℕ → List RuleFound → Result NameFound RuleFault
+name_found names line after [] = Err (fault_in_line after BadLine)
+name_found names line after (name ∷ rest) =
+    read_then (new_name names (letters_of line name) name.token) (λ kind. fault_in_line name.column kind)
+    (λ letters. name_with_sign letters name.column name.after rest)
 
 -- The value of a contract.
 abbrev pub contract_number : StatementRead → ℕ
@@ -155,9 +159,9 @@ contract_number (value_statement value) = value
 contract_number _ = 0
 
 -- The name of a contract, whose number is read as the value of `otherwise` is.
-abbrev pub contract_given : LineContext → List NameRead → ℕ → List ℕ → NameFound → Result NameRead RuleFault
-contract_given context names source_line line name =
-    read_then (formed_statement context names value_form source_line line name.after name.tokens) (λ fault. fault)
+abbrev pub contract_given : LineContext → List NameRead → List ℕ → NameFound → Result NameRead RuleFault
+contract_given context names line name =
+    read_then (formed_statement context names value_form line name.after name.tokens) (λ fault. fault)
     (λ statement. Ok (record { letters = name.letters; tokens = contract_value (contract_number statement) ∷ [] }))
 
 -- The tokens of a definition, with those that names in it mean.
@@ -165,16 +169,16 @@ abbrev pub definition_tokens : List NameRead → ℕ → List ℕ → NameFound 
 definition_tokens names room line name = map (λ found. found.token) (expanded names room rule_form line name.after name.tokens)
 
 -- The name of a test or of a list of these tokens, of which there are at most 4096.
-abbrev pub definition_given : LineContext → List NameRead → ℕ → List ℕ → NameFound → List RuleToken → Result NameRead RuleFault
-definition_given context names source_line line name tokens =
-    if nat_lt 4096 (length tokens) then Err (placed_fault source_line name.column TooLong) else (
-    read_then (formed_statement context names (definition_form tokens) source_line line name.after name.tokens) (λ fault. fault)
+abbrev pub definition_given : LineContext → List NameRead → List ℕ → NameFound → List RuleToken → Result NameRead RuleFault
+definition_given context names line name tokens =
+    if nat_lt 4096 (length tokens) then Err (fault_in_line name.column TooLong) else (
+    read_then (formed_statement context names (definition_form tokens) line name.after name.tokens) (λ fault. fault)
     (λ statement. Ok (record { letters = name.letters; tokens = defined_as tokens })))
 
 -- What a line that begins with this word gives a name.
-abbrev pub given_by : RuleToken → LineContext → List NameRead → ℕ → List ℕ → NameFound → Result NameRead RuleFault
-given_by contract_word context names source_line line name = contract_given context names source_line line name
-given_by _ context names source_line line name = definition_given context names source_line line name (definition_tokens names context.room line name)
+abbrev pub given_by : RuleToken → LineContext → List NameRead → List ℕ → NameFound → Result NameRead RuleFault
+given_by contract_word context names line name = contract_given context names line name
+given_by _ context names line name = definition_given context names line name (definition_tokens names context.room line name)
 
 -- Whether lines that begin with the token give names.
 abbrev pub gives_name : RuleToken → Bool
@@ -183,11 +187,11 @@ gives_name contract_word = true
 gives_name _ = false
 
 -- The name that a line of these tokens gives. Names are given before the rules.
-abbrev pub name_given : TextReading → ℕ → List ℕ → RuleFound → List RuleFound → Result NameRead RuleFault
-name_given text source_line line first rest =
-    if nat_lt 0 (length text.lines) then Err (placed_fault source_line first.column BadLine) else (
-    read_then (name_found text.names source_line line first.after rest) (λ fault. fault)
-    (λ name. given_by first.token (context_of text) text.names source_line line name))
+abbrev pub name_given : TextReading → List ℕ → RuleFound → List RuleFound → Result NameRead RuleFault
+name_given text line first rest =
+    if nat_lt 0 (length text.lines) then Err (fault_in_line first.column BadLine) else (
+    read_then (name_found text.names line first.after rest) (λ fault. fault)
+    (λ name. given_by first.token (context_of text) text.names line name))
 
 -- What was read, with one more name.
 abbrev pub text_with_name : TextReading → NameRead → TextReading
@@ -201,10 +205,10 @@ text_with_room text line tokens = record text { room = room_left text.names text
 abbrev pub text_with_tokens : TextReading → TextPlace → List ℕ → List RuleFound → Result TextReading RuleFault
 text_with_tokens text begin line [] = Ok text
 text_with_tokens text begin line (first ∷ rest) =
-    if text.closed then Err (placed_fault begin.line first.column AfterOtherwise) else (
+    if text.closed then Err (fault_in_line first.column AfterOtherwise) else (
     if gives_name first.token
-    then read_then (name_given text begin.line line first rest) (λ fault. fault) (λ name. Ok (text_with_name (text_with_room text line (first ∷ rest)) name))
-    else read_then (formed_statement (context_of text) text.names rule_form begin.line line 1 (first ∷ rest)) (λ fault. fault)
+    then read_then (name_given text line first rest) (λ fault. fault) (λ name. Ok (text_with_name (text_with_room text line (first ∷ rest)) name))
+    else read_then (formed_statement (context_of text) text.names rule_form line 1 (first ∷ rest)) (λ fault. fault)
     (λ statement. Ok (text_with (text_with_room text line (first ∷ rest)) begin first.column statement)))
 
 -- What was read, with a line of rules, which begins at this place. The column of a fault is counted from the beginning of the line of

@@ -2,10 +2,11 @@
 
 ghost use Rattle.std.specs.Prelude.{◌≡◌, IfOk};
 ghost use Rattle.rules_text.specs.RulesRead.{test_read};
-ghost use Rattle.rules_text.specs.TestWords.{cell_of_channel, cell_of_type, f4_cell, idle_cell};
+ghost use Rattle.rules_text.specs.TestWords.{f4_cell, idle_cell};
 ghost use Rattle.rules_text.specs.inner.Seen.{class_seen};
 
 use crate::group::any_of_two;
+use crate::list::equal;
 use bpf_code::Size;
 use rules_cells::{Field, Octets, Relation, Span, Test};
 use std::alloc::{AllocError, Global};
@@ -54,16 +55,16 @@ pub(crate) fn test_of(alloc: Global, class: Class) -> Result<Test, AllocError>
         Class::User => Ok(Test::User),
         Class::Oam => any_of_two(alloc, f4(alloc), Test::Oam),
         Class::F4 => Ok(f4(alloc)),
-        Class::F4Segment => Ok(vci_is(3)),
-        Class::F4End => Ok(vci_is(4)),
+        Class::F4Segment => Ok(equal(Field::Vci, 3)),
+        Class::F4End => Ok(equal(Field::Vci, 4)),
         Class::F5 => Ok(Test::Oam),
-        Class::F5Segment => Ok(pti_is(4)),
-        Class::F5End => Ok(pti_is(5)),
-        Class::Rm => Ok(pti_is(6)),
-        Class::MetaSignalling => Ok(vci_is(1)),
-        Class::Broadcast => Ok(vci_is(2)),
-        Class::Signalling => Ok(vci_is(5)),
-        Class::Ilmi => Ok(vci_is(16)),
+        Class::F5Segment => Ok(equal(Field::Pti, 4)),
+        Class::F5End => Ok(equal(Field::Pti, 5)),
+        Class::Rm => Ok(equal(Field::Pti, 6)),
+        Class::MetaSignalling => Ok(equal(Field::Vci, 1)),
+        Class::Broadcast => Ok(equal(Field::Vci, 2)),
+        Class::Signalling => Ok(equal(Field::Vci, 5)),
+        Class::Ilmi => Ok(equal(Field::Vci, 16)),
         Class::Idle => Ok(idle()),
     }
 }
@@ -82,38 +83,13 @@ fn f4(alloc: Global) -> Test
     }
 }
 
-/// The test of the cells with this VCI.
-fn vci_is(vci: u32) -> Test
-    ensures { test_read result ≡ cell_of_channel vci }
-{
-    Test::Compare {
-        field: Field::Vci,
-        mask: None,
-        relation: Relation::Equal(vci),
-    }
-}
-
-/// The test of the cells with this PTI.
-fn pti_is(pti: u32) -> Test
-    ensures { test_read result ≡ cell_of_type pti }
-{
-    Test::Compare {
-        field: Field::Pti,
-        mask: None,
-        relation: Relation::Equal(pti),
-    }
-}
-
 /// The test of idle cells.
 fn idle() -> Test
     ensures { test_read result ≡ idle_cell }
 {
-    Test::Compare {
-        field: Field::Octets(Octets {
-            size: Size::Word,
-            at: 0,
-        }),
-        mask: None,
-        relation: Relation::Equal(1),
-    }
+    let first = Octets {
+        size: Size::Word,
+        at: 0,
+    };
+    equal(Field::Octets(first), 1)
 }

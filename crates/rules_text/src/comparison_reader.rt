@@ -9,11 +9,11 @@ ghost use Rattle.rules_text.specs.inner.SeenReading.{context_seen, list_seen, re
 use crate::fault::RuleKind;
 use crate::lexer::{Sign, Token};
 use crate::line_reader::{Context, LineReader, Wants};
-use crate::list::{ListOf, compared, field_of, test_of_list, vpi_is};
+use crate::list::{ListOf, compared, equal, field_of, test_of_list};
 use crate::subject::{Subject, number_for, octets_of, relation_of};
 use crate::test_reader::MOST_COMPARISONS;
 use bpf_code::Size;
-use rules_cells::Span;
+use rules_cells::{Field, Span};
 use std::alloc::Global;
 
 impl LineReader {
@@ -123,7 +123,7 @@ impl LineReader {
         ensures err { IfErr result (λ kind. kind ≢ NoMemory → read_channel (context_seen context) path (reading_seen self.old) (rule_token_seen token) ≡ Err kind) }
     {
         match token {
-            Token::Star => self.add(alloc, vpi_is(path)),
+            Token::Star => self.add(alloc, equal(Field::Vpi, path)),
             _ => self.low(context, ListOf::Path(path), token),
         }
     }

@@ -11,7 +11,7 @@ ghost use Rattle.rules_text.specs.inner.SeenNameTable.{IsFoundByLetters};
 ghost use Rattle.rules_text.specs.inner.SeenNames.{letters_found, place_seen};
 ghost use Rattle.rules_text.specs.declared.fault.RuleKind.TheVariants.{NoMemory};
 
-use crate::fault::{RuleFault, RuleKind, fault_at};
+use crate::fault::{RuleFault, RuleKind, fault_in_line};
 use crate::lexer::{Found, Sign, Token, begins_word, next_token};
 use crate::line_reader::{Context, Statement};
 use crate::name_table::NameTable;
@@ -64,29 +64,28 @@ fn equal(token: Token) -> bool
 /// The place of the name that a line gives, from a column on.
 pub(crate) fn name_place(
     names: &NameTable,
-    source_line: usize,
     line: &[u8],
     from: usize,
 ) -> Result<NamePlace, RuleFault>
     requires names { IsFoundByLetters names.now }
     requires from { from ≤ length line.now }
-    ensures ok { IfOk result (λ place. name_found (names_seen names.now) source_line line.now (from + 1) (tokens_from (from + 1) 0 (drop from line.now)) ≡ Ok (place_seen line.now place)) }
+    ensures ok { IfOk result (λ place. name_found (names_seen names.now) line.now (from + 1) (tokens_from (from + 1) 0 (drop from line.now)) ≡ Ok (place_seen line.now place)) }
     ensures new { IfOk result (λ place. name_meaning (names_seen names.now) (slice_range line.now place.start place.end) ≡ None) }
     ensures letters { IfOk result (λ place. (place.start < place.end) × (place.end ≤ length line.now)) }
     ensures after { IfOk result (λ place. place.after ≤ length line.now) }
-    ensures err { IfErr result (λ fault. name_found (names_seen names.now) source_line line.now (from + 1) (tokens_from (from + 1) 0 (drop from line.now)) ≡ Err fault) }
+    ensures err { IfErr result (λ fault. name_found (names_seen names.now) line.now (from + 1) (tokens_from (from + 1) 0 (drop from line.now)) ≡ Err fault) }
 {
     let Some(name) = next_token(line, from) else {
-        return Err(fault_at(RuleKind::BadLine, source_line, from + 1));
+        return Err(fault_in_line(RuleKind::BadLine, from + 1));
     };
     if let Err(kind) = test_name(names, &line[name.start..name.end], name.token) {
-        return Err(fault_at(kind, source_line, name.start + 1));
+        return Err(fault_in_line(kind, name.start + 1));
     }
     let Some(sign) = next_token(line, name.end) else {
-        return Err(fault_at(RuleKind::BadLine, source_line, name.end + 1));
+        return Err(fault_in_line(RuleKind::BadLine, name.end + 1));
     };
     if !equal(sign.token) {
-        return Err(fault_at(RuleKind::BadLine, source_line, sign.start + 1));
+        return Err(fault_in_line(RuleKind::BadLine, sign.start + 1));
     }
     Ok(NamePlace {
         start: name.start,
@@ -146,7 +145,6 @@ pub(crate) fn definition(
     alloc: Global,
     context: Context,
     names: &NameTable,
-    source_line: usize,
     line: &[u8],
     place: NamePlace,
 ) -> Result<Vec<Token>, RuleFault>
@@ -154,19 +152,19 @@ pub(crate) fn definition(
     requires letters { (place.start < place.end) × (place.end ≤ length line.now) }
     requires after { place.after ≤ length line.now }
     ensures ok { IfOk result (λ tokens. let seen = place_seen line.now place
-        in definition_given (context_seen context) (names_seen names.now) source_line line.now seen (definition_tokens (names_seen names.now) context.room line.now seen) ≡ Ok (record { letters = seen.letters; tokens = map rule_token_seen tokens.items })) }
+        in definition_given (context_seen context) (names_seen names.now) line.now seen (definition_tokens (names_seen names.now) context.room line.now seen) ≡ Ok (record { letters = seen.letters; tokens = map rule_token_seen tokens.items })) }
     ensures err { IfErr result (let seen = place_seen line.now place
-        in IsFaultOf (definition_given (context_seen context) (names_seen names.now) source_line line.now seen (definition_tokens (names_seen names.now) context.room line.now seen))) }
+        in IsFaultOf (definition_given (context_seen context) (names_seen names.now) line.now seen (definition_tokens (names_seen names.now) context.room line.now seen))) }
 {
     let Some(tokens) = body(alloc, names, context.room, line, place.after)? else {
-        return Err(fault_at(RuleKind::TooLong, source_line, place.start + 1));
+        return Err(fault_in_line(RuleKind::TooLong, place.start + 1));
     };
     let form = if are_list(tokens.as_slice()) {
         Form::List
     } else {
         Form::Test
     };
-    let _read = statement_in(alloc, context, names, form, source_line, line, place.after)?;
+    let _read = statement_in(alloc, context, names, form, line, place.after)?;
     Ok(meaning(alloc, tokens)?)
 }
 
@@ -175,25 +173,16 @@ pub(crate) fn contract(
     alloc: Global,
     context: Context,
     names: &NameTable,
-    source_line: usize,
     line: &[u8],
     place: NamePlace,
 ) -> Result<Vec<Token>, RuleFault>
     requires names { IsFoundByLetters names.now }
     requires after { place.after ≤ length line.now }
     ensures ok { IfOk result (λ tokens. let seen = place_seen line.now place
-        in contract_given (context_seen context) (names_seen names.now) source_line line.now seen ≡ Ok (record { letters = seen.letters; tokens = map rule_token_seen tokens.items })) }
-    ensures err { IfErr result (IsFaultOf (contract_given (context_seen context) (names_seen names.now) source_line line.now (place_seen line.now place))) }
+        in contract_given (context_seen context) (names_seen names.now) line.now seen ≡ Ok (record { letters = seen.letters; tokens = map rule_token_seen tokens.items })) }
+    ensures err { IfErr result (IsFaultOf (contract_given (context_seen context) (names_seen names.now) line.now (place_seen line.now place))) }
 {
-    let statement = statement_in(
-        alloc,
-        context,
-        names,
-        Form::Value,
-        source_line,
-        line,
-        place.after,
-    )?;
+    let statement = statement_in(alloc, context, names, Form::Value, line, place.after)?;
     let mut tokens = Vec::new(alloc);
     tokens.push(Token::Value(number_of(&statement)))?;
     Ok(tokens)
@@ -221,7 +210,6 @@ pub(crate) fn name_at(
     alloc: Global,
     context: Context,
     names: &NameTable,
-    source_line: usize,
     line: &[u8],
     first: Token,
     place: NamePlace,
@@ -229,13 +217,13 @@ pub(crate) fn name_at(
     requires names { IsFoundByLetters names.now }
     requires letters { (place.start < place.end) × (place.end ≤ length line.now) }
     requires after { place.after ≤ length line.now }
-    ensures ok { IfOk result (λ name. given_by (rule_token_seen first) (context_seen context) (names_seen names.now) source_line line.now (place_seen line.now place) ≡ Ok (name_seen name)) }
+    ensures ok { IfOk result (λ name. given_by (rule_token_seen first) (context_seen context) (names_seen names.now) line.now (place_seen line.now place) ≡ Ok (name_seen name)) }
     ensures letters { IfOk result (λ name. name.letters.items ≡ slice_range line.now place.start place.end) }
-    ensures err { IfErr result (IsFaultOf (given_by (rule_token_seen first) (context_seen context) (names_seen names.now) source_line line.now (place_seen line.now place))) }
+    ensures err { IfErr result (IsFaultOf (given_by (rule_token_seen first) (context_seen context) (names_seen names.now) line.now (place_seen line.now place))) }
 {
     let tokens = match first {
-        Token::Contract => contract(alloc, context, names, source_line, line, place)?,
-        _ => definition(alloc, context, names, source_line, line, place)?,
+        Token::Contract => contract(alloc, context, names, line, place)?,
+        _ => definition(alloc, context, names, line, place)?,
     };
     let letters = line[place.start..place.end].to_vec(alloc)?;
     Ok(Name { letters, tokens })

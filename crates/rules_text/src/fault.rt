@@ -119,3 +119,10 @@ pub(crate) fn fault_at(kind: RuleKind, line: usize, column: usize) -> RuleFault
         _ => RuleFault { line, column, kind },
     }
 }
+
+/// The fault of this kind at a column of a line of rules. Where the line is in the text isn't known yet, so it has no line.
+pub(crate) fn fault_in_line(kind: RuleKind, column: usize) -> RuleFault
+    ensures { result ≡ fault_seen 0 column kind }
+{
+    fault_at(kind, 0, column)
+}

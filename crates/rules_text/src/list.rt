@@ -1,8 +1,8 @@
 //! Lists of numbers and ranges.
 
-ghost use Rattle.std.specs.Prelude.{◌≡◌, [], ◌∷◌, ◌++◌, IfOk};
-ghost use Rattle.rules_text.specs.LineGrammar.{field_of_list, list_test, path_test};
-ghost use Rattle.rules_text.specs.RulesRead.{comparing, field_read, relation_read, test_read};
+ghost use Rattle.std.specs.Prelude.{◌≡◌, [], ◌∷◌, ◌++◌, None, IfOk};
+ghost use Rattle.rules_text.specs.LineGrammar.{field_of_list, list_test};
+ghost use Rattle.rules_text.specs.RulesRead.{compared, comparing, equal_sign, field_read, relation_read, test_read};
 ghost use Rattle.rules_text.specs.inner.SeenReading.{list_seen};
 
 use crate::group::all_of_two;
@@ -31,14 +31,14 @@ pub(crate) fn field_of(of: ListOf) -> Field
     }
 }
 
-/// The test of the cells of a path.
-pub(crate) fn vpi_is(path: u32) -> Test
-    ensures { test_read result ≡ path_test path }
+/// The test of the cells in which a field is this number.
+pub(crate) fn equal(field: Field, k: u32) -> Test
+    ensures { test_read result ≡ comparing (field_read field) None (compared equal_sign k) }
 {
     Test::Compare {
-        field: Field::Vpi,
+        field,
         mask: None,
-        relation: Relation::Equal(path),
+        relation: Relation::Equal(k),
     }
 }
 
@@ -63,7 +63,7 @@ pub(crate) fn test_of_list(
                 field: Field::Vci,
                 mask: None,
             };
-            all_of_two(alloc, vpi_is(path), compared(channels, relation))
+            all_of_two(alloc, equal(Field::Vpi, path), compared(channels, relation))
         }
     }
 }

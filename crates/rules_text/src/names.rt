@@ -1,7 +1,8 @@
 //! The names of a text.
 
-ghost use Rattle.std.specs.Prelude.{◌≡◌, ◌++◌, ◌∷◌, [], map, IfOk};
-ghost use Rattle.rules_text.specs.Names.{admitted, defined_as, is_list};
+ghost use Rattle.std.specs.Prelude.{◌≡◌, ◌++◌, ◌∷◌, ◌&&◌, not, [], List, map, IfOk};
+ghost use Rattle.rules_text.specs.Names.{admitted, defined_as, is_list, is_no_path};
+ghost use Rattle.rules_text.specs.RuleTokens.{RuleToken};
 ghost use Rattle.rules_text.specs.inner.Seen.{rule_token_seen};
 ghost use Rattle.rules_text.specs.inner.SeenReading.{form_seen};
 
@@ -47,14 +48,27 @@ pub(crate) fn admit(form: Form, token: Token) -> Token
     }
 }
 
+/// Whether a list may begin with a token.
+fn is_number(token: Token) -> bool
+    ensures { (rest : List RuleToken) → is_list (rule_token_seen token ∷ rest) ≡ (result && is_no_path rest) }
+{
+    matches!(token, Token::Number(_) | Token::BadNumber)
+}
+
+/// Whether tokens begin with `/`.
+fn begin_with_slash(tokens: &[Token]) -> bool
+    ensures { is_no_path (map rule_token_seen tokens.now) ≡ not result }
+{
+    matches!(tokens, [Token::Slash, ..])
+}
+
 /// Whether the tokens of a definition are a list.
 pub(crate) fn are_list(tokens: &[Token]) -> bool
     ensures { result ≡ is_list (map rule_token_seen tokens.now) }
 {
     match tokens {
-        [Token::Number(_) | Token::BadNumber, Token::Slash, ..] => false,
-        [Token::Number(_) | Token::BadNumber, ..] => true,
-        _ => false,
+        [] => false,
+        [first, rest @ ..] => is_number(*first) && !begin_with_slash(rest),
     }
 }
 

@@ -14,7 +14,7 @@ ghost use Rattle.rules_text.specs.inner.SeenReading.{context_seen, line_statemen
 
 use crate::continued_lines::next_rule_line;
 use crate::definition::{is_giving, name_at, name_place};
-use crate::fault::{RuleFault, RuleKind, fault_at};
+use crate::fault::{RuleFault, RuleKind, fault_at, fault_in_line};
 use crate::lexer::{Found, next_token};
 use crate::line_reader::{Context, Statement};
 use crate::name_table::NameTable;
@@ -130,56 +130,29 @@ impl TextReader {
     }
 
     /// The name that a line gives which begins with this token.
-    fn name_in(
-        &self,
-        alloc: Global,
-        source_line: usize,
-        line: &[u8],
-        first: Found,
-    ) -> Result<Name, RuleFault>
+    fn name_in(&self, alloc: Global, line: &[u8], first: Found) -> Result<Name, RuleFault>
         requires names { IsFoundByLetters self.now.names }
         requires start { first.start < first.end }
         requires end { first.end ≤ length line.now }
-        ensures ok { IfOk result (λ name. name_given (text_seen self.now) source_line line.now (found_seen first) (tokens_from (first.end + 1) 0 (drop first.end line.now)) ≡ Ok (name_seen name)) }
+        ensures ok { IfOk result (λ name. name_given (text_seen self.now) line.now (found_seen first) (tokens_from (first.end + 1) 0 (drop first.end line.now)) ≡ Ok (name_seen name)) }
         ensures new { IfOk result (λ name. name_meaning (names_seen self.now.names) name.letters.items ≡ None) }
-        ensures err { IfErr result (IsFaultOf (name_given (text_seen self.now) source_line line.now (found_seen first) (tokens_from (first.end + 1) 0 (drop first.end line.now)))) }
+        ensures err { IfErr result (IsFaultOf (name_given (text_seen self.now) line.now (found_seen first) (tokens_from (first.end + 1) 0 (drop first.end line.now)))) }
     {
         if !self.rules.lines.is_empty() {
-            return Err(fault_at(RuleKind::BadLine, source_line, first.start + 1));
+            return Err(fault_in_line(RuleKind::BadLine, first.start + 1));
         }
         let names = &self.names;
-        let place = name_place(names, source_line, line, first.end)?;
-        name_at(
-            alloc,
-            self.context(),
-            names,
-            source_line,
-            line,
-            first.token,
-            place,
-        )
+        let place = name_place(names, line, first.end)?;
+        name_at(alloc, self.context(), names, line, first.token, place)
     }
 
     /// The statement of a line.
-    fn statement(
-        &self,
-        alloc: Global,
-        source_line: usize,
-        line: &[u8],
-    ) -> Result<Statement, RuleFault>
+    fn statement(&self, alloc: Global, line: &[u8]) -> Result<Statement, RuleFault>
         requires { IsFoundByLetters self.now.names }
-        ensures ok { IfOk result (λ statement. formed_statement (context_of (text_seen self.now)) (text_seen self.now).names rule_form source_line line.now 1 (rule_tokens line.now) ≡ Ok (line_statement_seen statement)) }
-        ensures err { IfErr result (IsFaultOf (formed_statement (context_of (text_seen self.now)) (text_seen self.now).names rule_form source_line line.now 1 (rule_tokens line.now))) }
+        ensures ok { IfOk result (λ statement. formed_statement (context_of (text_seen self.now)) (text_seen self.now).names rule_form line.now 1 (rule_tokens line.now) ≡ Ok (line_statement_seen statement)) }
+        ensures err { IfErr result (IsFaultOf (formed_statement (context_of (text_seen self.now)) (text_seen self.now).names rule_form line.now 1 (rule_tokens line.now))) }
     {
-        statement_in(
-            alloc,
-            self.context(),
-            &self.names,
-            Form::Rule,
-            source_line,
-            line,
-            0,
-        )
+        statement_in(alloc, self.context(), &self.names, Form::Rule, line, 0)
     }
 
     /// Counts what the names in a line add.
@@ -216,24 +189,23 @@ impl TextReader {
         ensures blocks { self.new.blocks ≤ self.old.blocks + 1 }
         ensures err { IfErr result (IsFaultOf (text_with_line (text_seen self.old) begin line.now)) }
     {
-        let source_line = begin.line;
         let Some(first) = next_token(line, 0) else {
             return Ok(());
         };
         let column = first.start + 1;
         if self.closed {
-            return Err(fault_at(RuleKind::AfterOtherwise, source_line, column));
+            return Err(fault_in_line(RuleKind::AfterOtherwise, column));
         }
         if is_giving(first.token) {
-            let name = self.name_in(alloc, source_line, line, first)?;
+            let name = self.name_in(alloc, line, first)?;
             self.spend(line);
             return self.take_name(alloc, name);
         }
-        let statement = self.statement(alloc, source_line, line)?;
+        let statement = self.statement(alloc, line)?;
         self.spend(line);
         match self.take(statement, begin, column) {
             Ok(()) => Ok(()),
-            Err(kind) => Err(fault_at(kind, source_line, column)),
+            Err(kind) => Err(fault_in_line(kind, column)),
         }
     }
 

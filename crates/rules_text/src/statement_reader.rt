@@ -10,7 +10,7 @@ ghost use Rattle.rules_text.specs.inner.SeenReading.{context_seen, form_seen, li
 ghost use Rattle.rules_text.specs.inner.SeenNameTable.{IsFoundByLetters};
 ghost use Rattle.rules_text.specs.inner.TokensRead.{token_read, all_tokens_read};
 
-use crate::fault::{RuleFault, RuleKind, fault_at};
+use crate::fault::{RuleFault, RuleKind, fault_in_line};
 use crate::lexer::{Found, Token, next_token};
 use crate::line_reader::{Context, LineReader, Statement};
 use crate::name_table::NameTable;
@@ -23,22 +23,17 @@ impl LineReader {
         &mut self,
         alloc: Global,
         context: Context,
-        source_line: usize,
         column: usize,
         token: Token,
     ) -> Result<(), RuleFault>
-        ensures ok { IfOk result (λ _. token_read (context_seen context) source_line column (reading_seen self.old) (rule_token_seen token) ≡ Ok (reading_seen self.new)) }
-        ensures err { IfErr result (IsFaultOf (token_read (context_seen context) source_line column (reading_seen self.old) (rule_token_seen token))) }
+        ensures ok { IfOk result (λ _. token_read (context_seen context) column (reading_seen self.old) (rule_token_seen token) ≡ Ok (reading_seen self.new)) }
+        ensures err { IfErr result (IsFaultOf (token_read (context_seen context) column (reading_seen self.old) (rule_token_seen token))) }
     {
         let unbalanced = self.unbalanced_at(column);
         match self.read(alloc, context, column, token) {
             Ok(()) => Ok(()),
-            Err(RuleKind::Unbalanced) => Err(fault_at(
-                RuleKind::Unbalanced,
-                source_line,
-                unbalanced,
-            )),
-            Err(kind) => Err(fault_at(kind, source_line, column)),
+            Err(RuleKind::Unbalanced) => Err(fault_in_line(RuleKind::Unbalanced, unbalanced)),
+            Err(kind) => Err(fault_in_line(kind, column)),
         }
     }
 
@@ -47,16 +42,15 @@ impl LineReader {
         &mut self,
         alloc: Global,
         context: Context,
-        source_line: usize,
         column: usize,
         tokens: &[Token],
     ) -> Result<(), RuleFault>
-        ensures ok { IfOk result (λ _. all_tokens_read (context_seen context) source_line column (reading_seen self.old) (map rule_token_seen tokens.now) ≡ Ok (reading_seen self.new)) }
-        ensures err { IfErr result (IsFaultOf (all_tokens_read (context_seen context) source_line column (reading_seen self.old) (map rule_token_seen tokens.now))) }
+        ensures ok { IfOk result (λ _. all_tokens_read (context_seen context) column (reading_seen self.old) (map rule_token_seen tokens.now) ≡ Ok (reading_seen self.new)) }
+        ensures err { IfErr result (IsFaultOf (all_tokens_read (context_seen context) column (reading_seen self.old) (map rule_token_seen tokens.now))) }
     {
         let mut left = tokens;
         while let [token, rest @ ..] = left {
-            self.read_at(alloc, context, source_line, column, *token)?;
+            self.read_at(alloc, context, column, *token)?;
             left = rest;
         }
         Ok(())
@@ -68,20 +62,19 @@ impl LineReader {
         alloc: Global,
         context: Context,
         form: Form,
-        source_line: usize,
         found: Found,
         meant: &[Token],
     ) -> Result<(), RuleFault>
         requires { found.start < found.end }
-        ensures ok { IfOk result (λ _. all_tokens_read (context_seen context) source_line (found.start + 1) (reading_seen self.old) (read_for (form_seen form) (rule_token_seen found.token) (map rule_token_seen meant.now)) ≡ Ok (reading_seen self.new)) }
-        ensures err { IfErr result (IsFaultOf (all_tokens_read (context_seen context) source_line (found.start + 1) (reading_seen self.old) (read_for (form_seen form) (rule_token_seen found.token) (map rule_token_seen meant.now)))) }
+        ensures ok { IfOk result (λ _. all_tokens_read (context_seen context) (found.start + 1) (reading_seen self.old) (read_for (form_seen form) (rule_token_seen found.token) (map rule_token_seen meant.now)) ≡ Ok (reading_seen self.new)) }
+        ensures err { IfErr result (IsFaultOf (all_tokens_read (context_seen context) (found.start + 1) (reading_seen self.old) (read_for (form_seen form) (rule_token_seen found.token) (map rule_token_seen meant.now)))) }
     {
         let column = found.start + 1;
         if meant.is_empty() {
             let own = [admit(form, found.token)];
-            self.read_all(alloc, context, source_line, column, &own)
+            self.read_all(alloc, context, column, &own)
         } else {
-            self.read_all(alloc, context, source_line, column, meant)
+            self.read_all(alloc, context, column, meant)
         }
     }
 
@@ -91,17 +84,16 @@ impl LineReader {
         alloc: Global,
         context: Context,
         form: Form,
-        source_line: usize,
         column: usize,
     ) -> Result<(), RuleFault>
-        ensures ok { IfOk result (λ _. all_tokens_read (context_seen context) source_line column (reading_seen self.old) (ending (form_seen form)) ≡ Ok (reading_seen self.new)) }
-        ensures err { IfErr result (IsFaultOf (all_tokens_read (context_seen context) source_line column (reading_seen self.old) (ending (form_seen form)))) }
+        ensures ok { IfOk result (λ _. all_tokens_read (context_seen context) column (reading_seen self.old) (ending (form_seen form)) ≡ Ok (reading_seen self.new)) }
+        ensures err { IfErr result (IsFaultOf (all_tokens_read (context_seen context) column (reading_seen self.old) (ending (form_seen form)))) }
     {
         match form {
             Form::Rule | Form::Value => Ok(()),
             Form::Test | Form::List => {
                 let end = [Token::Arrow, Token::Refuse];
-                self.read_all(alloc, context, source_line, column, &end)
+                self.read_all(alloc, context, column, &end)
             }
         }
     }
@@ -147,28 +139,27 @@ pub(crate) fn statement_in(
     context: Context,
     names: &NameTable,
     form: Form,
-    source_line: usize,
     line: &[u8],
     start: usize,
 ) -> Result<Statement, RuleFault>
     requires names { IsFoundByLetters names.now }
     requires start { start ≤ length line.now }
-    ensures ok { IfOk result (λ statement. formed_statement (context_seen context) (names_seen names.now) (form_seen form) source_line line.now (start + 1) (tokens_from (start + 1) 0 (drop start line.now)) ≡ Ok (line_statement_seen statement)) }
-    ensures err { IfErr result (IsFaultOf (formed_statement (context_seen context) (names_seen names.now) (form_seen form) source_line line.now (start + 1) (tokens_from (start + 1) 0 (drop start line.now)))) }
+    ensures ok { IfOk result (λ statement. formed_statement (context_seen context) (names_seen names.now) (form_seen form) line.now (start + 1) (tokens_from (start + 1) 0 (drop start line.now)) ≡ Ok (line_statement_seen statement)) }
+    ensures err { IfErr result (IsFaultOf (formed_statement (context_seen context) (names_seen names.now) (form_seen form) line.now (start + 1) (tokens_from (start + 1) 0 (drop start line.now)))) }
 {
     let mut reader = LineReader::new(alloc, form);
     let mut room = context.room;
     let mut from = start;
     while let Some(found) = next_token(line, from) {
         let meant = meant_by(names, room, line, found);
-        reader.read_found(alloc, context, form, source_line, found, meant)?;
+        reader.read_found(alloc, context, form, found, meant)?;
         room = room.saturating_sub(meant.len());
         from = found.end;
     }
     let column = from + 1;
-    reader.read_end(alloc, context, form, source_line, column)?;
+    reader.read_end(alloc, context, form, column)?;
     match reader.finish() {
         Ok(statement) => Ok(statement),
-        Err(kind) => Err(fault_at(kind, source_line, column)),
+        Err(kind) => Err(fault_in_line(kind, column)),
     }
 }

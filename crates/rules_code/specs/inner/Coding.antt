@@ -4,4 +4,4 @@ use Rattle.rules_code.specs.declared.lines.Coding.{Coding}
 
 -- The code, its entry and the labels after ends.
 abbrev pub coded_of : Coding → Coded
-coded_of coding = record { code = coding.draft; entry = coding.entry; after = coding.after }
+coded_of coding = record { code = coding.draft; entry = coding.entry; after = coding.after.items }

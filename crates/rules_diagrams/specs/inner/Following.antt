@@ -14,11 +14,15 @@ use Rattle.bpf_interp.specs.Tests.{test_of}
 use Rattle.bpf_interp.specs.Value.{EndsIn}
 use Rattle.rules_cells.specs.Fields.{IsCell}
 use Rattle.rules_diagrams.specs.CellNumbers.{octets_number}
+use Rattle.rules_diagrams.specs.inner.Registers.{at_with}
 use Rattle.rules_diagrams.specs.inner.Values.{diagram_value, IsWithin}
 use Rattle.rules_diagrams.specs.inner.Words.{word_number}
 use Rattle.rules_diagrams.specs.declared.contents.Contents.{Contents}
 use Rattle.rules_diagrams.specs.declared.contents.Followed.{Followed}
 use Rattle.rules_diagrams.specs.declared.contents.Followed.TheVariants.{Ends, Continues, Branches, Stops}
+use Rattle.rules_diagrams.specs.declared.contents.Made.{Made}
+use Rattle.rules_diagrams.specs.declared.contents.Made.TheVariants.{Bits, Ends as MadeEnd, Unknown}
+use Rattle.rules_diagrams.specs.declared.contents.Register.{Register}
 use Rattle.rules_diagrams.specs.declared.contents.Told.{Told}
 use Rattle.rules_diagrams.specs.declared.diagram.Node.{Node}
 use Rattle.rules_diagrams.specs.declared.word.Bit.{Bit}
@@ -48,13 +52,15 @@ IsFollowed i place contents (Continues next after) = OnEach contents (LeadsWith 
 IsFollowed i place contents (Branches test k one other) = OnEach contents (λ cell a x m. Does cell i place a x m (At (if test_of test a k then one else other) a x m))
 IsFollowed i place contents Stops = Unit {0}
 
--- The instruction makes A these bits.
-abbrev pub MakesA : Instr → ℕ → Contents → List Bit → Type 0
-MakesA i place contents bits = OnEach contents (λ cell a x m. Does cell i place a x m (At (place + 1) (word_number bits (octets_number cell)) x m))
+-- The instruction puts these bits into the register, at each place.
+abbrev pub PutsInto : Register → Instr → Contents → List Bit → Type 0
+PutsInto register i contents bits = (place : ℕ) → OnEach contents (λ cell a x m. Does cell i place a x m (at_with register (place + 1) (word_number bits (octets_number cell)) a x m))
 
--- The instruction makes X these bits.
-abbrev pub MakesX : Instr → ℕ → Contents → List Bit → Type 0
-MakesX i place contents bits = OnEach contents (λ cell a x m. Does cell i place a x m (At (place + 1) a (word_number bits (octets_number cell)) m))
+-- The instruction puts this into the register, or ends the program.
+abbrev pub IsPutInto : Register → Instr → Contents → Made → Type 0
+IsPutInto register i contents (Bits bits) = PutsInto register i contents bits.items
+IsPutInto register i contents (MadeEnd value) = (place : ℕ) → OnEach contents (λ cell a x m. Does cell i place a x m (Ended value))
+IsPutInto register i contents Unknown = Unit {0}
 
 -- The octets of each cell from this one on are the bits; there are none if a cell has too few.
 abbrev pub AreLoaded : ℕ → ℕ → Option (List Bit) → Type 0

@@ -6,4 +6,4 @@ use Rattle.rules_code.proofs.lines.first_coding.Goals as goal
 
 pub returns : goal.returns
 returns c =
-    coded_first _ _ c.args.otherwise (c.in_ok-put.ensures ∙ ap (λ (code : List Instr). RetK c.args.otherwise ∷ code) c.new-draft.ensures) c.new.ensures
+    coded_first _ _ c.args.otherwise (c.in_ok-put.ensures ∙ ap (λ (code : List Instr). RetK c.args.otherwise ∷ code) c.new-draft.ensures) c.new.ensures.items

@@ -7,7 +7,7 @@ use Rattle.rules_code.proofs.order.joined_spans.Goals as goal
 pub loop-left-init : goal.loop-left-init
 loop-left-init c =
     let sorted = c.args.sorted.now in
-    (omega arith, c.new-joining.ensures ∙ joined_none (drop (length sorted) sorted) (drop_all (length sorted) sorted (omega arith)))
+    (omega arith, c.new-joined.ensures.items ∙ joined_none (drop (length sorted) sorted) (drop_all (length sorted) sorted (omega arith)))
 
 pub loop-left-preserved : goal.loop-left-preserved
 loop-left-preserved c =
@@ -15,10 +15,10 @@ loop-left-preserved c =
     let sorted = c.args.sorted.now in
     let within : left - 1 < length sorted = omega arith in
     let next : left - 1 + 1 ≡ left = omega arith in
-    (omega arith, joined_at sorted (left - 1) left _ c.loop-left.joining c.put.new.self within next c.loop-left.invariant.1 c.in_ok-put.ensures)
+    (omega arith, joined_at sorted (left - 1) left _ c.loop-left.joined.items c.put.new.spans.items within next c.loop-left.invariant.1 c.in_ok-put.ensures)
 
 pub returns : goal.returns
 returns c =
     let sorted = c.args.sorted.now in
     let none : c.loop-left.left ≡ 0 = omega arith in
-    c.into_spans.ensures ∙ (c.loop-left.invariant.1 ∙ ap (λ n. joined_spans (drop n sorted)) none)
+    c.from.ensures.0 ∙ (c.loop-left.invariant.1 ∙ ap (λ n. joined_spans (drop n sorted)) none)

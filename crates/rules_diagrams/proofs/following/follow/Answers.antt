@@ -3,9 +3,15 @@ use Rattle.bpf_code.specs.declared.instr.Instr.{Instr}
 use Rattle.bpf_interp.specs.State.{At}
 use Rattle.bpf_interp.specs.Step.{Does}
 use Rattle.rules_diagrams.specs.CellNumbers.{octets_number}
-use Rattle.rules_diagrams.specs.inner.Following.{MakesA, MakesX, OnEach}
+use Rattle.rules_diagrams.specs.inner.Following.{OnEach}
 use Rattle.rules_diagrams.specs.inner.Words.{word_number}
 use Rattle.rules_diagrams.proofs.following.follow.Goals as goal
+
+pub returns-in_ok-made-in-LdxImm : goal.returns-in_ok-made-in-LdxImm
+returns-in_ok-made-in-LdxImm c = c.with.ensures c.args.instr.now c.in_ok-made-in-LdxImm.ensures
+
+pub returns-in_ok-made-in_default : goal.returns-in_ok-made-in_default
+returns-in_ok-made-in_default c = c.with-in_default.ensures c.args.instr.now c.in_ok-made-in_default.ensures
 
 pub returns-in-Store : goal.returns-in-Store
 returns-in-Store c =
@@ -22,15 +28,3 @@ returns-in-StoreX c =
     c.stored-in-StoreX.ensures c.args.instr.now (λ lt.
     subst (λ (i : Instr). OnEach contents (λ cell a x m. Does cell i c.args.place a x m (At next a x ((c.in-StoreX.k, word_number contents.x (octets_number cell)) ∷ m)))) (sym c.in-StoreX.is)
     (λ cell there a x m are. (lt, ap (λ n. At next a x ((c.in-StoreX.k, n) ∷ m)) are.x_is)))
-
-pub returns-in-Tax : goal.returns-in-Tax
-returns-in-Tax c =
-    let contents = c.args.contents.now in
-    c.with_x.ensures c.args.instr.now (subst (λ (i : Instr). MakesX i c.args.place contents contents.a) (sym c.in-Tax.is)
-    (λ cell there a x m are. ap (λ n. At (c.args.place + 1) a n m) are.a_is))
-
-pub returns-in-Txa : goal.returns-in-Txa
-returns-in-Txa c =
-    let contents = c.args.contents.now in
-    c.with_a.ensures c.args.instr.now (subst (λ (i : Instr). MakesA i c.args.place contents contents.x) (sym c.in-Txa.is)
-    (λ cell there a x m are. ap (λ n. At (c.args.place + 1) n x m) are.x_is))

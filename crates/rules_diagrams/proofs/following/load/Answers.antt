@@ -1,13 +1,10 @@
-use Rattle.std.proofs.Common.{List, sym, subst}
 use Rattle.bpf_interp.specs.Packet.{octets_loaded}
-use Rattle.rules_diagrams.specs.inner.Following.{AreLoaded, MakesA}
-use Rattle.rules_diagrams.specs.declared.word.Bit.{Bit}
+use Rattle.rules_diagrams.specs.inner.Following.{AreLoaded}
 use Rattle.rules_diagrams.proofs.FollowSteps.{loads_made}
 use Rattle.rules_diagrams.proofs.Results.{if_mapped}
 use Rattle.rules_diagrams.proofs.following.load.Goals as goal
 
 pub returns-in-Some : goal.returns-in-Some
 returns-in-Some c =
-    c.with_a.ensures c.args.instr.now (subst (λ (bits : List Bit). MakesA c.args.instr.now c.args.place c.args.contents.now bits) (sym c.deref.ensures.value)
-    (loads_made c.args.instr.now c.args.at (octets_loaded c.args.size) c.args.place c.args.contents.now c.in-Some.bits.items c.requires.loads
-    (if_mapped c.in_ok-loaded.field-0 c.in-Some.bits (λ bits. bits.items) (AreLoaded c.args.at (octets_loaded c.args.size)) c.in-Some.is c.in_ok-loaded.ensures)))
+    loads_made c.args.instr.now c.args.at (octets_loaded c.args.size) c.args.contents.now c.in-Some.bits.items c.requires
+    (if_mapped c.in_ok-loaded.field-0 c.in-Some.bits (λ bits. bits.items) (AreLoaded c.args.at (octets_loaded c.args.size)) c.in-Some.is c.in_ok-loaded.ensures)

@@ -6,7 +6,7 @@ use Rattle.rules_diagrams.proofs.lines.deciding_lines.Goals as goal
 pub loop-left-init : goal.loop-left-init
 loop-left-init c = (
   keeps_itself c.args.diagrams.now,
-  init_lined c.args.diagrams.now c.args.rules.now.side c.as_slice-lines.result.now (length c.as_slice-lines.result.now) c.args.rules.now.otherwise c.new-outer.result (omega arith) c.new-outer.ensures,
+  init_lined c.args.diagrams.now c.args.rules.now.side c.as_slice-lines.result.now (length c.as_slice-lines.result.now) c.args.rules.now.otherwise c.new-outer.result.items (omega arith) c.new-outer.ensures.items,
   omega arith,
 )
 
@@ -17,10 +17,10 @@ pub loop-left-preserved : goal.loop-left-preserved
 loop-left-preserved c = (
   keeps_both c.args.diagrams.now c.loop-left.diagrams c.with_line.new.diagrams c.loop-left.invariant.0 c.with_line.ensures.keeps,
   step_lined c.loop-left.diagrams c.with_line.new.diagrams c.args.rules.now.side c.as_slice-lines.result.now c.loop-left.left (c.loop-left.left - 1) c.args.rules.now.otherwise c.index-lines-left.result
-      c.loop-left.so_far c.in_ok-so_far.so_far c.loop-left.outer c.with_line.new.outer (omega arith) c.loop-left.invariant.2 (omega arith) c.index-lines-left.is c.loop-left.invariant.1 c.in_ok-so_far.ensures.lined,
+      c.loop-left.so_far c.in_ok-so_far.so_far c.loop-left.outer.items c.with_line.new.outer.items (omega arith) c.loop-left.invariant.2 (omega arith) c.index-lines-left.is c.loop-left.invariant.1 c.in_ok-so_far.ensures.lined,
   omega (arith, c.loop-left.invariant.2),
 )
 
 pub returns-clause-gives : goal.returns-clause-gives
 returns-clause-gives c =
-    whole_lined c.loop-left.diagrams c.args.rules.now c.as_slice-lines.result.now c.loop-left.left c.loop-left.so_far c.loop-left.outer (omega arith) c.as_slice-lines.ensures.value c.loop-left.invariant.1
+    whole_lined c.loop-left.diagrams c.args.rules.now c.as_slice-lines.result.now c.loop-left.left c.loop-left.so_far c.loop-left.outer.items (omega arith) c.as_slice-lines.ensures.value c.loop-left.invariant.1

@@ -10,5 +10,5 @@ pub returns-clause-told : goal.returns-clause-told
 returns-clause-told c =
     let told = IsTold c.diagram_from.new.diagrams c.args.code.now in
     subst (λ (all : List Told). All told all) (sym c.in_ok-push.ensures.items)
-    (All-push told c.args.tellings.now.told.items (telling c.args.place c.args.contents.now c.in_ok-diagram.diagram)
+    (All-push told c.args.tellings.now.told.items (telling c.args.place c.in-Some.contents c.in_ok-diagram.diagram)
     (told_kept c.args.diagrams.now c.diagram_from.new.diagrams c.args.code.now c.args.tellings.now.told.items c.in_ok-diagram.ensures.keeps c.requires.told) c.in_ok-diagram.ensures.told)

@@ -11,12 +11,12 @@ use Rattle.rules_diagrams.proofs.UnusedSteps.{block_spared, holds, unused_is}
 use Rattle.rules_diagrams.proofs.searching.unused_at.Goals as goal
 
 pub held-requires : goal.held-requires
-held-requires c = first_within c.args.diagrams.now (passed_before c.args.rules.now c.args.place) c.args.inside.now c.requires.inside
+held-requires c = first_within c.args.diagrams.now (passed_before c.args.rules.now c.args.place) c.args.inside.now.items c.requires.inside
 
 pub takers-requires-clause-held : goal.takers-requires-clause-held
 takers-requires-clause-held c =
     (c.in_ok-held-in-Rule.ensures.tells (λ cell. nat_le (passed_before c.args.rules.now c.args.place cell) 0)
-    (first_told c.args.diagrams.now (passed_before c.args.rules.now c.args.place) c.args.inside.now c.requires.inside)).within
+    (first_told c.args.diagrams.now (passed_before c.args.rules.now c.args.place) c.args.inside.now.items c.requires.inside)).within
 
 pub returns-in_ok-takers-in-Rule-clause-found : goal.returns-in_ok-takers-in-Rule-clause-found
 returns-in_ok-takers-in-Rule-clause-found c =
@@ -24,7 +24,7 @@ returns-in_ok-takers-in-Rule-clause-found c =
     let place = c.args.place in
     let at = line_at rules.lines.items place (Rule c.in-Rule.test c.in-Rule.value) c.index.result.now c.requires.place c.index.ensures c.in-Rule.is in
     let unused : Unused = record { place = place; takers = c.in_ok-takers-in-Rule.takers } in
-    let held = c.in_ok-held-in-Rule.ensures.tells (λ cell. nat_le (passed_before rules place cell) 0) (first_told c.args.diagrams.now (passed_before rules place) c.args.inside.now c.requires.inside) in
+    let held = c.in_ok-held-in-Rule.ensures.tells (λ cell. nat_le (passed_before rules place cell) 0) (first_told c.args.diagrams.now (passed_before rules place) c.args.inside.now.items c.requires.inside) in
     let next : place + 1 ≡ suc place = omega arith in
     let lacks : contains nat_cmp c.args.deciders.now (suc place) ≡ false = subst (λ n. contains nat_cmp c.args.deciders.now n ≡ false) next (sym c.if-contains.ensures) in (
       refl,

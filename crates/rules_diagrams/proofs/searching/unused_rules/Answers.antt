@@ -11,14 +11,14 @@ loop-place-init c =
     let rules = c.args.rules.now in (
       c.in_ok-deciding.ensures.gives,
       deciders_are c.deciding_lines.new.diagrams rules c.in_ok-deciding.deciding c.in_ok-deciders.deciders c.in_ok-deciding.ensures.gives c.in_ok-deciders.ensures,
-      none_inside c.deciding_lines.new.diagrams rules c.new-inside.result 0 c.new-inside.ensures refl,
+      none_inside c.deciding_lines.new.diagrams rules c.new-inside.result.items 0 c.new-inside.ensures.items refl,
       none_before rules c.new-unused.result.items c.new-unused.ensures.items,
       omega (arith, c.len-place-end.ensures, rules.lines.ok.0),
     )
 
 pub enter-requires-clause-inside : goal.enter-requires-clause-inside
 enter-requires-clause-inside c =
-    inside_kept c.loop-place.diagrams c.unused_at.new.diagrams (passed_before c.args.rules.now c.loop-place.place) c.loop-place.inside c.unused_at.ensures.keeps c.loop-place.invariant.2
+    inside_kept c.loop-place.diagrams c.unused_at.new.diagrams (passed_before c.args.rules.now c.loop-place.place) c.loop-place.inside.items c.unused_at.ensures.keeps c.loop-place.invariant.2
 
 pub loop-place-preserved : goal.loop-place-preserved
 loop-place-preserved c =

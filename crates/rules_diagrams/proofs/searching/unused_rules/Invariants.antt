@@ -8,6 +8,6 @@ abbrev pub invariant-loop-place : goal.invariant-loop-place
 invariant-loop-place l =
     GivesNumber l.diagrams (deciding_line l.rules) l.deciding
     × AreDeciders (deciding_line l.rules) l.deciders
-    × AreInside l.diagrams (passed_before l.rules l.place) l.inside
+    × AreInside l.diagrams (passed_before l.rules l.place) l.inside.items
     × AreUnusedBefore l.rules l.place l.unused.items
     × (length l.rules.lines.items ≡ l.place-end)

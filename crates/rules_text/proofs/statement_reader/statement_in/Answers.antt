@@ -22,11 +22,11 @@ returns-in_err-read_found-clause-err c =
     let found = c.in-Some.found in
     let rest = tokens_from (found.end + 1) 0 (drop found.end line) in
     returned_fault c.from_residual.result c.in_err-read_found.field-0.0
-    (IsFaultOf (formed_statement context names form c.args.source_line line (c.args.start + 1) (tokens_from (c.args.start + 1) 0 (drop c.args.start line)))) c.from_residual.ensures.1
+    (IsFaultOf (formed_statement context names form line (c.args.start + 1) (tokens_from (c.args.start + 1) 0 (drop c.args.start line)))) c.from_residual.ensures.1
     (fault_onward _ _ _ (λ e.
     sym c.loop-found.invariant.rest
-    ∙ ap (λ (t : List RuleFound). statement_from context c.args.source_line reading column (expanded names c.loop-found.room form line column t)) c.in-Some.ensures.tokens
-    ∙ found_fault context names c.loop-found.room form c.args.source_line line reading _ column (found_seen found) rest (map rule_token_seen c.meant_by-meant.result.now) c.meant_by-meant.ensures e)
+    ∙ ap (λ (t : List RuleFound). statement_from context reading column (expanded names c.loop-found.room form line column t)) c.in-Some.ensures.tokens
+    ∙ found_fault context names c.loop-found.room form line reading _ column (found_seen found) rest (map rule_token_seen c.meant_by-meant.result.now) c.meant_by-meant.ensures e)
     c.in_err-read_found.ensures.err)
 
 pub loop-found-preserved : goal.loop-found-preserved
@@ -43,8 +43,8 @@ loop-found-preserved c =
     record {
       within = c.in-Some.ensures.places.2;
       rest =
-          sym (found_more context names c.loop-found.room form c.args.source_line line reading next column (found_seen found) rest (map rule_token_seen c.meant_by-meant.result.now) _ c.meant_by-meant.ensures (less_seen c.saturating_sub-room.result c.loop-found.room c.meant_by-meant.result.now c.saturating_sub-room.ensures) c.in_ok-read_found.ensures.ok)
-          ∙ ap (λ (t : List RuleFound). statement_from context c.args.source_line reading column (expanded names c.loop-found.room form line column t)) (sym c.in-Some.ensures.tokens)
+          sym (found_more context names c.loop-found.room form line reading next column (found_seen found) rest (map rule_token_seen c.meant_by-meant.result.now) _ c.meant_by-meant.ensures (less_seen c.saturating_sub-room.result c.loop-found.room c.meant_by-meant.result.now c.saturating_sub-room.ensures) c.in_ok-read_found.ensures.ok)
+          ∙ ap (λ (t : List RuleFound). statement_from context reading column (expanded names c.loop-found.room form line column t)) (sym c.in-Some.ensures.tokens)
           ∙ c.loop-found.invariant.rest;
     }
 
@@ -57,11 +57,11 @@ returns-in_err-read_end-clause-err c =
     let column = c.loop-found.from + 1 in
     let reading = reading_seen c.loop-found.reader in
     returned_fault c.from_residual-in_err-read_end.result c.in_err-read_end.field-0.0
-    (IsFaultOf (formed_statement context names form c.args.source_line line (c.args.start + 1) (tokens_from (c.args.start + 1) 0 (drop c.args.start line)))) c.from_residual-in_err-read_end.ensures.1
+    (IsFaultOf (formed_statement context names form line (c.args.start + 1) (tokens_from (c.args.start + 1) 0 (drop c.args.start line)))) c.from_residual-in_err-read_end.ensures.1
     (fault_onward _ _ _ (λ e.
     sym c.loop-found.invariant.rest
-    ∙ ap (λ (t : List RuleFound). statement_from context c.args.source_line reading column (expanded names c.loop-found.room form line column t)) c.in_default.ensures.tokens
-    ∙ line_end_fault context names c.loop-found.room form c.args.source_line line reading _ column e)
+    ∙ ap (λ (t : List RuleFound). statement_from context reading column (expanded names c.loop-found.room form line column t)) c.in_default.ensures.tokens
+    ∙ line_end_fault context names c.loop-found.room form line reading _ column e)
     c.in_err-read_end.ensures.err)
 
 pub returns-in-Ok-clause-ok : goal.returns-in-Ok-clause-ok
@@ -74,9 +74,9 @@ returns-in-Ok-clause-ok c =
     let reading = reading_seen c.loop-found.reader in
     let next = reading_seen c.read_end.new.self in
     sym c.loop-found.invariant.rest
-    ∙ ap (λ (t : List RuleFound). statement_from context c.args.source_line reading column (expanded names c.loop-found.room form line column t)) c.in_default.ensures.tokens
-    ∙ line_ended context names c.loop-found.room form c.args.source_line line reading next column c.in_ok-read_end.ensures.ok
-    ∙ statement_end context c.args.source_line column next (line_statement_seen c.in-Ok.statement) (sym c.in-Ok.ensures.statement)
+    ∙ ap (λ (t : List RuleFound). statement_from context reading column (expanded names c.loop-found.room form line column t)) c.in_default.ensures.tokens
+    ∙ line_ended context names c.loop-found.room form line reading next column c.in_ok-read_end.ensures.ok
+    ∙ statement_end context column next (line_statement_seen c.in-Ok.statement) (sym c.in-Ok.ensures.statement)
 
 pub returns-in-Err-clause-err : goal.returns-in-Err-clause-err
 returns-in-Err-clause-err c =
@@ -88,7 +88,7 @@ returns-in-Err-clause-err c =
     let reading = reading_seen c.loop-found.reader in
     let next = reading_seen c.read_end.new.self in
     inr (sym c.loop-found.invariant.rest
-    ∙ ap (λ (t : List RuleFound). statement_from context c.args.source_line reading column (expanded names c.loop-found.room form line column t)) c.in_default.ensures.tokens
-    ∙ line_ended context names c.loop-found.room form c.args.source_line line reading next column c.in_ok-read_end.ensures.ok
-    ∙ statement_early context c.args.source_line column next c.in-Err.kind (sym c.in-Err.ensures.statement)
-    ∙ ap (λ (fault : RuleFault). Err fault) (sym (early_same _ _ _ _ c.fault_at.ensures c.in-Err.ensures.early)))
+    ∙ ap (λ (t : List RuleFound). statement_from context reading column (expanded names c.loop-found.room form line column t)) c.in_default.ensures.tokens
+    ∙ line_ended context names c.loop-found.room form line reading next column c.in_ok-read_end.ensures.ok
+    ∙ statement_early context column next c.in-Err.kind (sym c.in-Err.ensures.statement)
+    ∙ ap (λ (fault : RuleFault). Err fault) (sym (early_same _ _ _ c.fault_in_line.ensures c.in-Err.ensures.early)))

@@ -9,9 +9,9 @@ use Rattle.rules_text.proofs.statement_reader.statement_in.Given as goal
 abbrev pub invariant-loop-found : goal.invariant-loop-found
 invariant-loop-found l = record {
   within : l.from ≤ length l.line;
-  rest : statement_from (context_seen l.context) l.source_line (reading_seen l.reader) (l.from + 1)
+  rest : statement_from (context_seen l.context) (reading_seen l.reader) (l.from + 1)
       (expanded (names_seen l.names) l.room (form_seen l.form) l.line (l.from + 1) (tokens_from (l.from + 1) 0 (drop l.from l.line)))
-      ≡ formed_statement (context_seen l.context) (names_seen l.names) (form_seen l.form) l.source_line l.line (l.start + 1)
+      ≡ formed_statement (context_seen l.context) (names_seen l.names) (form_seen l.form) l.line (l.start + 1)
       (tokens_from (l.start + 1) 0 (drop l.start l.line));
 }
 

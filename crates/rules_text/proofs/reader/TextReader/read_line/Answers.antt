@@ -16,7 +16,7 @@ pub returns-then-self-clause-err : goal.returns-then-self-clause-err
 returns-then-self-clause-err c =
     let first = c.in-Some.first in
     inr (line_closed (text_seen c.args.self.now) c.args.begin c.args.line.now (found_seen first) (tokens_from (first.end + 1) 0 (drop first.end c.args.line.now)) c.in-Some.ensures.tokens c.if-self.true
-    ∙ ap (λ (fault : RuleFault). Err fault) (sym c.fault_at.ensures))
+    ∙ ap (λ (fault : RuleFault). Err fault) (sym c.fault_in_line.ensures))
 
 pub returns-in_err-name-clause-err : goal.returns-in_err-name-clause-err
 returns-in_err-name-clause-err c =
