@@ -47,6 +47,7 @@ pub trait ProgramUser: Drop {
 }
 
 /// Reads a program line of one word and answers it. Returns none if there is an error.
+#[inline(always)]
 fn take_word<U: ProgramUser>(
     alloc: Global,
     word: &[u8],
