@@ -1,6 +1,6 @@
 -- The output of `upc-lab trace`. The first line with words is a program. Each later line is a cell, and its answer is a
 -- line for each step of the machine on it, and then the answer of `upc eval`.
-use Rattle.std.specs.Prelude.{◌≡◌, ℕ, ◌==◌, List, [], ◌∷◌, ◌++◌, length, get_or, slice_get, codes, decimal, Option, Some, None, MatchOption, MatchBool}
+use Rattle.std.specs.Prelude.{◌≡◌, ℕ, List, [], ◌∷◌, ◌++◌, length, get_or, slice_get, codes, decimal, Option, Some, None}
 use Rattle.bpf_code.specs.declared.instr.Instr.{Instr}
 use Rattle.bpf_code.specs.declared.instr.Instr.TheVariants.{Store, StoreX}
 use Rattle.bpf_interp.specs.State.{State, At, Ended}
@@ -8,13 +8,10 @@ use Rattle.bpf_interp.specs.Step.{Step}
 use Rattle.byteorder.specs.Endian.{big_bytes}
 use Rattle.hex.specs.Hex.{encode_lower}
 use Rattle.cmd_list.specs.Comments.{commented, listed_lines}
-use Rattle.text_io.specs.Lines.{lines_of}
-use Rattle.text_io.specs.Printing.{Rules, Prints}
-use Rattle.text_io.specs.Words.{words_of, is_silent}
 use Rattle.text_io.specs.declared.ending.Done.{Done}
-use Rattle.cmd_programs.specs.Eval.{EvalWorld, EvalCloses, IsSoundWorld, ProgramLine}
-use Rattle.text_words.specs.FaultLines.{line, bad_line, bad_hex, too_long, wrong_length}
-use Rattle.text_words.specs.Hexadecimal.{octets_of_digits, cell_of_octets}
+use Rattle.cmd_programs.specs.AfterProgram.{IsProgramText}
+use Rattle.cmd_programs.specs.CellLines.{cell_texts}
+use Rattle.text_words.specs.FaultLines.{line}
 
 -- A number of 32 bits as eight hexadecimal digits.
 abbrev pub word_text : ℕ → List ℕ
@@ -71,31 +68,6 @@ PrintsTrace code octets text =
     (later : List State) × (value : ℕ) × GoesThrough code octets (At 0 0 0 []) later value
     × (text ≡ step_lines code (At 0 0 0 []) later ++ line (codes "value " ++ decimal value ++ codes " steps " ++ decimal (length later)))
 
--- The answer to octets on a cell line: the trace if they are a cell, otherwise an error with their number.
-abbrev pub TracesOn : List Instr → List ℕ → List ℕ → Type 0
-TracesOn code octets text = MatchBool (length octets == 52) (PrintsTrace code octets text) (text ≡ wrong_length (length octets))
-
--- The answer to a cell line, which has one hexadecimal word.
-abbrev pub TraceLine : List Instr → List (List ℕ) → List ℕ → Type 0
-TraceLine code [] text = text ≡ bad_line
-TraceLine code (word ∷ []) text = MatchOption (octets_of_digits word) (text ≡ bad_hex) (λ octets. TracesOn code (cell_of_octets octets) text)
-TraceLine code (word ∷ other ∷ words) text = text ≡ bad_line
-
--- A line with words is the program line, which `upc eval` answers alike, or a cell line after it.
-abbrev pub ReadsOrTraces : EvalWorld → List (List ℕ) → List ℕ → Option EvalWorld → Type 0
-ReadsOrTraces None words text next = ProgramLine words text next
-ReadsOrTraces (Some code) words text next = TraceLine code words text × (next ≡ Some (Some code))
-
--- The answer to a line, and the next world (none if the line ends the run). A line without words and a comment have
--- an empty answer.
-abbrev pub TraceSteps : EvalWorld → List ℕ → List ℕ → Option EvalWorld → Type 0
-TraceSteps world content text next =
-    MatchBool (is_silent (words_of content)) ((text ≡ []) × (next ≡ Some world)) (ReadsOrTraces world (words_of content) text next)
-
--- The rules of `trace`. The world and the end of the input are those of `upc eval`.
-abbrev pub trace_rules : Rules EvalWorld
-trace_rules = record { steps = TraceSteps; closes = EvalCloses; too_long = too_long; is_sound = IsSoundWorld }
-
 -- The output for a whole input, and how the run ends.
 abbrev pub IsTraceText : List ℕ → List ℕ → Done → Type 0
-IsTraceText octets text done = Prints trace_rules 0 None (lines_of octets) text done
+IsTraceText = IsProgramText (cell_texts PrintsTrace)

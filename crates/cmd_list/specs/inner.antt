@@ -3,4 +3,3 @@ pub mod SoFar
 pub mod TraceLaws
 pub mod LongestRuns
 pub mod ListLaws
-pub mod TurnWorlds

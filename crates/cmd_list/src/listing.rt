@@ -1,23 +1,20 @@
 //! `upc-lab list`: the listing of a program, with the octets of each instruction and the length of its longest run.
 
-ghost use Rattle.std.specs.Prelude.{◌≡◌, ◌∷◌, [], ◌++◌, false, true, IfOk, OnOk};
-ghost use Rattle.bpf_asm.specs.SourceLines.{source_lines};
+ghost use Rattle.std.specs.Prelude.{◌≡◌, ◌++◌, OnOk};
 ghost use Rattle.bpf_verify.specs.Accepted.{IsAccepted};
-ghost use Rattle.text_io.specs.Answering.{Answers};
 ghost use Rattle.text_io.specs.Devices.{Adds};
 ghost use Rattle.text_io.specs.Serving.{IsServed};
 ghost use Rattle.cmd_list.specs.Comments.{commented};
-ghost use Rattle.cmd_list.specs.ListedProgram.{IsListText, IsProgramListing, ListedLine, list_rules, octets_text, program_listing};
-ghost use Rattle.cmd_list.specs.inner.TurnWorlds.{turn_world};
+ghost use Rattle.cmd_list.specs.ListedProgram.{IsListText, IsProgramListing, octets_text, program_listing};
 
 use crate::listed_lines::{after_line, first_line};
 use crate::longest::longest_run;
 use bpf_asm::listing;
 use bpf_code::{Instr, encode};
-use cmd_programs::{add_no_program, read_code};
+use cmd_programs::{ProgramUser, answer_program_lines};
 use std::alloc::{AllocError, Global};
-use text_io::{Done, Input, LineWords, Machine, Output, RunFault, Turn, answer_lines, line_words};
-use text_words::{add_bad_hex, add_bad_line, add_numbered, add_too_long, octets_of_word};
+use text_io::{Done, Input, LineWords, Output, RunFault, Turn, line_words};
+use text_words::{add_bad_line, add_numbered};
 
 /// Appends the octets of an instruction, in lower case hexadecimal digits.
 fn add_octets(alloc: Global, answers: &mut Vec<u8>, instr: Instr) -> Result<(), AllocError>
@@ -73,56 +70,35 @@ pub fn add_listing(alloc: Global, answers: &mut Vec<u8>, code: &[Instr]) -> Resu
     add_numbered(answers, b"; longest ", usize::from(longest_run(code)))
 }
 
-/// Reads a program line of one word and answers it. Returns whether the run continues.
-fn answer_program(alloc: Global, word: &[u8], answers: &mut Vec<u8>) -> Result<Turn, AllocError>
-    ensures { IfOk result (λ turn. Adds (λ here. ListedLine (word.now ∷ []) here (turn_world turn))
-        answers.old.items answers.new.items) }
-{
-    let Some(octets) = octets_of_word(alloc, word)? else {
-        add_bad_hex(answers)?;
-        return Ok(Turn::Ends);
-    };
-    let Some(code) = read_code(alloc, &octets, answers)? else {
-        return Ok(Turn::Ends);
-    };
-    add_listing(alloc, answers, &code)?;
-    Ok(Turn::GoesOn)
-}
-
-/// The subcommand as a machine, before and after the program line.
+/// A program that was listed. Nothing reads its code again: contracts name it.
 #[derive(Drop)]
 struct Lister {
-    alloc: Global,
-    is_listed: bool,
+    code: Vec<Instr>,
 }
 
-impl Lister {
-    /// Answers a line before there is a program.
-    fn take_program(&mut self, line: &[u8], answers: &mut Vec<u8>) -> Result<Turn, AllocError>
-        requires { self.old.is_listed ≡ false }
-        ensures { IfOk result (λ turn. Answers list_rules (λ world. world ≡ self.old.is_listed) line.now turn
-            (λ world. world ≡ self.new.is_listed) answers.old.items answers.new.items) }
-    {
-        match line_words(line) {
-            LineWords::Silent => Ok(Turn::GoesOn),
-            LineWords::Several => {
-                add_bad_line(answers)?;
-                Ok(Turn::Ends)
-            }
-            LineWords::One(word) => {
-                let turn = answer_program(self.alloc, word, answers)?;
-                self.is_listed = true;
-                Ok(turn)
-            }
-        }
+impl ProgramUser for Lister {
+    ghost use Rattle.cmd_list.specs.ListedProgram.{list_texts};
+    ghost use Rattle.cmd_list.specs.inner.ListLaws.{list-each};
+
+    ghost texts = { list_texts };
+
+    ghost code = { λ lister. lister.code.items };
+
+    fn take(
+        alloc: Global,
+        accepted: Vec<Instr>,
+        answers: &mut Vec<u8>,
+    ) -> Result<Lister, AllocError> {
+        add_listing(alloc, answers, &accepted)?;
+        Ok(Lister { code: accepted })
     }
 
-    /// Answers a line after the program line, which should have no words.
-    fn take_rest(&self, line: &[u8], answers: &mut Vec<u8>) -> Result<Turn, AllocError>
-        requires { self.now.is_listed ≡ true }
-        ensures { IfOk result (λ turn. Answers list_rules (λ world. world ≡ self.now.is_listed) line.now turn
-            (λ world. world ≡ self.now.is_listed) answers.old.items answers.new.items) }
-    {
+    fn answer_line(
+        &self,
+        _: Global,
+        line: &[u8],
+        answers: &mut Vec<u8>,
+    ) -> Result<Turn, AllocError> {
         match line_words(line) {
             LineWords::Silent => Ok(Turn::GoesOn),
             LineWords::One(_) | LineWords::Several => {
@@ -131,40 +107,8 @@ impl Lister {
             }
         }
     }
-}
 
-impl Machine for Lister {
-    ghost use Rattle.std.specs.Prelude.{Bool};
-    ghost use Rattle.cmd_list.specs.ListedProgram.{list_rules};
-    ghost use Rattle.cmd_list.specs.inner.ListLaws.{list-total};
-
-    ghost World = { Bool };
-
-    ghost shows = { λ lister world. world ≡ lister.is_listed };
-
-    ghost rules = { list_rules };
-
-    fn answer(&mut self, line: &[u8], answers: &mut Vec<u8>) -> Result<Turn, AllocError> {
-        if self.is_listed {
-            self.take_rest(line, answers)
-        } else {
-            self.take_program(line, answers)
-        }
-    }
-
-    fn close(&self, answers: &mut Vec<u8>) -> Result<Done, AllocError> {
-        if self.is_listed {
-            return Ok(Done::Whole);
-        }
-        add_no_program(answers)?;
-        Ok(Done::Ended)
-    }
-
-    fn refuse(&self, answers: &mut Vec<u8>) -> Result<(), AllocError> {
-        add_too_long(answers)
-    }
-
-    ghost is_total = { list-total };
+    ghost is_total = { list-each };
 }
 
 /// Answers the lines of an input. The first line with words is a program in hexadecimal digits, and its answer is the
@@ -183,9 +127,5 @@ pub fn list_program<I: Input, O: Output>(
 ) -> Result<Done, RunFault>
     ensures { IsServed IsListText I.Input input.old input.new O.Output output.old output.new result }
 {
-    let mut lister = Lister {
-        alloc,
-        is_listed: false,
-    };
-    answer_lines(alloc, input, output, &mut lister)
+    answer_program_lines::<Lister, I, O>(alloc, input, output)
 }

@@ -1,4 +1,6 @@
 pub mod CellLineLemmas
+pub mod LaterLines
+pub mod OneProgramText
 pub mod OneText
 pub mod CheckText
 pub mod Public

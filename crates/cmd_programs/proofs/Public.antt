@@ -8,6 +8,8 @@ use Rattle.cmd_programs.specs.Program.{ProgramReading, ChecksAs, ReadsAs}
 use Rattle.cmd_programs.proofs.CheckText as check
 use Rattle.cmd_programs.proofs.OneText as eval
 use Rattle.cmd_programs.specs.inner.ReadingLaws as reading
+-- An input has one text of a subcommand for one program, if each code and each later line have one, and so if each cell has one.
+pub use Rattle.cmd_programs.proofs.OneProgramText.{AnswersOnce, IsOnce, cells-once, one-program_text, some-program_text}
 
 -- Any octets are a program or refused.
 pub reads-as : (octets : List ℕ) → (reading : ProgramReading) × ReadsAs octets reading

@@ -2,6 +2,8 @@
 pub mod CodeFaults
 pub mod Program
 pub mod Finding
+pub mod AfterProgram
+pub mod CellLines
 pub mod Eval
 pub mod SourceFaults
 pub mod Check

@@ -1,4 +1,5 @@
 -- Definitions that only private functions and proofs use.
 pub mod ReadingLaws
-pub mod EvalLaws
+pub mod ProgramLaws
+pub mod CellLaws
 pub mod CheckLaws

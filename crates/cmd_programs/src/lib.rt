@@ -2,13 +2,17 @@
 //! cell, and `check` assembles and checks its source.
 #![tactic(auto)]
 
+mod after_program;
 mod answer_texts;
+mod cell_lines;
 mod check;
 mod eval;
 mod fault_lines;
 mod program_reading;
 
+pub use after_program::{ProgramUser, answer_program_lines};
 pub use answer_texts::{add_accepted, add_asm_fault, add_no_program, add_program, add_value};
+pub use cell_lines::{CellUser, OnCells};
 pub use check::check_source;
 pub use eval::eval_bytes;
 pub use fault_lines::{add_decode_fault, add_verify_fault};

@@ -8,10 +8,10 @@ ghost use Rattle.text_io.specs.Serving.{IsServed};
 ghost use Rattle.cmd_rules.specs.AsmText.{IsAsmText, MayBeAsmText, PrintsAsm, asm_text};
 
 use crate::annotating::add_annotated;
-use crate::fault_lines::add_rule_fault;
+use crate::fault_lines::end_by_fault;
 use crate::whole_text::{Printed, answer_rules};
 use bpf_asm::listing;
-use rules_text::{CodeWithPlaces, RuleFault, RuleKind, compile_with_places};
+use rules_text::{CodeWithPlaces, compile_with_places};
 use std::alloc::{AllocError, Global};
 use text_io::{Done, Input, Output, RunFault};
 
@@ -45,16 +45,7 @@ pub(crate) fn answer_by_source(
             add_source(alloc, answers, text, &made)?;
             Ok(Done::Whole)
         }
-        Err(
-            RuleFault {
-                kind: RuleKind::NoMemory,
-                ..
-            },
-        ) => Err(AllocError),
-        Err(fault) => {
-            add_rule_fault(answers, fault)?;
-            Ok(Done::Ended)
-        }
+        Err(fault) => end_by_fault(answers, fault),
     }
 }
 

@@ -5,10 +5,10 @@ ghost use Rattle.text_io.specs.Devices.{Adds};
 ghost use Rattle.text_io.specs.Serving.{IsServed};
 ghost use Rattle.cmd_rules.specs.RulesText.{IsRulesText, MayBeRulesText, PrintsRules};
 
-use crate::fault_lines::add_rule_fault;
+use crate::fault_lines::end_by_fault;
 use crate::whole_text::{Printed, answer_rules};
 use cmd_programs::add_program;
-use rules_text::{RuleFault, RuleKind, compile_text};
+use rules_text::compile_text;
 use std::alloc::{AllocError, Global};
 use text_io::{Done, Input, Output, RunFault};
 
@@ -30,16 +30,7 @@ pub fn answer_by_octets(
             add_program(alloc, answers, &code)?;
             Ok(Done::Whole)
         }
-        Err(
-            RuleFault {
-                kind: RuleKind::NoMemory,
-                ..
-            },
-        ) => Err(AllocError),
-        Err(fault) => {
-            add_rule_fault(answers, fault)?;
-            Ok(Done::Ended)
-        }
+        Err(fault) => end_by_fault(answers, fault),
     }
 }
 

@@ -17,9 +17,9 @@ use crate::before_cells::read_rules_before;
 use crate::begins::add_decider;
 use crate::counting::Counts;
 use crate::decider::Decider;
-use crate::fault_lines::add_rule_fault;
+use crate::fault_lines::end_by_fault;
 use rules_cells::Decision;
-use rules_text::{RuleFault, RuleKind, RulePlace};
+use rules_text::RulePlace;
 use std::alloc::{AllocError, Global};
 use text_io::{
     Done, Input, LineWords, Machine, Output, RunFault, Turn, answer_lines, first_word, give_last,
@@ -204,14 +204,8 @@ fn decider_or_fault(
 {
     match Decider::new(alloc, text) {
         Ok(decider) => Ok(Some(decider)),
-        Err(
-            RuleFault {
-                kind: RuleKind::NoMemory,
-                ..
-            },
-        ) => Err(AllocError),
         Err(fault) => {
-            add_rule_fault(answers, fault)?;
+            end_by_fault(answers, fault)?;
             Ok(None)
         }
     }

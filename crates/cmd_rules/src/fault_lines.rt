@@ -1,10 +1,13 @@
 //! The fault line of a text of rules.
 
-ghost use Rattle.std.specs.Prelude.{◌≡◌, ◌++◌, OnOk};
+ghost use Rattle.std.specs.Prelude.{◌≡◌, ◌≢◌, ◌++◌, IfOk, OnOk};
+ghost use Rattle.rules_text.specs.declared.fault.RuleKind.TheVariants.{NoMemory};
+ghost use Rattle.text_io.specs.declared.ending.Done.TheVariants.{Ended};
 ghost use Rattle.cmd_rules.specs.RuleFaults.{place_text, rule_fault, rule_name};
 
 use rules_text::{RuleFault, RuleKind};
 use std::alloc::AllocError;
+use text_io::Done;
 use text_words::add_number;
 
 /// The number and the name of a fault.
@@ -48,4 +51,18 @@ pub fn add_rule_fault(answers: &mut Vec<u8>, fault: RuleFault) -> Result<(), All
     answers.extend_from_slice(name_of(fault.kind))?;
     add_place(answers, fault.line, fault.column)?;
     Ok(())
+}
+
+/// Ends the run by the answer to a text with a fault. `NoMemory` is no fault of a text, and is passed on.
+pub(crate) fn end_by_fault(answers: &mut Vec<u8>, fault: RuleFault) -> Result<Done, AllocError>
+    ensures faulty { IfOk result (λ done. fault.kind ≢ NoMemory) }
+    ensures answer { IfOk result (λ done. (answers.new.items ≡ answers.old.items ++ rule_fault fault) × (done ≡ Ended)) }
+{
+    match fault.kind {
+        RuleKind::NoMemory => Err(AllocError),
+        _ => {
+            add_rule_fault(answers, fault)?;
+            Ok(Done::Ended)
+        }
+    }
 }

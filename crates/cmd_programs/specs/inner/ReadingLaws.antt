@@ -1,7 +1,8 @@
--- Every code and all octets are a program or refused, and in one way only. This is in `specs/` because EvalLaws uses it.
+-- Every code and all octets are a program or refused, and in one way only. This is in `specs/` because ProgramLaws uses it.
 use Rattle.std.proofs.Common.{◌≡◌, ℕ, inl, inr, List, refl, ap, sym, ◌∙◌, subst}
 use Rattle.bpf_code.specs.declared.instr.Instr.{Instr}
 use Rattle.bpf_code.proofs.Public.{code-or_fault, SpellsCode-unique, code-no_fault, one-decode_fault}
+use Rattle.bpf_verify.specs.Accepted.{IsAccepted}
 use Rattle.bpf_verify.proofs.Public.{accepted-or_fault, one_comes_first, refused-from_fault}
 use Rattle.cmd_programs.specs.Program.{ProgramReading, is_program, is_refused, ChecksAs, ReadsAs}
 use Rattle.cmd_programs.specs.CodeFaults.{decode_fault, verify_fault}
@@ -20,6 +21,14 @@ reads-as octets =
     elim (code-or_fault octets) [
       | inl spelled ↦ let checked = checks-as spelled.0 in (checked.0, inl (spelled.0, spelled.1, checked.1))
       | inr faulty ↦ (is_refused (decode_fault faulty.0), inr (faulty.0, faulty.1, faulty.2, refl))
+    ]
+
+-- A program that octets are read as is accepted.
+pub read-accepted : (octets : List ℕ) (code : List Instr) → ReadsAs octets (is_program code) → IsAccepted code
+read-accepted octets code reads =
+    elim reads [
+      | inl spelled ↦ subst IsAccepted (sym spelled.2.1) spelled.2.0
+      | inr faulty ↦ let no : is_program code ≡ is_refused (decode_fault faulty.0) = faulty.3 in absurd cc
     ]
 
 -- A code is read in one way only.
