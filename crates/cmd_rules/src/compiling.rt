@@ -1,4 +1,4 @@
-//! `upc-lab rules`: compiles a text of rules.
+//! What `upc-lab rules` prints. The program runs `compile_with_hints` of `cmd_explain_rules`, which answers the same and adds hints.
 
 ghost use Rattle.std.specs.Prelude.{IfOk};
 ghost use Rattle.text_io.specs.Devices.{Adds};
