@@ -1,5 +1,5 @@
 -- What the counts of `why --count` in memory are, and what its machine shows of them.
-use Rattle.std.specs.Prelude.{◌≡◌, ◌⊎◌, ℕ, List, ◌++◌, Option, Some, None, Result, Ok, Err, IfSome, get_or, is_some}
+use Rattle.std.specs.Prelude.{◌≡◌, ℕ, List, ◌++◌, Option, Some, None, Result, Ok, Err, IfSome, get_or, is_some}
 use Rattle.rules_text.specs.RulesInMemory.{placed_rules_read}
 use Rattle.cmd_rules.specs.CountText.{times_decided}
 use Rattle.cmd_rules.specs.WhyText.{WhyWorld, why_text, world_after_line}
