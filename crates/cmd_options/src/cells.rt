@@ -1,15 +1,16 @@
 //! The options of `upc-lab cells`.
 
-ghost use Rattle.std.specs.Prelude.{◌≡◌, Err, IfErr, IfOk, map};
+ghost use Rattle.std.specs.Prelude.{map};
 ghost use Rattle.std.specs.String.{string_bytes};
 ghost use Rattle.text_command_line.specs.Arguments.{texts_of};
-ghost use Rattle.cmd_options.specs.CellsOptions.{AsksCells, CellsAsked, IsCellsStop, cells_asked_by};
+ghost use Rattle.cmd_options.specs.CellsOptions.{cells_app, cells_asked, cells_asked_by};
+ghost use Rattle.cmd_options.specs.OptionAnswers.{AnswersWords};
 ghost use Rattle.cmd_options.specs.inner.Answered.{AnswersValues, cells_spelled};
 
 use crate::link::link_of;
 use crate::values::{
-    LINK, TICK, TIME, WRONG_LINK, WRONG_TICK, WRONG_TIME, is_record_given, tick_of, timing_of,
-    wrong_value,
+    LINK, TICK, TIME, WRONG_LINK, WRONG_TICK, WRONG_TIME, is_record_given, spelled, tick_of,
+    timing_of,
 };
 use captures::{Link, Tick, TimeSource};
 use std::alloc::Global;
@@ -47,42 +48,23 @@ const CELLS: Options = Options {
 /// record|packet`, which is record if it isn't given, and `--record`. The forms of help that `clap` has request help.
 /// Any other word is an error, and so is a wrong value.
 pub fn cells_options(alloc: Global, words: Vec<String>) -> Result<CellsOptions, Stop>
-    ensures asked { IfOk result (λ options. AsksCells (map string_bytes words.items) (cells_asked_by options)) }
-    ensures stopped { IfErr result (IsCellsStop (map string_bytes words.items)) }
-    ensures granted { (asked : CellsAsked) → AsksCells (map string_bytes words.items) asked
-        → IfErr result (λ stop. stop ≡ Stop.NoMemory) }
+    ensures { AnswersWords cells_app cells_asked cells_asked_by (map string_bytes words.items) result }
 {
-    let found = values_of_words(alloc, &CELLS, words);
-    answer_to(alloc, found)
+    let values = values_of_words(alloc, &CELLS, words)?;
+    read(alloc, &values)
 }
 
 /// Returns the options that these values spell.
 fn read(alloc: Global, values: &[Value]) -> Result<CellsOptions, Stop>
     ensures { AnswersValues cells_asked_by (cells_spelled (texts_of values.now)) result }
 {
-    let Some(tick) = tick_of(values) else {
-        return Err(wrong_value(alloc, WRONG_TICK));
-    };
-    let Some(link) = link_of(values) else {
-        return Err(wrong_value(alloc, WRONG_LINK));
-    };
-    let Some(timing) = timing_of(values) else {
-        return Err(wrong_value(alloc, WRONG_TIME));
-    };
+    let tick = spelled(alloc, tick_of(values), WRONG_TICK)?;
+    let link = spelled(alloc, link_of(values), WRONG_LINK)?;
+    let timing = spelled(alloc, timing_of(values), WRONG_TIME)?;
     Ok(CellsOptions {
         tick,
         link,
         timing,
         numbered: is_record_given(values),
     })
-}
-
-fn answer_to(alloc: Global, found: Result<Vec<Value>, Stop>) -> Result<CellsOptions, Stop>
-    ensures values { IfOk found (λ values. AnswersValues cells_asked_by (cells_spelled (texts_of values.items)) result) }
-    ensures stopped { IfErr found (λ stop. result ≡ Err stop) }
-{
-    match found {
-        Ok(values) => read(alloc, &values),
-        Err(stop) => Err(stop),
-    }
 }

@@ -1,12 +1,13 @@
 //! The option of `upc-lab explain`.
 
-ghost use Rattle.std.specs.Prelude.{◌≡◌, Err, IfErr, IfOk, map};
+ghost use Rattle.std.specs.Prelude.{map};
 ghost use Rattle.std.specs.String.{string_bytes};
 ghost use Rattle.text_command_line.specs.Arguments.{texts_of};
-ghost use Rattle.cmd_options.specs.ExplainOptions.{AsksExplain, ExplainAsked, IsExplainStop, explain_asked_by};
+ghost use Rattle.cmd_options.specs.ExplainOptions.{explain_app, explain_asked, explain_asked_by};
+ghost use Rattle.cmd_options.specs.OptionAnswers.{AnswersWords};
 ghost use Rattle.cmd_options.specs.inner.Answered.{AnswersValues, explain_spelled};
 
-use crate::values::{explained_name_of, owned, wrong_value};
+use crate::values::{explained_name_of, owned, spelled};
 use std::alloc::Global;
 use text_command_line::{Argument, Form, Options, Stop, Value, values_of_words};
 
@@ -35,37 +36,23 @@ const EXPLAIN: Options = Options {
 /// Reads the words after `upc-lab explain`: `--setup SETUP` or none. The forms of help that `clap` has request help. Any other word is an
 /// error, and so is an empty name.
 pub fn explain_options(alloc: Global, words: Vec<String>) -> Result<ExplainOptions, Stop>
-    ensures asked { IfOk result (λ options. AsksExplain (map string_bytes words.items) (explain_asked_by options)) }
-    ensures stopped { IfErr result (IsExplainStop (map string_bytes words.items)) }
-    ensures granted { (asked : ExplainAsked) → AsksExplain (map string_bytes words.items) asked
-        → IfErr result (λ stop. stop ≡ Stop.NoMemory) }
+    ensures { AnswersWords explain_app explain_asked explain_asked_by (map string_bytes words.items) result }
 {
-    let found = values_of_words(alloc, &EXPLAIN, words);
-    answer_to(alloc, found)
+    let values = values_of_words(alloc, &EXPLAIN, words)?;
+    read(alloc, &values)
 }
 
 /// Returns the options that these values spell.
 fn read(alloc: Global, values: &[Value]) -> Result<ExplainOptions, Stop>
     ensures { AnswersValues explain_asked_by (explain_spelled (texts_of values.now)) result }
 {
-    let Some(setup) = explained_name_of(values) else {
-        return Err(wrong_value(
-            alloc,
-            "error: the value of '--setup' is the name of a file\n",
-        ));
-    };
+    let setup = spelled(
+        alloc,
+        explained_name_of(values),
+        "error: the value of '--setup' is the name of a file\n",
+    )?;
     let Ok(setup) = owned(alloc, setup) else {
         return Err(Stop::NoMemory);
     };
     Ok(ExplainOptions { setup })
-}
-
-fn answer_to(alloc: Global, found: Result<Vec<Value>, Stop>) -> Result<ExplainOptions, Stop>
-    ensures values { IfOk found (λ values. AnswersValues explain_asked_by (explain_spelled (texts_of values.items)) result) }
-    ensures stopped { IfErr found (λ stop. result ≡ Err stop) }
-{
-    match found {
-        Ok(values) => read(alloc, &values),
-        Err(stop) => Err(stop),
-    }
 }

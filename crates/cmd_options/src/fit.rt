@@ -1,15 +1,16 @@
 //! The options of `upc-lab fit`.
 
-ghost use Rattle.std.specs.Prelude.{◌≡◌, Err, IfErr, IfOk, map, option_map};
+ghost use Rattle.std.specs.Prelude.{map};
 ghost use Rattle.std.specs.String.{string_bytes};
 ghost use Rattle.text_command_line.specs.Arguments.{texts_of};
-ghost use Rattle.cmd_options.specs.FitOptions.{AsksFit, FitAsked, IsFitStop, asked_by};
+ghost use Rattle.cmd_options.specs.FitOptions.{asked_by, fit_app, fit_asked};
+ghost use Rattle.cmd_options.specs.OptionAnswers.{AnswersWords};
 ghost use Rattle.cmd_options.specs.inner.Answered.{AnswersValues, fit_spelled};
 
 use crate::link::link_of;
 use crate::values::{
     LINK, TICK, TIME, WRONG_LINK, WRONG_TICK, WRONG_TIME, asked_clp_of, fit_increment_of,
-    fit_side_of, owned, rules_name_of, tick_of, timing_of, wrong_value,
+    fit_side_of, owned, rules_name_of, spelled, tick_of, timing_of,
 };
 use captures::{Link, Tick, TimeSource};
 use std::alloc::Global;
@@ -87,46 +88,39 @@ const FIT: Options = Options {
 /// `--paths`, `--clp CLP`, and `--rules FILE`. The forms of help that `clap` has request help. Any other word is an
 /// error, and so are a wrong value, an empty name and words without an increment.
 pub fn fit_options(alloc: Global, words: Vec<String>) -> Result<FitOptions, Stop>
-    ensures asked { IfOk result (λ options. AsksFit (map string_bytes words.items) (asked_by options)) }
-    ensures stopped { IfErr result (IsFitStop (map string_bytes words.items)) }
-    ensures granted { (asked : FitAsked) → AsksFit (map string_bytes words.items) asked
-        → IfErr result (λ stop. stop ≡ Stop.NoMemory) }
+    ensures { AnswersWords fit_app fit_asked asked_by (map string_bytes words.items) result }
 {
-    let found = values_of_words(alloc, &FIT, words);
-    answer_to(alloc, found)
+    let values = values_of_words(alloc, &FIT, words)?;
+    read(alloc, &values)
 }
 
 /// Returns the options that these values spell.
 fn read(alloc: Global, values: &[Value]) -> Result<FitOptions, Stop>
     ensures { AnswersValues asked_by (fit_spelled (texts_of values.now)) result }
 {
-    let Some(increment) = fit_increment_of(values) else {
-        return Err(wrong_value(
-            alloc,
-            "error: the value of '--increment' is a number of ticks from 1 to 281474976710656\n",
-        ));
-    };
-    let Some(tick) = tick_of(values) else {
-        return Err(wrong_value(alloc, WRONG_TICK));
-    };
-    let Some(link) = link_of(values) else {
-        return Err(wrong_value(alloc, WRONG_LINK));
-    };
-    let Some(timing) = timing_of(values) else {
-        return Err(wrong_value(alloc, WRONG_TIME));
-    };
-    let Some(side) = fit_side_of(values) else {
-        return Err(wrong_value(alloc, "error: the value of '--side' is uni or nni\n"));
-    };
-    let Some(clp) = asked_clp_of(values) else {
-        return Err(wrong_value(alloc, "error: the value of '--clp' is 0 or 1\n"));
-    };
-    let Some(rules) = rules_name_of(values) else {
-        return Err(wrong_value(
-            alloc,
-            "error: the value of '--rules' is the name of a file\n",
-        ));
-    };
+    let increment = spelled(
+        alloc,
+        fit_increment_of(values),
+        "error: the value of '--increment' is a number of ticks from 1 to 281474976710656\n",
+    )?;
+    let tick = spelled(alloc, tick_of(values), WRONG_TICK)?;
+    let link = spelled(alloc, link_of(values), WRONG_LINK)?;
+    let timing = spelled(alloc, timing_of(values), WRONG_TIME)?;
+    let side = spelled(
+        alloc,
+        fit_side_of(values),
+        "error: the value of '--side' is uni or nni\n",
+    )?;
+    let clp = spelled(
+        alloc,
+        asked_clp_of(values),
+        "error: the value of '--clp' is 0 or 1\n",
+    )?;
+    let rules = spelled(
+        alloc,
+        rules_name_of(values),
+        "error: the value of '--rules' is the name of a file\n",
+    )?;
     let Ok(rules) = owned(alloc, rules) else {
         return Err(Stop::NoMemory);
     };
@@ -139,14 +133,4 @@ fn read(alloc: Global, values: &[Value]) -> Result<FitOptions, Stop>
         clp,
         rules,
     })
-}
-
-fn answer_to(alloc: Global, found: Result<Vec<Value>, Stop>) -> Result<FitOptions, Stop>
-    ensures values { IfOk found (λ values. AnswersValues asked_by (fit_spelled (texts_of values.items)) result) }
-    ensures stopped { IfErr found (λ stop. result ≡ Err stop) }
-{
-    match found {
-        Ok(values) => read(alloc, &values),
-        Err(stop) => Err(stop),
-    }
 }

@@ -1,15 +1,16 @@
 //! The argument and the options of `upc-lab forward`.
 
-ghost use Rattle.std.specs.Prelude.{◌≡◌, Err, IfErr, IfOk, map};
+ghost use Rattle.std.specs.Prelude.{map};
 ghost use Rattle.std.specs.String.{string_bytes};
 ghost use Rattle.text_command_line.specs.Arguments.{texts_of};
-ghost use Rattle.cmd_options.specs.ForwardOptions.{AsksForward, ForwardAsked, IsForwardStop, forward_asked_by};
+ghost use Rattle.cmd_options.specs.ForwardOptions.{forward_app, forward_asked, forward_asked_by};
+ghost use Rattle.cmd_options.specs.OptionAnswers.{AnswersWords};
 ghost use Rattle.cmd_options.specs.inner.Answered.{AnswersValues, forward_spelled};
 
 use crate::link::link_of;
 use crate::values::{
     ASKED_TICK, LINK, SETUP, WRONG_LINK, WRONG_TICK, asked_tick_of, others_of, setup_name_of,
-    wrong_value,
+    spelled,
 };
 use captures::{Link, Tick};
 use std::alloc::Global;
@@ -47,31 +48,28 @@ const FORWARD: Options = Options {
 /// which is pass if it isn't given. The forms of help that `clap` has request help. Any other word is an error, and so
 /// are a wrong value, an empty name and words without a name.
 pub fn forward_options(alloc: Global, words: Vec<String>) -> Result<ForwardOptions, Stop>
-    ensures asked { IfOk result (λ options. AsksForward (map string_bytes words.items) (forward_asked_by options)) }
-    ensures stopped { IfErr result (IsForwardStop (map string_bytes words.items)) }
-    ensures granted { (asked : ForwardAsked) → AsksForward (map string_bytes words.items) asked
-        → IfErr result (λ stop. stop ≡ Stop.NoMemory) }
+    ensures { AnswersWords forward_app forward_asked forward_asked_by (map string_bytes words.items) result }
 {
-    let found = values_of_words(alloc, &FORWARD, words);
-    answer_to(alloc, found)
+    let values = values_of_words(alloc, &FORWARD, words)?;
+    read(alloc, &values)
 }
 
 /// Returns the options that these values spell.
 fn read(alloc: Global, values: &[Value]) -> Result<ForwardOptions, Stop>
     ensures { AnswersValues forward_asked_by (forward_spelled (texts_of values.now)) result }
 {
-    let Some(setup) = setup_name_of(values) else {
-        return Err(wrong_value(alloc, "error: SETUP is the name of a file\n"));
-    };
-    let Some(tick) = asked_tick_of(values) else {
-        return Err(wrong_value(alloc, WRONG_TICK));
-    };
-    let Some(link) = link_of(values) else {
-        return Err(wrong_value(alloc, WRONG_LINK));
-    };
-    let Some(others) = others_of(values) else {
-        return Err(wrong_value(alloc, "error: the value of '--others' is pass or drop\n"));
-    };
+    let setup = spelled(
+        alloc,
+        setup_name_of(values),
+        "error: SETUP is the name of a file\n",
+    )?;
+    let tick = spelled(alloc, asked_tick_of(values), WRONG_TICK)?;
+    let link = spelled(alloc, link_of(values), WRONG_LINK)?;
+    let others = spelled(
+        alloc,
+        others_of(values),
+        "error: the value of '--others' is pass or drop\n",
+    )?;
     let Ok(setup) = String::from_str(alloc, setup) else {
         return Err(Stop::NoMemory);
     };
@@ -81,14 +79,4 @@ fn read(alloc: Global, values: &[Value]) -> Result<ForwardOptions, Stop>
         link,
         others,
     })
-}
-
-fn answer_to(alloc: Global, found: Result<Vec<Value>, Stop>) -> Result<ForwardOptions, Stop>
-    ensures values { IfOk found (λ values. AnswersValues forward_asked_by (forward_spelled (texts_of values.items)) result) }
-    ensures stopped { IfErr found (λ stop. result ≡ Err stop) }
-{
-    match found {
-        Ok(values) => read(alloc, &values),
-        Err(stop) => Err(stop),
-    }
 }

@@ -1,15 +1,16 @@
 //! The argument and the options of `upc-lab police`.
 
-ghost use Rattle.std.specs.Prelude.{◌≡◌, Err, IfErr, IfOk, map};
+ghost use Rattle.std.specs.Prelude.{map};
 ghost use Rattle.std.specs.String.{string_bytes};
 ghost use Rattle.text_command_line.specs.Arguments.{texts_of};
-ghost use Rattle.cmd_options.specs.PoliceOptions.{AsksPolice, IsPoliceStop, PoliceAsked, police_asked_by};
+ghost use Rattle.cmd_options.specs.PoliceOptions.{police_app, police_asked, police_asked_by};
+ghost use Rattle.cmd_options.specs.OptionAnswers.{AnswersWords};
 ghost use Rattle.cmd_options.specs.inner.Answered.{AnswersValues, police_spelled};
 
 use crate::link::link_of;
 use crate::values::{
     ASKED_TICK, LINK, SETUP, TIME, WRONG_LINK, WRONG_TICK, WRONG_TIME, asked_tick_of, every_of,
-    is_why_given, line_choice_of, setup_name_of, threads_of, timing_of, wrong_value,
+    is_why_given, line_choice_of, setup_name_of, spelled, threads_of, timing_of,
 };
 use captures::{Link, Tick, TimeSource};
 use captures_text::LineChoice;
@@ -81,46 +82,39 @@ const POLICE: Options = Options {
 /// `--threads N`, which is 2 if it isn't given. The forms of help that `clap` has request help. Any other word is an error, and so
 /// are a wrong value, an empty name and words without a name.
 pub fn police_options(alloc: Global, words: Vec<String>) -> Result<PoliceOptions, Stop>
-    ensures asked { IfOk result (λ options. AsksPolice (map string_bytes words.items) (police_asked_by options)) }
-    ensures stopped { IfErr result (IsPoliceStop (map string_bytes words.items)) }
-    ensures granted { (asked : PoliceAsked) → AsksPolice (map string_bytes words.items) asked
-        → IfErr result (λ stop. stop ≡ Stop.NoMemory) }
+    ensures { AnswersWords police_app police_asked police_asked_by (map string_bytes words.items) result }
 {
-    let found = values_of_words(alloc, &POLICE, words);
-    answer_to(alloc, found)
+    let values = values_of_words(alloc, &POLICE, words)?;
+    read(alloc, &values)
 }
 
 /// Returns the options that these values spell.
 fn read(alloc: Global, values: &[Value]) -> Result<PoliceOptions, Stop>
     ensures { AnswersValues police_asked_by (police_spelled (texts_of values.now)) result }
 {
-    let Some(setup) = setup_name_of(values) else {
-        return Err(wrong_value(alloc, "error: SETUP is the name of a file\n"));
-    };
-    let Some(tick) = asked_tick_of(values) else {
-        return Err(wrong_value(alloc, WRONG_TICK));
-    };
-    let Some(link) = link_of(values) else {
-        return Err(wrong_value(alloc, WRONG_LINK));
-    };
-    let Some(timing) = timing_of(values) else {
-        return Err(wrong_value(alloc, WRONG_TIME));
-    };
-    let Some(lines) = line_choice_of(values) else {
-        return Err(wrong_value(
-            alloc,
-            "error: the value of '--lines' is all, refused or none\n",
-        ));
-    };
-    let Some(every) = every_of(values) else {
-        return Err(wrong_value(
-            alloc,
-            "error: the value of '--every' is a number above 0 with ns, us, ms or s, as 1s\n",
-        ));
-    };
-    let Some(threads) = threads_of(values) else {
-        return Err(wrong_value(alloc, "error: the value of '--threads' is 1 or 2\n"));
-    };
+    let setup = spelled(
+        alloc,
+        setup_name_of(values),
+        "error: SETUP is the name of a file\n",
+    )?;
+    let tick = spelled(alloc, asked_tick_of(values), WRONG_TICK)?;
+    let link = spelled(alloc, link_of(values), WRONG_LINK)?;
+    let timing = spelled(alloc, timing_of(values), WRONG_TIME)?;
+    let lines = spelled(
+        alloc,
+        line_choice_of(values),
+        "error: the value of '--lines' is all, refused or none\n",
+    )?;
+    let every = spelled(
+        alloc,
+        every_of(values),
+        "error: the value of '--every' is a number above 0 with ns, us, ms or s, as 1s\n",
+    )?;
+    let threads = spelled(
+        alloc,
+        threads_of(values),
+        "error: the value of '--threads' is 1 or 2\n",
+    )?;
     let Ok(setup) = String::from_str(alloc, setup) else {
         return Err(Stop::NoMemory);
     };
@@ -134,14 +128,4 @@ fn read(alloc: Global, values: &[Value]) -> Result<PoliceOptions, Stop>
         why: is_why_given(values),
         threads,
     })
-}
-
-fn answer_to(alloc: Global, found: Result<Vec<Value>, Stop>) -> Result<PoliceOptions, Stop>
-    ensures values { IfOk found (λ values. AnswersValues police_asked_by (police_spelled (texts_of values.items)) result) }
-    ensures stopped { IfErr found (λ stop. result ≡ Err stop) }
-{
-    match found {
-        Ok(values) => read(alloc, &values),
-        Err(stop) => Err(stop),
-    }
 }

@@ -1,6 +1,6 @@
 //! The values of options.
 
-ghost use Rattle.std.specs.Prelude.{◌≡◌, IfOk, codes, option_map};
+ghost use Rattle.std.specs.Prelude.{◌≡◌, IfErr, IfOk, None, Some, codes, option_map};
 ghost use Rattle.std.specs.String.{string_bytes};
 ghost use Rattle.text_command_line.specs.Arguments.{text_named, texts_of};
 ghost use Rattle.cmd_options.specs.OptionValues.{asked_clp_of, asked_file_of, asked_tick_of, line_choice_of, clp_named, every_of, fit_increment_of, fit_side_of, file_name_of, file_named, is_given, others_of, pairs_of, side_named, threads_of, tick_of, timing_of};
@@ -291,11 +291,22 @@ pub(crate) fn is_why_given(values: &[Value]) -> bool
 }
 
 /// Returns why the words give no options: a value is wrong, and this message says which and what is right.
-pub(crate) fn wrong_value(alloc: Global, message: &str) -> Stop
+fn wrong_value(alloc: Global, message: &str) -> Stop
     ensures { IsWrongValue result }
 {
     match String::from_str(alloc, message) {
         Ok(text) => Stop::Words(text),
         Err(_) => Stop::NoMemory,
+    }
+}
+
+/// Returns what the value of an option spells. If it spells nothing, there are no options, and this message says what is right.
+pub(crate) fn spelled<T>(alloc: Global, value: Option<T>, message: &str) -> Result<T, Stop>
+    ensures right { IfOk result (λ it. value ≡ Some it) }
+    ensures wrong { IfErr result (λ stop. (value ≡ None) × IsWrongValue stop) }
+{
+    match value {
+        Some(it) => Ok(it),
+        None => Err(wrong_value(alloc, message)),
     }
 }

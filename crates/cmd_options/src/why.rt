@@ -1,9 +1,10 @@
 //! The option of `upc-lab why`.
 
-ghost use Rattle.std.specs.Prelude.{◌≡◌, Err, IfErr, IfOk, map};
+ghost use Rattle.std.specs.Prelude.{map};
 ghost use Rattle.std.specs.String.{string_bytes};
 ghost use Rattle.text_command_line.specs.Arguments.{texts_of};
-ghost use Rattle.cmd_options.specs.WhyOptions.{AsksWhy, IsWhyStop, WhyAsked, why_asked_by};
+ghost use Rattle.cmd_options.specs.WhyOptions.{why_app, why_asked, why_asked_by};
+ghost use Rattle.cmd_options.specs.OptionAnswers.{AnswersWords};
 ghost use Rattle.cmd_options.specs.inner.Answered.{AnswersValues, why_spelled};
 
 use crate::values::is_count_given;
@@ -34,13 +35,10 @@ const WHY: Options = Options {
 
 /// Reads the words after `upc-lab why`: `--count` or none. The forms of help that `clap` has request help. Any other word is an error.
 pub fn why_options(alloc: Global, words: Vec<String>) -> Result<WhyOptions, Stop>
-    ensures asked { IfOk result (λ options. AsksWhy (map string_bytes words.items) (why_asked_by options)) }
-    ensures stopped { IfErr result (IsWhyStop (map string_bytes words.items)) }
-    ensures granted { (asked : WhyAsked) → AsksWhy (map string_bytes words.items) asked
-        → IfErr result (λ stop. stop ≡ Stop.NoMemory) }
+    ensures { AnswersWords why_app why_asked why_asked_by (map string_bytes words.items) result }
 {
-    let found = values_of_words(alloc, &WHY, words);
-    answer_to(found)
+    let values = values_of_words(alloc, &WHY, words)?;
+    read(&values)
 }
 
 /// Returns the options that these values spell.
@@ -50,14 +48,4 @@ fn read(values: &[Value]) -> Result<WhyOptions, Stop>
     Ok(WhyOptions {
         count: is_count_given(values),
     })
-}
-
-fn answer_to(found: Result<Vec<Value>, Stop>) -> Result<WhyOptions, Stop>
-    ensures values { IfOk found (λ values. AnswersValues why_asked_by (why_spelled (texts_of values.items)) result) }
-    ensures stopped { IfErr found (λ stop. result ≡ Err stop) }
-{
-    match found {
-        Ok(values) => read(&values),
-        Err(stop) => Err(stop),
-    }
 }
