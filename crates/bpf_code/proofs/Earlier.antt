@@ -3,7 +3,7 @@ use Rattle.std.proofs.Common.{◌≡◌, ℕ, List, [], ◌∷◌, drop, take, S
 use Rattle.std.proofs.lemmas.Option.{same_Some}
 use Rattle.bpf_code.proofs.Spelled.{SpellsCode-unique}
 use Rattle.bpf_code.specs.EarlierTable.{earlier_code_of, SpelledEarlier, SpelledCodeEarlier}
-use Rattle.bpf_code.specs.Fields.{instr_number}
+use Rattle.bpf_code.specs.Fields.{instr_code}
 use Rattle.bpf_code.specs.OctetSpelling.{Spells, SpellsCode}
 use Rattle.bpf_code.specs.Table.{code_of}
 use Rattle.bpf_code.specs.declared.instr.By.TheVariants.{Imm, X}
@@ -67,7 +67,7 @@ pub earlier-spelled : (octets : List ℕ) (code : List Instr) → SpelledCodeEar
 earlier-spelled octets [] s = s
 earlier-spelled octets (i ∷ code) s =
     let first = s.0 in (
-      record { eight = first.eight; code = same_code i (instr_number (take 8 octets)) first.code; jt = first.jt; jf = first.jf; k = first.k },
+      record { eight = first.eight; code = same_code i (instr_code (take 8 octets)) first.code; jt = first.jt; jf = first.jf; k = first.k },
       earlier-spelled (drop 8 octets) code s.1,
     )
 

@@ -3,7 +3,7 @@ use Rattle.std.proofs.Common.{◌≡◌, ℕ, zero, suc, ◌+◌, ◌*◌, ◌%�
 use Rattle.std.proofs.lemmas.List.{drop_all}
 use Rattle.std.specs.Simd.{first_chunks}
 use Rattle.bpf_code.proofs.Spelled.{SpellsCode-at, SpellsCode-length}
-use Rattle.bpf_code.specs.Fields.{instr_number}
+use Rattle.bpf_code.specs.Fields.{instr_code}
 use Rattle.bpf_code.specs.OctetSpelling.{Spells, SpellsCode, IsFirstUnknown, eight_at}
 use Rattle.bpf_code.specs.declared.instr.Instr.{Instr}
 
@@ -61,4 +61,4 @@ IsFirstUnknown-place octets p q c d u v =
 pub IsFirstUnknown-code : (octets : List ℕ) (p q c d : ℕ) → IsFirstUnknown octets p c → IsFirstUnknown octets q d → c ≡ d
 IsFirstUnknown-code octets p q c d u v =
     let e = IsFirstUnknown-place octets p q c d u v in
-    sym u.there ∙ ap (λ (n : ℕ). instr_number (eight_at octets n)) e ∙ v.there
+    sym u.there ∙ ap (λ (n : ℕ). instr_code (eight_at octets n)) e ∙ v.there

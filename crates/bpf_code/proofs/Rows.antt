@@ -1,7 +1,7 @@
 -- The inverse of the instruction table. It shows that no two rows share a number.
 use Rattle.std.proofs.Common.{◌≡◌, ◌≢◌, ◌↔◌, ℕ, ◌==◌, if◌then◌else◌, refl, sym, ap, subst, ◌∙◌, List, Option, Some, None, Ok}
 use Rattle.std.specs.Option.{IfNone, IfSome, ok_or}
-use Rattle.bpf_code.specs.Fields.{instr_number, jt_in, jf_in, k_in}
+use Rattle.bpf_code.specs.Fields.{instr_code, jt_in, jf_in, k_in}
 use Rattle.bpf_code.specs.OctetSpelling.{Spells}
 use Rattle.bpf_code.specs.Table.{code_of, jt_of, jf_of, k_of}
 use Rattle.bpf_code.specs.declared.instr.By.TheVariants.{Imm, X}
@@ -120,11 +120,11 @@ row_at-fields code jt jf k Txa c t f o = rw c refl
 -- Eight octets spell at most one instruction.
 pub Spells-unique : (octets : List ℕ) (i j : Instr) → Spells octets i → Spells octets j → i ≡ j
 Spells-unique octets i j s r =
-    sym (row_at-fields (instr_number octets) (jt_in octets) (jf_in octets) (k_in octets) i s.code s.jt s.jf s.k)
-    ∙ row_at-fields (instr_number octets) (jt_in octets) (jf_in octets) (k_in octets) j r.code r.jt r.jf r.k
+    sym (row_at-fields (instr_code octets) (jt_in octets) (jf_in octets) (k_in octets) i s.code s.jt s.jf s.k)
+    ∙ row_at-fields (instr_code octets) (jt_in octets) (jf_in octets) (k_in octets) j r.code r.jt r.jf r.k
 
 -- The octets spell the row that was found and no other, or nothing if none was found.
-pub row_spells : (octets : List ℕ) (found : Option Instr) (code : ℕ) → IfSome found (λ i. Spells octets i) → IfNone found ((i : Instr) → code_of i ≢ instr_number octets) → (i : Instr) → (Spells octets i ↔ (ok_or found code ≡ Ok i))
+pub row_spells : (octets : List ℕ) (found : Option Instr) (code : ℕ) → IfSome found (λ i. Spells octets i) → IfNone found ((i : Instr) → code_of i ≢ instr_code octets) → (i : Instr) → (Spells octets i ↔ (ok_or found code ≡ Ok i))
 row_spells octets (Some j) code spelled no_row i = (
   λ s. ap Ok (Spells-unique octets j i spelled s),
   λ e. let same : j ≡ i = cc in subst (λ (k : Instr). Spells octets k) same spelled,

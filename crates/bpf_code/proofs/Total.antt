@@ -4,7 +4,7 @@ use Rattle.std.specs.Prelude.{IfSome}
 use Rattle.std.proofs.lemmas.Bool.{cases_lt}
 use Rattle.std.proofs.lemmas.Bool.Decides.{eqb_tells}
 use Rattle.bpf_code.specs.Decoding.{IsDecodeFault}
-use Rattle.bpf_code.specs.Fields.{instr_number, jt_in, jf_in, k_in}
+use Rattle.bpf_code.specs.Fields.{instr_code, jt_in, jf_in, k_in}
 use Rattle.bpf_code.specs.OctetSpelling.{Spells, SpellsCode, eight_at, IsFirstUnknown}
 use Rattle.bpf_code.specs.Table.{code_of, jt_of, jf_of, k_of}
 use Rattle.bpf_code.specs.declared.decoder.DecodeFault.{DecodeFault}
@@ -88,7 +88,7 @@ module _ (jt jf k : ℕ) where
 -- Eight octets spell an instruction or none.
 spelled_or_not : (octets : List ℕ) → length octets ≡ 8 → ((i : Instr) × Spells octets i) ⊎ ((i : Instr) → Spells octets i → ⊥)
 spelled_or_not octets eight =
-    let code = instr_number octets in
+    let code = instr_code octets in
     let jt = jt_in octets in
     let jf = jf_in octets in
     let k = k_in octets in
@@ -113,7 +113,7 @@ cut (suc count) octets sized =
     let left = length-drop 8 octets in
     let front = length-take 8 octets in
     elim (spelled_or_not (take 8 octets) (omega arith)) [
-      | inr nothing ↦ inr (0, instr_number (take 8 octets), record { within = omega arith; there = refl; unknown = nothing; before = λ earlier lt. absurd (omega arith) })
+      | inr nothing ↦ inr (0, instr_code (take 8 octets), record { within = omega arith; there = refl; unknown = nothing; before = λ earlier lt. absurd (omega arith) })
       | inl here ↦ elim (cut count (drop 8 octets) (omega arith)) [
         | inl after ↦ inl (here.0 ∷ after.0, (here.1, after.1))
         | inr after ↦
@@ -125,7 +125,7 @@ cut (suc count) octets sized =
               after.1,
               record {
                 within = omega arith;
-                there = ap instr_number (sym (later octets after.0)) ∙ first.there;
+                there = ap instr_code (sym (later octets after.0)) ∙ first.there;
                 unknown = subst P (later octets after.0) first.unknown;
                 before = before octets here.0 here.1 after.0 first.before;
               },

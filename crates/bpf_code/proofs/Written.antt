@@ -4,7 +4,7 @@ use Rattle.std.specs.Option.{IfSome, IfNone}
 use Rattle.byteorder.specs.Endian.{big_bytes, big_number}
 use Rattle.byteorder.specs.Numbers.{big_number-reads_back}
 use Rattle.bpf_code.specs.Encoding.{code_octets, octets_of_instr}
-use Rattle.bpf_code.specs.Fields.{instr_number, jt_in, jf_in, k_in}
+use Rattle.bpf_code.specs.Fields.{instr_code, jt_in, jf_in, k_in}
 use Rattle.bpf_code.specs.Flow.{IsInstrAt}
 use Rattle.bpf_code.specs.OctetSpelling.{Spells, SpellsPlainly, UnusedAreZero}
 use Rattle.bpf_code.specs.Table.{code_of, jt_of, jf_of, k_of}

@@ -1,7 +1,7 @@
 -- The instruction table before `mod` and `xor` were added, and its encoding. The law
 -- `earlier_codes_are_spelled_as_before` needs it: octets of that time still encode the same code.
 use Rattle.std.specs.Prelude.{◌≡◌, ℕ, List, [], ◌∷◌, length, take, drop, Option, Some, None, IfSome}
-use Rattle.bpf_code.specs.Fields.{instr_number, jt_in, jf_in, k_in}
+use Rattle.bpf_code.specs.Fields.{instr_code, jt_in, jf_in, k_in}
 use Rattle.bpf_code.specs.Table.{jt_of, jf_of, k_of}
 use Rattle.bpf_code.specs.declared.instr.By.TheVariants.{Imm, X}
 use Rattle.bpf_code.specs.declared.instr.Instr.{Instr}
@@ -10,7 +10,7 @@ use Rattle.bpf_code.specs.declared.instr.Op.TheVariants.{Add, Sub, Mul, Div, Or,
 use Rattle.bpf_code.specs.declared.instr.Size.TheVariants.{Word, Half, Octet}
 use Rattle.bpf_code.specs.declared.instr.Test.TheVariants.{Eq, Gt, Ge, Set}
 
--- The number of each instruction, if the earlier table has one.
+-- The code of each instruction, if the earlier table has one.
 abbrev pub earlier_code_of : Instr → Option ℕ
 earlier_code_of (LoadAbs Word k) = Some 0x0020
 earlier_code_of (LoadAbs Half k) = Some 0x0028
@@ -60,10 +60,10 @@ earlier_code_of RetA = Some 0x0016
 earlier_code_of Tax = Some 0x0007
 earlier_code_of Txa = Some 0x0087
 
--- Eight octets spelled an instruction if they hold its earlier number and the fields that it uses.
+-- Eight octets spelled an instruction if they hold its earlier code and the fields that it uses.
 pub record SpelledEarlier (octets : List ℕ) (i : Instr) : Type 0 where
   pub eight : length octets ≡ 8
-  pub code : earlier_code_of i ≡ Some (instr_number octets)
+  pub code : earlier_code_of i ≡ Some (instr_code octets)
   pub jt : IfSome (jt_of i) (λ offset. jt_in octets ≡ offset)
   pub jf : IfSome (jf_of i) (λ offset. jf_in octets ≡ offset)
   pub k : IfSome (k_of i) (λ operand. k_in octets ≡ operand)

@@ -5,7 +5,7 @@ use Rattle.byteorder.specs.Endian.{big_bytes}
 use Rattle.bpf_code.specs.Table.{code_of, jt_of, jf_of, k_of}
 use Rattle.bpf_code.specs.declared.instr.Instr.{Instr}
 
--- The eight octets of an instruction: its number, its two offsets and its operand, big-endian. Each field that it
+-- The eight octets of an instruction: its code, its two offsets and its operand, big-endian. Each field that it
 -- doesn't use is 0.
 abbrev pub octets_of_instr : Instr → List ℕ
 octets_of_instr i =

@@ -2,9 +2,9 @@
 use Rattle.std.specs.Prelude.{ℕ, List, slice_index, drop}
 use Rattle.byteorder.specs.Endian.{big_number}
 
--- The instruction's number: octets 0 and 1.
-abbrev pub instr_number : List ℕ → ℕ
-instr_number octets = big_number 2 octets
+-- The instruction's code: octets 0 and 1.
+abbrev pub instr_code : List ℕ → ℕ
+instr_code octets = big_number 2 octets
 
 -- The offset if the test is true: octet 2.
 abbrev pub jt_in : List ℕ → ℕ

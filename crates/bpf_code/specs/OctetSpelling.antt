@@ -1,14 +1,14 @@
 -- The encoding of instructions (net/bpf.h).
 use Rattle.std.specs.Prelude.{◌≡◌, ◌+◌, ◌*◌, ◌≤◌, ◌<◌, ℕ, List, [], ◌∷◌, length, take, drop, IfSome, IfNone}
-use Rattle.bpf_code.specs.Fields.{instr_number, jt_in, jf_in, k_in}
+use Rattle.bpf_code.specs.Fields.{instr_code, jt_in, jf_in, k_in}
 use Rattle.bpf_code.specs.Table.{code_of, jt_of, jf_of, k_of}
 use Rattle.bpf_code.specs.declared.instr.Instr.{Instr}
 
--- Eight octets spell an instruction if they hold its number and each field that it uses. The other fields may hold
+-- Eight octets spell an instruction if they hold its code and each field that it uses. The other fields may hold
 -- anything.
 pub record Spells (octets : List ℕ) (i : Instr) : Type 0 where
   pub eight : length octets ≡ 8
-  pub code : instr_number octets ≡ code_of i
+  pub code : instr_code octets ≡ code_of i
   pub jt : IfSome (jt_of i) (λ offset. jt_in octets ≡ offset)
   pub jf : IfSome (jf_of i) (λ offset. jf_in octets ≡ offset)
   pub k : IfSome (k_of i) (λ operand. k_in octets ≡ operand)
@@ -33,9 +33,9 @@ SpellsPlainly octets (i ∷ code) = Spells (take 8 octets) i × UnusedAreZero (t
 abbrev pub eight_at : List ℕ → ℕ → List ℕ
 eight_at octets place = take 8 (drop (8 * place) octets)
 
--- The eight octets at this place spell no instruction, all before do, and the number in them is this code.
+-- The eight octets at this place spell no instruction, all before do, and this code is in them.
 pub record IsFirstUnknown (octets : List ℕ) (place code : ℕ) : Type 0 where
   pub within : 8 * place + 8 ≤ length octets
-  pub there : instr_number (eight_at octets place) ≡ code
+  pub there : instr_code (eight_at octets place) ≡ code
   pub unknown : (i : Instr) → ¬ Spells (eight_at octets place) i
   pub before : (earlier : ℕ) → earlier < place → (i : Instr) × Spells (eight_at octets earlier) i

@@ -3,7 +3,7 @@
 ghost use Rattle.std.specs.Prelude.{◌≡◌, ◌≢◌, ◌↔◌, ◌<◌, ◌%◌, ◌⊎◌, ℕ, List, length, IfErr, IfNone, IfOk, IfSome, OnErr};
 ghost use Rattle.std.specs.Result.{IsOkUnless};
 ghost use Rattle.bpf_code.specs.Decoding.{IsDecodeFault};
-ghost use Rattle.bpf_code.specs.Fields.{instr_number};
+ghost use Rattle.bpf_code.specs.Fields.{instr_code};
 ghost use Rattle.bpf_code.specs.OctetSpelling.{IsFirstUnknown, Spells, SpellsCode};
 ghost use Rattle.bpf_code.specs.Table.{code_of};
 ghost use Rattle.bpf_code.specs.declared.instr.By.{By};
@@ -26,7 +26,7 @@ pub enum DecodeFault {
     /// The number of octets is not a multiple of 8.
     #[error("1 Ragged")]
     Ragged,
-    /// The first eight octets that spell no instruction: their place, in instructions from 0, and the number in the
+    /// The first eight octets that spell no instruction: their place, in instructions from 0, and the code in the
     /// first two.
     #[error("2 UnknownCode {at} {code:04x}")]
     UnknownCode { at: usize, code: u16 },
@@ -38,9 +38,9 @@ pub enum DecodeFault {
 /// Decodes arithmetic and branches, by the instruction table.
 fn operation(octets: &[u8; 8]) -> Option<Instr>
     ensures spelled { IfSome result (λ i. Spells octets.now i) }
-    ensures no_arithmetic { IfNone result ((op : Op) (by : By) → code_of (Instr.Alu op by) ≢ instr_number octets.now) }
+    ensures no_arithmetic { IfNone result ((op : Op) (by : By) → code_of (Instr.Alu op by) ≢ instr_code octets.now) }
     ensures no_branch { IfNone result ((test : Test) (by : By) (jt jf : ℕ) →
-        code_of (Instr.Branch test by jt jf) ≢ instr_number octets.now) }
+        code_of (Instr.Branch test by jt jf) ≢ instr_code octets.now) }
 {
     let (jt, jf) = (octets[2], octets[3]);
     let imm = Imm(BigEndian::read_u32(&octets[4..]));
@@ -82,7 +82,7 @@ fn operation(octets: &[u8; 8]) -> Option<Instr>
 /// Decodes any instruction, by the instruction table.
 fn instruction(octets: &[u8; 8]) -> Option<Instr>
     ensures spelled { IfSome result (λ i. Spells octets.now i) }
-    ensures no_row { IfNone result ((i : Instr) → code_of i ≢ instr_number octets.now) }
+    ensures no_row { IfNone result ((i : Instr) → code_of i ≢ instr_code octets.now) }
 {
     let k = BigEndian::read_u32(&octets[4..]);
     Some(match BigEndian::read_u16(octets) {
@@ -115,11 +115,11 @@ fn instruction(octets: &[u8; 8]) -> Option<Instr>
 ///
 /// # Errors
 ///
-/// The number in the first two octets, if the octets spell no instruction.
+/// The code in the first two octets, if the octets spell no instruction.
 pub fn decode_one(octets: &[u8; 8]) -> Result<Instr, u16>
     ensures spelled { (i : Instr) → (Spells octets.now i ↔ (result ≡ Ok i)) }
     ensures nothing_spelled { OnErr result ((i : Instr) → ¬ Spells octets.now i) }
-    ensures code { IfErr result (λ code. code ≡ instr_number octets.now) }
+    ensures code { IfErr result (λ code. code ≡ instr_code octets.now) }
 {
     instruction(octets).ok_or(BigEndian::read_u16(octets))
 }

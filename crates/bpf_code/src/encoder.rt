@@ -19,7 +19,7 @@ struct Fields {
     k: u32,
 }
 
-/// The bits that the size adds to the number of a load.
+/// The bits that the size adds to the code of a load.
 fn size_bits(size: Size) -> u16
     ensures absolute { (k : ℕ) → code_of (Instr.LoadAbs size k) ≡ 0x0020 + result }
     ensures indirect { (k : ℕ) → code_of (Instr.LoadInd size k) ≡ 0x0040 + result }
@@ -32,7 +32,7 @@ fn size_bits(size: Size) -> u16
     }
 }
 
-/// The bits that the operation adds to the number of arithmetic.
+/// The bits that the operation adds to the code of arithmetic.
 fn op_bits(op: Op) -> u16
     ensures by_constant { (k : ℕ) → code_of (Instr.Alu op (By.Imm k)) ≡ 0x0004 + result }
     ensures by_x { code_of (Instr.Alu op By.X) ≡ 0x000c + result }
@@ -52,7 +52,7 @@ fn op_bits(op: Op) -> u16
     }
 }
 
-/// The bits that the test adds to the number of a branch.
+/// The bits that the test adds to the code of a branch.
 fn test_bits(test: Test) -> u16
     ensures by_constant { (k jt jf : ℕ) → code_of (Instr.Branch test (By.Imm k) jt jf) ≡ 0x0005 + result }
     ensures by_x { (jt jf : ℕ) → code_of (Instr.Branch test By.X jt jf) ≡ 0x000d + result }
@@ -67,14 +67,14 @@ fn test_bits(test: Test) -> u16
 }
 
 impl Fields {
-    /// The number alone.
+    /// The fields of an instruction that has a code alone.
     fn plain(code: u16) -> Fields
         ensures { result ≡ record { code = code; jt = 0; jf = 0; k = 0 } }
     {
         Fields::with_k(code, 0)
     }
 
-    /// The number and an operand.
+    /// The fields of an instruction that has a code and an operand.
     fn with_k(code: u16, k: u32) -> Fields
         ensures { result ≡ record { code = code; jt = 0; jf = 0; k = k } }
     {

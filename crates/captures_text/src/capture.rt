@@ -1,4 +1,4 @@
-//! The text of the cells of a whole capture.
+//! Opens a capture, and runs a follower over its cells that count.
 
 ghost use Rattle.std.specs.Prelude.{◌≡◌, ◌≢◌, ◌≤◌, ◌++◌, [], Err, Some, length, IfOk, OnErr, OnOk};
 ghost use Rattle.captures.specs.Opening.{file_opening, opening_of};

@@ -58,9 +58,9 @@ fn finish<O: Output, F: CellFollower>(
     }
 }
 
-/// Returns whether fewer octets wait than the longest frame has, so that there is room for more. So it may be where the last reading
-/// filled the window: most of its octets were read since.
-fn is_short(reading: &ReadingAhead) -> bool
+/// Returns whether fewer octets wait than the longest frame has, so that the window has room to read ahead. That the last reading filled the
+/// window doesn't exclude it: most of its octets were answered since.
+fn has_room_to_read(reading: &ReadingAhead) -> bool
     ensures { result ≡ true → length reading.now.window < 131072 }
 {
     reading.window.octets().len() < 131_072
@@ -99,7 +99,7 @@ pub(crate) fn follow_on<R: Threads, I: Input + Send, O: Output, F: CellFollower 
     let mut queue = Queue::new(alloc);
     let mut answers = Vec::new(alloc);
     loop {
-        if leaves_cells(with_two_threads, &reading, &queue) && is_short(&reading) {
+        if leaves_cells(with_two_threads, &reading, &queue) && has_room_to_read(&reading) {
             match give_and_go_ahead(
                 rt,
                 input,

@@ -232,6 +232,7 @@ EachJudgedCellIsPromised = (shape : Shape) (before after : List Event) (port : �
 -- or reading an unwritten scratch word. Over every interleaving of arrivals, loads, retirements, reloads, setups and
 -- releases, each judged cell is judged by one whole accepted program still in the arena, and passed, tagged or
 -- discarded as the continuous-state leaky buckets of the named contract say for that connection's earlier cells.
+-- The earlier cells are those judged since the connection was set up. A cell whose value names no contract is refused.
 pub record TheHeadline : Type 0 where
   pub programs_return : (code : List Instr) (cell : List ℕ) → IsAccepted code → ReturnsSafely code cell
   pub cells_are_promised : EachJudgedCellIsPromised

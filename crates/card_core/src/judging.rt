@@ -118,7 +118,7 @@ pub(crate) fn drop_if_long(line: &mut Line, vc: Vc, seating: &Seating, most: usi
     }
 }
 
-/// Returns whether the line serves the picked connection.
+/// Returns whether the line serves the picked connection. The incarnations are compared too.
 pub(crate) fn serves(line: &Line, vc: Vc, seating: &Seating) -> bool
     ensures test { result ≡ is_owned_by line.now.owner (holder vc seating.now) }
     ensures owner { IsTrue result ↔ (line.now.owner ≡ Some (holder vc seating.now)) }

@@ -16,7 +16,7 @@ pub(crate) struct Came {
     pub(crate) moment: u64,
 }
 
-/// A cell whose connection was found, and for which its program named a contract.
+/// A cell whose connection was found, and the value that its program gave, which may name no contract.
 #[derive(Clone, Copy, Debug)]
 pub(crate) struct Found {
     pub(crate) moment: u64,

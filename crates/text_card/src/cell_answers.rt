@@ -58,8 +58,8 @@ fn add_judged_line(
     }
 }
 
-/// Appends the answer line of a cell that arrived on this connection and was judged. `number` is that of the program that
-/// named its contract, from 1.
+/// Appends the answer line of a cell that arrived on this connection and was judged. The program that named its contract has a
+/// name with this number, from 1.
 ///
 /// # Errors
 ///

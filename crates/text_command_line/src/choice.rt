@@ -1,4 +1,4 @@
-//! The subcommands of `upc`.
+//! What the words of `upc` choose: one of its subcommands, each with its help.
 
 ghost use Rattle.std.specs.Prelude.{◌≡◌, [], Err, IfErr, IfOk, Ok, map, unwrap_or};
 ghost use Rattle.std.specs.String.{string_bytes};

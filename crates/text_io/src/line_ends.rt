@@ -41,7 +41,7 @@ fn feedless(octets: &[u8], from: usize) -> usize
     }
 }
 
-/// The place of the first line feed, if there is one. The first `looked` octets are known to have none.
+/// As [`first_feed`], by a call of `memchr`: for long lines, and near the end of the octets.
 #[inline(never)]
 fn far_feed(octets: &[u8], looked: usize) -> Option<usize>
     requires within { looked ≤ length octets.now }
@@ -58,7 +58,7 @@ fn far_feed(octets: &[u8], looked: usize) -> Option<usize>
     }
 }
 
-/// The place of the first line feed, if there is one. The first `looked` octets are known to have none. A line of
+/// Returns the place of the first line feed, if there is one. The first `looked` octets are known to have none. A line of
 /// eight octets (the header of a cell) is found with the least work, any other short line without a call.
 #[inline(always)]
 pub fn first_feed(octets: &[u8], looked: usize) -> Option<usize>
