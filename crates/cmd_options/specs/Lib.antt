@@ -1,4 +1,4 @@
--- The options of the subcommands that have them. Read the modules in this order:
+-- The words of `upc-lab`: its subcommands, and the options of those that have them. Read the modules in this order:
 pub mod OptionAnswers
 pub mod OptionValues
 pub mod LinkOption
@@ -9,4 +9,5 @@ pub mod ForwardOptions
 pub mod DifferOptions
 pub mod WhyOptions
 pub mod ExplainOptions
+pub mod LabWords
 pub mod inner

@@ -1,4 +1,3 @@
-pub mod LabChoosing
 pub mod Texts
 pub mod Differing
 pub mod Forwarding

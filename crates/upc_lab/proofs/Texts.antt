@@ -11,10 +11,10 @@ use Rattle.cmd_rules.proofs.Public.{some-asm_text, some-rules_text, some-why_tex
 use Rattle.cmd_police.proofs.Public.{some_agreed_text}
 use Rattle.cmd_size.proofs.Public.{some-sizes_text}
 use Rattle.upc_lab.specs.LabText.{IsAskedText, IsLabText, fit_choice, kinds_asked, others_asked, rules_asked, scope_asked}
-use Rattle.upc_lab.specs.declared.choice.Asked.{Asked}
-use Rattle.upc_lab.specs.declared.choice.Asked.TheVariants.{Plain, Why, Cells, Fit, Police, Differ, Forward, Explain}
-use Rattle.upc_lab.specs.declared.choice.Subcommand.{Subcommand}
-use Rattle.upc_lab.specs.declared.choice.Subcommand.TheVariants as lab
+use Rattle.cmd_options.specs.declared.choice.Asked.{Asked}
+use Rattle.cmd_options.specs.declared.choice.Asked.TheVariants.{Plain, Why, Cells, Fit, Police, Differ, Forward, Explain}
+use Rattle.cmd_options.specs.declared.choice.Subcommand.{Subcommand}
+use Rattle.cmd_options.specs.declared.choice.Subcommand.TheVariants as lab
 
 some-lab_text : (chosen : Subcommand) (octets : List ℕ) → (answer : List ℕ) × (done : Done) × IsLabText chosen octets answer done
 some-lab_text lab.Rules octets = some-rules_text octets

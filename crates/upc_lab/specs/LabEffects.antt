@@ -19,10 +19,10 @@ use Rattle.upc_lab.specs.RulesRun.{CarriesRules}
 use Rattle.upc_lab.specs.LabText.{IsAskedText, IsLabText, kinds_asked, others_asked}
 use Rattle.upc_lab.specs.NamedFiles.{explains_setup, rules_in_files, setup_name, tick_in_files, unreadable_message}
 use Rattle.upc_lab.specs.SetupHints.{MayBeSetupHints}
-use Rattle.upc_lab.specs.declared.choice.Asked.{Asked}
-use Rattle.upc_lab.specs.declared.choice.Asked.TheVariants.{Plain, Differ, Forward, Explain}
-use Rattle.upc_lab.specs.declared.choice.Subcommand.{Subcommand}
-use Rattle.upc_lab.specs.declared.choice.Subcommand.TheVariants as lab
+use Rattle.cmd_options.specs.declared.choice.Asked.{Asked}
+use Rattle.cmd_options.specs.declared.choice.Asked.TheVariants.{Plain, Differ, Forward, Explain}
+use Rattle.cmd_options.specs.declared.choice.Subcommand.{Subcommand}
+use Rattle.cmd_options.specs.declared.choice.Subcommand.TheVariants as lab
 use Rattle.upc_lab.specs.declared.named_files.NamedFiles.{NamedFiles}
 use Rattle.upc_lab.specs.declared.named_files.Unreadable.{Unreadable}
 

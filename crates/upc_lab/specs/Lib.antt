@@ -1,5 +1,4 @@
 -- The program `upc-lab`. Read the modules in this order:
-pub mod LabWords
 pub mod LabText
 pub mod LabMessages
 pub mod FailureLines

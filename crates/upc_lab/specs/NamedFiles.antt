@@ -9,8 +9,8 @@ use Rattle.text_command_line.specs.ShownWords.{shown_word}
 use Rattle.text_command_line.specs.declared.stop.Stop.{Stop}
 use Rattle.cmd_options.specs.declared.differ.DifferOptions.{DifferOptions}
 use Rattle.upc_lab.specs.ShownNames.{shown_name}
-use Rattle.upc_lab.specs.declared.choice.Asked.{Asked}
-use Rattle.upc_lab.specs.declared.choice.Asked.TheVariants.{Plain, Why, Cells, Fit, Police, Differ, Forward, Explain}
+use Rattle.cmd_options.specs.declared.choice.Asked.{Asked}
+use Rattle.cmd_options.specs.declared.choice.Asked.TheVariants.{Plain, Why, Cells, Fit, Police, Differ, Forward, Explain}
 use Rattle.upc_lab.specs.declared.named_files.NamedFiles.{NamedFiles}
 use Rattle.upc_lab.specs.declared.named_files.Unreadable.{Unreadable}
 

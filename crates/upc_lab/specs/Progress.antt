@@ -3,10 +3,10 @@ use Rattle.std.specs.Prelude.{◌≡◌, ◌⊎◌, ℕ, List, Bool, true, false
 use Rattle.text_io.specs.declared.device.Output.{Ghosts as OutputView}
 use Rattle.text_command_line.specs.declared.stop.Stop.{Stop}
 use Rattle.text_command_line.specs.Messages.{WritesMessage}
-use Rattle.upc_lab.specs.declared.choice.Asked.{Asked}
-use Rattle.upc_lab.specs.declared.choice.Asked.TheVariants.{Plain, Why, Cells, Fit, Police, Differ, Forward, Explain}
-use Rattle.upc_lab.specs.declared.choice.Subcommand.{Subcommand}
-use Rattle.upc_lab.specs.declared.choice.Subcommand.TheVariants as lab
+use Rattle.cmd_options.specs.declared.choice.Asked.{Asked}
+use Rattle.cmd_options.specs.declared.choice.Asked.TheVariants.{Plain, Why, Cells, Fit, Police, Differ, Forward, Explain}
+use Rattle.cmd_options.specs.declared.choice.Subcommand.{Subcommand}
+use Rattle.cmd_options.specs.declared.choice.Subcommand.TheVariants as lab
 
 -- A subcommand without options that reads a capture.
 abbrev pub reads_links : Subcommand → Bool

@@ -15,7 +15,6 @@ ghost use Rattle.upc_lab.specs.NamedFiles.{explains_setup, rules_in_files, setup
 ghost use Rattle.upc_lab.specs.RulesRun.{CarriesRules};
 ghost use Rattle.upc_lab.specs.inner.Stops.{IsStatusOfStop};
 
-use crate::choice::{Asked, Subcommand};
 use crate::named_files::{NamedFiles, Unreadable};
 use crate::reason::Reasoned;
 use crate::reporting::{report, report_finding, report_run};
@@ -27,7 +26,7 @@ use cmd_explain_rules::{Comments, compile_with_hints};
 use cmd_fit::links_of_capture;
 use cmd_forward::forward_as_agreed;
 use cmd_list::{list_program, trace_cells};
-use cmd_options::{DifferOptions, ForwardOptions};
+use cmd_options::{Asked, DifferOptions, ForwardOptions, Subcommand};
 use cmd_police::explain_setup;
 use cmd_rules::{assemble_rules, decide_cells};
 use cmd_size::size_contracts;

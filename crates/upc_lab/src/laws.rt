@@ -3,7 +3,7 @@
 ghost use Rattle.std.specs.Prelude.{ℕ, List, Option};
 ghost use Rattle.text_io.specs.declared.ending.Done.{Done as TheDone};
 ghost use Rattle.upc_lab.specs.LabText.{IsAskedText};
-ghost use Rattle.upc_lab.specs.declared.choice.Asked.{Asked as TheAsked};
+ghost use Rattle.cmd_options.specs.declared.choice.Asked.{Asked as TheAsked};
 
 /// Each subcommand, with any options, any setup script and tick, any files of rules and any old text or rules of
 /// `fit`, has an answer to every input.

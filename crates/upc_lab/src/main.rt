@@ -1,9 +1,7 @@
 //! `upc-lab`: a program for those who write rules and programs, over standard input and standard output.
 #![tactic(auto)]
 
-mod choice;
 mod file_names;
-mod help_words;
 mod invocation;
 mod laws;
 mod named_files;
@@ -15,15 +13,14 @@ mod running;
 mod setup_hints;
 
 pub use captures_text::cells_of_capture;
-pub use choice::{Asked, Subcommand, choose};
 pub use cmd_differ::{Finding, TextKind, TextKinds, compare_texts, unused_in_text};
 pub use cmd_explain::{LookedAt, explain_faults};
 pub use cmd_fit::{FitChoice, fit_capture, links_of_capture};
 pub use cmd_list::{list_program, trace_cells};
 pub use cmd_options::{
-    CellsOptions, DifferOptions, ExplainOptions, FitOptions, ForwardOptions, PoliceOptions,
-    Programs, WhyOptions, cells_options, differ_options, explain_options, fit_options,
-    forward_options, police_options, why_options,
+    Asked, CellsOptions, DifferOptions, ExplainOptions, FitOptions, ForwardOptions, PoliceOptions,
+    Programs, Subcommand, WhyOptions, cells_options, choose, differ_options, explain_options,
+    fit_options, forward_options, police_options, why_options,
 };
 pub use cmd_police::{explain_setup, police_as_agreed};
 pub use cmd_rules::{assemble_rules, compile_rules, decide_cells};

@@ -3,9 +3,9 @@
 ghost use Rattle.std.specs.Prelude.{◌≡◌, Some};
 ghost use Rattle.text_command_line.specs.Subcommands.{meaning_in};
 ghost use Rattle.upc_lab.specs.LabMessages.{asked_notice, lab_name_of, lab_notice};
-ghost use Rattle.upc_lab.specs.LabWords.{lab_subcommands};
+ghost use Rattle.cmd_options.specs.LabWords.{lab_subcommands};
 
-use crate::choice::{Asked, Subcommand};
+use cmd_options::{Asked, Subcommand};
 
 /// Returns the notice for what was asked, which begins with the name of the subcommand.
 pub fn awaited(asked: &Asked) -> &'static str

@@ -4,8 +4,8 @@ ghost use Rattle.std.specs.Prelude.{◌≡◌, ◌≢◌, ◌+◌, ◌*◌, ◌/
 ghost use Rattle.upc_lab.specs.Progress.{ShowsText, reads_capture, reads_links};
 ghost use Rattle.upc_lab.specs.inner.ProgressText.{progress_text};
 
-use crate::choice::{Asked, Subcommand};
 use crate::reason::Reasoned;
+use cmd_options::{Asked, Subcommand};
 use std::alloc::{AllocError, Global};
 use text_command_line::{Stop, write_message};
 use text_io::{Failed, Input, Output};

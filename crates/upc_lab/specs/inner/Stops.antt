@@ -2,7 +2,7 @@
 use Rattle.std.specs.Prelude.{ℕ, Err}
 use Rattle.text_command_line.specs.Invocation.{IsStatusFor}
 use Rattle.text_command_line.specs.declared.stop.Stop.{Stop}
-use Rattle.upc_lab.specs.declared.choice.Asked.{Asked}
+use Rattle.cmd_options.specs.declared.choice.Asked.{Asked}
 
 -- The status is one of these words.
 abbrev pub IsStatusOfStop : Stop → ℕ → Type 0

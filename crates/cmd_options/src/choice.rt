@@ -3,15 +3,17 @@
 ghost use Rattle.std.specs.Prelude.{◌≡◌, [], Err, IfErr, IfOk, IsOkAnd, IsSome, IsSomeAnd, None, Some, drop, map};
 ghost use Rattle.std.specs.String.{string_bytes};
 ghost use Rattle.text_command_line.specs.Stopping.{StopsAt};
-ghost use Rattle.upc_lab.specs.LabWords.{AsksLab, IsLabStop, NamesLab, begun_by, lab_faults_in};
-ghost use Rattle.upc_lab.specs.declared.choice.Asked.{Asked as TheAsked};
+ghost use Rattle.cmd_options.specs.LabWords.{AsksLab, IsLabStop, NamesLab, begun_by, lab_faults_in};
+ghost use Rattle.cmd_options.specs.declared.choice.Asked.{Asked as TheAsked};
 
+use crate::cells::{CellsOptions, cells_options};
+use crate::differ::{DifferOptions, differ_options};
+use crate::explain::{ExplainOptions, explain_options};
+use crate::fit::{FitOptions, fit_options};
+use crate::forward::{ForwardOptions, forward_options};
 use crate::help_words::{WithOptions, begun_by, help_on, with_options_shown};
-use cmd_options::{
-    CellsOptions, DifferOptions, ExplainOptions, FitOptions, ForwardOptions, PoliceOptions,
-    WhyOptions, cells_options, differ_options, explain_options, fit_options, forward_options,
-    police_options, why_options,
-};
+use crate::police::{PoliceOptions, police_options};
+use crate::why::{WhyOptions, why_options};
 use std::alloc::Global;
 use text_command_line::{Program, Row, Stop, VERSION, row_of_words};
 

@@ -1,9 +1,9 @@
 -- The subcommand is that of the row which the words name.
 use Rattle.std.proofs.Common.{map}
 use Rattle.std.specs.String.{string_bytes}
-use Rattle.upc_lab.specs.LabWords.{lab_app}
-use Rattle.upc_lab.proofs.LabChoosing.{answers, lab_is_plain, row_is_plain}
-use Rattle.upc_lab.proofs.choice.choose_plain.Goals as goal
+use Rattle.cmd_options.specs.LabWords.{lab_app}
+use Rattle.cmd_options.proofs.LabChoosing.{answers, lab_is_plain, row_is_plain}
+use Rattle.cmd_options.proofs.choice.choose_plain.Goals as goal
 
 pub row_of_words-requires : goal.row_of_words-requires
 unfolding lab_app

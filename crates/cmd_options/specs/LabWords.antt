@@ -15,12 +15,12 @@ use Rattle.cmd_options.specs.FitOptions.{AsksFit, IsFitStop, asked_by}
 use Rattle.cmd_options.specs.ForwardOptions.{AsksForward, IsForwardStop, forward_asked_by}
 use Rattle.cmd_options.specs.PoliceOptions.{AsksPolice, IsPoliceStop, police_asked_by}
 use Rattle.cmd_options.specs.WhyOptions.{AsksWhy, IsWhyStop, why_asked_by}
-use Rattle.upc_lab.specs.declared.choice.Asked.{Asked}
-use Rattle.upc_lab.specs.declared.choice.Asked.TheVariants.{Plain, Why, Cells, Fit, Police, Differ, Forward, Explain}
-use Rattle.upc_lab.specs.declared.choice.Subcommand.{Subcommand}
-use Rattle.upc_lab.specs.declared.choice.Subcommand.TheVariants as lab
-use Rattle.upc_lab.specs.declared.help_words.WithOptions.{WithOptions}
-use Rattle.upc_lab.specs.declared.help_words.WithOptions.TheVariants as own
+use Rattle.cmd_options.specs.declared.choice.Asked.{Asked}
+use Rattle.cmd_options.specs.declared.choice.Asked.TheVariants.{Plain, Why, Cells, Fit, Police, Differ, Forward, Explain}
+use Rattle.cmd_options.specs.declared.choice.Subcommand.{Subcommand}
+use Rattle.cmd_options.specs.declared.choice.Subcommand.TheVariants as lab
+use Rattle.cmd_options.specs.declared.help_words.WithOptions.{WithOptions}
+use Rattle.cmd_options.specs.declared.help_words.WithOptions.TheVariants as own
 
 -- The name of each subcommand without options: those for rules, those for programs, that for contracts, and that for
 -- the links of a capture.

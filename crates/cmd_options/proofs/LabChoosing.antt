@@ -9,12 +9,12 @@ use Rattle.text_command_line.specs.Stopping.{StopsAt}
 use Rattle.text_command_line.specs.Subcommands.{IsEnd, NamesIn, NamesRow, app_with, meaning_in, with_name}
 use Rattle.text_command_line.specs.declared.stop.Stop.{Stop}
 use Rattle.text_command_line.specs.declared.stop.Stop.TheVariants.{NoMemory}
-use Rattle.upc_lab.specs.LabWords.{AsksLab, IsLabStop, IsStopOf, NamesLab, begun_by, lab_app, lab_faults_in, lab_subcommands, lab_table, own_subcommands, with_options_named}
-use Rattle.upc_lab.specs.declared.choice.Asked.{Asked}
-use Rattle.upc_lab.specs.declared.choice.Asked.TheVariants.{Plain, Why, Cells, Fit, Police, Differ, Forward, Explain}
-use Rattle.upc_lab.specs.declared.choice.Subcommand.{Subcommand}
-use Rattle.upc_lab.specs.declared.help_words.WithOptions.{WithOptions}
-use Rattle.upc_lab.specs.declared.help_words.WithOptions.TheVariants as own
+use Rattle.cmd_options.specs.LabWords.{AsksLab, IsLabStop, IsStopOf, NamesLab, begun_by, lab_app, lab_faults_in, lab_subcommands, lab_table, own_subcommands, with_options_named}
+use Rattle.cmd_options.specs.declared.choice.Asked.{Asked}
+use Rattle.cmd_options.specs.declared.choice.Asked.TheVariants.{Plain, Why, Cells, Fit, Police, Differ, Forward, Explain}
+use Rattle.cmd_options.specs.declared.choice.Subcommand.{Subcommand}
+use Rattle.cmd_options.specs.declared.help_words.WithOptions.{WithOptions}
+use Rattle.cmd_options.specs.declared.help_words.WithOptions.TheVariants as own
 
 pub lab_is_plain : is_plain_command lab_app lab_table ≡ true
 unfolding lab_app app_with with_name kinds_in clap_on_literals

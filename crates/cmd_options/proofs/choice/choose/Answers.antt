@@ -1,9 +1,9 @@
 -- What the words ask for is what their options or their name say.
 use Rattle.std.proofs.Common.{rules, map}
 use Rattle.std.specs.String.{string_bytes}
-use Rattle.upc_lab.proofs.LabChoosing.{granted_plain, stopped_plain}
-use Rattle.upc_lab.specs.LabWords.{lab_faults_in}
-use Rattle.upc_lab.proofs.choice.choose.Goals as goal
+use Rattle.cmd_options.proofs.LabChoosing.{granted_plain, stopped_plain}
+use Rattle.cmd_options.specs.LabWords.{lab_faults_in}
+use Rattle.cmd_options.proofs.choice.choose.Goals as goal
 
 pub returns-in-Err-choose_plain-clause-granted : goal.returns-in-Err-choose_plain-clause-granted
 returns-in-Err-choose_plain-clause-granted c = λ asked h.

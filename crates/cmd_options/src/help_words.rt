@@ -4,12 +4,15 @@ ghost use Rattle.std.specs.Prelude.{◌≡◌, map};
 ghost use Rattle.std.specs.String.{string_bytes};
 ghost use Rattle.clap.specs.Kinds.{Kinds};
 ghost use Rattle.text_command_line.specs.Stopping.{StopsAt};
-ghost use Rattle.upc_lab.specs.LabWords.{begun_by, with_options_named};
+ghost use Rattle.cmd_options.specs.LabWords.{begun_by, with_options_named};
 
-use cmd_options::{
-    cells_options, differ_options, explain_options, fit_options, forward_options, police_options,
-    why_options,
-};
+use crate::cells::cells_options;
+use crate::differ::differ_options;
+use crate::explain::explain_options;
+use crate::fit::fit_options;
+use crate::forward::forward_options;
+use crate::police::police_options;
+use crate::why::why_options;
 use std::alloc::Global;
 use text_command_line::Stop;
 
