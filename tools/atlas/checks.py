@@ -26,7 +26,10 @@ def is_named(path, function, crates):
     if not function.owner:
         return f"::{function.full}".endswith(f"::{path}")
     *before, _ = path.split("::")
-    return (before[:1] == [function.crate] or before[0] not in crates) and before[-1].startswith(function.owner) if before else True
+    if not before:
+        return True
+    is_of_crate = before[0] == function.crate or before[0] not in crates
+    return is_of_crate and before[-1].startswith(function.owner)
 
 
 def turned(sources):
