@@ -54,7 +54,7 @@ pub struct Section {
     pub times: PacketTimes,
 }
 
-/// A block or a packet that has no record for this reader.
+/// Why a block or a packet is skipped: what it is.
 #[derive(Clone, Copy, PartialEq, Eq, Debug)]
 pub enum Unread {
     /// A block without a packet: a section header, the description of an interface, names, statistics or secrets.
@@ -89,12 +89,12 @@ impl Unread {
     }
 }
 
-/// The section after a block, and the record in it, or what it is that has none.
+/// What a block holds, and the section after it.
 #[derive(Clone, Copy)]
 pub(crate) struct BlockHeld<'a> {
     /// The section after the block.
     pub(crate) section: Section,
-    /// The record in the block, or what it is.
+    /// The record in the block. If there is none, what the block is.
     pub(crate) framed: Result<LentRecord<'a>, Unread>,
 }
 
@@ -117,7 +117,7 @@ fn order_by_magic(magic: u32) -> Result<Order, RecordFault>
     }
 }
 
-/// Returns the size of a block, if numbers of four octets fill it.
+/// Returns the size of a block, if it is a multiple of four.
 fn even(size: usize) -> Result<usize, RecordFault>
     requires { size ≤ 131072 }
     ensures { result ≡ even_block size }
@@ -156,7 +156,7 @@ fn unread_by_type(kind: u32) -> Unread
     }
 }
 
-/// Returns the section that a header begins after another section, with numbers in this order.
+/// Returns the section that this header begins. `section` is the one before it, and `order` is that of the new section's numbers.
 fn begun_by(section: Section, order: Order, block: &[u8]) -> Result<Section, RecordFault>
     requires { length block.now ≤ 131072 }
     ensures { result ≡ section_of_header section order block.now }
@@ -177,7 +177,7 @@ fn begun_by(section: Section, order: Order, block: &[u8]) -> Result<Section, Rec
 }
 
 impl Section {
-    /// Returns the number among the interfaces of the whole file of one with this number in its section.
+    /// Returns the number of an interface in the whole file. `interface` is its number in this section.
     fn in_file(self, interface: u64) -> u64
         ensures { result ≡ interface_in_file self interface }
     {
@@ -344,7 +344,7 @@ impl Section {
         }
     }
 
-    /// Returns the order of the numbers in a whole block.
+    /// Returns the order of the numbers in a whole block, if the length at its end is its size.
     fn order_of_whole(self, block: &[u8]) -> Result<Order, RecordFault>
         requires whole { 12 ≤ length block.now }
         requires bounded { length block.now ≤ 131072 }

@@ -48,7 +48,7 @@ fn extensions_in(octets: &[u8]) -> usize
     count
 }
 
-/// Returns the place, if a cell begins there, or how much of it there is.
+/// Returns this place if a whole cell begins there, or how many octets of a cell there are.
 #[tactic(auto, unfolding(crate::specs::Record::record_wire_length))]
 #[inline(always)]
 fn place_from(octets: &[u8], place: usize) -> Result<usize, NoCell>

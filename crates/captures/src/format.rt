@@ -48,12 +48,12 @@ pub(crate) struct LentRecord<'a> {
     pub(crate) octets: &'a [u8],
 }
 
-/// How a file goes on after a frame, and the record in the frame, or what it is that has none.
+/// What a frame holds, and how the file goes on after it.
 #[derive(Clone, Copy)]
 pub(crate) struct Held<'a> {
     /// The section that the blocks after the frame are in, in a pcapng file.
     pub(crate) after: Option<Section>,
-    /// The record in the frame, or what it is.
+    /// The record in the frame. If there is none, what the frame is.
     pub(crate) framed: Result<LentRecord<'a>, Unread>,
 }
 

@@ -10,7 +10,7 @@ use byteorder::{BigEndian, ByteOrder};
 /// The octets of a multi-channel header.
 pub(crate) const CHANNEL_OCTETS: usize = 4;
 
-/// A connection of a card with many physical ports, from a multi-channel header.
+/// A physical port and a connection of a capture card, from a multi-channel header. It isn't the virtual connection of the cell.
 #[derive(Clone, Copy, PartialEq, Eq, Hash, Debug)]
 pub struct Channel {
     /// The physical port, 0 to 15.

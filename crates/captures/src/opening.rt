@@ -55,13 +55,15 @@ const MICROSECONDS: u8 = 6;
 /// The resolution of times in nanoseconds.
 const NANOSECONDS: u8 = 9;
 
-/// Returns what a pcap file is that begins with these octets and has numbers in this order and times of this resolution.
+/// Returns what a pcap file is: a capture if its packets are records. `order` is that of its numbers, and `resolution` is that of its
+/// times.
 fn open_pcap(order: Order, resolution: u8, octets: &[u8]) -> Opening
     ensures { result ≡ pcap_opening order resolution octets.now }
 {
     if octets.len() < FILE_HEADER_OCTETS {
         return Opening::Undecided;
     }
+    // The upper half of the field isn't part of the link type.
     match order.number_in(from_place(octets, 20)) % 0x1_0000 {
         LINK_ERF => Opening::Opened(Format::Pcap(order, PacketTimes::in_units(resolution))),
         link => Opening::Refused(FileFault::OtherLink(link)),
@@ -90,7 +92,8 @@ fn begins_as_text(octets: &[u8]) -> bool
     is_text(&octets[..HEADER_OCTETS])
 }
 
-/// Returns whether these two numbers are the beginning of a text with a byte order mark.
+/// Returns whether these two numbers are the beginning of a text with a byte order mark: of UTF-8, or of UTF-16 with the lowest or the
+/// highest octet first.
 fn is_marked_text(magic: u32, number: u32) -> bool
     ensures { result ≡ is_marked magic number }
 {
@@ -99,7 +102,8 @@ fn is_marked_text(magic: u32, number: u32) -> bool
         || (magic / 0x100 == 0x00fe_ff00 && number / 0x100_0000 == 0)
 }
 
-/// Returns why a file isn't read that begins with these two numbers, if that shows.
+/// Returns why a file isn't read, if its first eight octets show it. `magic` is the number in the first four, `number` that in the next
+/// four.
 fn fault_by(magic: u32, number: u32) -> Option<FileFault>
     ensures { result ≡ fault_of magic number }
 {
@@ -118,7 +122,7 @@ fn fault_by(magic: u32, number: u32) -> Option<FileFault>
     }
 }
 
-/// Returns what the file is that begins with this number and these octets.
+/// Returns what a file is that begins with these octets. `magic` is the number in their first four.
 fn open_by(magic: u32, octets: &[u8]) -> Opening
     requires { 16 ≤ length octets.now }
     ensures { result ≡ opening_by magic octets.now }
@@ -128,6 +132,7 @@ fn open_by(magic: u32, octets: &[u8]) -> Opening
         0xa1b2_3c4d => open_pcap(Order::HighestFirst, NANOSECONDS, octets),
         0xd4c3_b2a1 => open_pcap(Order::LowestFirst, MICROSECONDS, octets),
         0x4d3c_b2a1 => open_pcap(Order::LowestFirst, NANOSECONDS, octets),
+        // There is no section yet. The first block says the order.
         0x0a0d_0d0a => Opening::Opened(Format::PcapNg(Section {
             order: Order::LowestFirst,
             before: 0,
@@ -153,7 +158,7 @@ pub fn open(octets: &[u8]) -> Opening
     open_by(BigEndian::read_u32(octets), octets)
 }
 
-/// Returns what the file is that has these octets and no others.
+/// Returns what a file is that has only these octets. It is as `open` says, but a file without octets is `Empty`.
 pub fn open_whole(octets: &[u8]) -> Opening
     ensures { result ≡ file_opening octets.now }
 {

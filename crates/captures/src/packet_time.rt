@@ -103,7 +103,7 @@ impl PacketTimes {
         }
     }
 
-    /// Those of the next section.
+    /// Returns what is known where the next section begins: no unit.
     pub(crate) fn begun(self) -> PacketTimes
         ensures { result ≡ times_begun self }
     {

@@ -50,14 +50,14 @@ pub enum Next<'a> {
     Skipped(SkippedBlock, usize),
     /// The beginning of a record, packet or block, or nothing: more octets are wanted.
     Unfinished,
-    /// No record.
+    /// A fault: the octets begin with no record, packet or block.
     Broken(Fault),
 }
 
 /// How far a capture was read.
 #[derive(Clone, Copy, PartialEq, Eq, Debug)]
 pub struct Reader {
-    /// What the file has of records.
+    /// The container format. In a pcapng file it has the section of the next block.
     pub format: Format,
     /// How many numbers were given to records, and to packets that were passed over.
     pub count: u64,
@@ -86,6 +86,7 @@ fn record_of<'a>(
         number,
         link: Link {
             packet: framed.packet,
+            // Bits 0, 1 and 6 of the flags are the number of the interface.
             interface: flags % 4 + 4 * (flags / 0x40 % 2),
             channel,
         },
@@ -136,8 +137,8 @@ impl Reader {
         }
     }
 
-    /// Reads the next record of a capture from the octets that come next, as many as were read yet. The call after it wants
-    /// the octets after the record.
+    /// Reads the next record of a capture. `octets` are those from the reader's place on, as far as they were read. The next call needs
+    /// those after this record, packet or block.
     ///
     /// It and what it calls are inlined into the caller's loop. No octet is copied: the record borrows its cell from these octets.
     #[inline(always)]

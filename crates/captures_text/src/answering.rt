@@ -76,8 +76,8 @@ pub(crate) fn answer_read<F: CellFollower>(
     }
 }
 
-/// Whether the cells that were read are left to the second thread. Then two threads may work, there are such cells, and the last reading
-/// filled the window, so that the next one is likely to find many octets.
+/// Returns whether the cells that were read wait for the second thread: if two threads may work, there are such cells, and the last reading
+/// filled the window. The next reading is then likely to find many octets.
 pub(crate) fn leaves_cells(with_two_threads: bool, reading: &ReadingAhead, queue: &Queue) -> bool
     ensures { result ≡ true → queue.now.cells.items ≢ [] }
 {

@@ -25,7 +25,7 @@ pub struct BlockTallies {
 }
 
 impl BlockTallies {
-    /// Returns that there was no block.
+    /// Returns the tallies before any block.
     pub(crate) fn none() -> BlockTallies
         ensures { result ≡ no_blocks }
     {

@@ -40,6 +40,7 @@ pub fn find_opening<I: Input>(
     loop {
         match open(window.octets()) {
             Opening::Undecided => {}
+            // These octets are not empty, so `open_whole` gives what `open` gave.
             _ => return Ok(open_whole(window.octets())),
         }
         if window.fill(input, WINDOW_ROOM)? == 0 {
@@ -103,7 +104,7 @@ fn close_short<O: Output, F: CellFollower>(
 /// them, and the answers to these cells.
 ///
 /// With one thread, what was read is answered before more is read. With two, records are read on one thread while the cells of those before
-/// them are answered on another, as long as each reading fills the buffer: that of a file does, and that of a pipe doesn't.
+/// them are answered on another. That begins after a reading that fills the window: a file fills it, and a pipe doesn't.
 ///
 /// # Errors
 ///

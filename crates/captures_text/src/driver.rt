@@ -21,7 +21,7 @@ use std::alloc::Global;
 use std::thread::Threads;
 use text_io::{Done, Input, Output, RunFault, give_if_enough, give_last, refill};
 
-/// Returns how a run ends at this end of a capture.
+/// Returns how a run ends when its capture ends: `Ended` at a fault, otherwise `Whole`.
 pub fn done_at(ending: Option<Fault>) -> Done
     ensures { result ≡ ends_at ending }
 {
@@ -31,7 +31,7 @@ pub fn done_at(ending: Option<Fault>) -> Done
     }
 }
 
-/// Answers the octets that wait at the end of the input, which are no whole frame, and writes the last answers.
+/// Answers the end of the input, and writes the last answers. Octets that still wait are no whole frame: the capture was cut off.
 fn finish<O: Output, F: CellFollower>(
     output: &mut O,
     follower: &F,
@@ -58,8 +58,8 @@ fn finish<O: Output, F: CellFollower>(
     }
 }
 
-/// Returns whether fewer octets wait than the longest frame has, so that the window has room to read ahead. That the last reading filled the
-/// window doesn't exclude it: most of its octets were answered since.
+/// Returns whether fewer octets wait than the longest frame has, so that the window has room to read ahead. A window that the last reading
+/// filled has this room too, once most of its records were read.
 fn has_room_to_read(reading: &ReadingAhead) -> bool
     ensures { result ≡ true → length reading.now.window < 131072 }
 {
@@ -90,7 +90,7 @@ pub(crate) fn follow_on<R: Threads, I: Input + Send, O: Output, F: CellFollower 
     ensures written { O.failures output.new ≡ write_failures result (O.failures output.old) }
 {
     answers_each_cell(follower);
-    // With two threads, read until the window is full: only then does the second thread start.
+    // The second thread starts only after a reading that fills the window, so with two threads one reading may fill it.
     let most = if with_two_threads {
         WINDOW_ROOM
     } else {

@@ -24,7 +24,7 @@ pub fn add_file_fault(answers: &mut Vec<u8>, fault: FileFault) -> Result<(), All
     }
 }
 
-/// Appends a text and a number.
+/// Appends a text and a number. `add_numbered` adds a line feed too.
 #[tactic(auto, using(std::proofs::lemmas::List::append_assoc))]
 pub(crate) fn add_with_number(
     answers: &mut Vec<u8>,

@@ -25,6 +25,7 @@ pub enum Filtered<'a> {
 #[derive(Clone, Copy, Drop, Debug)]
 pub struct CellFilter {
     ticks: Ticks,
+    /// Which time the reader gives a record. Only contracts read it.
     timing: TimeSource,
     /// Whether a link was asked for.
     asked: bool,
@@ -35,7 +36,8 @@ pub struct CellFilter {
     summary: ReadingSummary,
 }
 
-/// What a filter has that knows its link. Usual records change only the clock: in a variable of its own the compiler keeps it in registers.
+/// What of a filter usual records need, once its link is known. They change only the clock. The caller keeps that in a variable, so that it
+/// stays in registers.
 #[derive(Clone, Copy)]
 pub(crate) struct Following {
     ticks: Ticks,
@@ -44,7 +46,8 @@ pub(crate) struct Following {
 }
 
 impl Following {
-    /// Returns the moment of a record whose cell counts and that has no marks, and goes on from its time. Returns none of any other.
+    /// Takes a record with a cell. Returns its moment if the cell counts and the record has no marks, and sets `clock` to its time.
+    /// Otherwise returns none.
     #[inline(always)]
     pub(crate) fn moment_of(self, clock: &mut Clock, record_read: &Record<'_>) -> Option<u64>
         ensures { (filter : Filter) (cell : List ℕ) → IsFollowing filter self clock.old → record_read.now.content ≡ Ok cell
@@ -62,7 +65,8 @@ impl Following {
 }
 
 impl CellFilter {
-    /// Starts with this tick, for the link that was asked for, where `Reader` gives records with this time (`Format::timed_by`).
+    /// Makes a filter that has read no record. `link` is the link that was asked for, and `timing` says which time the reader gives each
+    /// record (`Format::timed_by`).
     pub fn new(tick: Tick, link: Option<Link>, timing: TimeSource) -> CellFilter
         ensures { filter_state result ≡ filter_start tick.nanoseconds link timing }
     {
@@ -89,7 +93,7 @@ impl CellFilter {
         })
     }
 
-    /// Goes on with this clock.
+    /// Replaces the clock by that after usual records.
     pub(crate) fn go_on_at(&mut self, clock: Clock)
         ensures { self.new ≡ with_clock self.old clock }
     {
@@ -104,7 +108,7 @@ impl CellFilter {
         self.summary
     }
 
-    /// Reads a cell of the right link.
+    /// Decides by its time whether a cell of the right link counts.
     #[inline(always)]
     fn read_at<'a>(
         &mut self,
@@ -126,7 +130,7 @@ impl CellFilter {
         }
     }
 
-    /// Reads a cell.
+    /// Decides by its link, and then by its time, whether a cell counts.
     #[inline(always)]
     fn read_cell<'a>(
         &mut self,
@@ -152,7 +156,7 @@ impl CellFilter {
         self.read_at(clock, record_read, cell)
     }
 
-    /// Counts a block or a packet without a record.
+    /// Counts a block or a packet without a record. The caller skips its octets.
     pub fn skip_block(&mut self, block: SkippedBlock)
         ensures { filter_state self.new ≡ filter_block (filter_state self.old) block }
     {
@@ -168,7 +172,7 @@ impl CellFilter {
         self.read_content(record_read)
     }
 
-    /// Reads what a record holds.
+    /// Counts a record without a cell. Otherwise decides whether its cell counts.
     #[inline(always)]
     fn read_content<'a>(&mut self, record_read: &Record<'a>) -> Filtered<'a>
         ensures { filter_content (filter_state self.old) record_read.now record_read.now.content ≡ (result, filter_state self.new) }

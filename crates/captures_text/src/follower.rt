@@ -1,4 +1,4 @@
-//! Programs that answer the cells of a capture that count.
+//! What answers the cells of a capture that count.
 
 ghost use Rattle.std.specs.Prelude.{IfOk, OnOk};
 ghost use Rattle.captures_text.specs.CellFollowing.{ClosesCells, FollowsCell};
@@ -11,10 +11,10 @@ use captures::Fault;
 use std::alloc::AllocError;
 use text_io::Turn;
 
-/// A program that gets one cell that counts after another and answers each.
+/// A follower gets the cells of a capture that count, one after another, and answers each.
 ///
-/// Its rules say which answers are allowed, as steps from world to world. A follower doesn't have to store its world:
-/// it shows worlds, and its answer must be allowed from each of them.
+/// Its `rules` say which answers are right. They depend on a state of the specification, the world. A follower may store less than a world:
+/// its answer must be right for each world that it `shows`.
 pub trait CellFollower {
     ghost World: { Type 0 };
 

@@ -1,4 +1,4 @@
-//! Subcommands of `upc-lab` over captures of links, and what others share with them.
+//! `upc-lab cells`, and what the other subcommands over captures share with it.
 #![tactic(auto)]
 
 mod answering;

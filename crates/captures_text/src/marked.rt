@@ -24,7 +24,7 @@ pub struct MarkTallies {
 }
 
 impl MarkTallies {
-    /// Returns that there was no record with a mark.
+    /// Returns the tallies before any record.
     pub(crate) fn none() -> MarkTallies
         ensures { result ≡ no_marks }
     {

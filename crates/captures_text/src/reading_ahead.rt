@@ -55,8 +55,8 @@ pub(crate) struct ReadingAhead {
 }
 
 // no ensures: a caller only decides by it which of two loops reads the record
-/// Whether the next record has the form that most have: usual (`Reader::is_usual`), with a cell and nothing else. The tests give the
-/// compiler the numbers in the header, from which it drops the cases that can't occur.
+/// Returns whether the next record has the form that most have: usual (`Reader::is_usual`), with a cell and nothing else. The tests fix
+/// numbers in the header, so that the compiler drops the cases that can't occur.
 #[inline(always)]
 fn is_usual(reader: &Reader, octets: &[u8]) -> bool {
     octets.len() >= USUAL_OCTETS
@@ -65,9 +65,9 @@ fn is_usual(reader: &Reader, octets: &[u8]) -> bool {
         && BigEndian::read_u16(&octets[14..]) as usize == CELL_OCTETS
 }
 
-/// Reads usual records, as long as their cells count, and appends these cells to the others, as far as there is room and to no more than
-/// `most`. What a record changes is in variables: the compiler doesn't know that the octets are apart from what lies behind a reference,
-/// and would load a header again after each change there.
+/// Reads usual records as long as their cells count, and appends these cells to the others. Stops at `most` cells, or when `cells` has no
+/// room left. The reader and the clock are in variables: behind references, the compiler would load the header again after each change of
+/// them.
 fn read_usual_of(
     following: Following,
     mut reader: Reader,
@@ -204,6 +204,7 @@ impl ReadingAhead {
         ensures { IfOk result (λ stop. ReadsCells self.old stop self.new cells.old.items cells.new.items) }
     {
         loop {
+            // `step` reads the last cell, and returns that there are enough. It also makes room for more cells.
             self.read_usual(cells, most.saturating_sub(1));
             if let Some(stop) = self.step(cells, most)? {
                 return Ok(stop);

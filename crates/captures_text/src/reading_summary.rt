@@ -1,4 +1,4 @@
-//! What the comments at the end of a text are about.
+//! Counts of what a run passed over, and of records with marks. The comments at the end of a text say them.
 
 ghost use Rattle.std.specs.Prelude.{◌≡◌, ◌++◌, OnOk};
 ghost use Rattle.captures_text.specs.ReadingSummaries.{empty_summary, other_type_line, other_type_lines, summary_lines, reason_lines, with_marked, with_other_type, with_skipped_block, without_cell};
@@ -49,7 +49,7 @@ impl ReadingSummary {
         }
     }
 
-    /// Counts a block or a packet more without a record.
+    /// Counts one more block or packet without a record.
     pub fn skip_block(&mut self, block: SkippedBlock)
         ensures { self.new ≡ with_skipped_block self.old block }
     {

@@ -10,7 +10,7 @@ use captures::{Fault, Link};
 use std::alloc::AllocError;
 use text_words::add_text;
 
-/// Appends the answer to a cell of a second link.
+/// Appends the line about a cell of a second link, which ends the run.
 #[tactic(auto, using(std::proofs::lemmas::List::append_assoc))]
 pub fn add_several(answers: &mut Vec<u8>, one: Link, other: Link) -> Result<(), AllocError>
     ensures { OnOk result (answers.new.items ≡ answers.old.items ++ several_line one other) }

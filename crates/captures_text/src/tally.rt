@@ -11,7 +11,7 @@ use text_words::{add_number, add_numbered, add_text};
 pub struct CountAndFirst {
     /// How many.
     pub count: u64,
-    /// The number of the first of them, from 1, or 0 if there is none.
+    /// The number of the first record, from 1, or of blocks the place of the first, in octets from 0. It is 0 if there is none.
     pub first: u64,
 }
 
@@ -33,7 +33,7 @@ impl CountAndFirst {
         }
     }
 
-    /// The same if `holds`.
+    /// Returns the tally with one record more, which has this number, if `holds`. Otherwise returns it unchanged.
     pub(crate) fn with_if(self, holds: bool, number: u64) -> CountAndFirst
         ensures { result ≡ one_more_if self holds number }
     {

@@ -1,4 +1,4 @@
-//! Times in ticks, without a division.
+//! Times in ticks, mostly without a division.
 
 ghost use Rattle.std.specs.Prelude.{◌≡◌, ◌≤◌, ◌<◌, ◌*◌, ◌/◌, ◌^◌};
 ghost use Rattle.captures.specs.Moments.{nearest_tick};
@@ -12,7 +12,7 @@ const TWO_TO_64: u128 = 0x1_0000_0000_0000_0000;
 #[derive(Clone, Copy, Debug)]
 pub(crate) struct Ticks {
     pub(crate) tick: Tick,
-    /// 2^64 by the nanoseconds of the tick, or less.
+    /// 2^64 - 1 divided by the nanoseconds of the tick, rounded down.
     inverse: u64,
     ghost inverse_small: { inverse * tick.nanoseconds < 2 ^ 64 },
 }
@@ -28,7 +28,7 @@ impl Ticks {
         }
     }
 
-    /// Returns at most how many whole ticks there are in this many nanoseconds. It is that number, or one less.
+    /// Returns how many whole ticks there are in this many nanoseconds, or one less. The clause says only that it isn't more.
     #[inline(always)]
     fn estimate(self, nanoseconds: u64) -> u64
         ensures { result * self.tick.nanoseconds ≤ nanoseconds }

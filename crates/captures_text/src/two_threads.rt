@@ -55,7 +55,8 @@ fn read_beside<R: Threads, I: Input + Send, F: CellFollower + Send>(
     }
 }
 
-/// Reads ahead while the cells that were read before are answered.
+/// Reads more octets and their records while the cells that were read before are answered. Returns `Wants` at the end of the input: no cell
+/// waits then.
 fn go_ahead<R: Threads, I: Input + Send, F: CellFollower + Send>(
     rt: &R,
     input: &mut I,

@@ -93,7 +93,7 @@ impl Judgement {
     }
 }
 
-/// Returns the cell as it leaves: tagged if the verdict is Tag, otherwise unchanged.
+/// Returns the tagged form of the cell if the verdict is Tag, otherwise the cell as it arrived.
 fn leaving(verdict: Verdict, cell: &Cell) -> Cell
     ensures { result ≡ cell_after verdict cell.now }
 {

@@ -1,4 +1,5 @@
-//! The sections of the desk. They change programs and connections, in the parts that the caller passes.
+//! The commands of the desk, which loads programs and sets up connections. Each function changes only the parts of a card that its
+//! caller passes.
 
 ghost use Rattle.std.specs.Prelude.{◌≡◌, ◌≢◌, ◌+◌, ◌<◌, ◌^◌, ◌↔◌, length, IsOk, IsErr, IsErrOf, IsSome, IfOk, IfErr, OnOk, OnErr, MatchResult, Some, None, false, []};
 ghost use Rattle.bpf_verify.specs.Accepted.{IsAccepted};
@@ -108,8 +109,8 @@ pub fn admit(store: &Store, directory: &Directory, ask: &Ask) -> Result<u16, Des
 /// # Errors
 ///
 /// Each error returns the request. `Stale` if the line isn't free; nothing changes. Otherwise `NoMemory` if an
-/// allocation fails. The line may then have space reserved for its next journal, and all else is unchanged: a line that
-/// was ready is still ready.
+/// allocation fails. Then only the line may have changed: it may have space reserved for its next journal. Space that was
+/// reserved before stays.
 pub fn setup(
     directory: &mut Directory,
     line: &mut Line,

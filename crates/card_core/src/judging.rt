@@ -13,8 +13,8 @@ use leaky::Verdict;
 use line_record::{Line, Seating};
 use upc_cell::{Vc, same_vc};
 
-/// Judges a cell as [`judge_at`] does, and copies no cell: [`Judgement::answer`] adds the leaving cell. Doesn't allocate.
-/// Every cell of a card runs this form.
+/// Judges a cell on the line of its connection, by the contract that its program named. Copies no cell: [`Judgement::answer`] adds the
+/// leaving cell. Every cell of a card is judged here. Doesn't allocate.
 ///
 /// # Errors
 ///

@@ -28,8 +28,11 @@ pub(crate) struct Found {
 /// The state of a port.
 #[derive(Clone, Copy, Debug)]
 pub(crate) enum Port {
+    /// The port has no cell.
     Outside,
+    /// A cell entered.
     Entered(Came),
+    /// The connection of its cell was found.
     Picked(Found),
 }
 

@@ -219,8 +219,8 @@ impl Core {
         PortReply::Answered(answer)
     }
 
-    /// Takes all steps of a cell at a port: `Enter`, `Pick` and, if its connection is found, `Judge`. Returns the last
-    /// answer, without the leaving cell: that is the cell passed here, or `Cell::tagged` of it if the verdict is Tag.
+    /// Takes all steps of a cell at a port: `Enter`, `Pick` and, if its connection is found, `Judge`. Returns the
+    /// judgement, or why the cell isn't judged. The cell that leaves is the one passed here, or `Cell::tagged` of it if the verdict is Tag.
     /// Returns None if the port has a cell or there is no such port. Changes nothing unless the cell is judged.
     #[inline(always)]
     pub fn arrive(
@@ -410,8 +410,8 @@ ghost use Rattle.card_core.specs.Sections.{answer_to, unjudged_answer};
 ghost use Rattle.upc_cell.specs.Connection.{vc_of};
 ghost use Rattle.card_core.specs.inner.Parts.{IsFound, IsMissed, ChangesLine, JudgesOrRefuses, DropsIfLong, HasRoomFor};
 
-/// Returns the seating of the cell's connection, and the value that its program gives for the cell. Every cell runs
-/// this function and the next. They are inlined, since a call would copy the cell.
+/// Returns the seating of the cell's connection, and the value that its program gives for the cell. Every cell passes through this
+/// function and [`judge_line_without_cell`]. Both are inlined, since a call would copy the cell.
 #[inline(always)]
 fn look_up_and_run(
     store: &Store,

@@ -83,7 +83,7 @@ fn start_ports<
     Ok(running)
 }
 
-/// Waits for each thread, and returns its port, into a list that has room for them.
+/// Waits for all threads, and returns their ports in a list that has room for them. If threads failed, returns the last error.
 fn join_ports<'e, 'l, S: Ledgers, R: Threads>(
     rt: &R,
     running: Vec<Running<'e, 'l, S>>,
@@ -108,7 +108,7 @@ fn join_ports<'e, 'l, S: Ledgers, R: Threads>(
     }
 }
 
-/// Joins each thread, and drops its port.
+/// Waits for each thread, and drops its port.
 fn end_ports<'e, 'l, S: Ledgers, R: Threads>(rt: &R, running: Vec<Running<'e, 'l, S>>) {
     for thread in running {
         let _ = thread.join(rt);

@@ -1,4 +1,4 @@
-//! Ports after the arrival of their cells.
+//! Ports whose cells were all answered.
 
 ghost use Rattle.std.specs.Prelude.{◌≡◌, IfOk, map};
 ghost use Rattle.port_card.specs.Seats.{tally_of_seat};

@@ -23,7 +23,7 @@ fn add_totals(answers: &mut Vec<u8>, totals: Tally) -> Result<(), AllocError>
     Ok(())
 }
 
-/// Adds the fault of this line, from 0: its counts differ from those of the seats.
+/// Adds the fault line of a line of the card whose counts differ from those of the seats. `number` is its number, from 0.
 #[tactic(auto, using(std::proofs::lemmas::List::append_assoc))]
 fn add_uneven(answers: &mut Vec<u8>, number: u16) -> Result<(), AllocError>
     ensures { OnOk result (answers.new.items ≡ answers.old.items ++ uneven_line number) }

@@ -38,7 +38,7 @@ fn arrive_from<S: Ledgers, G: Gate, R: Wait>(
     }
 }
 
-/// Adds what is stored of a line.
+/// Adds an answered cell, if there is one.
 fn add_stored(
     arrivals: &mut Vec<AnsweredCell>,
     stored: Option<AnsweredCell>,

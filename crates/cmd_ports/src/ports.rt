@@ -169,7 +169,7 @@ fn answer_script<S: Ledgers + Send + Sync, G: Gate + Sync, R: Threads + Wait + S
     }
 }
 
-/// Answers a whole script, and closes its card. No other card has its ledgers.
+/// Answers a whole script as `answer_script` does, with ledgers that no other card has.
 fn answer_alone<G: Gate + Sync, R: Threads + Wait + Sync>(
     rt: &R,
     alloc: Global,
@@ -189,7 +189,7 @@ fn answer_alone<G: Gate + Sync, R: Threads + Wait + Sync>(
     answer_script::<Brand, G, R>(rt, alloc, script, blanks, gate, answers)
 }
 
-/// Runs a script that was read, and returns its text.
+/// Runs a script that was read, and writes its text. Returns how the run ended.
 fn run_lines<G: Gate + Sync, R: Threads + Wait + Sync, O: Output>(
     rt: &R,
     alloc: Global,
@@ -251,6 +251,7 @@ pub fn run_ports_with<G: Gate + Sync, R: Threads + Wait + Sync, I: Input, O: Out
     ensures { IsServed IsPortsText I.Input input.old input.new O.Output output.old output.new result }
 {
     let mut script = Script::new(alloc);
+    // This reads the script: `Script` stores each line, and answers only if the script can't run.
     match answer_lines(alloc, input, output, &mut script) {
         Ok(Done::Whole) => run_lines(rt, alloc, &script, output, gate),
         Ok(Done::Ended) => Ok(Done::Ended),

@@ -35,7 +35,7 @@ pub struct Script {
     pub is_open: bool,
     /// The shape of the card that a line has opened. Until then the shape of the smallest card.
     pub shape: Shape,
-    /// The later lines with words, each ended with a line feed.
+    /// The lines after the card's that are neither blank nor comments. Each ends with a line feed.
     pub lines: Vec<u8>,
 }
 

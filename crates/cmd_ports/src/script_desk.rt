@@ -34,7 +34,7 @@ impl<S: Ledgers> ScriptDesk<S> {
     ghost use Rattle.cmd_ports.specs.LineAnswers.{MayObey};
     ghost use Rattle.cmd_ports.specs.inner.DeskTexts.{AddsReply, MayObeyLine, MayObeySeen};
 
-    /// Loads the program of these octets, if they spell one.
+    /// Loads the program that these hexadecimal digits spell. If they spell none, adds the fault line.
     fn load<R: Wait>(
         &mut self,
         rt: &R,
@@ -48,6 +48,7 @@ impl<S: Ledgers> ScriptDesk<S> {
         let Some(octets) = octets_of_word(self.alloc, digits)? else {
             return add_bad_hex(answers);
         };
+        // If there is none, `read_code` has added the fault line.
         let Some(code) = read_code(self.alloc, &octets, answers)? else {
             return Ok(());
         };

@@ -35,7 +35,7 @@ fn open(alloc: Global, line: &[u8], answers: &mut Vec<u8>) -> Result<Option<Scri
     }
 }
 
-/// The subcommand as a machine, before and after the card line. Its rules are `run_rules`, and its worlds those of `IsRunText`.
+/// The machine of `upc run`. It has no card until the line `card ..` has opened one.
 #[derive(Drop)]
 pub struct Policing {
     alloc: Global,

@@ -36,7 +36,7 @@ impl Model for ScriptCard {
     ghost view = { λ card. record { core = card.core; names = card.names } };
 }
 
-// The functions of the desk are not inlined, so that the path of a cell doesn't need their stack space.
+// The commands that change programs and connections are not inlined, so that the path of a cell doesn't need their stack space.
 impl ScriptCard {
     ghost use Rattle.std.specs.Prelude.{◌≡◌, ◌⊎◌, ◌∷◌, [], IfNone, IfOk, IfErr, IfSome, OnOk, MatchResult, None, Some, option_map};
     ghost use Rattle.bpf_verify.specs.Accepted.{IsAccepted};
@@ -246,8 +246,8 @@ impl ScriptCard {
         }
     }
 
-    /// Takes all steps of a cell at the port and returns its answer. None if the port has a cell; before a command it
-    /// never has.
+    /// Takes all steps of a cell at port 0, and returns its judgement, or why it wasn't judged. None if the port has a cell; before a
+    /// command it never has.
     #[inline(always)]
     fn arrive(&mut self, cell: &Cell, moment: u64) -> Option<Result<Judgement, Unjudged>>
         ensures { AnswersCell self.old cell.now moment (option_map (λ decision. answer_to cell.now decision) result) self.new }
@@ -281,6 +281,7 @@ impl ScriptCard {
     {
         let side = self.core.shape().side;
         let vc = cell.vc_at(side);
+        // Each cell takes all its steps in one call, so port 0 has none when the next one arrives.
         let Some(decision) = self.arrive(cell, moment) else {
             return Ok(());
         };
@@ -351,7 +352,7 @@ impl ScriptCard {
         }
     }
 
-    /// Answers a line, word by word.
+    /// Answers a line that isn't a cell line of the common form. A line without words and a comment get no answer.
     #[inline(never)]
     fn answer_words(
         &mut self,

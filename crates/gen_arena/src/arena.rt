@@ -110,7 +110,7 @@ impl<T> Arena<T> {
         Ok(Id { slot, generation })
     }
 
-    /// The value of the id, if the id is live.
+    /// Returns the value that was inserted under this id. None if it was removed, or if the id was never given.
     pub fn get(&self, id: Id) -> Option<&T>
         ensures value { option_copied result ≡ live_value self.now id }
         ensures generation_zero { id.generation ≡ 0 → live_value self.now id ≡ None }

@@ -10,8 +10,8 @@ use std::alloc::{AllocError, Global};
 use std::marker::Model;
 use std_alloc::room::may_hold;
 
-/// The representation of a slot that has had a value: its generation, its value, and, while it is free, the number of
-/// the next free slot. If there is none, that is the number of slots.
+/// What a slot holds once it has had a value (a slot, its place and its box have the same number): its generation, its value, and, while
+/// it is free, the number of the next free slot. If there is none, that is the number of slots.
 #[derive(Drop)]
 pub struct Place<T> {
     pub(crate) generation: u32,

@@ -11,8 +11,8 @@ pub struct Fill {
     pub second: u64,
 }
 
-/// The state of one contract: the theoretical arrival time of each bucket, in ticks. It is at most 2^62 + 2^49, since
-/// moments are at most 2^62.
+/// The state of one contract: when the next cell of each bucket is due, in ticks, which is the standard's theoretical arrival time.
+/// [`Levels::fill_at`] computes from it how full a bucket is. It is at most 2^62 + 2^49, since moments are at most 2^62.
 #[derive(Clone, Copy, Debug)]
 pub struct Levels {
     /// The theoretical arrival time of bucket 1.

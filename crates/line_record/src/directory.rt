@@ -17,13 +17,14 @@ pub const LAST_INCARNATION: u64 = 4611686018427387904;
 pub struct Seating {
     /// The number of its line, from 0.
     pub line: u16,
-    /// The number, from 1, of this setting up of the connection.
+    /// The number of this setup, from 1, among all setups of the directory. No two setups have the same.
     pub incarnation: u64,
     /// The program that names the contracts for its cells.
     pub program: Id,
 }
 
-/// The line of each connection of a card. No two connections have the same line, and no incarnation is given twice.
+/// The seating of each connection of a card: its line, its incarnation and its program. No two connections have the same line, and no
+/// incarnation is given twice.
 #[derive(Debug, Drop)]
 pub struct Directory {
     /// Every cell causes a look-up here.
@@ -175,7 +176,7 @@ impl Directory {
         !self.uses.is_unused(program) && self.seats.names(program)
     }
 
-    /// Returns a line that no connection has, if there is one. The contract doesn't fix which one. Doesn't allocate.
+    /// Returns a line that no connection has, if there is one. No clause says which one. Doesn't allocate.
     pub fn free_line(&self) -> Option<u16>
         ensures { MatchOption result
             ((line : ℕ) → line < self.now.lines → IsTakenLine self.now line)

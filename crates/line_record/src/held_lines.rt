@@ -83,8 +83,8 @@ impl HeldLines {
         if line == self.lowest {
             self.lowest = first_free(&self.marks, line + 1, self.above);
         }
-        // With 0 the next freed line alone sets the bound. Otherwise the bound would stay at the end of a card that was
-        // filled from line 0 on.
+        // If all lines are held, the bound becomes 0, so that the next line that is freed sets it. Otherwise it would stay at the end of
+        // a card that was filled from line 0 on.
         if usize::from(self.lowest) == self.marks.len() {
             self.above = 0;
         } else if line + 1 == self.above {

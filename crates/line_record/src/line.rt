@@ -30,6 +30,7 @@ pub const MOST_ENTRIES: u32 = 65536;
 pub struct Line {
     // The fields that every cell uses come first, next to each other.
     owner: Option<Owner>,
+    /// The greatest number of entries of its journal.
     journal: u32,
     /// Has capacity for the whole journal while the line serves a connection.
     entries: Vec<Entry>,
@@ -221,7 +222,7 @@ impl Line {
         Ok(())
     }
 
-    /// Returns the error if no cell of this moment can be judged.
+    /// Returns why a cell of this moment can't be judged, or None if it can.
     #[inline(always)]
     fn refusal(&self, moment: u64) -> Option<LineFault>
         ensures { result ≡ line_refusal self.now moment }

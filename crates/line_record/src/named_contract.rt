@@ -46,7 +46,8 @@ pub(crate) fn judge_named(
     if number == 0 {
         return Verdict::Refuse;
     }
-    // There are as many levels as contracts, and the number of levels is closer to what is read next.
+    // There are as many levels as contracts. The number of levels is tested, since it lies nearer in memory to the levels, which are read
+    // next.
     let place = number as usize - 1;
     if place >= levels.len() {
         return Verdict::Refuse;
@@ -57,6 +58,7 @@ pub(crate) fn judge_named(
     verdict
 }
 
+/// Writes the levels of one contract.
 #[inline]
 fn put(levels: &mut ArrayVec<Levels, 4>, place: usize, after: Levels)
     requires { place < length levels.old.items }

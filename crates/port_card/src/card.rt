@@ -122,8 +122,8 @@ impl<S: Ledgers> Card<S> {
     /// while only the read lock is held.
     ///
     /// The answer is `NoConnection` if the cell belongs to no connection and `Stale` if the connection's program
-    /// isn't live. Otherwise it is the answer of `judge_at` in `card_core`, or `JournalFull` if one of the card's
-    /// sums is 2^62.
+    /// isn't live. Otherwise it is `JournalFull` if one of the card's sums is 2^62, or else the answer that `judge_at` of
+    /// `card_core` would give.
     pub fn arrive<G: Gate, R: Wait>(
         &self,
         rt: &R,

@@ -113,7 +113,7 @@ ghost use Rattle.port_card.specs.Closing.{lines_total, IsFirstUneven};
 ghost use Rattle.port_card.specs.inner.Columns.{columns_total, columns_on};
 ghost use Rattle.port_card.specs.inner.Marks.{unused_marks};
 
-/// Marks of no part, for merging the marks of the lines.
+/// Returns empty shares, into which those of the lines are merged.
 fn marks_of_no_line<S: Ledgers>(counted_lines: &mut [Mutex<CountedLine<S>>]) -> LineMarks<S>
     requires { 0 < length counted_lines.old }
     ensures { result ≡ unused_marks 0 }

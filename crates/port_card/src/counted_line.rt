@@ -12,7 +12,7 @@ use leaky::Verdict;
 use line_record::{Line, Owner, Piece, Seating};
 use upc_cell::Vc;
 
-/// The data behind the lock of a line: the line, and marks of one part with the same counts.
+/// The data behind the lock of a line: the line, and its share of each ledger of lines. Both have the same counts.
 #[derive(Drop)]
 pub(crate) struct CountedLine<S: Ledgers> {
     pub(crate) line: Line,
@@ -43,7 +43,7 @@ impl<S: Ledgers> CountedLine<S> {
         CountedLine { line, marks }
     }
 
-    /// Marks of no part, of the lines' ledgers.
+    /// Returns empty shares, into which those of the lines are merged.
     pub(crate) fn no_marks(&mut self) -> LineMarks<S>
         ensures { result ≡ unused_marks 0 }
     {
@@ -63,7 +63,7 @@ impl<S: Ledgers> CountedLine<S> {
     ) -> Answer
         requires { seating.now.line < length seat.old.tallies }
 
-        // As the locked section of `card_core`, on this line.
+        // As `judge_at` of `card_core`, on this line.
         ensures section { HasRoom books.old → MatchOption (judging_refusal self.old.line vc seating.now moment)
             (JudgesAt self.old.line seating.now named.now moment result self.new.line)
             (λ refused. (result ≡ refused) × (self.new.line ≡ self.old.line)) }

@@ -61,12 +61,12 @@ impl<S: Ledgers> Desk<S> {
         card.seatings.lock(rt).retire(&mut store, id)
     }
 
-    /// Sets up a connection on a free line. The contract doesn't fix which one.
+    /// Sets up a connection on a free line. No clause says which one.
     ///
     /// # Errors
     ///
-    /// The first that applies, with `ask`: `NoProgram` if the program isn't live; `Taken` if the virtual channel
-    /// already has a connection; `BadContracts` if there is no contract; `NoLine` if every line has a connection;
+    /// The first that applies, with `ask`: `NoProgram` if the program isn't live; `Taken` if the connection is set up
+    /// already; `BadContracts` if there is no contract; `NoLine` if every line has a connection;
     /// `Exhausted` if the last incarnation was used; `Stale` if the line isn't free; `NoMemory` if an allocation
     /// fails.
     pub fn setup<R: Wait>(
@@ -156,7 +156,8 @@ ghost use Rattle.gen_arena.specs.Insert.{Inserts};
 ghost use Rattle.gen_arena.specs.Live.{live_value};
 ghost use Rattle.gen_arena.specs.Past.{KeepsPast};
 
-/// Loads a program into a free slot of this store.
+/// Loads a program into a free slot of this store, as `load` of `card_core` does. Its contract says what [`Desk::load`] does behind the
+/// lock.
 fn put(store: &mut Store, program: Program) -> Result<Id, (DeskFault, Program)>
     // As the locked section of `card_core`, on this store.
     ensures loaded { IfOk result (λ id. Inserts store.old store.new id program) }

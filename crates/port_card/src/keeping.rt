@@ -1,4 +1,4 @@
-//! Invariants of the data behind a card's locks.
+//! Invariants of the data behind a card's locks. Each function changes nothing: its contract is the invariant.
 
 ghost use Rattle.line_record.specs.Directory.{IsDirectory};
 ghost use Rattle.line_record.specs.Line.{IsLine};

@@ -5,8 +5,8 @@ ghost use Rattle.port_card.specs.Names.{Names, no_names};
 use std::marker::{Brand, PhantomData};
 use std::sync::ledger::Ledger;
 
-/// The ledgers of one card, as a type parameter that the card, its seats and its desk share. A function that is
-/// generic over it is called with [`Brand`], and the proof of its caller chooses the names.
+/// Tells the ledgers of one card from those of others. The card, its seats and its desk share it as a type parameter. A program passes
+/// [`Brand`], and the proof of the caller chooses the names of the ledgers.
 pub trait Ledgers {
     ghost names: { Names };
 }

@@ -7,7 +7,8 @@ use crate::ledgers::{
 use std::marker::Model;
 use std::sync::ledger::{Ledger, Share};
 
-/// Shares of four ledgers, one for each verdict, with equally many parts. They have size 0.
+/// A share of each of four ledgers, one for each verdict. A line or a seat has one part of each. They take no memory: only contracts read
+/// their counts.
 #[derive(Drop)]
 pub(crate) struct Marks<P: Ledger, T: Ledger, D: Ledger, R: Ledger> {
     pub(crate) passed: Share<P>,
@@ -16,7 +17,7 @@ pub(crate) struct Marks<P: Ledger, T: Ledger, D: Ledger, R: Ledger> {
     pub(crate) refused: Share<R>,
 }
 
-/// The counts of lines.
+/// Shares of the four ledgers that count by line.
 pub(crate) type LineMarks<S> = Marks<
     PassedOnLines<S>,
     TaggedOnLines<S>,
@@ -24,7 +25,7 @@ pub(crate) type LineMarks<S> = Marks<
     RefusedOnLines<S>,
 >;
 
-/// The counts of seats.
+/// Shares of the four ledgers that count by seat.
 pub(crate) type SeatMarks<S> = Marks<
     PassedAtSeats<S>,
     TaggedAtSeats<S>,
@@ -56,7 +57,7 @@ impl<P: Ledger, T: Ledger, D: Ledger, R: Ledger> Marks<P, T, D, R> {
     ghost use Rattle.line_record.specs.Tally.{nothing};
     ghost use Rattle.port_card.specs.inner.Marks.{unused_marks, both_marks};
 
-    /// Marks of no part, of the same ledgers.
+    /// Returns empty shares of the same ledgers, into which others are merged.
     pub(crate) fn none(&mut self) -> Self
         ensures none { result ≡ unused_marks 0 }
         ensures same { self.new ≡ self.old }

@@ -74,7 +74,7 @@ impl<S: Ledgers> PortSeat<S> {
         self.tallies.get(usize::from(line)).copied()
     }
 
-    /// Marks of no part, for merging the marks of the seats.
+    /// Returns empty shares, into which those of the seats are merged.
     pub(crate) fn no_marks(&mut self) -> SeatMarks<S>
         ensures none { result ≡ unused_marks 0 }
         ensures same { self.new ≡ self.old }
@@ -96,7 +96,8 @@ impl<S: Ledgers> PortSeat<S> {
         (Column { tallies }, marks)
     }
 
-    /// Counts a judged cell: in the seat, on the line and in the books.
+    /// Counts a judged cell in the seat's tally, in the books, and in the shares of the line and the seat. The line itself has counted it
+    /// already.
     #[inline]
     pub(crate) fn count(
         &mut self,
@@ -113,6 +114,7 @@ impl<S: Ledgers> PortSeat<S> {
         ensures books { books.new ≡ counted books.old verdict }
         ensures line { on_line.new ≡ counted_mark on_line.old verdict }
     {
+        // Changes nothing: its contract says that the tally has room.
         books.bound(&mut self.marks);
         self.tallies[usize::from(line)].count(verdict);
         books.count(on_line, &mut self.marks, verdict);

@@ -36,7 +36,7 @@ impl Found<'_> {
     ghost use Rattle.gen_arena.specs.Live.{live_value, IsLive};
     ghost use Rattle.card_core.specs.Sections.{IsNaming};
 
-    /// The connection's place in the directory.
+    /// Returns the line, the incarnation and the program of the connection. A connection has a seating; a port has a seat.
     #[inline]
     pub(crate) fn seating(&self) -> &Seating
         ensures { result.now ≡ self.now.seating }
@@ -48,7 +48,7 @@ impl Found<'_> {
     /// isn't live.
     #[inline]
     pub(crate) fn name(&self, cell: &Cell) -> Option<Named>
-        // As the locked section of `card_core`, on the programs that were read.
+        // As `name` of `card_core`, on the programs that were read.
         ensures live { IsSome result ↔ IsLive self.now.programs.now self.now.seating.program }
         ensures named { IfSome result (λ named.
             IsNaming self.now.programs.now self.now.seating.program cell.now named) }
@@ -81,7 +81,7 @@ impl<S: Ledgers> Seatings<S> {
         })
     }
 
-    /// Returns the seating of the connection, if there is one.
+    /// Returns the seating of the connection, if there is one, as [`pick`] of `card_core` does.
     #[inline]
     pub(crate) fn find(&self, vc: Vc) -> Option<Seating>
         ensures seating { result ≡ seating_at self.now.directory vc }
@@ -119,7 +119,7 @@ impl<S: Ledgers> Seatings<S> {
     {
         let retired = retire(store, &self.directory, id);
         if let Ok(program) = &retired {
-            // Reading the code gives the fact that it is accepted.
+            // Changes nothing: its contract says that the program is accepted.
             let _ = program.code();
         }
         retired

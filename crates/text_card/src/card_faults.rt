@@ -16,7 +16,7 @@ pub fn add_no_card(answers: &mut Vec<u8>) -> Result<(), AllocError>
     add_text(answers, b"fault script 2 NoCard\n")
 }
 
-/// Adds the answer to the name of a program that was never given.
+/// Adds the answer to a command with a name that no program was given: `NoProgram`, as of the desk.
 pub fn add_no_such_program(answers: &mut Vec<u8>) -> Result<(), AllocError>
     ensures { OnOk result (answers.new.items ≡ answers.old.items ++ no_such_program) }
 {

@@ -15,7 +15,7 @@ use text_script::add_verdict;
 use text_words::{TextFromEnd, add_text};
 use upc_cell::{Cell, Side, Vc};
 
-/// The space for the answer to such a cell: 26 octets, a number of at most twenty digits, and a line feed.
+/// The space for the answer `fault arrive 4 MomentBack LAST`: 26 octets, a number of at most twenty digits, and a line feed.
 const MOMENT_ROOM: usize = 47;
 
 /// Adds the answer to a cell with a moment before that of its connection's last judged cell.
@@ -58,8 +58,8 @@ fn add_judged_line(
     }
 }
 
-/// Appends the answer line of a cell that arrived on this connection and was judged. The program that named its contract has a
-/// name with this number, from 1.
+/// Appends the answer line of a cell that arrived on this connection and was judged. `number` is the number in the name of its program,
+/// 1 for `p1`.
 ///
 /// # Errors
 ///

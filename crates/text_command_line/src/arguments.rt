@@ -81,8 +81,8 @@ pub fn text_of<'a>(values: &'a [Value], name: &str) -> Option<&'a str>
     None
 }
 
-/// Reads the words after the name of a command: its arguments, each with its value. The forms of help that `clap` has request
-/// help. Any other word is an error, and so are words without an argument that is required.
+/// Reads the words after the name of a command: its arguments, each with its value. Each word by which `clap` offers help
+/// requests help. Any other word is an error, and so are words without an argument that is required.
 pub fn values_of_words(
     alloc: Global,
     options: &Options,

@@ -60,9 +60,9 @@ const SUBCOMMANDS: [Row<Choice>; 4] = [
     },
 ];
 
-/// Reads the words after the program's name. The one word is the name of a subcommand; no word means `eval`. The forms
-/// of help that `clap` has request help, and `--version` and `-V` the version. Any other word and any further word is an error. As
-/// everywhere in `clap`, `--` ends the options and isn't a word itself, so it may be last.
+/// Reads the words after the program's name. The one word is the name of a subcommand; no word means `eval`. Each word by which
+/// `clap` offers help requests help, and `--version` and `-V` the version. Any other word and any further word is an error. As everywhere
+/// in `clap`, `--` ends the options and isn't a word itself, so it may be last.
 pub fn choose(alloc: Global, words: Vec<String>) -> Result<Choice, Stop>
     ensures chosen { IfOk result (IsChosen (map string_bytes words.items)) }
     ensures faultless { IfOk result (λ _. faults_in (map string_bytes words.items) ≡ []) }

@@ -17,7 +17,7 @@ use crate::stop::{Stop, stop_for};
 use clap::{Command, Error};
 use std::alloc::{AllocError, Global};
 
-/// A command, without its subcommands.
+/// The name, the version and the help of a program, without its subcommands.
 #[derive(Clone, Copy)]
 pub struct Program {
     /// Its name.
@@ -46,7 +46,7 @@ pub struct Row<T> {
 }
 
 /// Reads the words after the name of a program. The one word is the name of a row, and the answer is what that row
-/// means; None if there is no word. The forms of help that `clap` has request help, and `--version` and `-V` the
+/// means; None if there is no word. Each word by which `clap` offers help requests help, and `--version` and `-V` the
 /// version. Any other word and any further word is an error. As everywhere in `clap`, `--` ends the options and isn't a
 /// word itself, so it may be last.
 pub fn row_of_words<T: Copy>(

@@ -8,8 +8,7 @@ use crate::word_sources::CommandLine;
 use std::alloc::{AllocError, Global};
 use std::env::FillError;
 
-/// The length limit of a word, in octets, above that of any word that the program knows. A longer word is wrong and
-/// isn't read.
+/// The greatest length of a word, in octets. Every word that the program knows is shorter. A longer word is wrong and isn't read.
 const ROOM: usize = 1024;
 
 /// Returns the character as it is shown: U+FFFD if it is a control character.
@@ -51,6 +50,7 @@ fn word_at<C: CommandLine>(
     let mut room = [0; ROOM];
     match line.word(number, &mut room) {
         Ok(length) => Ok(Some(shown(alloc, &room[..length])?)),
+        // 0xff isn't UTF-8, so the word is shown as U+FFFD.
         Err(FillError::TooLong) => Ok(Some(shown(alloc, b"\xff")?)),
         Err(FillError::NotPresent) => Ok(None),
     }

@@ -74,6 +74,7 @@ fn answer_end<M: Machine>(
         machine.refuse(answers)?;
         return Ok(Done::Ended);
     }
+    // Without a line feed after it, a carriage return belongs to the line.
     match machine.answer(octets, answers)? {
         Turn::Ends => Ok(Done::Ended),
         Turn::GoesOn => machine.close(answers),
@@ -166,6 +167,7 @@ pub fn answer_lines<I: Input, O: Output, M: Machine>(
         return Err(RunFault::NoMemory);
     };
     let mut answers = Vec::new(alloc);
+    // How many lines were answered.
     let mut met: u32 = 0;
     // How many of the waiting octets were searched; none of them is a line feed.
     let mut looked = 0;

@@ -22,7 +22,7 @@ fn has_early_feed(octets: &[u8]) -> bool
     found
 }
 
-/// The number of octets searched in one step: more than a cell line with a moment has.
+/// The number of octets searched in one step. A line `cell MOMENT HEADER` fits in, with its line feed, if the moment has at most 17 digits.
 const LANES: usize = 32;
 
 /// The number of octets before the first line feed among the next `LANES`, or `LANES` if there is none.
@@ -59,7 +59,7 @@ fn far_feed(octets: &[u8], looked: usize) -> Option<usize>
 }
 
 /// Returns the place of the first line feed, if there is one. The first `looked` octets are known to have none. A line of
-/// eight octets (the header of a cell) is found with the least work, any other short line without a call.
+/// eight octets (a header alone, as `upc eval` reads it) is found with the least work, any other short line without a call.
 #[inline(always)]
 pub fn first_feed(octets: &[u8], looked: usize) -> Option<usize>
     requires within { looked ≤ length octets.now }

@@ -16,7 +16,7 @@ pub enum Turn {
     Ends,
 }
 
-/// A program that gets one line after another and answers each.
+/// A part of a program that gets one line after another and answers each.
 ///
 /// Its rules say which answers are allowed, as steps from world to world. A machine doesn't have to store its world:
 /// it shows worlds, and its answer must be allowed from each of them.
@@ -27,17 +27,17 @@ pub trait Machine {
 
     ghost rules: { Rules World };
 
-    /// Appends the answer to a line to the answers.
+    /// Answers a line: appends to `answers`.
     fn answer(&mut self, line: &[u8], answers: &mut Vec<u8>) -> Result<Turn, AllocError>
         ensures { IfOk result (λ turn.
             Answers rules (shows self.old) line.now turn (shows self.new) answers.old.items answers.new.items) };
 
-    /// Appends the answer to the end of the input to the answers.
+    /// Answers the end of the input: appends to `answers`.
     fn close(&self, answers: &mut Vec<u8>) -> Result<Done, AllocError>
         ensures { IfOk result (λ done.
             AnswersEnd rules (shows self.now) done answers.old.items answers.new.items) };
 
-    /// Appends the answer to a line over the limits to the answers.
+    /// Answers a line over the limits: appends to `answers`.
     fn refuse(&self, answers: &mut Vec<u8>) -> Result<(), AllocError>
         ensures { OnOk result (answers.new.items ≡ answers.old.items ++ rules.too_long) };
 

@@ -34,7 +34,7 @@ pub fn first_word(line: &[u8]) -> Option<(&[u8], &[u8])>
     }
 }
 
-/// The words of a line, as far as they matter to a command of one word.
+/// How many words a line has: none, one or more. A comment has none.
 pub enum LineWords<'a> {
     /// The line has no words or is a comment.
     Silent,

@@ -14,7 +14,7 @@ use upc_cell::{Side, Vc};
 
 /// A command of a line. Programs are named by number, from 1. The octets of a program and of a cell are still a word,
 /// since their errors come after those of all other words. The contracts of a setup are still words: the function that
-/// carries out the command reads them with [`contracts`], so that no other command has space for them.
+/// carries out the command reads them with [`contracts`], so that a `Command` needs no space for four contracts.
 #[derive(Drop)]
 pub enum Command<'a> {
     /// Loads a program.
@@ -162,7 +162,7 @@ pub fn contracts(line: &[u8]) -> Option<ArrayVec<Wanted, 4>>
     Some(wanted)
 }
 
-/// Reads `setup VPI VCI pN CONTRACT ..`, after its first word.
+/// Reads `setup VPI VCI pN`, after its first word. The words after them, the contracts, stay words.
 fn setup(side: Side, line: &[u8]) -> Option<Command<'_>>
     ensures { option_and_then command_seen result ≡ setup_of side (words_of line.now) }
 {

@@ -44,8 +44,8 @@ fn split_last_word(text: &[u8], count: usize) -> Option<(&[u8], &[u8])>
     }
 }
 
-/// Returns the cell of a line of the common form, and its moment. None if the line has another form. No digit is a
-/// space, so the place of the last space gives the length of the word.
+/// Returns the cell of a line of the common form, and its moment. None if the line has another form. The word of a cell has 8 or 104
+/// digits, so a space stands before the last 8 octets or before the last 104.
 #[inline(always)]
 pub fn read_common_cell(line: &[u8]) -> Option<Arrival>
     ensures cell { IfSome result (λ found. IsCommonLine line.now found.moment found.cell) }

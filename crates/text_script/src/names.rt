@@ -20,8 +20,8 @@ pub struct Names {
     /// found at once, however often its slot was used.
     places: Vec<Vec<usize>>,
 
-    /// Whether each program's place is there. A store gives a slot's generations one by one, so they all are; ids in
-    /// another order are searched for.
+    /// Whether `places` has every program. It has if a store gave the ids, since a store gives the generations of a slot one by one.
+    /// Otherwise `number_of` searches `ids`.
     is_placed: bool,
 }
 
@@ -86,7 +86,7 @@ impl Names {
         Ok(())
     }
 
-    /// Returns the number of the program's latest name, or 0.
+    /// Returns the number in the program's name, or 0 if it has none.
     pub fn number_of(&self, id: Id) -> usize
         ensures { result ≡ number_of_program self.now id }
     {

@@ -7,7 +7,7 @@ use crate::script_words::{Rate, Wanted};
 use arrayvec::ArrayVec;
 use leaky::{Contract, Gcra, GcraFault};
 
-/// Returns the bucket of a rate.
+/// Returns the bucket of a rate, if its numbers are within the limits.
 fn bucket(rate: Rate) -> Result<Gcra, GcraFault>
     ensures made { IfOk result (IsRate rate) }
     ensures sound { OnOk result (rate_fault rate ≡ None) }

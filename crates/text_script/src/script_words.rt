@@ -66,7 +66,8 @@ fn shifted(value: u64, octet: u8) -> Option<u64>
 /// A number of at most this many digits is at most 2^64 - 1.
 const FEW_DIGITS: usize = 19;
 
-/// Returns the value with one more digit appended. None if the octet isn't a digit.
+/// Returns the value with one more digit appended. None if the octet isn't a digit. The value is at most `MOST_BEFORE`, so nothing
+/// overflows.
 #[inline(always)]
 fn appended(value: u64, octet: u8) -> Option<u64>
     requires { value ≤ MOST_BEFORE }

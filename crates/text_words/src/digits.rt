@@ -124,7 +124,7 @@ fn read_header(word: &[u8], octets: &mut [u8; CELL_OCTETS]) -> bool
     if !are_octets(first, second, third, fourth) {
         return false;
     }
-    // Built as one number, because the caller reads the header as one number next.
+    // Built as one number, because `Cell::vc_at` reads the header as one number next.
     let header = 16777216 * u32::from(first)
         + 65536 * u32::from(second)
         + 256 * u32::from(third)

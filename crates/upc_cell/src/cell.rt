@@ -139,7 +139,7 @@ impl Cell {
         (self.header() >> 1 & 7) as u8
     }
 
-    /// Cell loss priority: true for a cell of low priority (bit 1).
+    /// Returns whether the cell has low priority: its cell loss priority is 1.
     pub fn clp(&self) -> bool
         ensures priority { IsTrue result ↔ (clp_of self.now ≡ 1) }
         ensures test { result ≡ has_low_priority self.now }

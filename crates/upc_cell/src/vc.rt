@@ -23,7 +23,7 @@ pub enum VcFault {
 pub struct Vc {
     /// The virtual path identifier.
     pub vpi: u16,
-    /// The virtual channel identifier.
+    /// The virtual channel identifier. It is 0 where connections are virtual paths.
     pub vci: u16,
     pub ghost of_an_interface: { vpi ≤ 4095 },
 }

@@ -38,7 +38,7 @@ pub(crate) fn new(alloc: Global) -> Option<Blocks>
     })
 }
 
-/// Makes a block of each kind of which none is free. Fails if an allocation fails, or if there are 65,536 blocks of a kind.
+/// Makes a free block in each of the two rows that has none. Fails if an allocation fails, or if there are 65,536 blocks of a kind.
 pub(crate) fn ready_both(upper: &mut Blocks, lower: &mut Blocks) -> Result<(), TableFault>
     requires upper_some { 0 < length upper.old.next.items }
     requires upper_sized { length upper.old.entries.items ≡ 64 * length upper.old.next.items }

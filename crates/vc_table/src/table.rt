@@ -105,7 +105,7 @@ impl VcLines {
     }
 }
 
-/// Returns the place in the row of the connection's path with the upper four bits of its channel.
+/// Returns a place in the row: 4096 times the upper four bits of the channel, plus the path.
 #[inline]
 fn path_place(vc: Vc) -> usize
     ensures place { result ≡ row_place vc }
@@ -127,7 +127,7 @@ fn place_of(row: &Vec<u16>, groups: &Blocks, vc: Vc) -> usize
     SIZE * usize::from(block) + channel % SIZE
 }
 
-/// Returns the place of the connection's mark, after the connection has got a group and a block of marks. No mark changes.
+/// Gives the connection a group and a block of marks, if it has none, and returns the place of its mark. No mark changes.
 fn linked_place(row: &mut Vec<u16>, groups: &mut Blocks, lines: &mut Blocks, vc: Vc) -> usize
     requires table { KeepsTable row.old.items (pool_of groups.old) (pool_of lines.old) }
     requires group { groups.old.first ≢ 0 }
