@@ -108,8 +108,7 @@ fn close_short<O: Output, F: CellFollower>(
 ///
 /// # Errors
 ///
-/// `ReadFailed` or `WriteFailed` if that device failed; the run ends at the first failure. `NoMemory` if an
-/// allocation fails. The output is then a prefix of the text.
+/// See [`RunFault`].
 pub fn follow_cells<R: Threads, I: Input + Send, O: Output, F: CellFollower + Send>(
     rt: &R,
     threads: usize,

@@ -115,8 +115,7 @@ impl CellFollower for Cells {
 ///
 /// # Errors
 ///
-/// `ReadFailed` or `WriteFailed` if that device failed; the run ends at the first failure. `NoMemory` if an
-/// allocation fails. The output is then a prefix of the text.
+/// See [`RunFault`].
 pub fn cells_of_capture<R: Threads, I: Input + Send, O: Output>(
     rt: &R,
     threads: usize,

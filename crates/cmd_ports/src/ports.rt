@@ -238,8 +238,7 @@ pub fn run_ports<R: Threads + Wait + Sync, I: Input, O: Output>(
 ///
 /// # Errors
 ///
-/// `ReadFailed` or `WriteFailed` if that device failed; the run ends at the first failure. `NoMemory` if an
-/// allocation fails, after every thread that was started has ended. The output is then a prefix of a text.
+/// See [`RunFault`]. It is returned after every thread that was started has ended.
 pub fn run_ports_with<G: Gate + Sync, R: Threads + Wait + Sync, I: Input, O: Output>(
     rt: &R,
     alloc: Global,

@@ -132,8 +132,7 @@ fn finish<O: Output, M: Machine>(
 ///
 /// # Errors
 ///
-/// `ReadFailed` or `WriteFailed` if that device failed; the run ends at the first failure. `NoMemory` if an
-/// allocation fails. The output is then a prefix of an answer.
+/// See [`RunFault`].
 pub fn answer_lines<I: Input, O: Output, M: Machine>(
     alloc: Global,
     input: &mut I,

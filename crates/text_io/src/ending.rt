@@ -11,7 +11,7 @@ pub enum Done {
     Ended,
 }
 
-/// Why a run could not finish its answer.
+/// Why a run could not finish its answer. A run ends at the first failure. What it has written is then a prefix of the answer.
 #[derive(Clone, Copy, PartialEq, Eq, Debug, Error)]
 pub enum RunFault {
     /// The input failed.

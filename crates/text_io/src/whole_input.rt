@@ -66,8 +66,7 @@ fn answer_found<A: Answerer>(
 ///
 /// # Errors
 ///
-/// `ReadFailed` or `WriteFailed` if that device failed; the run ends at the first failure. `NoMemory` if an
-/// allocation fails. The output is then a prefix of a text.
+/// See [`RunFault`].
 pub fn answer_whole<I: Input, O: Output, A: Answerer>(
     alloc: Global,
     input: &mut I,
