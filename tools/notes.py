@@ -2,7 +2,8 @@
 """What of the deep tier has passed, so that its next call goes on after it.
 
 A note is a line with the checksum of all that a part read, and its name. Those of this machine are in out/passed. tests/passed is
-committed: it has those of other machines, as far as they are of the present files. A note of other text counts for nothing.
+committed: it has those of other machines, as far as they are of the present files. A note of other text counts for nothing. Of a planted
+bug that is the code and the proofs of its crate, and the statements of the crates below.
 
     tools/notes.py                   writes tests/passed anew from both
 """
@@ -13,7 +14,9 @@ import sys
 import threading
 
 import kit
+from atlas.code import code_of, statement_of
 from atlas.edits import edits_of
+from atlas.files import files_below, text_of
 
 HERE = f"{kit.ROOT}/out/passed"
 ELSEWHERE = f"{kit.ROOT}/tests/passed"
@@ -31,25 +34,45 @@ def sum_of(*texts):
     return summed.hexdigest()[:DIGITS]
 
 
+def octets_of(path):
+    """Returns the octets of a file."""
+    with open(f"{kit.ROOT}/{path}", "rb") as it:
+        return it.read()
+
+
 def sum_of_files(*places, pages=True):
-    """Returns the checksum of these files, and of those below these folders, with pages or without, and without what was built and notes."""
+    """Returns the checksum of these files, and of those below these folders, with pages or without, and without what was built and notes. Of
+    a source only its code counts."""
     texts = []
     for place in places:
         for at, folders, names in os.walk(f"{kit.ROOT}/{place}") if os.path.isdir(f"{kit.ROOT}/{place}") else [(kit.ROOT, [], [place])]:
             folders[:] = sorted(it for it in folders if it not in ("out", "__pycache__"))
             for name in sorted(it for it in names if f"{at}/{it}" != ELSEWHERE and (pages or not it.endswith(".md"))):
-                with open(f"{at}/{name}", "rb") as it:
-                    texts += [os.path.relpath(f"{at}/{name}", kit.ROOT), it.read()]
+                path = os.path.relpath(f"{at}/{name}", kit.ROOT)
+                texts += [path, code_of(path, text_of(path)) if name.endswith((".rt", ".antt")) else octets_of(path)]
     return sum_of(*texts)
+
+
+def code_below(crate, part, read=code_of, only=""):
+    """Returns the paths of the sources in a part of a crate, each with what `read` makes of it. `only` is the end of their names."""
+    paths = [it for it in files_below(f"crates/{crate.name}/{part}", only) if it.endswith((".rt", ".antt"))]
+    return [text for path in paths for text in (path, read(path, text_of(path)))]
+
+
+@functools.lru_cache(maxsize=None)
+def sum_of_statements(crate):
+    """Returns the checksum of what the prover reads of a crate in those above it: its definitions and contracts, and the lemmas for others."""
+    src, specs = code_below(crate, "src", statement_of), code_below(crate, "specs")
+    return sum_of(repr(crate.said), *src, *specs, *code_below(crate, "proofs", only="Public.antt"))
 
 
 @functools.lru_cache(maxsize=None)
 def sum_of_crate(crate):
-    """Returns the checksum of what the prover reads of a crate and of those of this repository below it."""
-    parts = [f"crates/{crate.name}/{part}" for part in ("src", "specs", "proofs")]
-    files = sum_of_files(*(it for it in parts if os.path.isdir(f"{kit.ROOT}/{it}")))
-    below = [it for it in crate.deps if os.path.isdir(f"{kit.ROOT}/crates/{it.name}")]
-    return sum_of(repr(crate.said), files, *(sum_of_crate(it) for it in below))
+    """Returns the checksum of what the prover reads of a crate: its own code and proofs, and the statements of this repository's crates below
+    it. A comment counts for nothing, and neither does a body below."""
+    below = [it for it in crate.below() if os.path.isdir(f"{kit.ROOT}/crates/{it.name}")]
+    own = [text for part in ("src", "specs", "proofs") for text in code_below(crate, part)]
+    return sum_of(repr(crate.said), *own, *(sum_of_statements(it) for it in below))
 
 
 def notes_in(file):
