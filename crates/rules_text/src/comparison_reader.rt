@@ -181,7 +181,7 @@ impl LineReader {
         }
     }
 
-    /// Counts a range of a list.
+    /// Counts a range of a list as one comparison of the test, and sets what comes next. Fails if the test has 4096 already.
     #[tactic(auto, unfolding(crate::specs::LineGrammar::with_range))]
     pub(crate) fn count(&mut self, wants: Wants) -> Result<(), RuleKind>
         ensures ok { IfOk result (λ _. with_range (reading_seen self.old) (wants_seen wants) ≡ Ok (reading_seen self.new)) }

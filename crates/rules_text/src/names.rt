@@ -31,7 +31,8 @@ pub(crate) struct Name {
     pub tokens: Vec<Token>,
 }
 
-/// The token, where this is read.
+/// Returns a token that a form admits as it is, and any other as `Unknown`, which fits nowhere: `->` and `{` end no definition, and a list
+/// has numbers, names, `,` and `..` alone.
 pub(crate) fn admit(form: Form, token: Token) -> Token
     ensures { rule_token_seen result ≡ admitted (form_seen form) (rule_token_seen token) }
 {

@@ -78,7 +78,7 @@ impl LineReader {
         }
     }
 
-    /// Reads what is read at the end of a line.
+    /// Ends a definition: reads `-> refuse`, so that it must end where the test of a rule does. Nothing is read after another line.
     fn read_end(
         &mut self,
         alloc: Global,
