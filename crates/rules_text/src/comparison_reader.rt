@@ -4,7 +4,7 @@ ghost use Rattle.std.specs.Prelude.{◌≡◌, IfOk, IfErr};
 ghost use Rattle.rules_text.specs.LineGrammar.{read_channel, read_comma, read_constant, read_dots, read_high, read_low, read_mask, read_offset, read_relation, read_sign, read_slash, with_list, with_range};
 ghost use Rattle.rules_text.specs.declared.fault.RuleKind.TheVariants.{NoMemory};
 ghost use Rattle.rules_text.specs.inner.Seen.{sign_seen, rule_token_seen};
-ghost use Rattle.rules_text.specs.inner.SeenReading.{TakesStep, TakesStepOrNoMemory, context_seen, list_seen, reading_seen, subject_seen, wants_seen};
+ghost use Rattle.rules_text.specs.inner.SeenReading.{TakesLineStep, TakesLineStepOrNoMemory, context_seen, list_seen, reading_seen, subject_seen, wants_seen};
 
 use crate::fault::RuleKind;
 use crate::lexer::{Sign, Token};
@@ -21,7 +21,7 @@ impl LineReader {
     /// Reads the offset of octets.
     #[tactic(auto, unfolding(crate::specs::LineGrammar::read_offset))]
     pub(crate) fn offset(&mut self, size: Size, token: Token) -> Result<(), RuleKind>
-        ensures { TakesStep result self.new (read_offset size (reading_seen self.old) (rule_token_seen token)) }
+        ensures { TakesLineStep result self.new (read_offset size (reading_seen self.old) (rule_token_seen token)) }
     {
         let field = octets_of(size, token)?;
         self.wants = Wants::Relation(Subject { field, mask: None });
@@ -36,7 +36,7 @@ impl LineReader {
         subject: Subject,
         token: Token,
     ) -> Result<(), RuleKind>
-        ensures { TakesStep result self.new (read_relation (context_seen context) (subject_seen subject) (reading_seen self.old) (rule_token_seen token)) }
+        ensures { TakesLineStep result self.new (read_relation (context_seen context) (subject_seen subject) (reading_seen self.old) (rule_token_seen token)) }
     {
         match token {
             Token::Mask => {
@@ -55,7 +55,7 @@ impl LineReader {
         subject: Subject,
         token: Token,
     ) -> Result<(), RuleKind>
-        ensures { TakesStep result self.new (read_mask (context_seen context) (subject_seen subject) (reading_seen self.old) (rule_token_seen token)) }
+        ensures { TakesLineStep result self.new (read_mask (context_seen context) (subject_seen subject) (reading_seen self.old) (rule_token_seen token)) }
     {
         let mask = number_for(token, subject.field, context.side)?;
         self.wants = Wants::Sign(Subject {
@@ -73,7 +73,7 @@ impl LineReader {
         subject: Subject,
         token: Token,
     ) -> Result<(), RuleKind>
-        ensures { TakesStep result self.new (read_sign (context_seen context) (subject_seen subject) (reading_seen self.old) (rule_token_seen token)) }
+        ensures { TakesLineStep result self.new (read_sign (context_seen context) (subject_seen subject) (reading_seen self.old) (rule_token_seen token)) }
     {
         match token {
             Token::Sign(Sign::Equal) => {
@@ -95,7 +95,7 @@ impl LineReader {
     /// Reads `/` after a path.
     #[tactic(auto, unfolding(crate::specs::LineGrammar::read_slash))]
     pub(crate) fn slash(&mut self, path: u32, token: Token) -> Result<(), RuleKind>
-        ensures { TakesStep result self.new (read_slash path (reading_seen self.old) (rule_token_seen token)) }
+        ensures { TakesLineStep result self.new (read_slash path (reading_seen self.old) (rule_token_seen token)) }
     {
         match token {
             Token::Slash => {
@@ -115,7 +115,7 @@ impl LineReader {
         path: u32,
         token: Token,
     ) -> Result<(), RuleKind>
-        ensures { TakesStepOrNoMemory result self.new (read_channel (context_seen context) path (reading_seen self.old) (rule_token_seen token)) }
+        ensures { TakesLineStepOrNoMemory result self.new (read_channel (context_seen context) path (reading_seen self.old) (rule_token_seen token)) }
     {
         match token {
             Token::Star => self.add(alloc, equal(Field::Vpi, path)),
@@ -133,7 +133,7 @@ impl LineReader {
         sign: Sign,
         token: Token,
     ) -> Result<(), RuleKind>
-        ensures { TakesStepOrNoMemory result self.new (read_constant (context_seen context) (subject_seen subject) (sign_seen sign) (reading_seen self.old) (rule_token_seen token)) }
+        ensures { TakesLineStepOrNoMemory result self.new (read_constant (context_seen context) (subject_seen subject) (sign_seen sign) (reading_seen self.old) (rule_token_seen token)) }
     {
         let k = number_for(token, subject.field, context.side)?;
         self.add(alloc, compared(subject, relation_of(sign, k)))
@@ -142,7 +142,7 @@ impl LineReader {
     /// Reads a number of a list.
     #[tactic(auto, unfolding(crate::specs::LineGrammar::read_low))]
     pub(crate) fn low(&mut self, context: Context, of: ListOf, token: Token) -> Result<(), RuleKind>
-        ensures { TakesStep result self.new (read_low (context_seen context) (list_seen of) (reading_seen self.old) (rule_token_seen token)) }
+        ensures { TakesLineStep result self.new (read_low (context_seen context) (list_seen of) (reading_seen self.old) (rule_token_seen token)) }
     {
         let low = number_for(token, field_of(of), context.side)?;
         self.wants = Wants::Dots(of, low);
@@ -159,7 +159,7 @@ impl LineReader {
         low: u32,
         token: Token,
     ) -> Result<(), RuleKind>
-        ensures { TakesStepOrNoMemory result self.new (read_dots (context_seen context) (list_seen of) low (reading_seen self.old) (rule_token_seen token)) }
+        ensures { TakesLineStepOrNoMemory result self.new (read_dots (context_seen context) (list_seen of) low (reading_seen self.old) (rule_token_seen token)) }
     {
         match token {
             Token::Dots => {
@@ -176,7 +176,7 @@ impl LineReader {
     /// Counts a range of a list as one comparison of the test, and sets what comes next. Fails if the test has 4096 already.
     #[tactic(auto, unfolding(crate::specs::LineGrammar::with_range))]
     pub(crate) fn count(&mut self, wants: Wants) -> Result<(), RuleKind>
-        ensures { TakesStep result self.new (with_range (reading_seen self.old) (wants_seen wants)) }
+        ensures { TakesLineStep result self.new (with_range (reading_seen self.old) (wants_seen wants)) }
     {
         if self.comparisons >= MOST_COMPARISONS {
             return Err(RuleKind::TooLong);
@@ -195,7 +195,7 @@ impl LineReader {
         low: u32,
         token: Token,
     ) -> Result<(), RuleKind>
-        ensures { TakesStep result self.new (read_high (context_seen context) (list_seen of) low (reading_seen self.old) (rule_token_seen token)) }
+        ensures { TakesLineStep result self.new (read_high (context_seen context) (list_seen of) low (reading_seen self.old) (rule_token_seen token)) }
     {
         let high = number_for(token, field_of(of), context.side)?;
         if high < low {
@@ -214,7 +214,7 @@ impl LineReader {
         span: Span,
         token: Token,
     ) -> Result<(), RuleKind>
-        ensures { TakesStepOrNoMemory result self.new (read_comma (context_seen context) (list_seen of) span (reading_seen self.old) (rule_token_seen token)) }
+        ensures { TakesLineStepOrNoMemory result self.new (read_comma (context_seen context) (list_seen of) span (reading_seen self.old) (rule_token_seen token)) }
     {
         match token {
             Token::Comma => {

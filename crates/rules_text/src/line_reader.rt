@@ -6,7 +6,7 @@ ghost use Rattle.rules_text.specs.Names.{first_awaited, form_start};
 ghost use Rattle.rules_text.specs.TextOfRules.{fault_column, statement_from};
 ghost use Rattle.rules_text.specs.declared.fault.RuleKind.TheVariants.{Unbalanced};
 ghost use Rattle.rules_text.specs.inner.Seen.{rule_token_seen};
-ghost use Rattle.rules_text.specs.inner.SeenReading.{TakesStep, TakesStepOrNoMemory, context_seen, form_seen, reading_seen, statement_found, wants_seen};
+ghost use Rattle.rules_text.specs.inner.SeenReading.{TakesLineStep, TakesLineStepOrNoMemory, context_seen, form_seen, reading_seen, statement_found, wants_seen};
 
 use crate::fault::{RuleFault, RuleKind, fault_in_line};
 use crate::group::Group;
@@ -152,7 +152,7 @@ impl LineReader {
         column: usize,
         token: Token,
     ) -> Result<(), RuleKind>
-        ensures { TakesStepOrNoMemory result self.new (read_token (context_seen context) column (reading_seen self.old) (rule_token_seen token)) }
+        ensures { TakesLineStepOrNoMemory result self.new (read_token (context_seen context) column (reading_seen self.old) (rule_token_seen token)) }
     {
         if token.is_name() {
             return Err(RuleKind::UnknownName);
@@ -172,7 +172,7 @@ impl LineReader {
         column: usize,
         token: Token,
     ) -> Result<(), RuleKind>
-        ensures { TakesStepOrNoMemory result self.new (read_awaited (wants_seen self.old.wants) (context_seen context) column (reading_seen self.old) (rule_token_seen token)) }
+        ensures { TakesLineStepOrNoMemory result self.new (read_awaited (wants_seen self.old.wants) (context_seen context) column (reading_seen self.old) (rule_token_seen token)) }
     {
         match self.wants {
             Wants::Start => self.start(alloc, context, column, token),
@@ -228,7 +228,7 @@ impl LineReader {
         column: usize,
         token: Token,
     ) -> Result<(), RuleKind>
-        ensures { TakesStepOrNoMemory result self.new (read_start (context_seen context) column (reading_seen self.old) (rule_token_seen token)) }
+        ensures { TakesLineStepOrNoMemory result self.new (read_start (context_seen context) column (reading_seen self.old) (rule_token_seen token)) }
     {
         match token {
             Token::Otherwise => {
@@ -260,7 +260,7 @@ impl LineReader {
     /// Reads `->` after `otherwise`.
     #[tactic(auto, unfolding(crate::specs::LineGrammar::read_arrow))]
     fn arrow(&mut self, token: Token) -> Result<(), RuleKind>
-        ensures { TakesStep result self.new (read_arrow (reading_seen self.old) (rule_token_seen token)) }
+        ensures { TakesLineStep result self.new (read_arrow (reading_seen self.old) (rule_token_seen token)) }
     {
         match token {
             Token::Arrow => {
@@ -274,7 +274,7 @@ impl LineReader {
     /// Reads the value of a rule.
     #[tactic(auto, unfolding(crate::specs::LineGrammar::read_value))]
     fn value(&mut self, token: Token) -> Result<(), RuleKind>
-        ensures { TakesStep result self.new (read_value (reading_seen self.old) (rule_token_seen token)) }
+        ensures { TakesLineStep result self.new (read_value (reading_seen self.old) (rule_token_seen token)) }
     {
         let value = value_of(token)?;
         let test = std::mem::replace(&mut self.test, Test::Any);
@@ -286,7 +286,7 @@ impl LineReader {
     /// Reads the value of `otherwise`, or the number of a contract.
     #[tactic(auto, unfolding(crate::specs::LineGrammar::read_only_value))]
     fn only_value(&mut self, token: Token) -> Result<(), RuleKind>
-        ensures { TakesStep result self.new (read_only_value (reading_seen self.old) (rule_token_seen token)) }
+        ensures { TakesLineStep result self.new (read_only_value (reading_seen self.old) (rule_token_seen token)) }
     {
         let value = value_of(token)?;
         self.statement = Statement::Value(value);
@@ -297,7 +297,7 @@ impl LineReader {
     /// Reads the side.
     #[tactic(auto, unfolding(crate::specs::LineGrammar::read_side))]
     fn side_name(&mut self, token: Token) -> Result<(), RuleKind>
-        ensures { TakesStep result self.new (read_side (reading_seen self.old) (rule_token_seen token)) }
+        ensures { TakesLineStep result self.new (read_side (reading_seen self.old) (rule_token_seen token)) }
     {
         match token {
             Token::Uni => {

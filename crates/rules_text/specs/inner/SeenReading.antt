@@ -91,14 +91,14 @@ reading_seen reader = record {
 }
 
 -- A reader takes this step: afterwards it has read what the step gives, or it returns the fault of the step.
-abbrev pub TakesStep : {A : Type 0} → Result A RuleKind → LineReader → LineStep → Type 0
-TakesStep (Ok done) reader step = step ≡ Ok (reading_seen reader)
-TakesStep (Err kind) reader step = step ≡ Err kind
+abbrev pub TakesLineStep : {A : Type 0} → Result A RuleKind → LineReader → LineStep → Type 0
+TakesLineStep (Ok done) reader step = step ≡ Ok (reading_seen reader)
+TakesLineStep (Err kind) reader step = step ≡ Err kind
 
 -- The same, unless an allocation fails.
-abbrev pub TakesStepOrNoMemory : {A : Type 0} → Result A RuleKind → LineReader → LineStep → Type 0
-TakesStepOrNoMemory (Ok done) reader step = step ≡ Ok (reading_seen reader)
-TakesStepOrNoMemory (Err kind) reader step = kind ≢ NoMemory → step ≡ Err kind
+abbrev pub TakesLineStepOrNoMemory : {A : Type 0} → Result A RuleKind → LineReader → LineStep → Type 0
+TakesLineStepOrNoMemory (Ok done) reader step = step ≡ Ok (reading_seen reader)
+TakesLineStepOrNoMemory (Err kind) reader step = kind ≢ NoMemory → step ≡ Err kind
 
 -- A name.
 abbrev pub name_seen : Name → NameRead
