@@ -8,7 +8,8 @@ use crate::relation::Relation;
 pub enum Test {
     /// Holds of every cell.
     Any,
-    /// An OAM cell of a virtual channel: the payload type is 4 or 5.
+    /// The payload type is 4 or 5, whatever else the header has: OAM of a virtual channel (F5). OAM of a virtual path (F4) is known by its
+    /// VCI, 3 or 4, at which this test doesn't look.
     Oam,
     /// A cell of user data: the payload type is 0 to 3.
     User,

@@ -42,7 +42,7 @@ pub(crate) fn is_same_load(one: Part, other: Part) -> bool
     octets_of(one.size) == octets_of(other.size) && one.at == other.at
 }
 
-/// Whether two parts have the same fields.
+/// Whether two parts are of the same octets and have the same mask.
 fn is_same_part(one: Part, other: Part) -> bool
     ensures { result ≡ is_same_part one other }
 {

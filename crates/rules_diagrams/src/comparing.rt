@@ -17,7 +17,7 @@ use crate::meeting::{Both, Meeting};
 use crate::store::Diagrams;
 use crate::walk::meetings;
 use rules_cells::{Rules, laws};
-use std::alloc::{AllocError, Global};
+use std::alloc::Global;
 
 /// The case of a meeting.
 fn case_of(old: Compared<'_>, new: Compared<'_>, meeting: &Meeting) -> Case
@@ -36,7 +36,7 @@ fn cases_of(
     old: Compared<'_>,
     new: Compared<'_>,
     meetings: &[Meeting],
-) -> Result<Vec<Case>, AllocError>
+) -> Result<Vec<Case>, Undecided>
     ensures { IfOk result (λ cases. cases.items ≡ map (case_of old.entry new.entry) meetings.now) }
 {
     let mut cases = Vec::new(alloc);

@@ -1,7 +1,11 @@
 //! What is known of a machine at a place of its program.
 
-ghost use Rattle.std.specs.Prelude.{◌≡◌, IsTrue};
+ghost use Rattle.std.specs.Prelude.{◌≡◌, IfSome, IsTrue};
+ghost use Rattle.bpf_code.specs.declared.instr.Instr.{Instr as Written};
+ghost use Rattle.rules_diagrams.specs.inner.Following.{IsPutInto, PutsInto};
 ghost use Rattle.rules_diagrams.specs.inner.Registers.{contents_with};
+ghost use Rattle.rules_diagrams.specs.declared.contents.Contents.{Contents as Known};
+ghost use Rattle.rules_diagrams.specs.declared.contents.Register.{Register as Into};
 
 use crate::diagram::Diagram;
 use crate::word::Bit;
@@ -106,14 +110,38 @@ pub(crate) fn with_word(contents: &Contents, register: Register, word: [Bit; 32]
 }
 
 /// What one instruction makes of a register.
-#[derive(Debug, Drop)]
+#[derive(Clone, Copy, Debug)]
 pub(crate) enum Made {
-    /// It puts these bits into it.
-    Bits(Vec<Bit>),
+    /// It puts this word into it.
+    Word([Bit; 32]),
     /// It ends the program with this value.
     Ends(u32),
     /// It isn't followed.
     Unknown,
+}
+
+/// The same bits, if there are 32.
+fn word_of(bits: &[Bit]) -> Option<[Bit; 32]>
+    ensures { IfSome result (λ word. word ≡ bits.now) }
+{
+    if bits.len() != 32 {
+        return None;
+    }
+    let mut word = [Bit::Zero; 32];
+    word.copy_from_slice(bits);
+    Some(word)
+}
+
+impl Made {
+    /// What an instruction makes that puts these bits into a register. It isn't followed if there aren't 32.
+    pub(crate) fn from_bits(bits: Vec<Bit>) -> Made
+        ensures { (register : Into) (i : Written) (contents : Known) → PutsInto register i contents bits.items → IsPutInto register i contents result }
+    {
+        match word_of(&bits) {
+            None => Made::Unknown,
+            Some(word) => Made::Word(word),
+        }
+    }
 }
 
 /// What one instruction does.

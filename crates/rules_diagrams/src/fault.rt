@@ -59,19 +59,6 @@ impl From<Undecided> for Unfollowed {
     }
 }
 
-impl From<AllocError> for Unfollowed {
-    ghost use Rattle.std.specs.Prelude.{◌≡◌};
-    ghost use Rattle.rules_diagrams.specs.declared.fault.Undecided.TheVariants.{NoMemory};
-    ghost use Rattle.rules_diagrams.specs.declared.fault.Unfollowed.TheVariants.{Undecided as Because};
-
-    ghost from_gives = { λ e fault. fault ≡ Because NoMemory };
-
-    /// Returns the reason of a failed allocation.
-    fn from(_: AllocError) -> Unfollowed {
-        Unfollowed::Undecided(Undecided::NoMemory)
-    }
-}
-
 impl<T: Drop> From<AllocFailed<T>> for Unfollowed {
     ghost use Rattle.std.specs.Prelude.{◌≡◌};
     ghost use Rattle.rules_diagrams.specs.declared.fault.Undecided.TheVariants.{NoMemory};
@@ -108,18 +95,5 @@ impl From<Undecided> for Uncompared {
     /// Returns why.
     fn from(why: Undecided) -> Uncompared {
         Uncompared::Undecided(why)
-    }
-}
-
-impl From<AllocError> for Uncompared {
-    ghost use Rattle.std.specs.Prelude.{◌≡◌};
-    ghost use Rattle.rules_diagrams.specs.declared.fault.Undecided.TheVariants.{NoMemory};
-    ghost use Rattle.rules_diagrams.specs.declared.fault.Uncompared.TheVariants.{Undecided as Because};
-
-    ghost from_gives = { λ e fault. fault ≡ Because NoMemory };
-
-    /// Returns the reason of a failed allocation.
-    fn from(_: AllocError) -> Uncompared {
-        Uncompared::Undecided(Undecided::NoMemory)
     }
 }

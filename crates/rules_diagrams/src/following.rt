@@ -13,38 +13,24 @@ ghost use Rattle.rules_diagrams.specs.inner.Words.{word_number};
 ghost use Rattle.rules_diagrams.specs.declared.contents.Register.{Register as Into};
 
 use crate::contents::{Contents, Followed, Made, Register, with_word};
+use crate::fault::Undecided;
 use crate::operations::{operand_constant, operated};
 use crate::word::{Bit, constant, constant_of, shifted_left, spelled};
 use bpf_code::{By, Instr, Size, Test};
 use std::alloc::{AllocError, Global};
 use upc_cell::CELL_OCTETS;
 
-/// The same bits, if there are 32.
-fn word_of(bits: &[Bit]) -> Option<[Bit; 32]>
-    ensures { IfSome result (λ word. word ≡ bits.now) }
-{
-    if bits.len() != 32 {
-        return None;
-    }
-    let mut word = [Bit::Zero; 32];
-    word.copy_from_slice(bits);
-    Some(word)
-}
-
 /// Continues at the next place with what an instruction makes of a register.
-fn with(register: Register, place: usize, contents: &Contents, made: &Made) -> Followed
+fn with(register: Register, place: usize, contents: &Contents, made: Made) -> Followed
     requires { place + 1 < 2 ^ 64 }
-    ensures { (i : Written) → IsPutInto register i contents.now made.now → IsFollowed i place contents.now result }
+    ensures { (i : Written) → IsPutInto register i contents.now made → IsFollowed i place contents.now result }
 {
     match made {
         Made::Unknown => Followed::Stops,
-        Made::Ends(value) => Followed::Ends(*value),
-        Made::Bits(bits) => match word_of(bits) {
-            None => Followed::Stops,
-            Some(word) => Followed::Continues {
-                place: place + 1,
-                contents: with_word(contents, register, word),
-            },
+        Made::Ends(value) => Followed::Ends(value),
+        Made::Word(word) => Followed::Continues {
+            place: place + 1,
+            contents: with_word(contents, register, word),
         },
     }
 }
@@ -117,7 +103,7 @@ fn load(
 {
     match loaded(alloc, at, size)? {
         None => Ok(Made::Ends(0)),
-        Some(bits) => Ok(Made::Bits(bits)),
+        Some(bits) => Ok(Made::from_bits(bits)),
     }
 }
 
@@ -130,7 +116,7 @@ fn quarter_loaded(alloc: Global, k: u32, contents: &Contents) -> Result<Made, Al
         Some(octet) => {
             let low = shifted_left(alloc, &octet, 0, 4)?;
             let bits = shifted_left(alloc, &low, 2, 32)?;
-            Ok(Made::Bits(bits))
+            Ok(Made::from_bits(bits))
         }
     }
 }
@@ -151,21 +137,14 @@ fn indirect(alloc: Global, size: Size, k: u32, contents: &Contents) -> Result<Ma
     }
 }
 
-/// The bits of a word.
-fn copied(alloc: Global, word: &[Bit; 32]) -> Result<Vec<Bit>, AllocError>
-    ensures { IfOk result (λ bits. bits.items ≡ word.now) }
-{
-    word.to_vec(alloc)
-}
-
 /// A load of a scratch word.
-fn recall(alloc: Global, k: u32, contents: &Contents) -> Result<Made, AllocError>
-    ensures a { IfOk result (IsPutInto Into.A (Written.LoadMem k) contents.now) }
-    ensures x { IfOk result (IsPutInto Into.X (Written.LdxMem k) contents.now) }
+fn recall(k: u32, contents: &Contents) -> Made
+    ensures a { IsPutInto Into.A (Written.LoadMem k) contents.now result }
+    ensures x { IsPutInto Into.X (Written.LdxMem k) contents.now result }
 {
     match recalled(contents, k) {
-        None => Ok(Made::Unknown),
-        Some(word) => Ok(Made::Bits(copied(alloc, &word)?)),
+        None => Made::Unknown,
+        Some(word) => Made::Word(word),
     }
 }
 
@@ -184,7 +163,7 @@ fn negated(alloc: Global, contents: &Contents) -> Result<Made, AllocError>
         None => Ok(Made::Unknown),
         Some(a) => {
             let bits = constant(alloc, negative(a), 32)?;
-            Ok(Made::Bits(bits))
+            Ok(Made::from_bits(bits))
         }
     }
 }
@@ -227,7 +206,7 @@ fn load_constant(
     ensures { IfOk result (IsPutInto register instr.now contents.now) }
 {
     let bits = constant(alloc, k, 32)?;
-    Ok(Made::Bits(bits))
+    Ok(Made::from_bits(bits))
 }
 
 /// What an instruction makes of A, if it changes that alone.
@@ -239,10 +218,10 @@ fn made_of_a(alloc: Global, instr: &Instr, contents: &Contents) -> Result<Made, 
         Instr::LoadInd { size, k } => indirect(alloc, size, k, contents),
         Instr::LoadImm(k) => load_constant(alloc, Register::A, instr, k, contents),
         Instr::LoadLen => load_constant(alloc, Register::A, instr, CELL_OCTETS as u32, contents),
-        Instr::LoadMem(k) => recall(alloc, k, contents),
+        Instr::LoadMem(k) => Ok(recall(k, contents)),
         Instr::Alu { op, by } => operated(alloc, op, by, contents),
         Instr::Neg => negated(alloc, contents),
-        Instr::Txa => Ok(Made::Bits(copied(alloc, &contents.x)?)),
+        Instr::Txa => Ok(Made::Word(contents.x)),
         _ => Ok(Made::Unknown),
     }
 }
@@ -254,9 +233,9 @@ fn made_of_x(alloc: Global, instr: &Instr, contents: &Contents) -> Result<Made, 
     match *instr {
         Instr::LdxImm(k) => load_constant(alloc, Register::X, instr, k, contents),
         Instr::LdxLen => load_constant(alloc, Register::X, instr, CELL_OCTETS as u32, contents),
-        Instr::LdxMem(k) => recall(alloc, k, contents),
+        Instr::LdxMem(k) => Ok(recall(k, contents)),
         Instr::LdxMsh(k) => quarter_loaded(alloc, k, contents),
-        Instr::Tax => Ok(Made::Bits(copied(alloc, &contents.a)?)),
+        Instr::Tax => Ok(Made::Word(contents.a)),
         _ => Ok(Made::Unknown),
     }
 }
@@ -267,7 +246,7 @@ pub(crate) fn follow(
     instr: &Instr,
     place: usize,
     contents: &Contents,
-) -> Result<Followed, AllocError>
+) -> Result<Followed, Undecided>
     requires { place < 2 ^ 32 }
     ensures { IfOk result (IsFollowed instr.now place contents.now) }
 {
@@ -283,11 +262,11 @@ pub(crate) fn follow(
         Instr::RetA => Ok(returned(place, contents)),
         Instr::LdxImm(_) | Instr::LdxLen | Instr::LdxMem(_) | Instr::LdxMsh(_) | Instr::Tax => {
             let made = made_of_x(alloc, instr, contents)?;
-            Ok(with(Register::X, place, contents, &made))
+            Ok(with(Register::X, place, contents, made))
         }
         _ => {
             let made = made_of_a(alloc, instr, contents)?;
-            Ok(with(Register::A, place, contents, &made))
+            Ok(with(Register::A, place, contents, made))
         }
     }
 }

@@ -41,7 +41,7 @@ fn bits_operated(alloc: Global, op: Op, by: By, contents: &Contents) -> Result<M
     let other = operand(alloc, by, contents)?;
     match bitwise(alloc, op, &contents.a, &other)? {
         None => Ok(Made::Unknown),
-        Some(bits) => Ok(Made::Bits(bits)),
+        Some(bits) => Ok(Made::from_bits(bits)),
     }
 }
 
@@ -60,8 +60,8 @@ fn shifted_out(
     match by {
         By::Imm(_) => Ok(Made::Unknown),
         By::X => match op {
-            Op::Lsh => Ok(Made::Bits(constant(alloc, 0, 32)?)),
-            Op::Rsh => Ok(Made::Bits(constant(alloc, 0, 32)?)),
+            Op::Lsh => Ok(Made::from_bits(constant(alloc, 0, 32)?)),
+            Op::Rsh => Ok(Made::from_bits(constant(alloc, 0, 32)?)),
             Op::Add | Op::Sub | Op::Mul | Op::Div | Op::Or | Op::And | Op::Mod | Op::Xor => {
                 Ok(Made::Unknown)
             }
@@ -80,8 +80,8 @@ fn shifted(alloc: Global, op: Op, by: By, contents: &Contents) -> Result<Made, A
         return shifted_out(alloc, op, by, k, contents);
     }
     match op {
-        Op::Lsh => Ok(Made::Bits(shifted_left(alloc, &contents.a, k, 32)?)),
-        Op::Rsh => Ok(Made::Bits(shifted_right(alloc, &contents.a, k, k)?)),
+        Op::Lsh => Ok(Made::from_bits(shifted_left(alloc, &contents.a, k, 32)?)),
+        Op::Rsh => Ok(Made::from_bits(shifted_right(alloc, &contents.a, k, k)?)),
         Op::Add | Op::Sub | Op::Mul | Op::Div | Op::Or | Op::And | Op::Mod | Op::Xor => {
             Ok(Made::Unknown)
         }
@@ -132,7 +132,7 @@ fn calculated(alloc: Global, op: Op, by: By, contents: &Contents) -> Result<Made
     };
     match computed(op, a, k) {
         None => Ok(divided_by_none(op, by, k)),
-        Some(number) => Ok(Made::Bits(constant(alloc, number, 32)?)),
+        Some(number) => Ok(Made::from_bits(constant(alloc, number, 32)?)),
     }
 }
 

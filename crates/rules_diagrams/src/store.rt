@@ -130,7 +130,7 @@ fn first_step() -> Step
 }
 
 impl Diagrams {
-    /// PutsInto a store without nodes.
+    /// Makes a store without nodes.
     ///
     /// # Errors
     ///

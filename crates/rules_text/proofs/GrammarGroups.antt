@@ -1,5 +1,5 @@
 -- Parentheses that close, and tests after `and` and `or`, keep to the grammar.
-use Rattle.std.proofs.Common.{◌≡◌, ◌+◌, nat_lt, true, if◌then◌else◌, List, [], ◌∷◌, ◌++◌, length, Option, Some, None, option_map, Ok, Err, refl, sym, ap, ◌∙◌, subst, append_assoc, append-nil, arith}
+use Rattle.std.proofs.Common.{◌≡◌, nat_lt, true, if◌then◌else◌, List, [], ◌∷◌, ◌++◌, length, Option, Some, None, option_map, Ok, Err, refl, sym, ap, ◌∙◌, subst, append_assoc, append-nil, arith}
 use Rattle.std.proofs.lemmas.Bool.{lt-ltb}
 use Rattle.rules_text.specs.LineGrammar.{GroupRead, Reading, awaits_unit, awaits_operator, or_with, group_after_or, group_test, group_with, some_test, unit_around, whole_test}
 use Rattle.rules_text.specs.RuleGrammar.{TestForm, parenthesis_unit, part_written, test_tokens, test_written, units_tokens}

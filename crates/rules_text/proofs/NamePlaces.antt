@@ -1,5 +1,5 @@
 -- A line that gives a name, up to what the name means.
-use Rattle.std.proofs.Common.{◌≡◌, ◌≢◌, IfOk, ℕ, ◌+◌, ◌-◌, ◌<◌, true, false, List, [], ◌∷◌, ◌++◌, length, slice_range, Result, Ok, Err, refl, sym, ap, ◌∙◌, arith, append_assoc}
+use Rattle.std.proofs.Common.{◌≡◌, ◌≢◌, ℕ, ◌+◌, ◌-◌, ◌<◌, true, false, List, [], ◌∷◌, ◌++◌, length, slice_range, Result, Ok, Err, refl, sym, ap, ◌∙◌, arith, append_assoc}
 use Rattle.std.proofs.lemmas.List.{append-nil, length-append}
 use Rattle.rules_text.specs.Names.{NameRead, letters_of}
 use Rattle.rules_text.specs.RuleTokens.{RuleFound, RuleToken}
@@ -75,8 +75,3 @@ body_next next made here before rest wanted e f g =
 -- All tokens of a definition.
 pub body_last : (made rest wanted : List RuleToken) → rest ≡ [] → made ++ rest ≡ wanted → made ≡ wanted
 body_last made rest wanted e f = sym (append-nil made) ∙ ap (λ (t : List RuleToken). made ++ t) (sym e) ∙ f
-
--- What holds after a call that is returned.
-pub returned_onward : {T E : Type 0} (returned : Result T E) (A B : Type 0) → (A → B) → IfOk returned (λ _. A) → IfOk returned (λ _. B)
-returned_onward (Ok value) A B on a = on a
-returned_onward (Err error) A B on a = tt

@@ -13,7 +13,7 @@ use Rattle.std.proofs.lemmas.Slice.Eq.{bytes_eq-Decides}
 use Rattle.rules_text.specs.Names.{name_meaning}
 use Rattle.rules_text.specs.RuleTokens.{RuleToken, no_room}
 use Rattle.rules_text.specs.declared.lexer.Token.{Token}
-use Rattle.rules_text.specs.declared.name_table.NameTable.{NameTable}
+use Rattle.rules_text.specs.declared.names.NameTable.{NameTable}
 use Rattle.rules_text.specs.declared.names.Name.{Name}
 use Rattle.rules_text.specs.inner.Seen.{rule_token_seen}
 use Rattle.rules_text.specs.inner.SeenReading.{name_seen, names_seen}

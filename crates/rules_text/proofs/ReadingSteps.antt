@@ -1,5 +1,5 @@
 -- A line read token by token, and a text line by line.
-use Rattle.std.proofs.Common.{◌≡◌, ◌≢◌, inl, inr, IsErrAnd, IfErr, IfOk, ℕ, ◌+◌, Bool, true, false, if◌then◌else◌, List, [], ◌∷◌, Result, Ok, Err, refl, sym, ap, ◌∙◌, subst}
+use Rattle.std.proofs.Common.{◌≡◌, inl, inr, IsErrAnd, IfErr, IfOk, ℕ, Bool, true, false, if◌then◌else◌, List, [], ◌∷◌, Result, Ok, Err, refl, sym, ap, ◌∙◌, subst}
 use Rattle.rules_text.specs.ContinuedLines.{line_begin, place_past, rule_lines}
 use Rattle.rules_text.specs.declared.place.TextPlace.{TextPlace}
 use Rattle.rules_text.specs.LineGrammar.{LineContext, Reading, StatementRead, read_token, statement_at_end}
@@ -7,12 +7,14 @@ use Rattle.rules_text.specs.Names.{NameRead, rule_form}
 use Rattle.rules_text.specs.RulesInMemory.{placed_rules_read}
 use Rattle.rules_text.specs.RuleTokens.{RuleFound, rule_tokens}
 use Rattle.rules_text.specs.TextFaults.{IsFaultOf}
-use Rattle.rules_text.specs.TextOfRules.{PlacedRulesRead, TextReading, context_of, fault_column, fault_of_line, formed_statement, gives_name, name_given, no_text_read, placed_rules_at_end, placed_rules_from, placed_rules_in, read_then, rules_in, statement_from, text_with, text_with_line, text_with_name, text_with_room, text_with_tokens, fault_in_line}
+use Rattle.rules_text.specs.TextOfRules.{PlacedRulesRead, TextReading, context_of, fault_column, fault_of_line, formed_statement, gives_name, name_given, no_text_read, placed_fault, placed_rules_at_end, placed_rules_from, placed_rules_in, read_then, rules_in, statement_from, text_with, text_with_line, text_with_name, text_with_room, text_with_tokens, fault_in_line}
 use Rattle.rules_text.specs.declared.fault.RuleFault.{RuleFault}
 use Rattle.rules_text.specs.declared.fault.RuleKind.{RuleKind}
-use Rattle.rules_text.specs.declared.fault.RuleKind.TheVariants.{BadLine, BadNumber, TooLarge, OutsideCell, AfterOtherwise, Unbalanced, TooDeep, TooLong, NoMemory, UnknownName, NameTaken}
+use Rattle.rules_text.specs.declared.fault.RuleKind.TheVariants.{AfterOtherwise, NoMemory}
+use Rattle.rules_text.specs.declared.line_reader.Statement.{Statement}
 use Rattle.rules_text.specs.declared.reader.PlacedRules.{PlacedRules}
-use Rattle.rules_text.specs.inner.SeenFaults.{fault_seen}
+use Rattle.rules_text.specs.inner.SeenFaults.{IsReadAs}
+use Rattle.rules_text.specs.inner.SeenReading.{line_statement_seen, statement_found}
 
 -- One more token.
 pub statement_more : (context : LineContext) (column : ℕ) (reading next : Reading) (found : RuleFound) (rest : List RuleFound)
@@ -33,12 +35,6 @@ pub statement_end : (context : LineContext) (column : ℕ) (reading : Reading) (
     → statement_at_end reading.awaited reading.statement ≡ Ok statement → statement_from context reading column [] ≡ Ok statement
 unfolding statement_from
 statement_end context column reading statement e = rw e refl
-
--- The end of a line that ends too early.
-pub statement_early : (context : LineContext) (column : ℕ) (reading : Reading) (kind : RuleKind)
-    → statement_at_end reading.awaited reading.statement ≡ Err kind → statement_from context reading column [] ≡ Err (fault_in_line column kind)
-unfolding statement_from
-statement_early context column reading kind e = rw e refl
 
 -- One more line.
 pub rules_more : (text next : TextReading) (begin : TextPlace) (line : List ℕ) (rest : List (List ℕ))
@@ -120,22 +116,6 @@ pub line_name_fault : (text : TextReading) (begin : TextPlace) (line : List ℕ)
 unfolding text_with_line
 line_name_fault text begin line first rest fault e closed gives s = rw (e, closed, gives, s) refl
 
--- A fault that has no place but its token's.
-pub other_fault : {A : Type 0} (read : Result A RuleFault) (reading : Reading) (column : ℕ) (fault : RuleFault) (kind : RuleKind)
-    → kind ≢ Unbalanced → fault ≡ fault_seen 0 column kind
-    → (kind ≢ NoMemory → read ≡ Err (fault_in_line (fault_column reading kind column) kind)) → IsFaultOf read fault
-other_fault read reading column fault BadLine n f g = inr (g (λ e. cc) ∙ ap (λ (x : RuleFault). Err x) (sym f))
-other_fault read reading column fault BadNumber n f g = inr (g (λ e. cc) ∙ ap (λ (x : RuleFault). Err x) (sym f))
-other_fault read reading column fault TooLarge n f g = inr (g (λ e. cc) ∙ ap (λ (x : RuleFault). Err x) (sym f))
-other_fault read reading column fault OutsideCell n f g = inr (g (λ e. cc) ∙ ap (λ (x : RuleFault). Err x) (sym f))
-other_fault read reading column fault AfterOtherwise n f g = inr (g (λ e. cc) ∙ ap (λ (x : RuleFault). Err x) (sym f))
-other_fault read reading column fault Unbalanced n f g = absurd (n refl)
-other_fault read reading column fault TooDeep n f g = inr (g (λ e. cc) ∙ ap (λ (x : RuleFault). Err x) (sym f))
-other_fault read reading column fault TooLong n f g = inr (g (λ e. cc) ∙ ap (λ (x : RuleFault). Err x) (sym f))
-other_fault read reading column fault UnknownName n f g = inr (g (λ e. cc) ∙ ap (λ (x : RuleFault). Err x) (sym f))
-other_fault read reading column fault NameTaken n f g = inr (g (λ e. cc) ∙ ap (λ (x : RuleFault). Err x) (sym f))
-other_fault read reading column fault NoMemory n f g = inl f
-
 -- A fault of a part is one of the whole.
 pub fault_onward : {A B : Type 0} (part : Result A RuleFault) (whole : Result B RuleFault) (fault : RuleFault)
     → (part ≡ Err fault → whole ≡ Err fault) → IsFaultOf part fault → IsFaultOf whole fault
@@ -154,15 +134,22 @@ pub returned_fault : {T : Type 0} (returned : Result T RuleFault) (fault : RuleF
 returned_fault (Ok value) fault P e p = tt
 returned_fault (Err other) fault P e p = subst P (sym e) p
 
--- A fault at an equal column.
-pub placed_same : (fault : RuleFault) (column other : ℕ) (kind : RuleKind) → fault ≡ fault_in_line column kind → column ≡ other → fault ≡ fault_in_line other kind
-placed_same fault column other kind e same = e ∙ ap (λ (k : ℕ). fault_in_line k kind) same
+-- A fault of a part, which is returned at once, is one of the whole.
+pub part_returned : {A B T : Type 0} (returned : Result T RuleFault) (fault : RuleFault) (part : Result A RuleFault) (whole : Result B RuleFault) (seen : T → B)
+    → IsErrAnd returned (λ other. other ≡ fault) → ((own : RuleFault) → part ≡ Err own → whole ≡ Err own) → IsFaultOf part fault → IsReadAs returned whole seen
+part_returned (Ok value) fault part whole seen e on is = absurd e
+part_returned (Err other) fault part whole seen e on is = subst (IsFaultOf whole) (sym e) (fault_onward part whole fault (on fault) is)
 
--- A line that ends too early has a place.
-pub early_same : (fault : RuleFault) (column : ℕ) (kind : RuleKind) → fault ≡ fault_seen 0 column kind → kind ≡ BadLine → fault ≡ fault_in_line column kind
-early_same fault column kind e bad =
-    let seen : fault_seen 0 column kind ≡ fault_in_line column BadLine = ap (fault_seen 0 column) bad in
-    e ∙ seen ∙ ap (fault_in_line column) (sym bad)
+-- The end of a line gives its statement or a fault.
+pub line_finished : (returned : Result Statement RuleFault) (read : Result StatementRead RuleFault) → read ≡ statement_found returned → IsReadAs returned read line_statement_seen
+line_finished (Ok statement) read e = e
+line_finished (Err fault) read e = inr e
+
+-- What is taken without a fault but that an allocation failed.
+pub all_taken : {T B : Type 0} (returned : Result T RuleFault) (read : Result B RuleFault) (next : B) (A : Type 0) → (A → read ≡ Ok next)
+    → IfOk returned (λ _. A) → IfErr returned (λ fault. fault ≡ placed_fault 0 0 NoMemory) → IsReadAs returned read (λ _. next)
+all_taken (Ok value) read next A on ok err = on ok
+all_taken (Err fault) read next A on ok err = inl err
 
 -- The rules of a text, from its first line on.
 pub rules_begun : (octets : List ℕ) → placed_rules_in octets ≡ placed_rules_from no_text_read (line_begin 1) (rule_lines octets)

@@ -1,8 +1,8 @@
 -- The place of a line of rules is that in which it begins.
-use Rattle.std.proofs.Common.{◌≡◌, ◌≤◌, ◌⊎◌, inl, inr, ℕ, zero, suc, ◌+◌, ◌-◌, ◌==◌, Bool, true, false, if◌then◌else◌, nat_lt, List, [], ◌∷◌, ◌++◌, length, Option, Some, None, Result, Ok, Err, refl, sym, ap, subst, ◌∙◌, arith, append_assoc, append-nil, length-append}
+use Rattle.std.proofs.Common.{◌≡◌, ◌≤◌, ◌⊎◌, inl, inr, ℕ, zero, suc, ◌+◌, ◌-◌, ◌==◌, Bool, true, false, if◌then◌else◌, nat_lt, List, [], ◌∷◌, ◌++◌, length, Some, None, Result, Ok, Err, refl, sym, ap, subst, ◌∙◌, arith, append_assoc, append-nil, length-append}
 use Rattle.std.proofs.lemmas.Bool.{eqb-true}
 use Rattle.bpf_asm.specs.SourceLines.{source_lines}
-use Rattle.rules_text.specs.ContinuedLines.{feed_count, first_token_place, line_begin, place_next, place_past, rule_lines, rule_place}
+use Rattle.rules_text.specs.ContinuedLines.{feed_count, line_begin, place_next, place_past, rule_lines, rule_place}
 use Rattle.rules_text.specs.declared.place.TextPlace.{TextPlace}
 use Rattle.rules_text.specs.Laws.{AreLinesReadAt, IsLineReadAt, PlacesAreThoseOfTheLines, column_after}
 use Rattle.rules_text.specs.LineGrammar.{LineContext, StatementRead, blank_statement, side_statement, line_statement, value_statement}

@@ -6,7 +6,7 @@ ghost use Rattle.rules_text.specs.TestWords.{f4_cell, idle_cell};
 ghost use Rattle.rules_text.specs.inner.Seen.{class_seen};
 
 use crate::group::any_of_two;
-use crate::list::equal;
+use crate::subject::equal;
 use bpf_code::Size;
 use rules_cells::{Field, Octets, Relation, Span, Test};
 use std::alloc::{AllocError, Global};

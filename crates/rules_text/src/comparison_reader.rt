@@ -1,16 +1,17 @@
 //! The reader of a comparison: a field with a mask, a sign, a list, and the channels of a path.
 
-ghost use Rattle.std.specs.Prelude.{◌≡◌, ◌≢◌, Ok, Err, IfOk, IfErr};
+ghost use Rattle.std.specs.Prelude.{◌≡◌, IfOk, IfErr};
 ghost use Rattle.rules_text.specs.LineGrammar.{read_channel, read_comma, read_constant, read_dots, read_high, read_low, read_mask, read_offset, read_relation, read_sign, read_slash, with_list, with_range};
 ghost use Rattle.rules_text.specs.declared.fault.RuleKind.TheVariants.{NoMemory};
 ghost use Rattle.rules_text.specs.inner.Seen.{sign_seen, rule_token_seen};
-ghost use Rattle.rules_text.specs.inner.SeenReading.{context_seen, list_seen, reading_seen, subject_seen, wants_seen};
+ghost use Rattle.rules_text.specs.inner.SeenReading.{TakesLineStep, TakesLineStepOrNoMemory, context_seen, list_seen, reading_seen, subject_seen, wants_seen};
 
 use crate::fault::RuleKind;
 use crate::lexer::{Sign, Token};
 use crate::line_reader::{Context, LineReader, Wants};
-use crate::list::{ListOf, compared, equal, field_of, test_of_list};
-use crate::subject::{Subject, number_for, octets_of, relation_of};
+use crate::subject::{
+    ListOf, Subject, compared, equal, field_of, number_for, octets_of, relation_of, test_of_list,
+};
 use crate::test_reader::MOST_COMPARISONS;
 use bpf_code::Size;
 use rules_cells::{Field, Span};
@@ -20,8 +21,7 @@ impl LineReader {
     /// Reads the offset of octets.
     #[tactic(auto, unfolding(crate::specs::LineGrammar::read_offset))]
     pub(crate) fn offset(&mut self, size: Size, token: Token) -> Result<(), RuleKind>
-        ensures ok { IfOk result (λ _. read_offset size (reading_seen self.old) (rule_token_seen token) ≡ Ok (reading_seen self.new)) }
-        ensures err { IfErr result (λ kind. read_offset size (reading_seen self.old) (rule_token_seen token) ≡ Err kind) }
+        ensures { TakesLineStep result self.new (read_offset size (reading_seen self.old) (rule_token_seen token)) }
     {
         let field = octets_of(size, token)?;
         self.wants = Wants::Relation(Subject { field, mask: None });
@@ -36,8 +36,7 @@ impl LineReader {
         subject: Subject,
         token: Token,
     ) -> Result<(), RuleKind>
-        ensures ok { IfOk result (λ _. read_relation (context_seen context) (subject_seen subject) (reading_seen self.old) (rule_token_seen token) ≡ Ok (reading_seen self.new)) }
-        ensures err { IfErr result (λ kind. read_relation (context_seen context) (subject_seen subject) (reading_seen self.old) (rule_token_seen token) ≡ Err kind) }
+        ensures { TakesLineStep result self.new (read_relation (context_seen context) (subject_seen subject) (reading_seen self.old) (rule_token_seen token)) }
     {
         match token {
             Token::Mask => {
@@ -56,8 +55,7 @@ impl LineReader {
         subject: Subject,
         token: Token,
     ) -> Result<(), RuleKind>
-        ensures ok { IfOk result (λ _. read_mask (context_seen context) (subject_seen subject) (reading_seen self.old) (rule_token_seen token) ≡ Ok (reading_seen self.new)) }
-        ensures err { IfErr result (λ kind. read_mask (context_seen context) (subject_seen subject) (reading_seen self.old) (rule_token_seen token) ≡ Err kind) }
+        ensures { TakesLineStep result self.new (read_mask (context_seen context) (subject_seen subject) (reading_seen self.old) (rule_token_seen token)) }
     {
         let mask = number_for(token, subject.field, context.side)?;
         self.wants = Wants::Sign(Subject {
@@ -75,8 +73,7 @@ impl LineReader {
         subject: Subject,
         token: Token,
     ) -> Result<(), RuleKind>
-        ensures ok { IfOk result (λ _. read_sign (context_seen context) (subject_seen subject) (reading_seen self.old) (rule_token_seen token) ≡ Ok (reading_seen self.new)) }
-        ensures err { IfErr result (λ kind. read_sign (context_seen context) (subject_seen subject) (reading_seen self.old) (rule_token_seen token) ≡ Err kind) }
+        ensures { TakesLineStep result self.new (read_sign (context_seen context) (subject_seen subject) (reading_seen self.old) (rule_token_seen token)) }
     {
         match token {
             Token::Sign(Sign::Equal) => {
@@ -98,8 +95,7 @@ impl LineReader {
     /// Reads `/` after a path.
     #[tactic(auto, unfolding(crate::specs::LineGrammar::read_slash))]
     pub(crate) fn slash(&mut self, path: u32, token: Token) -> Result<(), RuleKind>
-        ensures ok { IfOk result (λ _. read_slash path (reading_seen self.old) (rule_token_seen token) ≡ Ok (reading_seen self.new)) }
-        ensures err { IfErr result (λ kind. read_slash path (reading_seen self.old) (rule_token_seen token) ≡ Err kind) }
+        ensures { TakesLineStep result self.new (read_slash path (reading_seen self.old) (rule_token_seen token)) }
     {
         match token {
             Token::Slash => {
@@ -119,8 +115,7 @@ impl LineReader {
         path: u32,
         token: Token,
     ) -> Result<(), RuleKind>
-        ensures ok { IfOk result (λ _. read_channel (context_seen context) path (reading_seen self.old) (rule_token_seen token) ≡ Ok (reading_seen self.new)) }
-        ensures err { IfErr result (λ kind. kind ≢ NoMemory → read_channel (context_seen context) path (reading_seen self.old) (rule_token_seen token) ≡ Err kind) }
+        ensures { TakesLineStepOrNoMemory result self.new (read_channel (context_seen context) path (reading_seen self.old) (rule_token_seen token)) }
     {
         match token {
             Token::Star => self.add(alloc, equal(Field::Vpi, path)),
@@ -138,8 +133,7 @@ impl LineReader {
         sign: Sign,
         token: Token,
     ) -> Result<(), RuleKind>
-        ensures ok { IfOk result (λ _. read_constant (context_seen context) (subject_seen subject) (sign_seen sign) (reading_seen self.old) (rule_token_seen token) ≡ Ok (reading_seen self.new)) }
-        ensures err { IfErr result (λ kind. kind ≢ NoMemory → read_constant (context_seen context) (subject_seen subject) (sign_seen sign) (reading_seen self.old) (rule_token_seen token) ≡ Err kind) }
+        ensures { TakesLineStepOrNoMemory result self.new (read_constant (context_seen context) (subject_seen subject) (sign_seen sign) (reading_seen self.old) (rule_token_seen token)) }
     {
         let k = number_for(token, subject.field, context.side)?;
         self.add(alloc, compared(subject, relation_of(sign, k)))
@@ -148,8 +142,7 @@ impl LineReader {
     /// Reads a number of a list.
     #[tactic(auto, unfolding(crate::specs::LineGrammar::read_low))]
     pub(crate) fn low(&mut self, context: Context, of: ListOf, token: Token) -> Result<(), RuleKind>
-        ensures ok { IfOk result (λ _. read_low (context_seen context) (list_seen of) (reading_seen self.old) (rule_token_seen token) ≡ Ok (reading_seen self.new)) }
-        ensures err { IfErr result (λ kind. read_low (context_seen context) (list_seen of) (reading_seen self.old) (rule_token_seen token) ≡ Err kind) }
+        ensures { TakesLineStep result self.new (read_low (context_seen context) (list_seen of) (reading_seen self.old) (rule_token_seen token)) }
     {
         let low = number_for(token, field_of(of), context.side)?;
         self.wants = Wants::Dots(of, low);
@@ -166,8 +159,7 @@ impl LineReader {
         low: u32,
         token: Token,
     ) -> Result<(), RuleKind>
-        ensures ok { IfOk result (λ _. read_dots (context_seen context) (list_seen of) low (reading_seen self.old) (rule_token_seen token) ≡ Ok (reading_seen self.new)) }
-        ensures err { IfErr result (λ kind. kind ≢ NoMemory → read_dots (context_seen context) (list_seen of) low (reading_seen self.old) (rule_token_seen token) ≡ Err kind) }
+        ensures { TakesLineStepOrNoMemory result self.new (read_dots (context_seen context) (list_seen of) low (reading_seen self.old) (rule_token_seen token)) }
     {
         match token {
             Token::Dots => {
@@ -181,11 +173,10 @@ impl LineReader {
         }
     }
 
-    /// Counts a range of a list.
+    /// Counts a range of a list as one comparison of the test, and sets what comes next. Fails if the test has 4096 already.
     #[tactic(auto, unfolding(crate::specs::LineGrammar::with_range))]
     pub(crate) fn count(&mut self, wants: Wants) -> Result<(), RuleKind>
-        ensures ok { IfOk result (λ _. with_range (reading_seen self.old) (wants_seen wants) ≡ Ok (reading_seen self.new)) }
-        ensures err { IfErr result (λ kind. with_range (reading_seen self.old) (wants_seen wants) ≡ Err kind) }
+        ensures { TakesLineStep result self.new (with_range (reading_seen self.old) (wants_seen wants)) }
     {
         if self.comparisons >= MOST_COMPARISONS {
             return Err(RuleKind::TooLong);
@@ -204,8 +195,7 @@ impl LineReader {
         low: u32,
         token: Token,
     ) -> Result<(), RuleKind>
-        ensures ok { IfOk result (λ _. read_high (context_seen context) (list_seen of) low (reading_seen self.old) (rule_token_seen token) ≡ Ok (reading_seen self.new)) }
-        ensures err { IfErr result (λ kind. read_high (context_seen context) (list_seen of) low (reading_seen self.old) (rule_token_seen token) ≡ Err kind) }
+        ensures { TakesLineStep result self.new (read_high (context_seen context) (list_seen of) low (reading_seen self.old) (rule_token_seen token)) }
     {
         let high = number_for(token, field_of(of), context.side)?;
         if high < low {
@@ -224,8 +214,7 @@ impl LineReader {
         span: Span,
         token: Token,
     ) -> Result<(), RuleKind>
-        ensures ok { IfOk result (λ _. read_comma (context_seen context) (list_seen of) span (reading_seen self.old) (rule_token_seen token) ≡ Ok (reading_seen self.new)) }
-        ensures err { IfErr result (λ kind. kind ≢ NoMemory → read_comma (context_seen context) (list_seen of) span (reading_seen self.old) (rule_token_seen token) ≡ Err kind) }
+        ensures { TakesLineStepOrNoMemory result self.new (read_comma (context_seen context) (list_seen of) span (reading_seen self.old) (rule_token_seen token)) }
     {
         match token {
             Token::Comma => {

@@ -3,9 +3,9 @@
 ghost use Rattle.std.specs.Prelude.{◌≡◌, ◌≢◌, ◌+◌, ◌≤◌, ◌<◌, ◌++◌, IsTrue, false, Ok, Err, IfOk, IfErr, drop, length, map, slice_range, None, MatchOption};
 ghost use Rattle.rules_text.specs.Names.{expanded, name_meaning, read_for, rule_form};
 ghost use Rattle.rules_text.specs.RuleTokens.{tokens_from};
-ghost use Rattle.rules_text.specs.TextFaults.{IsFaultOf};
 ghost use Rattle.rules_text.specs.TextOfRules.{contract_given, contract_number, definition_given, definition_tokens, given_by, gives_name, is_equal, name_found, new_name};
 ghost use Rattle.rules_text.specs.inner.Seen.{found_seen, rule_token_seen};
+ghost use Rattle.rules_text.specs.inner.SeenFaults.{IsReadAs};
 ghost use Rattle.rules_text.specs.inner.SeenReading.{context_seen, line_statement_seen, name_seen, names_seen};
 ghost use Rattle.rules_text.specs.inner.SeenNameTable.{IsFoundByLetters};
 ghost use Rattle.rules_text.specs.inner.SeenNames.{letters_found, place_seen};
@@ -14,8 +14,7 @@ ghost use Rattle.rules_text.specs.declared.fault.RuleKind.TheVariants.{NoMemory}
 use crate::fault::{RuleFault, RuleKind, fault_in_line};
 use crate::lexer::{Found, Sign, Token, begins_word, next_token};
 use crate::line_reader::{Context, Statement};
-use crate::name_table::NameTable;
-use crate::names::{Form, Name, are_list, meaning};
+use crate::names::{Form, Name, NameTable, are_list, meaning};
 use crate::statement_reader::{meant_by, statement_in};
 use std::alloc::{AllocError, Global};
 
@@ -151,10 +150,9 @@ pub(crate) fn definition(
     requires names { IsFoundByLetters names.now }
     requires letters { (place.start < place.end) × (place.end ≤ length line.now) }
     requires after { place.after ≤ length line.now }
-    ensures ok { IfOk result (λ tokens. let seen = place_seen line.now place
-        in definition_given (context_seen context) (names_seen names.now) line.now seen (definition_tokens (names_seen names.now) context.room line.now seen) ≡ Ok (record { letters = seen.letters; tokens = map rule_token_seen tokens.items })) }
-    ensures err { IfErr result (let seen = place_seen line.now place
-        in IsFaultOf (definition_given (context_seen context) (names_seen names.now) line.now seen (definition_tokens (names_seen names.now) context.room line.now seen))) }
+    ensures { let seen = place_seen line.now place
+        in IsReadAs result (definition_given (context_seen context) (names_seen names.now) line.now seen (definition_tokens (names_seen names.now) context.room line.now seen))
+        (λ tokens. record { letters = seen.letters; tokens = map rule_token_seen tokens.items }) }
 {
     let Some(tokens) = body(alloc, names, context.room, line, place.after)? else {
         return Err(fault_in_line(RuleKind::TooLong, place.start + 1));
@@ -178,9 +176,9 @@ pub(crate) fn contract(
 ) -> Result<Vec<Token>, RuleFault>
     requires names { IsFoundByLetters names.now }
     requires after { place.after ≤ length line.now }
-    ensures ok { IfOk result (λ tokens. let seen = place_seen line.now place
-        in contract_given (context_seen context) (names_seen names.now) line.now seen ≡ Ok (record { letters = seen.letters; tokens = map rule_token_seen tokens.items })) }
-    ensures err { IfErr result (IsFaultOf (contract_given (context_seen context) (names_seen names.now) line.now (place_seen line.now place))) }
+    ensures { let seen = place_seen line.now place
+        in IsReadAs result (contract_given (context_seen context) (names_seen names.now) line.now seen)
+        (λ tokens. record { letters = seen.letters; tokens = map rule_token_seen tokens.items }) }
 {
     let statement = statement_in(alloc, context, names, Form::Value, line, place.after)?;
     let mut tokens = Vec::new(alloc);
@@ -217,9 +215,8 @@ pub(crate) fn name_at(
     requires names { IsFoundByLetters names.now }
     requires letters { (place.start < place.end) × (place.end ≤ length line.now) }
     requires after { place.after ≤ length line.now }
-    ensures ok { IfOk result (λ name. given_by (rule_token_seen first) (context_seen context) (names_seen names.now) line.now (place_seen line.now place) ≡ Ok (name_seen name)) }
+    ensures read { IsReadAs result (given_by (rule_token_seen first) (context_seen context) (names_seen names.now) line.now (place_seen line.now place)) name_seen }
     ensures letters { IfOk result (λ name. name.letters.items ≡ slice_range line.now place.start place.end) }
-    ensures err { IfErr result (IsFaultOf (given_by (rule_token_seen first) (context_seen context) (names_seen names.now) line.now (place_seen line.now place))) }
 {
     let tokens = match first {
         Token::Contract => contract(alloc, context, names, line, place)?,

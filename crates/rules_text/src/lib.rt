@@ -11,8 +11,6 @@ mod group;
 pub mod laws;
 mod lexer;
 mod line_reader;
-mod list;
-mod name_table;
 mod names;
 mod place;
 mod reader;

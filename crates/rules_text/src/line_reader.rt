@@ -1,19 +1,18 @@
 //! The reader of a line, token by token.
 
-ghost use Rattle.std.specs.Prelude.{◌≡◌, ◌≢◌, Ok, Err, IfOk, IfErr};
-ghost use Rattle.rules_text.specs.LineGrammar.{read_arrow, read_awaited, read_only_value, read_side, read_start, read_token, read_value, statement_at_end};
+ghost use Rattle.std.specs.Prelude.{◌≡◌, []};
+ghost use Rattle.rules_text.specs.LineGrammar.{LineContext, read_arrow, read_awaited, read_only_value, read_side, read_start, read_token, read_value};
 ghost use Rattle.rules_text.specs.Names.{first_awaited, form_start};
-ghost use Rattle.rules_text.specs.TextOfRules.{fault_column};
-ghost use Rattle.rules_text.specs.declared.fault.RuleKind.TheVariants.{BadLine, NoMemory, Unbalanced};
+ghost use Rattle.rules_text.specs.TextOfRules.{fault_column, statement_from};
+ghost use Rattle.rules_text.specs.declared.fault.RuleKind.TheVariants.{Unbalanced};
 ghost use Rattle.rules_text.specs.inner.Seen.{rule_token_seen};
-ghost use Rattle.rules_text.specs.inner.SeenReading.{context_seen, form_seen, reading_seen, statement_found, line_statement_seen, wants_seen};
+ghost use Rattle.rules_text.specs.inner.SeenReading.{TakesLineStep, TakesLineStepOrNoMemory, context_seen, form_seen, reading_seen, statement_found, wants_seen};
 
-use crate::fault::RuleKind;
+use crate::fault::{RuleFault, RuleKind, fault_in_line};
 use crate::group::Group;
 use crate::lexer::{Sign, Token};
-use crate::list::ListOf;
 use crate::names::Form;
-use crate::subject::{Subject, value_of};
+use crate::subject::{ListOf, Subject, value_of};
 use bpf_code::Size;
 use rules_cells::{Field, Octets, RuleLine, Span, Test};
 use std::alloc::Global;
@@ -153,8 +152,7 @@ impl LineReader {
         column: usize,
         token: Token,
     ) -> Result<(), RuleKind>
-        ensures ok { IfOk result (λ _. read_token (context_seen context) column (reading_seen self.old) (rule_token_seen token) ≡ Ok (reading_seen self.new)) }
-        ensures err { IfErr result (λ kind. kind ≢ NoMemory → read_token (context_seen context) column (reading_seen self.old) (rule_token_seen token) ≡ Err kind) }
+        ensures { TakesLineStepOrNoMemory result self.new (read_token (context_seen context) column (reading_seen self.old) (rule_token_seen token)) }
     {
         if token.is_name() {
             return Err(RuleKind::UnknownName);
@@ -174,8 +172,7 @@ impl LineReader {
         column: usize,
         token: Token,
     ) -> Result<(), RuleKind>
-        ensures ok { IfOk result (λ _. read_awaited (wants_seen self.old.wants) (context_seen context) column (reading_seen self.old) (rule_token_seen token) ≡ Ok (reading_seen self.new)) }
-        ensures err { IfErr result (λ kind. kind ≢ NoMemory → read_awaited (wants_seen self.old.wants) (context_seen context) column (reading_seen self.old) (rule_token_seen token) ≡ Err kind) }
+        ensures { TakesLineStepOrNoMemory result self.new (read_awaited (wants_seen self.old.wants) (context_seen context) column (reading_seen self.old) (rule_token_seen token)) }
     {
         match self.wants {
             Wants::Start => self.start(alloc, context, column, token),
@@ -200,14 +197,14 @@ impl LineReader {
         }
     }
 
-    /// What the line is, once its last token was read.
-    pub(crate) fn finish(self) -> Result<Statement, RuleKind>
-        ensures statement { statement_found result ≡ statement_at_end (wants_seen self.wants) (line_statement_seen self.statement) }
-        ensures early { IfErr result (λ kind. kind ≡ BadLine) }
+    /// What the line is, which ends before this column.
+    #[tactic(auto, unfolding(crate::specs::TextOfRules::statement_from))]
+    pub(crate) fn finish(self, column: usize) -> Result<Statement, RuleFault>
+        ensures { (context : LineContext) → statement_found result ≡ statement_from context (reading_seen self) column [] }
     {
         match self.wants {
             Wants::Start | Wants::End => Ok(self.statement),
-            _ => Err(RuleKind::BadLine),
+            _ => Err(fault_in_line(RuleKind::BadLine, column)),
         }
     }
 
@@ -231,8 +228,7 @@ impl LineReader {
         column: usize,
         token: Token,
     ) -> Result<(), RuleKind>
-        ensures ok { IfOk result (λ _. read_start (context_seen context) column (reading_seen self.old) (rule_token_seen token) ≡ Ok (reading_seen self.new)) }
-        ensures err { IfErr result (λ kind. kind ≢ NoMemory → read_start (context_seen context) column (reading_seen self.old) (rule_token_seen token) ≡ Err kind) }
+        ensures { TakesLineStepOrNoMemory result self.new (read_start (context_seen context) column (reading_seen self.old) (rule_token_seen token)) }
     {
         match token {
             Token::Otherwise => {
@@ -264,8 +260,7 @@ impl LineReader {
     /// Reads `->` after `otherwise`.
     #[tactic(auto, unfolding(crate::specs::LineGrammar::read_arrow))]
     fn arrow(&mut self, token: Token) -> Result<(), RuleKind>
-        ensures ok { IfOk result (λ _. read_arrow (reading_seen self.old) (rule_token_seen token) ≡ Ok (reading_seen self.new)) }
-        ensures err { IfErr result (λ kind. read_arrow (reading_seen self.old) (rule_token_seen token) ≡ Err kind) }
+        ensures { TakesLineStep result self.new (read_arrow (reading_seen self.old) (rule_token_seen token)) }
     {
         match token {
             Token::Arrow => {
@@ -279,8 +274,7 @@ impl LineReader {
     /// Reads the value of a rule.
     #[tactic(auto, unfolding(crate::specs::LineGrammar::read_value))]
     fn value(&mut self, token: Token) -> Result<(), RuleKind>
-        ensures ok { IfOk result (λ _. read_value (reading_seen self.old) (rule_token_seen token) ≡ Ok (reading_seen self.new)) }
-        ensures err { IfErr result (λ kind. read_value (reading_seen self.old) (rule_token_seen token) ≡ Err kind) }
+        ensures { TakesLineStep result self.new (read_value (reading_seen self.old) (rule_token_seen token)) }
     {
         let value = value_of(token)?;
         let test = std::mem::replace(&mut self.test, Test::Any);
@@ -292,8 +286,7 @@ impl LineReader {
     /// Reads the value of `otherwise`, or the number of a contract.
     #[tactic(auto, unfolding(crate::specs::LineGrammar::read_only_value))]
     fn only_value(&mut self, token: Token) -> Result<(), RuleKind>
-        ensures ok { IfOk result (λ _. read_only_value (reading_seen self.old) (rule_token_seen token) ≡ Ok (reading_seen self.new)) }
-        ensures err { IfErr result (λ kind. read_only_value (reading_seen self.old) (rule_token_seen token) ≡ Err kind) }
+        ensures { TakesLineStep result self.new (read_only_value (reading_seen self.old) (rule_token_seen token)) }
     {
         let value = value_of(token)?;
         self.statement = Statement::Value(value);
@@ -304,8 +297,7 @@ impl LineReader {
     /// Reads the side.
     #[tactic(auto, unfolding(crate::specs::LineGrammar::read_side))]
     fn side_name(&mut self, token: Token) -> Result<(), RuleKind>
-        ensures ok { IfOk result (λ _. read_side (reading_seen self.old) (rule_token_seen token) ≡ Ok (reading_seen self.new)) }
-        ensures err { IfErr result (λ kind. read_side (reading_seen self.old) (rule_token_seen token) ≡ Err kind) }
+        ensures { TakesLineStep result self.new (read_side (reading_seen self.old) (rule_token_seen token)) }
     {
         match token {
             Token::Uni => {

@@ -9,6 +9,7 @@ ghost use Rattle.rules_text.specs.TextFaults.{IsFaultOf};
 ghost use Rattle.rules_text.specs.TextOfRules.{context_of, formed_statement, name_given, placed_rules_at_end, placed_rules_in, placed_fault, rules_in, text_with, text_with_line, text_with_room, with_line, text_with_name};
 ghost use Rattle.rules_text.specs.declared.fault.RuleKind.TheVariants.{NoMemory};
 ghost use Rattle.rules_text.specs.inner.Seen.{found_seen};
+ghost use Rattle.rules_text.specs.inner.SeenFaults.{IsReadAs};
 ghost use Rattle.rules_text.specs.inner.SeenNameTable.{IsFoundByLetters};
 ghost use Rattle.rules_text.specs.inner.SeenReading.{context_seen, line_statement_seen, name_seen, names_seen, text_seen};
 
@@ -17,8 +18,7 @@ use crate::definition::{is_giving, name_at, name_place};
 use crate::fault::{RuleFault, RuleKind, fault_at, fault_in_line};
 use crate::lexer::{Found, next_token};
 use crate::line_reader::{Context, Statement};
-use crate::name_table::NameTable;
-use crate::names::{Form, Name};
+use crate::names::{Form, Name, NameTable};
 use crate::place::{RulePlace, TextPlace, fault_of_line, place_after};
 use crate::statement_reader::{room_after_line, statement_in};
 use rules_cells::{RuleLine, Rules};
@@ -134,9 +134,8 @@ impl TextReader {
         requires names { IsFoundByLetters self.now.names }
         requires start { first.start < first.end }
         requires end { first.end ≤ length line.now }
-        ensures ok { IfOk result (λ name. name_given (text_seen self.now) line.now (found_seen first) (tokens_from (first.end + 1) 0 (drop first.end line.now)) ≡ Ok (name_seen name)) }
+        ensures read { IsReadAs result (name_given (text_seen self.now) line.now (found_seen first) (tokens_from (first.end + 1) 0 (drop first.end line.now))) name_seen }
         ensures new { IfOk result (λ name. name_meaning (names_seen self.now.names) name.letters.items ≡ None) }
-        ensures err { IfErr result (IsFaultOf (name_given (text_seen self.now) line.now (found_seen first) (tokens_from (first.end + 1) 0 (drop first.end line.now)))) }
     {
         if !self.rules.lines.is_empty() {
             return Err(fault_in_line(RuleKind::BadLine, first.start + 1));
@@ -149,8 +148,7 @@ impl TextReader {
     /// The statement of a line.
     fn statement(&self, alloc: Global, line: &[u8]) -> Result<Statement, RuleFault>
         requires { IsFoundByLetters self.now.names }
-        ensures ok { IfOk result (λ statement. formed_statement (context_of (text_seen self.now)) (text_seen self.now).names rule_form line.now 1 (rule_tokens line.now) ≡ Ok (line_statement_seen statement)) }
-        ensures err { IfErr result (IsFaultOf (formed_statement (context_of (text_seen self.now)) (text_seen self.now).names rule_form line.now 1 (rule_tokens line.now))) }
+        ensures { IsReadAs result (formed_statement (context_of (text_seen self.now)) (text_seen self.now).names rule_form line.now 1 (rule_tokens line.now)) line_statement_seen }
     {
         statement_in(alloc, self.context(), &self.names, Form::Rule, line, 0)
     }
@@ -185,9 +183,8 @@ impl TextReader {
         requires blocks { self.old.blocks < 2 ^ 63 }
         requires column { begin.column + length line.now < 2 ^ 64 }
         ensures names { IfOk result (λ _. IsFoundByLetters self.new.names) }
-        ensures ok { IfOk result (λ _. text_with_line (text_seen self.old) begin line.now ≡ Ok (text_seen self.new)) }
+        ensures read { IsReadAs result (text_with_line (text_seen self.old) begin line.now) (λ _. text_seen self.new) }
         ensures blocks { self.new.blocks ≤ self.old.blocks + 1 }
-        ensures err { IfErr result (IsFaultOf (text_with_line (text_seen self.old) begin line.now)) }
     {
         let Some(first) = next_token(line, 0) else {
             return Ok(());

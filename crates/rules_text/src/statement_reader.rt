@@ -1,11 +1,11 @@
 //! The reader of a statement, in a line with names.
 
-ghost use Rattle.std.specs.Prelude.{◌≡◌, ◌+◌, ◌≤◌, ◌<◌, ◌∷◌, [], Ok, Err, IfOk, IfErr, drop, length, map};
+ghost use Rattle.std.specs.Prelude.{◌≡◌, ◌+◌, ◌≤◌, ◌<◌, drop, length, map};
 ghost use Rattle.rules_text.specs.Names.{ending, meant, read_for, room_left};
 ghost use Rattle.rules_text.specs.RuleTokens.{rule_tokens, tokens_from};
-ghost use Rattle.rules_text.specs.TextFaults.{IsFaultOf};
 ghost use Rattle.rules_text.specs.TextOfRules.{formed_statement};
 ghost use Rattle.rules_text.specs.inner.Seen.{found_seen, rule_token_seen};
+ghost use Rattle.rules_text.specs.inner.SeenFaults.{IsReadAs};
 ghost use Rattle.rules_text.specs.inner.SeenReading.{context_seen, form_seen, line_statement_seen, names_seen, reading_seen};
 ghost use Rattle.rules_text.specs.inner.SeenNameTable.{IsFoundByLetters};
 ghost use Rattle.rules_text.specs.inner.TokensRead.{token_read, all_tokens_read};
@@ -13,8 +13,7 @@ ghost use Rattle.rules_text.specs.inner.TokensRead.{token_read, all_tokens_read}
 use crate::fault::{RuleFault, RuleKind, fault_in_line};
 use crate::lexer::{Found, Token, next_token};
 use crate::line_reader::{Context, LineReader, Statement};
-use crate::name_table::NameTable;
-use crate::names::{Form, admit};
+use crate::names::{Form, NameTable, admit};
 use std::alloc::Global;
 
 impl LineReader {
@@ -26,8 +25,7 @@ impl LineReader {
         column: usize,
         token: Token,
     ) -> Result<(), RuleFault>
-        ensures ok { IfOk result (λ _. token_read (context_seen context) column (reading_seen self.old) (rule_token_seen token) ≡ Ok (reading_seen self.new)) }
-        ensures err { IfErr result (IsFaultOf (token_read (context_seen context) column (reading_seen self.old) (rule_token_seen token))) }
+        ensures { IsReadAs result (token_read (context_seen context) column (reading_seen self.old) (rule_token_seen token)) (λ _. reading_seen self.new) }
     {
         let unbalanced = self.unbalanced_at(column);
         match self.read(alloc, context, column, token) {
@@ -45,8 +43,7 @@ impl LineReader {
         column: usize,
         tokens: &[Token],
     ) -> Result<(), RuleFault>
-        ensures ok { IfOk result (λ _. all_tokens_read (context_seen context) column (reading_seen self.old) (map rule_token_seen tokens.now) ≡ Ok (reading_seen self.new)) }
-        ensures err { IfErr result (IsFaultOf (all_tokens_read (context_seen context) column (reading_seen self.old) (map rule_token_seen tokens.now))) }
+        ensures { IsReadAs result (all_tokens_read (context_seen context) column (reading_seen self.old) (map rule_token_seen tokens.now)) (λ _. reading_seen self.new) }
     {
         let mut left = tokens;
         while let [token, rest @ ..] = left {
@@ -66,8 +63,7 @@ impl LineReader {
         meant: &[Token],
     ) -> Result<(), RuleFault>
         requires { found.start < found.end }
-        ensures ok { IfOk result (λ _. all_tokens_read (context_seen context) (found.start + 1) (reading_seen self.old) (read_for (form_seen form) (rule_token_seen found.token) (map rule_token_seen meant.now)) ≡ Ok (reading_seen self.new)) }
-        ensures err { IfErr result (IsFaultOf (all_tokens_read (context_seen context) (found.start + 1) (reading_seen self.old) (read_for (form_seen form) (rule_token_seen found.token) (map rule_token_seen meant.now)))) }
+        ensures { IsReadAs result (all_tokens_read (context_seen context) (found.start + 1) (reading_seen self.old) (read_for (form_seen form) (rule_token_seen found.token) (map rule_token_seen meant.now))) (λ _. reading_seen self.new) }
     {
         let column = found.start + 1;
         if meant.is_empty() {
@@ -78,7 +74,7 @@ impl LineReader {
         }
     }
 
-    /// Reads what is read at the end of a line.
+    /// Ends a definition: reads `-> refuse`, so that it must end where the test of a rule does. Nothing is read after another line.
     fn read_end(
         &mut self,
         alloc: Global,
@@ -86,8 +82,7 @@ impl LineReader {
         form: Form,
         column: usize,
     ) -> Result<(), RuleFault>
-        ensures ok { IfOk result (λ _. all_tokens_read (context_seen context) column (reading_seen self.old) (ending (form_seen form)) ≡ Ok (reading_seen self.new)) }
-        ensures err { IfErr result (IsFaultOf (all_tokens_read (context_seen context) column (reading_seen self.old) (ending (form_seen form)))) }
+        ensures { IsReadAs result (all_tokens_read (context_seen context) column (reading_seen self.old) (ending (form_seen form))) (λ _. reading_seen self.new) }
     {
         match form {
             Form::Rule | Form::Value => Ok(()),
@@ -144,8 +139,7 @@ pub(crate) fn statement_in(
 ) -> Result<Statement, RuleFault>
     requires names { IsFoundByLetters names.now }
     requires start { start ≤ length line.now }
-    ensures ok { IfOk result (λ statement. formed_statement (context_seen context) (names_seen names.now) (form_seen form) line.now (start + 1) (tokens_from (start + 1) 0 (drop start line.now)) ≡ Ok (line_statement_seen statement)) }
-    ensures err { IfErr result (IsFaultOf (formed_statement (context_seen context) (names_seen names.now) (form_seen form) line.now (start + 1) (tokens_from (start + 1) 0 (drop start line.now)))) }
+    ensures { IsReadAs result (formed_statement (context_seen context) (names_seen names.now) (form_seen form) line.now (start + 1) (tokens_from (start + 1) 0 (drop start line.now))) line_statement_seen }
 {
     let mut reader = LineReader::new(alloc, form);
     let mut room = context.room;
@@ -158,8 +152,5 @@ pub(crate) fn statement_in(
     }
     let column = from + 1;
     reader.read_end(alloc, context, form, column)?;
-    match reader.finish() {
-        Ok(statement) => Ok(statement),
-        Err(kind) => Err(fault_in_line(kind, column)),
-    }
+    reader.finish(column)
 }

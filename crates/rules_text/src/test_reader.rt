@@ -5,7 +5,7 @@ ghost use Rattle.rules_text.specs.LineGrammar.{no_group, read_operator, read_uni
 ghost use Rattle.rules_text.specs.RulesRead.{test_read};
 ghost use Rattle.rules_text.specs.declared.fault.RuleKind.TheVariants.{NoMemory};
 ghost use Rattle.rules_text.specs.inner.Seen.{class_seen, rule_token_seen};
-ghost use Rattle.rules_text.specs.inner.SeenReading.{context_seen, group_seen, reading_seen};
+ghost use Rattle.rules_text.specs.inner.SeenReading.{TakesLineStepOrNoMemory, context_seen, group_seen, reading_seen};
 
 use crate::class::{Class, test_of};
 use crate::fault::RuleKind;
@@ -32,8 +32,7 @@ impl LineReader {
         column: usize,
         token: Token,
     ) -> Result<(), RuleKind>
-        ensures ok { IfOk result (λ _. read_unit (context_seen context) column (reading_seen self.old) (rule_token_seen token) ≡ Ok (reading_seen self.new)) }
-        ensures err { IfErr result (λ kind. kind ≢ NoMemory → read_unit (context_seen context) column (reading_seen self.old) (rule_token_seen token) ≡ Err kind) }
+        ensures { TakesLineStepOrNoMemory result self.new (read_unit (context_seen context) column (reading_seen self.old) (rule_token_seen token)) }
     {
         match token {
             Token::Not => {
@@ -62,8 +61,7 @@ impl LineReader {
 
     /// Adds a word that is a test.
     pub(crate) fn word(&mut self, alloc: Global, class: Class) -> Result<(), RuleKind>
-        ensures ok { IfOk result (λ _. with_unit (reading_seen self.old) (class_seen class) ≡ Ok (reading_seen self.new)) }
-        ensures err { IfErr result (λ kind. kind ≢ NoMemory → with_unit (reading_seen self.old) (class_seen class) ≡ Err kind) }
+        ensures { TakesLineStepOrNoMemory result self.new (with_unit (reading_seen self.old) (class_seen class)) }
     {
         let test = test_of(alloc, class)?;
         self.add(alloc, test)
@@ -76,8 +74,7 @@ impl LineReader {
         context: Context,
         column: usize,
     ) -> Result<(), RuleKind>
-        ensures ok { IfOk result (λ _. with_open_parenthesis (context_seen context) column (reading_seen self.old) ≡ Ok (reading_seen self.new)) }
-        ensures err { IfErr result (λ kind. kind ≢ NoMemory → with_open_parenthesis (context_seen context) column (reading_seen self.old) ≡ Err kind) }
+        ensures { TakesLineStepOrNoMemory result self.new (with_open_parenthesis (context_seen context) column (reading_seen self.old)) }
     {
         if context.blocks >= MOST_DEEP || self.around.len() >= MOST_DEEP - context.blocks {
             return Err(RuleKind::TooDeep);
@@ -94,8 +91,7 @@ impl LineReader {
     /// Adds a unit to the test.
     #[tactic(auto, unfolding(crate::specs::LineGrammar::with_unit))]
     pub(crate) fn add(&mut self, alloc: Global, test: Test) -> Result<(), RuleKind>
-        ensures ok { IfOk result (λ _. with_unit (reading_seen self.old) (test_read test) ≡ Ok (reading_seen self.new)) }
-        ensures err { IfErr result (λ kind. kind ≢ NoMemory → with_unit (reading_seen self.old) (test_read test) ≡ Err kind) }
+        ensures { TakesLineStepOrNoMemory result self.new (with_unit (reading_seen self.old) (test_read test)) }
     {
         if self.comparisons >= MOST_COMPARISONS {
             return Err(RuleKind::TooLong);
@@ -114,8 +110,7 @@ impl LineReader {
         context: Context,
         token: Token,
     ) -> Result<(), RuleKind>
-        ensures ok { IfOk result (λ _. read_operator (context_seen context) (reading_seen self.old) (rule_token_seen token) ≡ Ok (reading_seen self.new)) }
-        ensures err { IfErr result (λ kind. kind ≢ NoMemory → read_operator (context_seen context) (reading_seen self.old) (rule_token_seen token) ≡ Err kind) }
+        ensures { TakesLineStepOrNoMemory result self.new (read_operator (context_seen context) (reading_seen self.old) (rule_token_seen token)) }
     {
         match token {
             Token::And => {
@@ -137,8 +132,7 @@ impl LineReader {
     /// Closes a parenthesis.
     #[tactic(auto, unfolding(crate::specs::LineGrammar::with_closed_parenthesis))]
     pub(crate) fn close_parenthesis(&mut self, alloc: Global) -> Result<(), RuleKind>
-        ensures ok { IfOk result (λ _. with_closed_parenthesis (reading_seen self.old) ≡ Ok (reading_seen self.new)) }
-        ensures err { IfErr result (λ kind. kind ≢ NoMemory → with_closed_parenthesis (reading_seen self.old) ≡ Err kind) }
+        ensures { TakesLineStepOrNoMemory result self.new (with_closed_parenthesis (reading_seen self.old)) }
     {
         let Some(around) = self.around.pop() else {
             return Err(RuleKind::Unbalanced);
@@ -175,8 +169,7 @@ impl LineReader {
     /// Begins a block with the test.
     #[tactic(auto, unfolding(crate::specs::LineGrammar::with_block))]
     pub(crate) fn block(&mut self, alloc: Global, context: Context) -> Result<(), RuleKind>
-        ensures ok { IfOk result (λ _. with_block (context_seen context) (reading_seen self.old) ≡ Ok (reading_seen self.new)) }
-        ensures err { IfErr result (λ kind. kind ≢ NoMemory → with_block (context_seen context) (reading_seen self.old) ≡ Err kind) }
+        ensures { TakesLineStepOrNoMemory result self.new (with_block (context_seen context) (reading_seen self.old)) }
     {
         let test = self.whole(alloc)?;
         if context.blocks >= MOST_DEEP {
@@ -190,8 +183,7 @@ impl LineReader {
     /// Keeps the test of a rule.
     #[tactic(auto, unfolding(crate::specs::LineGrammar::with_head))]
     pub(crate) fn head(&mut self, alloc: Global) -> Result<(), RuleKind>
-        ensures ok { IfOk result (λ _. with_head (reading_seen self.old) ≡ Ok (reading_seen self.new)) }
-        ensures err { IfErr result (λ kind. kind ≢ NoMemory → with_head (reading_seen self.old) ≡ Err kind) }
+        ensures { TakesLineStepOrNoMemory result self.new (with_head (reading_seen self.old)) }
     {
         let test = self.whole(alloc)?;
         self.test = test;

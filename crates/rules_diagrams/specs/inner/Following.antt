@@ -21,7 +21,7 @@ use Rattle.rules_diagrams.specs.declared.contents.Contents.{Contents}
 use Rattle.rules_diagrams.specs.declared.contents.Followed.{Followed}
 use Rattle.rules_diagrams.specs.declared.contents.Followed.TheVariants.{Ends, Continues, Branches, Stops}
 use Rattle.rules_diagrams.specs.declared.contents.Made.{Made}
-use Rattle.rules_diagrams.specs.declared.contents.Made.TheVariants.{Bits, Ends as MadeEnd, Unknown}
+use Rattle.rules_diagrams.specs.declared.contents.Made.TheVariants.{Word, Ends as MadeEnd, Unknown}
 use Rattle.rules_diagrams.specs.declared.contents.Register.{Register}
 use Rattle.rules_diagrams.specs.declared.contents.Told.{Told}
 use Rattle.rules_diagrams.specs.declared.diagram.Node.{Node}
@@ -56,9 +56,9 @@ IsFollowed i place contents Stops = Unit {0}
 abbrev pub PutsInto : Register → Instr → Contents → List Bit → Type 0
 PutsInto register i contents bits = (place : ℕ) → OnEach contents (λ cell a x m. Does cell i place a x m (at_with register (place + 1) (word_number bits (octets_number cell)) a x m))
 
--- The instruction puts this into the register, or ends the program.
+-- The instruction puts this word into the register, or ends the program.
 abbrev pub IsPutInto : Register → Instr → Contents → Made → Type 0
-IsPutInto register i contents (Bits bits) = PutsInto register i contents bits.items
+IsPutInto register i contents (Word word) = PutsInto register i contents word
 IsPutInto register i contents (MadeEnd value) = (place : ℕ) → OnEach contents (λ cell a x m. Does cell i place a x m (Ended value))
 IsPutInto register i contents Unknown = Unit {0}
 

@@ -1,12 +1,13 @@
 -- What the readers have read, in the words of the definitions.
-use Rattle.std.specs.Prelude.{map, reverse, List, Option, Some, None, Result, Ok, Err}
+use Rattle.std.specs.Prelude.{◌≡◌, ◌≢◌, map, reverse, List, Option, Some, None, Result, Ok, Err}
 use Rattle.rules_cells.specs.declared.field.Field.{Field}
 use Rattle.rules_cells.specs.declared.test.Test.{Test}
-use Rattle.rules_text.specs.LineGrammar.{Awaited, GroupRead, LineContext, ListRead, field_list, denied_list, path_list, Reading, StatementRead, SubjectRead, awaits_start, awaits_unit, awaits_operator, awaits_offset, awaits_relation, awaits_mask, awaits_sign, awaits_constant, awaits_dots, awaits_high, awaits_comma, awaits_low, awaits_slash, awaits_channel, awaits_arrow, awaits_value, awaits_only_value, awaits_side, awaits_end, blank_statement, side_statement, line_statement, value_statement}
+use Rattle.rules_text.specs.LineGrammar.{Awaited, GroupRead, LineContext, LineStep, ListRead, field_list, denied_list, path_list, Reading, StatementRead, SubjectRead, awaits_start, awaits_unit, awaits_operator, awaits_offset, awaits_relation, awaits_mask, awaits_sign, awaits_constant, awaits_dots, awaits_high, awaits_comma, awaits_low, awaits_slash, awaits_channel, awaits_arrow, awaits_value, awaits_only_value, awaits_side, awaits_end, blank_statement, side_statement, line_statement, value_statement}
 use Rattle.rules_text.specs.RulesRead.{FieldRead, TestRead, field_read, line_read, test_read}
 use Rattle.rules_text.specs.TextOfRules.{TextReading}
 use Rattle.rules_text.specs.Names.{FormRead, rule_form, value_form, test_form, list_form, NameRead}
 use Rattle.rules_text.specs.declared.fault.RuleKind.{RuleKind}
+use Rattle.rules_text.specs.declared.fault.RuleKind.TheVariants.{NoMemory}
 use Rattle.rules_text.specs.declared.group.Group.{Group}
 use Rattle.rules_text.specs.declared.line_reader.Context.{Context}
 use Rattle.rules_text.specs.declared.line_reader.LineReader.{LineReader}
@@ -15,13 +16,13 @@ use Rattle.rules_text.specs.declared.line_reader.Statement.TheVariants as statem
 use Rattle.rules_text.specs.declared.line_reader.Wants.{Wants}
 use Rattle.rules_text.specs.declared.line_reader.Wants.TheVariants as wants
 use Rattle.rules_text.specs.declared.reader.TextReader.{TextReader}
-use Rattle.rules_text.specs.declared.list.ListOf.{ListOf}
-use Rattle.rules_text.specs.declared.list.ListOf.TheVariants as list
+use Rattle.rules_text.specs.declared.subject.ListOf.{ListOf}
+use Rattle.rules_text.specs.declared.subject.ListOf.TheVariants as list
 use Rattle.rules_text.specs.declared.subject.Subject.{Subject}
 use Rattle.rules_text.specs.declared.names.Form.{Form}
 use Rattle.rules_text.specs.declared.names.Form.TheVariants as form
 use Rattle.rules_text.specs.declared.names.Name.{Name}
-use Rattle.rules_text.specs.declared.name_table.NameTable.{NameTable}
+use Rattle.rules_text.specs.declared.names.NameTable.{NameTable}
 use Rattle.rules_text.specs.inner.Seen.{rule_token_seen, sign_seen}
 
 -- A field with a mask.
@@ -89,6 +90,16 @@ reading_seen reader = record {
   statement = line_statement_seen reader.statement;
 }
 
+-- A reader takes this step: afterwards it has read what the step gives, or it returns the fault of the step.
+abbrev pub TakesLineStep : {A : Type 0} → Result A RuleKind → LineReader → LineStep → Type 0
+TakesLineStep (Ok done) reader step = step ≡ Ok (reading_seen reader)
+TakesLineStep (Err kind) reader step = step ≡ Err kind
+
+-- The same, unless an allocation fails.
+abbrev pub TakesLineStepOrNoMemory : {A : Type 0} → Result A RuleKind → LineReader → LineStep → Type 0
+TakesLineStepOrNoMemory (Ok done) reader step = step ≡ Ok (reading_seen reader)
+TakesLineStepOrNoMemory (Err kind) reader step = kind ≢ NoMemory → step ≡ Err kind
+
 -- A name.
 abbrev pub name_seen : Name → NameRead
 name_seen name = record { letters = name.letters.items; tokens = map rule_token_seen name.tokens.items }
@@ -125,6 +136,6 @@ field_found (Ok field) = Ok (field_read field)
 field_found (Err kind) = Err kind
 
 -- The statement of a line, or its fault.
-abbrev pub statement_found : Result Statement RuleKind → Result StatementRead RuleKind
+abbrev pub statement_found : {E : Type 0} → Result Statement E → Result StatementRead E
 statement_found (Ok statement) = Ok (line_statement_seen statement)
-statement_found (Err kind) = Err kind
+statement_found (Err fault) = Err fault

@@ -7,11 +7,11 @@ use Rattle.rules_diagrams.proofs.FollowSteps.{left_makes, right_makes}
 use Rattle.rules_diagrams.proofs.operations.shifted.Goals as goal
 
 pub returns-in_ok-shifted_left-in-Lsh : goal.returns-in_ok-shifted_left-in-Lsh
-returns-in_ok-shifted_left-in-Lsh c =
+returns-in_ok-shifted_left-in-Lsh c = c.from_bits.ensures A (Alu c.args.op c.args.by) c.args.contents.now (
     subst (λ (op : Op). PutsInto A (Alu op c.args.by) c.args.contents.now c.in_ok-shifted_left-in-Lsh.field-0.items) (sym c.in-Lsh.is)
-    (left_makes c.args.by c.in-Some.k c.args.contents.now c.in_ok-shifted_left-in-Lsh.field-0.items c.in-Some.ensures (omega arith) c.in_ok-shifted_left-in-Lsh.ensures)
+    (left_makes c.args.by c.in-Some.k c.args.contents.now c.in_ok-shifted_left-in-Lsh.field-0.items c.in-Some.ensures (omega arith) c.in_ok-shifted_left-in-Lsh.ensures))
 
 pub returns-in_ok-shifted_right-in-Rsh : goal.returns-in_ok-shifted_right-in-Rsh
-returns-in_ok-shifted_right-in-Rsh c =
+returns-in_ok-shifted_right-in-Rsh c = c.from_bits-in-Rsh.ensures A (Alu c.args.op c.args.by) c.args.contents.now (
     subst (λ (op : Op). PutsInto A (Alu op c.args.by) c.args.contents.now c.in_ok-shifted_right-in-Rsh.field-0.items) (sym c.in-Rsh.is)
-    (right_makes c.args.by c.in-Some.k c.args.contents.now c.in_ok-shifted_right-in-Rsh.field-0.items c.in-Some.ensures (omega arith) c.in_ok-shifted_right-in-Rsh.ensures)
+    (right_makes c.args.by c.in-Some.k c.args.contents.now c.in_ok-shifted_right-in-Rsh.field-0.items c.in-Some.ensures (omega arith) c.in_ok-shifted_right-in-Rsh.ensures))

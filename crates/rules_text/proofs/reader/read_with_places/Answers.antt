@@ -17,7 +17,7 @@ returns-in-Err-clause-fault c =
     let line = c.in-Some.line.now in
     let rest = rule_lines c.in-Some.rest.now in
     rw c.fault_of_line.ensures
-    (fault_of_text _ _ c.loop-line.begin line _ (λ own e. sym c.loop-line.invariant.rest ∙ ap (placed_rules_from text c.loop-line.begin) c.in-Some.ensures.lines ∙ rules_fault text c.loop-line.begin line rest own e) c.in-Err.ensures.err)
+    (fault_of_text _ _ c.loop-line.begin line _ (λ own e. sym c.loop-line.invariant.rest ∙ ap (placed_rules_from text c.loop-line.begin) c.in-Some.ensures.lines ∙ rules_fault text c.loop-line.begin line rest own e) c.in-Err.ensures.read)
 
 pub loop-line-preserved : goal.loop-line-preserved
 loop-line-preserved c =
@@ -31,7 +31,7 @@ loop-line-preserved c =
       blocks = omega (arith, c.in-Some.ensures.shorter);
       names = c.in_default-read_line.ensures.names;
       rest = rw c.place_after-begin.ensures.seen
-          (sym (rules_more text next c.loop-line.begin line rest c.in_default-read_line.ensures.ok)
+          (sym (rules_more text next c.loop-line.begin line rest c.in_default-read_line.ensures.read)
           ∙ ap (placed_rules_from text c.loop-line.begin) (sym c.in-Some.ensures.lines)
           ∙ c.loop-line.invariant.rest);
     }

@@ -2,7 +2,7 @@ use Rattle.std.proofs.Common.{◌≡◌, ℕ, List, Some, cond, length, refl, ap
 use Rattle.std.specs.Str.{bytes_eq}
 use Rattle.rules_text.specs.inner.SeenNameTable.{name_index}
 use Rattle.rules_text.proofs.NameTables.{found_with, index_updated}
-use Rattle.rules_text.proofs.name_table.NameTable.give.Goals as goal
+use Rattle.rules_text.proofs.names.NameTable.give.Goals as goal
 
 pub returns-clause-found : goal.returns-clause-found
 returns-clause-found c =
