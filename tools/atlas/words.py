@@ -5,6 +5,8 @@ import re
 from .files import text_of
 from .parts import OTHERS, parts_of
 
+# Words that mean nearly the same.
+ALIKE = "tools/atlas/alike"
 # Words that any question may have, whatever it is about.
 IDLE = frozenset(
     "a able about across actually after again against almost already also am an and another anybody anyone anything anywhere are arent around as at available be been before behave behaves being between big bigger both by can cannot cant code could defined described did difference differences differ do documented does doesnt done dont during "
@@ -57,9 +59,10 @@ def stem(word):
     return re.sub(r"e$", "", re.sub(r"y$", "i", short))
 
 
+@functools.lru_cache(maxsize=None)
 def names_in(text):
     """Returns the names of code in a text, each as one word: `TooFast` is `toofast`, and `--every` stays as it is."""
-    return [it.replace("_", "").lower() for it in NAME.findall(text)]
+    return tuple(it.replace("_", "").lower() for it in NAME.findall(text))
 
 
 def plain(text):
@@ -67,9 +70,10 @@ def plain(text):
     return PHRASE.sub(lambda it: PHRASES[it[0].lower()], text)
 
 
+@functools.lru_cache(maxsize=None)
 def stems_of(text):
     """Returns the words of a text without their endings."""
-    return [stem(it) for it in words_of(plain(text))]
+    return tuple(stem(it) for it in words_of(plain(text)))
 
 
 @functools.lru_cache(maxsize=None)
@@ -82,6 +86,17 @@ def others():
             own, words = searched_stems(it), words_of(it)
             beside = frozenset(words) & IDLE - SMALL if len(own) < len(words) else frozenset()
             found.setdefault((own, beside), []).extend(searched_stems(ours) for ours in part.text.split(","))
+    return found
+
+
+@functools.lru_cache(maxsize=None)
+def alike():
+    """Returns for the stem of each word of the file alike the stems that mean nearly the same."""
+    found = {}
+    for row in text_of(ALIKE).split("\n"):
+        stems = [] if row.startswith("#") else list(dict.fromkeys(stem(it) for it in words_of(row) if it not in IDLE))
+        for it in stems:
+            found.setdefault(it, {}).update(dict.fromkeys(other for other in stems if other != it))
     return found
 
 
@@ -101,9 +116,9 @@ def meanings_of(words):
     and in any order."""
     asked = PLACE.sub(r"\1", plain(" ".join(words)))
     left, said = list(dict.fromkeys(searched_stems(asked))), set(words_of(asked))
-    known, found = {}, []
+    known, found, stems = {}, [], set(left)
     for (own, beside), ours in others().items():
-        if beside <= said:
+        if beside <= said and stems.issuperset(own):
             known.setdefault(own, {}).update(dict.fromkeys(ours))
     for own in sorted(known, key=lambda it: (-len(it), it)):
         if len(own) > 1 and all(it in left for it in own):

@@ -3,6 +3,7 @@
 import unittest
 
 from atlas.asked import KNOWN, answers_at, by_file, known_questions, questions
+from atlas.grouping import grouped
 from atlas.index import Index, answers
 from atlas.sources import Sources
 
@@ -30,8 +31,8 @@ class Questions(unittest.TestCase):
         found = []
         for words, places, is_code in list(questions(path))[::each]:
             right = {it.number for place in places for it in answers_at(self.files, place)}
-            first = (self.code if is_code else self.index).search(words)[:FIRST]
-            found += [] if any(it.number in right for it in first) else [" ".join(words)]
+            first = grouped((self.code if is_code else self.index).search(words))[:FIRST]
+            found += [] if any(it.number in right for group in first for it in group.shown) else [" ".join(words)]
         return found
 
     def test_places_are_there(self):
