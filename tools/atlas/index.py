@@ -6,14 +6,12 @@ from array import array
 from .asked import Asked
 from .outlines import scripts, sources_and_modules
 from .parts import HEADER, all_parts, all_sections, cases, types_of
-from .words import IDLE, NAME as SPELLED, alike, meanings_of, names_in, pairs_asked, searched_stems, stems_of
+from .words import IDLE, NAME as SPELLED, meanings_of, names_in, pairs_asked, searched_stems, stems_of
 
 # What a word counts in each field of an answer. REST is the text around the sentence that answers.
 NAME, SENTENCE, HEADING, TEXT, REST, CONTEXT = 3.0, 2.0, 1.5, 1.0, 0.6, 0.5
 # How much a word of docs/GLOSSARY.md counts in place of the one that was asked for.
 OTHER = 0.85
-# How much a word counts that means nearly the same.
-NEARLY = 0.5
 # How well an answer has to fit, as a part of what fits best.
 WORTH = 0.25
 # How much words that belong together count where an answer has them apart.
@@ -205,10 +203,6 @@ class Index:
         for k, stems in enumerate(meanings):
             for place, fit in self.fit(stems).items():
                 found[place] = max(found.get(place, 0), fit * (OTHER if k else 1))
-        for word in meanings[0] if len(meanings[0]) == 1 else ():
-            for other in alike().get(word, ()):
-                for place, fit in self.fit((other,)).items():
-                    found[place] = max(found.get(place, 0), fit * NEARLY)
         return found
 
     def meanings(self, words):

@@ -5,8 +5,6 @@ import re
 from .files import text_of
 from .parts import OTHERS, parts_of
 
-# Words that mean nearly the same.
-ALIKE = "tools/atlas/alike"
 # Words that any question may have, whatever it is about.
 IDLE = frozenset(
     "a able about across actually after again against almost already also am an and another anybody anyone anything anywhere are arent around as at available be been before behave behaves being between big bigger both by can cannot cant code could defined described did difference differences differ do documented does doesnt done dont during "
@@ -86,17 +84,6 @@ def others():
             own, words = searched_stems(it), words_of(it)
             beside = frozenset(words) & IDLE - SMALL if len(own) < len(words) else frozenset()
             found.setdefault((own, beside), []).extend(searched_stems(ours) for ours in part.text.split(","))
-    return found
-
-
-@functools.lru_cache(maxsize=None)
-def alike():
-    """Returns for the stem of each word of the file alike the stems that mean nearly the same."""
-    found = {}
-    for row in text_of(ALIKE).split("\n"):
-        stems = [] if row.startswith("#") else list(dict.fromkeys(stem(it) for it in words_of(row) if it not in IDLE))
-        for it in stems:
-            found.setdefault(it, {}).update(dict.fromkeys(other for other in stems if other != it))
     return found
 
 
