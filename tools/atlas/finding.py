@@ -8,7 +8,7 @@ from .grouping import grouped
 from .index import BUGS, TESTS
 
 # How many answers are shown whole, and how many names of tests and bugs of each.
-MOST_SHOWN, MOST_NAMES = 6, 6
+MOST_SHOWN, MOST_NAMES = 4, 6
 # The first row of what belongs to a function or a definition.
 BELONGS = re.compile(r" {4}(?:clauses|promised by|turns|caught by) ")
 
