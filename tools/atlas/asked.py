@@ -1,7 +1,7 @@
 """Questions that were asked before, and what they teach: which places answer a question that is like one of them, and which words the
 places have that answered questions with a word. A row of questions is what was typed after bin/find, and then the places that answer
 it: a file, and the name of what is there or some words of a part of a page."""
-import math
+import functools
 
 from .files import text_of
 
@@ -33,8 +33,7 @@ def by_file(answers):
     found = {}
     for answer in answers:
         if not answer.rank:
-            path = answer.it.module.path if answer.kind == "definition" else answer.path
-            found.setdefault(path, []).append(answer)
+            found.setdefault(answer.path, []).append(answer)
     return found
 
 
@@ -71,8 +70,8 @@ class Asked:
         first, known, having = {}, [], {}
         for place, answer in enumerate(index.answers):
             first.setdefault(answer.number, place)
-        for words, found in asked:
-            meanings = index.meanings(words)
+        asked = [(index.meanings(words), found) for words, found in asked]
+        for meanings, found in asked:
             places = list(dict.fromkeys(first[it.number] for it in found))
             for meaning in meanings:
                 weight = weight_of(index, [meaning])
@@ -107,26 +106,30 @@ def weight_of(index, meanings):
 
 def learned_words(index, asked):
     """Returns for each word of a question the words that its places have more often than others, those first that tell most."""
-    texts = {}
-    for answer in index.answers:
-        text = texts.setdefault(answer.number, {})
-        for stem, weight in answer.words.items():
-            if stem.isalpha():
-                text[stem] = max(text.get(stem, 0), weight)
-    usual, times, met = {}, {}, {}
-    for text in texts.values():
-        for stem in text:
-            usual[stem] = usual.get(stem, 0) + 1 / len(texts)
-    for words, found in asked:
-        numbers = list(dict.fromkeys(it.number for it in found))[:MOST_PLACES]
-        for own in {stem for meaning in index.meanings(words) for stem in meaning[0]} if numbers else ():
+    taught = [(meanings, list(dict.fromkeys(it.number for it in found))[:MOST_PLACES]) for meanings, found in asked]
+    texts, times, met = texts_of(index, {number for _, numbers in taught for number in numbers}), {}, {}
+    for meanings, numbers in taught:
+        for own in {stem for meaning in meanings for stem in meaning[0]}:
             times[own], with_own = times.get(own, 0) + 1, met.setdefault(own, {})
             for number in numbers:
                 for stem, weight in texts[number].items():
-                    with_own[stem] = with_own.get(stem, 0) + min(1, weight / WHOLE) / len(numbers)
+                    with_own[stem] = with_own.get(stem, 0) + weight / len(numbers)
+    usual = functools.lru_cache(maxsize=None)(lambda stem: index.places.number_of(stem) / len(index.answers))
+    rarity = functools.lru_cache(maxsize=None)(index.rarity)
     learned = {}
     for own, with_own in met.items():
-        found = [((often - times[own] * usual[it]) / (times[own] + OCCASIONS), it) for it, often in with_own.items() if it != own]
-        found = sorted(((weight, it) for weight, it in found if weight >= LEAST), key=lambda it: (-it[0] * index.rarity(it[1]), it[1]))
+        found = [((often - times[own] * usual(it)) / (times[own] + OCCASIONS), it) for it, often in with_own.items() if it != own]
+        found = sorted(((weight, it) for weight, it in found if weight >= LEAST), key=lambda it: (-it[0] * rarity(it[1]), it[1]))
         learned[own] = found[:MOST_WORDS]
     return learned
+
+
+def texts_of(index, numbers):
+    """Returns for the parts with these numbers their words, each with how much it counts."""
+    texts = {number: {} for number in numbers}
+    for answer in index.answers:
+        text = texts.get(answer.number)
+        for stem, weight in answer.words.items() if text is not None else ():
+            if stem.isalpha():
+                text[stem] = max(text.get(stem, 0), min(1, weight / WHOLE))
+    return texts

@@ -1,12 +1,16 @@
 """Answers questions: what fits their words, and what belongs to it."""
+import itertools
 import re
 import textwrap
 
 from .definitions import sentence
+from .grouping import grouped
 from .index import BUGS, TESTS
 
 # How many answers are shown whole, and how many names of tests and bugs of each.
-MOST_SHOWN, MOST_NAMES = 6, 6
+MOST_SHOWN, MOST_NAMES = 4, 6
+# The first row of what belongs to a function or a definition.
+BELONGS = re.compile(r" {4}(?:clauses|promised by|turns|caught by) ")
 
 
 def listed(names, most=MOST_NAMES):
@@ -97,19 +101,28 @@ def name_of(found):
     return f"{found.kind} {getattr(it, 'full', it.name)}  {it.path}:{it.line}"
 
 
+def brief(lines):
+    """Returns what is shown of a further part of a place: what it is called and what it says, without what belongs to it."""
+    return list(itertools.takewhile(lambda it: not BELONGS.match(it), lines))
+
+
 def text_of_answer(sources, found):
     """Returns the text of an answer: a line with what it is called and where it is, and below it what belongs to it."""
     return "\n".join(about(sources, found))
 
 
 def answer(index, texts, words, whole=False):
-    """Returns the answer to a question by an index: the best whole, and the names of some others."""
-    found = index.search(words)
-    if not found:
+    """Returns the answer to a question by an index: the places that fit best with their parts, and the names of some others."""
+    groups = grouped(index.search(words))
+    if not groups:
         return f"nothing has one of the words {' '.join(words)}\n"
-    shown = found if whole else [it for it in found if it.rank == found[0].rank][:MOST_SHOWN]
-    lines = [line for it in shown for line in [*texts.of(it), ""]]
+    shown = groups if whole else [it for it in groups if it.rank == groups[0].rank][:MOST_SHOWN]
+    lines = []
+    for group in shown:
+        first, *others = group.answers if whole else group.shown
+        lines += texts.of(first) + [line for it in others for line in brief(texts.of(it))] + [""]
     for title, rank in (("others", 0), ("tests", TESTS), ("bugs", BUGS)):
-        left = [it for it in found if it.rank == rank and it not in shown]
-        lines += row(title, listed([texts.of(it)[0] for it in left[:MOST_NAMES]] + [""] * len(left[MOST_NAMES:]))) if left else []
+        left = [it for it in groups if it.rank == rank and it not in shown]
+        names = [texts.of(it.answers[0])[0] for it in left[:MOST_NAMES]] + [""] * len(left[MOST_NAMES:])
+        lines += row(title, listed(names)) if left else []
     return "\n".join(lines).rstrip() + "\n"

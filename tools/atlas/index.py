@@ -13,7 +13,7 @@ NAME, SENTENCE, HEADING, TEXT, REST, CONTEXT = 3.0, 2.0, 1.5, 1.0, 0.6, 0.5
 # How much a word of docs/GLOSSARY.md counts in place of the one that was asked for.
 OTHER = 0.85
 # How well an answer has to fit, as a part of what fits best.
-WORTH = 0.4
+WORTH = 0.25
 # How much words that belong together count where an answer has them apart.
 APART = 0.5
 # From how often on another occurrence of a word adds little; and how much longer texts count less.
@@ -26,7 +26,9 @@ REASONING = ("docs/ARCHITECTURE.md", "docs/DECISIONS.md")
 NAMING = ("docs/GLOSSARY.md",)
 # Files as wholes count little, unless code is asked for; of the scripts those that users call count most.
 OF_SCRIPTS = {"bin": 0.65, "tests": 0.35, "bench": 0.35, "reference": 0.35}
-RULES, CALLS, OTHERS, OF_CRATES, OF_FILES, ASKED, SECTION = 1.3, 1.5, 0.75, 0.6, 0.42, 1.8, 0.9
+RULES, CALLS, OTHERS, OF_CRATES, OF_FILES, ASKED, SECTION = 1.3, 1.5, 1.1, 0.6, 0.42, 1.8, 0.9
+# Long pages with reasons have every word, so they count less.
+LONG_PAGES = {"docs/DECISIONS.md": 0.8}
 # Functions, types and definitions count less than pages, unless a question is about code or proofs.
 OF_FUNCTIONS, OF_DEFINITIONS = 0.7, 0.3
 HOW = re.compile(r"(how|where|what|which \w+) (do|can|should|must) (i|we|you)\b|how to\b|(add|adding|build|building|install|installing|run|running|change|changing|contribute)\b")
@@ -34,7 +36,9 @@ WHY = re.compile(r"why\b|reasons?\b")
 WHAT = re.compile(r"what (is|are) (a|an|the)? ?\w+$|what does \w+ mean$|(definition|meaning) of\b")
 # How much words count that earlier questions taught, and a place of an earlier question that is the same; and how much less each
 # further place of it counts.
-LEARNED, ASKED_BEFORE, ANOTHER_PLACE = 0.3, 1.0, 0.9
+LEARNED, ASKED_BEFORE, ANOTHER_PLACE = 0.3, 1.2, 0.7
+# How much being more alike counts, and how much the sections count in which the places of earlier questions are.
+ALIKE, NEAR = 1.7, 0.5
 # How much more an answer of these kinds, or a section, counts whose name is what was asked for.
 TITLE, TITLED = 2.0, ("function", "law", "source", "module", "script")
 # What a whole question is about first, by its form: where something is done about code, one of proofs about definitions and laws too,
@@ -62,13 +66,15 @@ class Answer:
     """What may answer a question: its kind, what it is, how much its kind counts, and its words with their weights. An answer that was
     kept has neither: its words are in the index, and what it is was written down under its number (keeping.py)."""
 
-    __slots__ = ("kind", "it", "name", "path", "topic", "number", "counts", "rank", "title", "length", "words", "pairs", "score")
+    __slots__ = ("kind", "it", "name", "path", "topic", "section", "number", "counts", "rank", "title", "length", "words", "pairs", "score")
 
     def __init__(self, kind, it, counts, fields):
         self.kind, self.it, self.counts, self.rank, self.number, self.score = kind, it, counts, RANKS.get(kind, 0), 0, 0
-        self.name, self.path = getattr(it, "name", ""), getattr(it, "path", "")
+        self.name, self.path = getattr(it, "name", ""), it.module.path if kind == "definition" and it else getattr(it, "path", "")
         # What others may be about too: a section of a page but a row of a table, and otherwise what has this name in code.
         self.topic = f"{self.path} {it.name or it.heading}" if kind in ("page", "declaration") else self.name
+        # The section of a page, or the file, in which it is.
+        self.section = f"{self.path} {it.heading or it.name}" if kind == "page" else self.topic if kind == "declaration" else self.path
         self.words, self.pairs, self.length = {}, set(), 0
         for weight, text in fields:
             stems = stems_of(text)
@@ -90,13 +96,13 @@ class Answer:
     @property
     def kept(self):
         """Returns what is kept of it."""
-        return self.kind, self.name, self.path, self.topic, self.number, self.counts, self.rank, self.title, self.length
+        return self.kind, self.name, self.path, self.topic, self.section, self.number, self.counts, self.rank, self.title, self.length
 
     @classmethod
     def of_kept(cls, kept):
         """Returns an answer that was kept."""
         self = cls.__new__(cls)
-        self.kind, self.name, self.path, self.topic, self.number, self.counts, self.rank, self.title, self.length = kept
+        self.kind, self.name, self.path, self.topic, self.section, self.number, self.counts, self.rank, self.title, self.length = kept
         self.it, self.score = None, 0
         return self
 
@@ -227,12 +233,19 @@ class Index:
         """Returns for each part of a page, and for all else, the answer that fits a question best, by its number, with its score."""
         fits, learned, best = [self.fits(it) for it in meanings], self.learned_fits(meanings), {}
         rarities = [math.log(1 + len(self.answers) / (1 + len(it))) for it in fits]
-        whole = sum(rarities)
-        for place in {place for it in (*fits, *learned) for place in it}:
-            answer, each = self.answers[place], [(own.get(place, 0), taught.get(place, 0)) for own, taught in zip(fits, learned)]
-            # What was learned covers a part of a question as far as it fits.
-            covered = sum([rarity if own else min(rarity, taught) for rarity, (own, taught) in zip(rarities, each)]) / whole
-            answer.score = sum([own + taught for own, taught in each]) * covered * answer.counts * kinds.get(answer.kind, 1)
+        whole, sums, covered = sum(rarities), {}, {}
+        for rarity, own, taught in zip(rarities, fits, learned):
+            for place, fit in own.items():
+                sums[place] = sums.get(place, 0) + fit
+                covered[place] = covered.get(place, 0) + rarity
+            for place, fit in taught.items():
+                sums[place] = sums.get(place, 0) + fit
+                # What was learned covers a part of a question as far as it fits.
+                if place not in own:
+                    covered[place] = covered.get(place, 0) + min(rarity, fit)
+        for place, fit in sums.items():
+            answer = self.answers[place]
+            answer.score = fit * covered[place] / whole * answer.counts * kinds.get(answer.kind, 1)
             answer.score *= 1 + TITLE * titled(answer.title, meanings) if answer.title else 1
             answer.score *= ASKED if answer.path in favoured else 1
             if answer.number not in best or best[answer.number].score < answer.score:
@@ -242,10 +255,11 @@ class Index:
     def add_asked_before(self, best, meanings):
         """Adds to the scores of answers at the places of known questions what these are like the new one. The places of one question count
         one less than the other, so that several questions have a place among the first answers."""
+        asked = [(likeness, [self.answers[place] for place in places]) for likeness, places in self.asked.bonuses(self, meanings)]
+        favour_sections(best, asked)
         top, bonuses = max((it.score for it in best.values()), default=1), {}
-        for likeness, places in self.asked.bonuses(self, meanings):
-            found = [self.answers[place] for place in places]
-            bonus = ASKED_BEFORE * top * likeness**2
+        for likeness, found in asked:
+            bonus = ASKED_BEFORE * top * likeness**ALIKE
             for it in sorted(found, key=lambda it: -best[it.number].score if it.number in best else 0):
                 bonuses[it.number] = (bonuses.get(it.number, (0, it))[0] + bonus, it)
                 bonus *= ANOTHER_PLACE
@@ -271,6 +285,17 @@ class Index:
         named = {it.number: it for it in self.answers if it.name in names}
         found = {at: it for at, it in best.items() if it.score >= least} | {at: best.get(at, it) for at, it in named.items()}
         return sorted(found.values(), key=lambda it: (it.rank, it.number not in named, -it.score, it.number))
+
+
+def favour_sections(best, asked):
+    """Makes answers count more in the sections where those of questions are that are like the new one."""
+    sections = {}
+    for likeness, found in asked:
+        for it in {it.section for it in found}:
+            sections[it] = sections.get(it, 0) + likeness**ALIKE
+    most = max(sections.values(), default=1)
+    for it in best.values():
+        it.score *= 1 + NEAR * sections.get(it.section, 0) / most
 
 
 def favoured_by(asked):
@@ -312,7 +337,8 @@ def is_identifier(name, words):
 
 def counts_of(path):
     """Returns how much a page or the header counts."""
-    return RULES if path in RULING else CALLS if path == HEADER else OF_CRATES if path.startswith(("bench/", "crates/")) else OTHERS
+    others = OF_CRATES if path.startswith(("bench/", "crates/")) else LONG_PAGES.get(path, OTHERS)
+    return RULES if path in RULING else CALLS if path == HEADER else others
 
 
 def answers(sources):

@@ -57,9 +57,10 @@ def stem(word):
     return re.sub(r"e$", "", re.sub(r"y$", "i", short))
 
 
+@functools.lru_cache(maxsize=None)
 def names_in(text):
     """Returns the names of code in a text, each as one word: `TooFast` is `toofast`, and `--every` stays as it is."""
-    return [it.replace("_", "").lower() for it in NAME.findall(text)]
+    return tuple(it.replace("_", "").lower() for it in NAME.findall(text))
 
 
 def plain(text):
@@ -67,9 +68,10 @@ def plain(text):
     return PHRASE.sub(lambda it: PHRASES[it[0].lower()], text)
 
 
+@functools.lru_cache(maxsize=None)
 def stems_of(text):
     """Returns the words of a text without their endings."""
-    return [stem(it) for it in words_of(plain(text))]
+    return tuple(stem(it) for it in words_of(plain(text)))
 
 
 @functools.lru_cache(maxsize=None)
@@ -101,9 +103,9 @@ def meanings_of(words):
     and in any order."""
     asked = PLACE.sub(r"\1", plain(" ".join(words)))
     left, said = list(dict.fromkeys(searched_stems(asked))), set(words_of(asked))
-    known, found = {}, []
+    known, found, stems = {}, [], set(left)
     for (own, beside), ours in others().items():
-        if beside <= said:
+        if beside <= said and stems.issuperset(own):
             known.setdefault(own, {}).update(dict.fromkeys(ours))
     for own in sorted(known, key=lambda it: (-len(it), it)):
         if len(own) > 1 and all(it in left for it in own):

@@ -16,7 +16,7 @@ class Words(unittest.TestCase):
         self.assertEqual(words_of("VBR.1 and vbr1."), ["vbr1", "and", "vbr1"])
 
     def test_a_name_of_code_is_one_word(self):
-        self.assertEqual(names_in("TooFast or upc_card_new, --every pcap of VBR.1"), ["toofast", "upccardnew", "--every"])
+        self.assertEqual(names_in("TooFast or upc_card_new, --every pcap of VBR.1"), ("toofast", "upccardnew", "--every"))
 
     def test_endings_do_not_matter(self):
         for words in (("divides", "divide"), ("released", "release", "releases"), ("dropping", "dropped", "drop"), ("entries", "entry"), ("faster", "fast"), ("isolated", "isolation", "isolates"), ("exceeded", "exceed")):
