@@ -4,18 +4,12 @@ use Rattle.std.proofs.lemmas.Result.{IfOk-weaker}
 use Rattle.std.specs.Global.{Vec}
 use Rattle.std.specs.Result.{OnErr, OnOk}
 use Rattle.captures.specs.declared.link.Link.{Link}
-use Rattle.captures.specs.declared.packet_time.TimeSource.TheVariants as source
-use Rattle.captures_text.specs.declared.line_choice.LineChoice.TheVariants as lines
-use Rattle.cmd_police.proofs.Existence.{fault_may, polices_timed}
-use Rattle.cmd_police.proofs.PoliceLemmas.{served_as}
+use Rattle.cmd_police.proofs.Existence.{FaultOrPrepared, fault_or_prepared, faulty_may}
 use Rattle.cmd_police.proofs.SetUpLemmas.{FaultOrCard, fault_or_card}
-use Rattle.cmd_police.specs.PolicedCards.{OpensSetup, OpensTimed, policed_start}
-use Rattle.cmd_police.specs.RulesFiles.{IsFaultOfRules, MayBeFaultOfRules}
-use Rattle.cmd_police.specs.SetupText.{IsTimedPolicedBy}
-use Rattle.cmd_police.specs.TimedLines.{falling_line, falling_text, line_times, waiting_at, without_times}
+use Rattle.cmd_police.specs.PolicedCards.{OpensSetup, policed_start}
+use Rattle.cmd_police.specs.TimedLines.{line_times, waiting_at}
 use Rattle.cmd_police.specs.declared.policed_card.OpenedCard.TheVariants.{Faulty}
-use Rattle.cmd_police.specs.declared.scope.PoliceScope.{PoliceScope}
-use Rattle.std.specs.Option.{MatchOption}
+use Rattle.text_io.proofs.Public.{served-wider}
 use Rattle.text_io.specs.Lines.{lines_of}
 use Rattle.text_io.specs.declared.device.Input.{Ghosts as InputView}
 use Rattle.text_io.specs.declared.device.Output.{Ghosts as OutputView}
@@ -23,7 +17,7 @@ use Rattle.text_io.specs.declared.ending.Done.{Done}
 use Rattle.text_io.specs.declared.ending.Done.TheVariants.{Ended, Whole}
 use Rattle.text_io.specs.declared.ending.RunFault.{RunFault}
 use Rattle.text_io.specs.declared.ending.RunFault.TheVariants.{NoMemory}
-use Rattle.cmd_forward.specs.ForwardText.{IsForwarded, IsSetupForwarded, IsSetupForwardedBy, IsTimedForwardedBy, MayBeSetupForwarded, forward_rules}
+use Rattle.cmd_forward.specs.ForwardText.{IsForwarded, IsSetupForwarded, MayBeSetupForwarded, forward_rules}
 use Rattle.cmd_forward.specs.Forwarding.{forward_start}
 use Rattle.cmd_forward.specs.Reporting.{HasReportedText, IsServedWithReport, ReportedTexts, ReportsText}
 use Rattle.cmd_forward.specs.declared.others.Others.{Others}
@@ -44,61 +38,30 @@ pub some_forwarded : (others : Others) (tick : ℕ) (link : Option Link) (script
     → (text : List ℕ) × (done : Done) × HasReportedText (IsForwarded others tick link script times) octets text done
 some_forwarded others tick link script times octets = forwards_some others tick link script times octets (fault_or_card script times)
 
--- A scope without lines.
-abbrev silent : Option Link → PoliceScope
-silent link = record { link = link; timing = source.Record; lines = lines.Nothing; every = None; why = false }
-
-timed_some : (others : Others) (tick : ℕ) (link : Option Link) (setup : List ℕ) (times : List (Option ℕ)) (texts : List (List ℕ)) (octets text : List ℕ) (done : Done)
-    → IsTimedPolicedBy MayBeFaultOfRules (silent link) tick setup times texts octets text done
-    → (text : List ℕ) × (done : Done) × HasReportedText (IsTimedForwardedBy MayBeFaultOfRules others tick link setup times texts) octets text done
-timed_some others tick link setup times texts octets text done (inl (faulty, ends)) = ([], Ended, (text, inl (refl, faulty, refl)))
-timed_some others tick link setup times texts octets text done (inr (script, made, printed)) =
-    let some = some_forwarded others tick link script times octets in (some.0, some.1, (some.2.0, inr (script, made, some.2.1)))
-
--- By whether the time of a line falls.
-abbrev ForwardsUnless : Option ℕ → (List ℕ → List ℕ → List ℕ → Type 0) → Others → ℕ → Option Link → List ℕ → List (List ℕ) → ReportedTexts
-ForwardsUnless falls IsFault others tick link setup texts octets text report done = MatchOption falls
-    (IsTimedForwardedBy IsFault others tick link (without_times setup) (line_times setup) texts octets text report done)
-    (λ number. (text ≡ []) × (report ≡ falling_text number) × (done ≡ Ended))
-
-setup_unless : (falls : Option ℕ) (others : Others) (tick : ℕ) (link : Option Link) (setup : List ℕ) (texts : List (List ℕ)) (octets : List ℕ)
-    → (text : List ℕ) × (done : Done) × HasReportedText (ForwardsUnless falls MayBeFaultOfRules others tick link setup texts) octets text done
-setup_unless None others tick link setup texts octets =
-    let policed = polices_timed (silent link) tick (without_times setup) (line_times setup) texts octets in
-    timed_some others tick link (without_times setup) (line_times setup) texts octets policed.0 policed.1 policed.2
-setup_unless (Some number) others tick link setup texts octets = ([], Ended, (falling_text number, (refl, refl, refl)))
+setup_some : (others : Others) (tick : ℕ) (link : Option Link) (setup : List ℕ) (texts : List (List ℕ)) (octets : List ℕ) → FaultOrPrepared setup texts
+    → (text : List ℕ) × (done : Done) × HasReportedText (MayBeSetupForwarded others tick link setup texts) octets text done
+setup_some others tick link setup texts octets (inl faulty) = ([], Ended, (faulty.0, inl (refl, faulty.1, refl)))
+setup_some others tick link setup texts octets (inr made) =
+    let some = some_forwarded others tick link made.0 (line_times setup) octets in (some.0, some.1, (some.2.0, inr (made.0, made.1, some.2.1)))
 
 -- So it is for each setup with files of rules.
 pub some_setup_forwarded : (others : Others) (tick : ℕ) (link : Option Link) (setup : List ℕ) (texts : List (List ℕ)) (octets : List ℕ)
     → (text : List ℕ) × (done : Done) × HasReportedText (MayBeSetupForwarded others tick link setup texts) octets text done
-some_setup_forwarded others tick link setup texts octets = setup_unless (falling_line setup) others tick link setup texts octets
+some_setup_forwarded others tick link setup texts octets = setup_some others tick link setup texts octets (fault_or_prepared setup texts)
 
 -- What is forwarded by the rules as they are is so where the code of any rules may be reported as too long.
-timed_may_be : (others : Others) (tick : ℕ) (link : Option Link) (setup : List ℕ) (times : List (Option ℕ)) (texts : List (List ℕ)) (octets text report : List ℕ) (done : Done)
-    → IsTimedForwardedBy IsFaultOfRules others tick link setup times texts octets text report done
-    → IsTimedForwardedBy MayBeFaultOfRules others tick link setup times texts octets text report done
-timed_may_be others tick link setup times texts octets text report done (inl (none, faulty, ends)) =
-    inl (none, fault_may (lines_of setup) 0 texts report faulty, ends)
-timed_may_be others tick link setup times texts octets text report done (inr made) = inr made
-
-unless_may_be : (falls : Option ℕ) (others : Others) (tick : ℕ) (link : Option Link) (setup : List ℕ) (texts : List (List ℕ)) (octets text report : List ℕ) (done : Done)
-    → ForwardsUnless falls IsFaultOfRules others tick link setup texts octets text report done
-    → ForwardsUnless falls MayBeFaultOfRules others tick link setup texts octets text report done
-unless_may_be None others tick link setup texts octets text report done is =
-    timed_may_be others tick link (without_times setup) (line_times setup) texts octets text report done is
-unless_may_be (Some number) others tick link setup texts octets text report done is = is
-
 pub may_be_forwarded : (others : Others) (tick : ℕ) (link : Option Link) (setup : List ℕ) (texts : List (List ℕ)) (octets text report : List ℕ) (done : Done)
     → IsSetupForwarded others tick link setup texts octets text report done → MayBeSetupForwarded others tick link setup texts octets text report done
-may_be_forwarded others tick link setup texts octets text report done is = unless_may_be (falling_line setup) others tick link setup texts octets text report done is
+may_be_forwarded others tick link setup texts octets text report done (inl (none, faulty, ends)) = inl (none, faulty_may setup texts report faulty, ends)
+may_be_forwarded others tick link setup texts octets text report done (inr made) = inr made
 
 module _ {Source Sink : Type 0} (I : InputView Source) (O : OutputView Sink) (source source' : Source) (sink sink' : Sink) (said said' : List ℕ) (result : Result Done RunFault) where
   -- A promise by a wider relation.
   pub served_wider : (IsText IsWanted : ReportedTexts) → ((octets text report : List ℕ) (done : Done) → IsText octets text report done → IsWanted octets text report done)
       → IsServedWithReport IsText I source source' O sink sink' said said' result → IsServedWithReport IsWanted I source source' O sink sink' said said' result
   served_wider IsText IsWanted is by = record {
-    served = served_as I O source source' sink sink' result (HasReportedText IsText) (HasReportedText IsWanted)
-        (λ octets text done has. (has.0, is octets text has.0 done has.1)) by.served;
+    served = served-wider (HasReportedText IsText) (HasReportedText IsWanted) (λ octets text done has. (has.0, is octets text has.0 done has.1))
+        I source source' O sink sink' result by.served;
     reported = λ ki ko. IfOk-weaker result _ _
         (λ done adds. (adds.0, adds.1, (adds.2.0, adds.2.1, is (I.rest source) adds.2.0 adds.0 done adds.2.2))) (by.reported ki ko);
   }
@@ -118,31 +81,11 @@ faults_served I O source sink said said' text (Err NoMemory) IsText some is ende
     served_nothing I O source source sink said said' IsText NoMemory (some (I.rest source)) refl refl
 faults_served I O source sink said said' text (Err other) IsText some is ended grew fault = cc
 
-faulty_timed : (others : Others) (tick : ℕ) (link : Option Link) (setup : List ℕ) (times : List (Option ℕ)) (texts : List (List ℕ)) (text : Vec ℕ)
-    → OpensTimed tick setup times texts (Faulty text) → (octets : List ℕ)
-    → IsTimedForwardedBy IsFaultOfRules others tick link setup times texts octets [] text.items Ended
-faulty_timed others tick link setup times texts text (inl faulty) octets = inl (refl, faulty, refl)
-faulty_timed others tick link setup times texts text (inr (script, made, explained)) octets = inr (script, made, inl (refl, explained, refl))
-
-faulty_unless : (falls : Option ℕ) (others : Others) (tick : ℕ) (link : Option Link) (setup : List ℕ) (texts : List (List ℕ)) (text : Vec ℕ)
-    → MatchOption falls (OpensTimed tick (without_times setup) (line_times setup) texts (Faulty text)) (λ number. text.items ≡ falling_text number) → (octets : List ℕ)
-    → ForwardsUnless falls IsFaultOfRules others tick link setup texts octets [] text.items Ended
-faulty_unless None others tick link setup texts text opens octets = faulty_timed others tick link (without_times setup) (line_times setup) texts text opens octets
-faulty_unless (Some number) others tick link setup texts text is octets = (refl, is, refl)
-
 -- The report of a faulty setup.
 pub faulty_setup : (others : Others) (tick : ℕ) (link : Option Link) (setup : List ℕ) (texts : List (List ℕ)) (text : Vec ℕ) → OpensSetup tick setup texts (Faulty text)
     → (octets : List ℕ) → IsSetupForwarded others tick link setup texts octets [] text.items Ended
-faulty_setup others tick link setup texts text opens octets = faulty_unless (falling_line setup) others tick link setup texts text opens octets
-
--- What is forwarded by an opened card is forwarded for its setup.
-pub opened_setup : (IsFault : List ℕ → List ℕ → List ℕ → Type 0) (others : Others) (tick : ℕ) (link : Option Link) (setup : List ℕ) (texts : List (List ℕ)) (octets text report : List ℕ) (done : Done)
-    → falling_line setup ≡ None
-    → IsTimedForwardedBy IsFault others tick link (without_times setup) (line_times setup) texts octets text report done
-    → IsSetupForwardedBy IsFault others tick link setup texts octets text report done
-opened_setup IsFault others tick link setup texts octets text report done none is =
-    subst (λ (falls : Option ℕ). MatchOption falls (IsTimedForwardedBy IsFault others tick link (without_times setup) (line_times setup) texts octets text report done)
-    (λ number. (text ≡ []) × (report ≡ falling_text number) × (done ≡ Ended))) (sym none) is
+faulty_setup others tick link setup texts text (inl faulty) octets = inl (refl, faulty, refl)
+faulty_setup others tick link setup texts text (inr (script, made, explained)) octets = inr (script, made, inl (refl, explained, refl))
 
 -- If it is reported, nothing is written.
 pub faults_reported : {Source Sink : Type 0} (I : InputView Source) (O : OutputView Sink) (source : Source) (sink : Sink) (said said' text : List ℕ)

@@ -1,15 +1,14 @@
 -- The octets that `forward` writes, and its report. A script sets up a card, as `police` has it. If the script has a
 -- fault, the report explains it, and nothing is written. Otherwise the card judges the cells of a capture that count,
 -- at port 0 and in order, and their records go on by its verdicts.
-use Rattle.std.specs.Prelude.{◌≡◌, ◌⊎◌, ℕ, List, [], Option, Some, None, MatchOption}
+use Rattle.std.specs.Prelude.{◌≡◌, ◌⊎◌, ℕ, List, [], Option, Some, None}
 use Rattle.captures.specs.declared.link.Link.{Link}
 use Rattle.captures_text.specs.declared.captured_cell.CapturedCell.{CapturedCell}
-use Rattle.cmd_police.specs.FaultyRules.{HasFaultyRules}
 use Rattle.cmd_police.specs.PoliceText.{IsFaultAtTimes, IsSetUpAtTimes}
 use Rattle.cmd_police.specs.PolicedCards.{PolicedWorld, PolicesOneCell, policed_report, policed_start}
+use Rattle.cmd_police.specs.PreparedSetups.{HasFaultySetup, IsPreparedAs}
 use Rattle.cmd_police.specs.RulesFiles.{IsFaultOfRules, MayBeFaultOfRules}
-use Rattle.cmd_police.specs.SetupPrograms.{HasPrograms}
-use Rattle.cmd_police.specs.TimedLines.{falling_line, falling_text, line_times, waiting_at, without_times}
+use Rattle.cmd_police.specs.TimedLines.{line_times, waiting_at}
 use Rattle.leaky.specs.declared.verdict.Verdict.{Verdict}
 use Rattle.leaky.specs.declared.verdict.Verdict.TheVariants.{Pass, Tag, Discard, Refuse}
 use Rattle.text_io.specs.Lines.{lines_of}
@@ -49,18 +48,12 @@ abbrev pub IsForwarded : Others → ℕ → Option Link → List ℕ → List (O
 IsForwarded others tick link script times octets text report done =
     ((text ≡ []) × IsFaultAtTimes script times report × (done ≡ Ended)) ⊎ IsJudgedOnward others tick link script times octets text report done
 
--- The same for a setup script with files of rules, whose lines have these times, which are not in the script any more.
+-- The same for a setup script with times and files of rules. If it has a fault, the report is about it, and nothing is written.
 -- `IsFault` says which lines are the fault line of a text of rules and its explanation.
-abbrev pub IsTimedForwardedBy : (List ℕ → List ℕ → List ℕ → Type 0) → Others → ℕ → Option Link → List ℕ → List (Option ℕ) → List (List ℕ) → ReportedTexts
-IsTimedForwardedBy IsFault others tick link setup times texts octets text report done =
-    ((text ≡ []) × HasFaultyRules IsFault setup texts report × (done ≡ Ended))
-    ⊎ ((script : List ℕ) × HasPrograms setup texts script × IsForwarded others tick link script times octets text report done)
-
--- The same for a setup script. If the time of a line falls, the report names the line, and nothing is written.
 abbrev pub IsSetupForwardedBy : (List ℕ → List ℕ → List ℕ → Type 0) → Others → ℕ → Option Link → List ℕ → List (List ℕ) → ReportedTexts
-IsSetupForwardedBy IsFault others tick link setup texts octets text report done = MatchOption (falling_line setup)
-    (IsTimedForwardedBy IsFault others tick link (without_times setup) (line_times setup) texts octets text report done)
-    (λ number. (text ≡ []) × (report ≡ falling_text number) × (done ≡ Ended))
+IsSetupForwardedBy IsFault others tick link setup texts octets text report done =
+    ((text ≡ []) × HasFaultySetup IsFault setup texts report × (done ≡ Ended))
+    ⊎ ((script : List ℕ) × IsPreparedAs setup texts script × IsForwarded others tick link script (line_times setup) octets text report done)
 
 -- The same, where the fault line is that of `upc-lab rules`.
 abbrev pub IsSetupForwarded : Others → ℕ → Option Link → List ℕ → List (List ℕ) → ReportedTexts

@@ -17,13 +17,13 @@ use Rattle.text_words.specs.FaultLines.{too_long}
 use Rattle.cmd_rules.specs.AsmText.{whole_line}
 use Rattle.cmd_police.specs.FaultyRules.{HasFaultIn, rules_place}
 use Rattle.cmd_police.specs.LoadedRules.{shown_rules}
+use Rattle.cmd_police.specs.PreparedSetups.{HasFaultySetup, IsPreparedAs}
 use Rattle.cmd_police.specs.RulesFiles.{IsFaultOfRules, MayBeFaultOfRules, MayBeFaultOfText, TellsFault, later_texts, next_text, too_large_text}
 use Rattle.cmd_police.specs.RulesLines.{named_rules}
 use Rattle.cmd_police.specs.SetupLaws.{PolicesEachSetup}
 use Rattle.cmd_police.specs.SetupPrograms.{HasProgramsIn}
-use Rattle.cmd_police.specs.SetupText.{AsAgreed, IsSetupPoliced, IsTimedPolicedBy, MayBePolicedAsAgreed, MayBeSetupPoliced}
+use Rattle.cmd_police.specs.SetupText.{AsAgreed, MayBePolicedAsAgreed, MayBeSetupPoliced}
 use Rattle.cmd_police.specs.TimedLines.{falling_line, falling_text, line_times, without_times}
-use Rattle.std.specs.Option.{MatchOption}
 use Rattle.cmd_police.specs.SetupTick.{agreed_tick, ticks_differ}
 use Rattle.cmd_police.proofs.Completing.{FailsAt, ReplacesAt}
 
@@ -76,27 +76,30 @@ leads_on : (lines : List Line) (met : ℕ) (texts : List (List ℕ)) → LeadsOn
 leads_on [] met texts = inr ([], refl)
 leads_on (line ∷ lines) met texts = line_leads (named_rules line) met line lines texts refl (leads_on lines (met + 1) texts)
 
-polices : (scope : PoliceScope) (tick : ℕ) (setup : List ℕ) (times : List (Option ℕ)) (texts : List (List ℕ)) (octets : List ℕ)
-    → LeadsOn 0 (lines_of setup) texts
-    → (text : List ℕ) × (done : Done) × IsTimedPolicedBy MayBeFaultOfRules scope tick setup times texts octets text done
-polices scope tick setup times texts octets (inl faulty) = (faulty.0, Ended, inl (faulty.1, refl))
-polices scope tick setup times texts octets (inr made) =
-    let printed = some_police_text scope tick (shown_rules scope.why setup texts) made.0 times octets in
+-- A setup script has a fault, or it is prepared.
+abbrev pub FaultOrPrepared : List ℕ → List (List ℕ) → Type 0
+FaultOrPrepared setup texts = ((text : List ℕ) × HasFaultySetup MayBeFaultOfRules setup texts text) ⊎ ((script : List ℕ) × IsPreparedAs setup texts script)
+
+risen_leads : (setup : List ℕ) (texts : List (List ℕ)) → falling_line setup ≡ None → LeadsOn 0 (lines_of (without_times setup)) texts → FaultOrPrepared setup texts
+risen_leads setup texts rises (inl faulty) = inl (faulty.0, inr (rises, faulty.1))
+risen_leads setup texts rises (inr made) = inr (made.0, record { rises = rises; programs = made.1 })
+
+setup_leads : (setup : List ℕ) (texts : List (List ℕ)) (falls : Option ℕ) → falling_line setup ≡ falls → FaultOrPrepared setup texts
+setup_leads setup texts None rises = risen_leads setup texts rises (leads_on (lines_of (without_times setup)) 0 texts)
+setup_leads setup texts (Some number) falls = inl (falling_text number, inl (number, falls, refl))
+
+pub fault_or_prepared : (setup : List ℕ) (texts : List (List ℕ)) → FaultOrPrepared setup texts
+fault_or_prepared setup texts = setup_leads setup texts (falling_line setup) refl
+
+polices : (scope : PoliceScope) (tick : ℕ) (setup : List ℕ) (texts : List (List ℕ)) (octets : List ℕ) → FaultOrPrepared setup texts
+    → (text : List ℕ) × (done : Done) × MayBeSetupPoliced scope tick setup texts octets text done
+polices scope tick setup texts octets (inl faulty) = (faulty.0, Ended, inl (faulty.1, refl))
+polices scope tick setup texts octets (inr made) =
+    let printed = some_police_text scope tick (shown_rules scope.why (without_times setup) texts) made.0 (line_times setup) octets in
     (printed.0, printed.1, inr (made.0, made.1, printed.2))
 
-pub polices_timed : (scope : PoliceScope) (tick : ℕ) (setup : List ℕ) (times : List (Option ℕ)) (texts : List (List ℕ)) (octets : List ℕ)
-    → (text : List ℕ) × (done : Done) × IsTimedPolicedBy MayBeFaultOfRules scope tick setup times texts octets text done
-polices_timed scope tick setup times texts octets = polices scope tick setup times texts octets (leads_on (lines_of setup) 0 texts)
-
-polices_unless : (falls : Option ℕ) (scope : PoliceScope) (tick : ℕ) (setup : List ℕ) (texts : List (List ℕ)) (octets : List ℕ)
-    → (text : List ℕ) × (done : Done) × MatchOption falls
-    (IsTimedPolicedBy MayBeFaultOfRules scope tick (without_times setup) (line_times setup) texts octets text done)
-    (λ number. (text ≡ falling_text number) × (done ≡ Ended))
-polices_unless None scope tick setup texts octets = polices_timed scope tick (without_times setup) (line_times setup) texts octets
-polices_unless (Some number) scope tick setup texts octets = (falling_text number, Ended, (refl, refl))
-
 pub polices_each : PolicesEachSetup
-polices_each scope tick setup texts octets = polices_unless (falling_line setup) scope tick setup texts octets
+polices_each scope tick setup texts octets = polices scope tick setup texts octets (fault_or_prepared setup texts)
 
 -- ---- a fault of rules that is reported is one that may be reported
 
@@ -114,28 +117,14 @@ fault_at_may None met lines texts text on is = on texts is
 fault_at_may (Some name) met lines texts text on (inl (fault, reason, is, printed)) = inl (fault, reason, may_be_fault (next_text texts) fault reason is, printed)
 fault_at_may (Some name) met lines texts text on (inr (code, program, is)) = inr (code, program, on (later_texts texts) is)
 
-pub fault_may : (lines : List Line) (met : ℕ) (texts : List (List ℕ)) (text : List ℕ) → HasFaultIn IsFaultOfRules met lines texts text → HasFaultIn MayBeFaultOfRules met lines texts text
+fault_may : (lines : List Line) (met : ℕ) (texts : List (List ℕ)) (text : List ℕ) → HasFaultIn IsFaultOfRules met lines texts text → HasFaultIn MayBeFaultOfRules met lines texts text
 fault_may [] met texts text is = is
 fault_may (line ∷ lines) met texts text is =
     fault_at_may (named_rules line) met lines texts text (λ texts is. fault_may lines (met + 1) texts text is) is
 
-pub may_be_timed : (scope : PoliceScope) (tick : ℕ) (setup : List ℕ) (times : List (Option ℕ)) (texts : List (List ℕ)) (octets text : List ℕ) (done : Done)
-    → IsTimedPolicedBy IsFaultOfRules scope tick setup times texts octets text done
-    → IsTimedPolicedBy MayBeFaultOfRules scope tick setup times texts octets text done
-may_be_timed scope tick setup times texts octets text done (inl (faulty, ends)) = inl (fault_may (lines_of setup) 0 texts text faulty, ends)
-may_be_timed scope tick setup times texts octets text done (inr made) = inr made
-
-may_be_unless : (falls : Option ℕ) (scope : PoliceScope) (tick : ℕ) (setup : List ℕ) (texts : List (List ℕ)) (octets text : List ℕ) (done : Done)
-    → MatchOption falls (IsTimedPolicedBy IsFaultOfRules scope tick (without_times setup) (line_times setup) texts octets text done)
-    (λ number. (text ≡ falling_text number) × (done ≡ Ended))
-    → MatchOption falls (IsTimedPolicedBy MayBeFaultOfRules scope tick (without_times setup) (line_times setup) texts octets text done)
-    (λ number. (text ≡ falling_text number) × (done ≡ Ended))
-may_be_unless None scope tick setup texts octets text done is = may_be_timed scope tick (without_times setup) (line_times setup) texts octets text done is
-may_be_unless (Some number) scope tick setup texts octets text done is = is
-
-pub may_be_policed : (scope : PoliceScope) (tick : ℕ) (setup : List ℕ) (texts : List (List ℕ)) (octets text : List ℕ) (done : Done)
-    → IsSetupPoliced scope tick setup texts octets text done → MayBeSetupPoliced scope tick setup texts octets text done
-may_be_policed scope tick setup texts octets text done is = may_be_unless (falling_line setup) scope tick setup texts octets text done is
+pub faulty_may : (setup : List ℕ) (texts : List (List ℕ)) (text : List ℕ) → HasFaultySetup IsFaultOfRules setup texts text → HasFaultySetup MayBeFaultOfRules setup texts text
+faulty_may setup texts text (inl falls) = inl falls
+faulty_may setup texts text (inr (rises, faulty)) = inr (rises, fault_may (lines_of (without_times setup)) 0 texts text faulty)
 
 -- ---- at the tick that is agreed
 

@@ -14,6 +14,8 @@ pub mod LeftLemmas
 pub mod LineTexts
 pub mod LeftExcess
 pub mod PoliceLemmas
+pub mod ServedLemmas
+pub mod PreparedLemmas
 pub mod ScriptLines
 pub mod RulesSend
 pub mod Completing

@@ -1,23 +1,16 @@
 -- How a run of `police` goes on.
-use Rattle.std.proofs.Common.{◌≡◌, ◌||◌, ℕ, Bool, true, false, if◌then◌else◌, List, [], ◌++◌, Option, Some, None, Result, refl, sym, ap, ◌∙◌, subst, append-nil, append_assoc}
-use Rattle.std.proofs.lemmas.Result.{IfOk-weaker}
+use Rattle.std.proofs.Common.{◌≡◌, ◌||◌, ℕ, Bool, true, false, if◌then◌else◌, List, [], ◌++◌, Option, Some, None, refl, sym, ap, ◌∙◌, subst, append_assoc}
 use Rattle.captures.specs.declared.fault.Fault.{Fault}
 use Rattle.card_core.specs.Agreement.{CoreView}
 use Rattle.card_core.specs.declared.answer.Answer.{Answer}
 use Rattle.card_core.specs.declared.shape.Shape.{Shape}
 use Rattle.captures_text.specs.CellFollowing.{FollowsCell}
-use Rattle.captures_text.proofs.Progresses.{on_fault}
 use Rattle.captures_text.specs.RunLines.{closing_lines}
 use Rattle.captures_text.specs.declared.line_choice.LineChoice.{LineChoice}
 use Rattle.captures_text.specs.declared.captured_cell.CapturedCell.{CapturedCell}
 use Rattle.captures_text.specs.declared.reading_summary.ReadingSummary.{ReadingSummary}
 use Rattle.gen_arena.specs.declared.id.Id.{Id}
 use Rattle.leaky.specs.declared.excess.Excess.{Excess}
-use Rattle.text_io.specs.Serving.{IsServed}
-use Rattle.text_io.specs.declared.device.Input.{Ghosts as InputView}
-use Rattle.text_io.specs.declared.device.Output.{Ghosts as OutputView}
-use Rattle.text_io.specs.declared.ending.Done.{Done}
-use Rattle.text_io.specs.declared.ending.RunFault.{RunFault}
 use Rattle.text_io.specs.declared.machine.Turn.TheVariants.{GoesOn}
 use Rattle.upc_cell.specs.Connection.{vc_of}
 use Rattle.upc_cell.specs.Header.{has_low_priority}
@@ -251,18 +244,3 @@ closes_by run world summary ending old one two three four five six new shown zer
     ∙ ap (λ (cells : NotJudged). Closes (present_text world.spans) (has_lines_before world) cells left run.tick.nanoseconds) shown.not_judged
     ∙ ap (λ (commands : List WaitingCommand). Closes (present_text world.spans) (has_lines_before world) world.not_judged commands run.tick.nanoseconds) shown.timed.waits
     ∙ ap (λ tick. Closes (present_text world.spans) (has_lines_before world) world.not_judged world.waiting tick) shown.tick
-
--- A text of a capture by the card that a script leads to is a text of `police`.
-module _ {Source Sink : Type 0} (I : InputView Source) (O : OutputView Sink) (source source' : Source) (sink sink' : Sink) (result : Result Done RunFault) where
-  pub served_as : (IsText IsWanted : List ℕ → List ℕ → Done → Type 0) → ((octets text : List ℕ) (done : Done) → IsText octets text done → IsWanted octets text done)
-      → IsServed IsText I source source' O sink sink' result → IsServed IsWanted I source source' O sink sink' result
-  served_as IsText IsWanted is served = record {
-    text = λ ki ko. IfOk-weaker result _ _ (λ done adds. (adds.0, adds.1, is (I.rest source) adds.0 done adds.2)) (served.text ki ko);
-    front = λ ki ko. on_fault result _ _ (served.front ki ko)
-        (λ (text, grew, (more, done, printed)). (text, grew, (more, done, is (I.rest source) (text ++ more) done printed)));
-    left = λ ki. IfOk-weaker result _ _
-        (λ done (needed, ahead, cut, few, (text, printed)). (needed, ahead, cut, few, (text, is needed text done printed))) (served.left ki);
-    whole = served.whole;
-    reading = served.reading;
-    writing = served.writing;
-  }

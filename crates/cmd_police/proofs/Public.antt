@@ -1,5 +1,5 @@
 -- Lemmas for other crates.
-use Rattle.std.proofs.Common.{ℕ, List, [], ◌∷◌, ◌++◌, map, Option, append-nil, append_assoc, ap, refl, subst, sym, ◌≡◌, ◌∙◌}
+use Rattle.std.proofs.Common.{ℕ, List, [], ◌∷◌, ◌++◌, Option, append-nil, append_assoc, ap, refl, subst, sym, ◌≡◌, ◌∙◌}
 use Rattle.std.proofs.lemmas.List.{map-append}
 use Rattle.std.specs.Global.{Vec}
 use Rattle.cmd_police.specs.declared.scope.PoliceScope.{PoliceScope}
@@ -7,23 +7,13 @@ use Rattle.text_io.specs.declared.ending.Done.{Done}
 use Rattle.cmd_police.specs.FilesRead.{AreTextsForFiles, IsTextForFile, octets_of_name, octets_of_names}
 use Rattle.cmd_police.specs.RulesFiles.{octets_of_text, octets_of_texts}
 use Rattle.cmd_police.specs.declared.shared_text.SharedText.{SharedText}
-use Rattle.cmd_police.specs.SetupText.{IsSetupPoliced, MayBePolicedAsAgreed, MayBeSetupPoliced}
+use Rattle.cmd_police.specs.SetupText.{MayBePolicedAsAgreed}
 use Rattle.cmd_police.proofs.Existence as existence
 
--- A setup script, texts of rules and a capture have a text.
-pub some_setup_text : (scope : PoliceScope) (tick : ℕ) (setup : List ℕ) (texts : List (List ℕ)) (octets : List ℕ)
-    → (text : List ℕ) × (done : Done) × MayBeSetupPoliced scope tick setup texts octets text done
-some_setup_text = existence.polices_each
-
--- The same at the tick that is agreed.
+-- A setup script, texts of rules and a capture have a text at the tick that is agreed.
 pub some_agreed_text : (scope : PoliceScope) (named asked : Option ℕ) (setup : List ℕ) (texts : List (List ℕ)) (octets : List ℕ)
     → (text : List ℕ) × (done : Done) × MayBePolicedAsAgreed scope named asked setup texts octets text done
 some_agreed_text = existence.polices_as_agreed
-
--- A text by the rules as they are is one where the code of any rules may be reported as too long.
-pub setup_text_may_be : (scope : PoliceScope) (tick : ℕ) (setup : List ℕ) (texts : List (List ℕ)) (octets text : List ℕ) (done : Done)
-    → IsSetupPoliced scope tick setup texts octets text done → MayBeSetupPoliced scope tick setup texts octets text done
-setup_text_may_be = existence.may_be_policed
 
 -- The text of one more file goes after those so far.
 pub one_more_text : (all : List (Option (List ℕ))) (file : Option (Vec ℕ)) (files : List (Option (Vec ℕ))) (texts : List SharedText) (text : SharedText)

@@ -1,17 +1,9 @@
 -- The times of a script's lines.
-use Rattle.std.proofs.Common.{◌≡◌, ◌⊎◌, inl, inr, ℕ, suc, ◌+◌, Bool, true, false, if◌then◌else◌, List, [], ◌∷◌, ◌++◌, Option, Some, None, append-nil, append_assoc, refl, sym, ap, ◌∙◌, subst, arith, length, take}
+use Rattle.std.proofs.Common.{◌≡◌, ℕ, suc, ◌+◌, Bool, true, false, if◌then◌else◌, List, [], ◌∷◌, ◌++◌, Option, Some, None, append-nil, append_assoc, refl, sym, ap, ◌∙◌, arith, length, take}
 use Rattle.std.proofs.lemmas.List.{length-append, length-take}
-use Rattle.std.specs.Option.{MatchOption}
 use Rattle.text_io.specs.Lines.{Line, lines_of, line_content}
-use Rattle.text_io.specs.declared.ending.Done.{Done}
-use Rattle.text_io.specs.declared.ending.Done.TheVariants.{Ended}
 use Rattle.cmd_rules.specs.AsmText.{whole_line}
-use Rattle.cmd_police.specs.PolicedCards.{OpensSetup, OpensTimed}
-use Rattle.cmd_police.specs.SetupText.{IsSetupPolicedBy, IsTimedPolicedBy}
-use Rattle.cmd_police.specs.TimedLines.{falling_line, falling_text, falls_after, falls_below, later_time, line_times, lines_without_times, octets_before_times, own_time, times_after, without_time, without_times}
-use Rattle.cmd_police.specs.declared.policed_card.OpenedCard.{OpenedCard}
-use Rattle.cmd_police.specs.declared.policed_card.OpenedCard.TheVariants.{Faulty, Ready}
-use Rattle.cmd_police.specs.declared.scope.PoliceScope.{PoliceScope}
+use Rattle.cmd_police.specs.TimedLines.{falling_line, falls_after, falls_below, later_time, lines_without_times, octets_before_times, own_time, times_after, without_time}
 use Rattle.cmd_police.specs.inner.ScriptLine.{BeginsWithLine}
 use Rattle.cmd_police.specs.inner.TimedScripts.{HasTimes, TakesOn}
 
@@ -66,37 +58,6 @@ takes_end setup left script times met before takes none = record {
   plain = sym (append-nil script) ∙ ap (λ (lines : List Line). script ++ lines_without_times lines) (sym none) ∙ takes.plain;
   all = sym (append-nil times) ∙ ap (λ (lines : List Line). times ++ times_after before lines) (sym none) ∙ takes.all;
 }
-
--- The text of a script and its times is that of the setup.
-pub timed_setup : (IsFault : List ℕ → List ℕ → List ℕ → Type 0) (scope : PoliceScope) (tick : ℕ) (setup script : List ℕ) (times : List (Option ℕ)) (texts : List (List ℕ))
-    (octets text : List ℕ) (done : Done) → HasTimes setup script times → IsTimedPolicedBy IsFault scope tick script times texts octets text done
-    → IsSetupPolicedBy IsFault scope tick setup texts octets text done
-timed_setup IsFault scope tick setup script times texts octets text done has is =
-    subst (λ (falls : Option ℕ). MatchOption falls (IsTimedPolicedBy IsFault scope tick (without_times setup) (line_times setup) texts octets text done)
-    (λ number. (text ≡ falling_text number) × (done ≡ Ended))) (sym has.rises)
-    (subst (λ (all : List (Option ℕ)). IsTimedPolicedBy IsFault scope tick (without_times setup) all texts octets text done) has.all
-    (subst (λ (plain : List ℕ). IsTimedPolicedBy IsFault scope tick plain times texts octets text done) has.plain is))
-
--- The text about a time that falls.
-pub falling_setup : (IsFault : List ℕ → List ℕ → List ℕ → Type 0) (scope : PoliceScope) (tick : ℕ) (setup : List ℕ) (texts : List (List ℕ)) (octets text : List ℕ) (number : ℕ)
-    → falling_line setup ≡ Some number → text ≡ falling_text number → IsSetupPolicedBy IsFault scope tick setup texts octets text Ended
-falling_setup IsFault scope tick setup texts octets text number falls is =
-    subst (λ (falls : Option ℕ). MatchOption falls (IsTimedPolicedBy IsFault scope tick (without_times setup) (line_times setup) texts octets text Ended)
-    (λ number. (text ≡ falling_text number) × (Ended ≡ Ended))) (sym falls) (is, refl)
-
--- What a script and its times lead to is what the setup leads to.
-pub opens_setup : (tick : ℕ) (setup script : List ℕ) (times : List (Option ℕ)) (texts : List (List ℕ)) (opened : OpenedCard) → HasTimes setup script times
-    → OpensTimed tick script times texts opened → OpensSetup tick setup texts opened
-opens_setup tick setup script times texts (Faulty text) has opens =
-    subst (λ (falls : Option ℕ). MatchOption falls (OpensTimed tick (without_times setup) (line_times setup) texts (Faulty text)) (λ number. text.items ≡ falling_text number))
-    (sym has.rises)
-    (subst (λ (all : List (Option ℕ)). OpensTimed tick (without_times setup) all texts (Faulty text)) has.all
-    (subst (λ (plain : List ℕ). OpensTimed tick plain times texts (Faulty text)) has.plain opens))
-opens_setup tick setup script times texts (Ready policed) has opens = (
-  has.rises,
-  subst (λ (all : List (Option ℕ)). OpensTimed tick (without_times setup) all texts (Ready policed)) has.all
-      (subst (λ (plain : List ℕ). OpensTimed tick plain times texts (Ready policed)) has.plain opens),
-)
 
 -- ---- the lines before the first time
 

@@ -1,6 +1,6 @@
 -- The text of `upc-lab explain --setup` for a setup script with files of rules: the faults that `police` would find, or
 -- the hints and that there is none; and the hints as comments.
-use Rattle.std.specs.Prelude.{◌≡◌, ◌⊎◌, ℕ, Bool, eqb, if◌then◌else◌, List, [], ◌∷◌, ◌++◌, codes, Option, MatchOption}
+use Rattle.std.specs.Prelude.{◌≡◌, ◌⊎◌, ℕ, Bool, eqb, if◌then◌else◌, List, [], ◌∷◌, ◌++◌, codes, Option}
 use Rattle.std.specs.List.{starts_with}
 use Rattle.cmd_rules.specs.AsmText.{whole_line}
 use Rattle.cmd_explain_script.specs.ScriptText.{IsScriptExplained}
@@ -8,11 +8,10 @@ use Rattle.text_io.specs.Devices.{IsPart}
 use Rattle.text_io.specs.Lines.{Line, lines_of, line_content}
 use Rattle.text_io.specs.declared.ending.Done.{Done}
 use Rattle.text_io.specs.declared.ending.Done.TheVariants.{Ended, Whole}
-use Rattle.cmd_police.specs.FaultyRules.{HasFaultyRules}
 use Rattle.cmd_police.specs.PoliceText.{IsFaultAtTimes}
+use Rattle.cmd_police.specs.PreparedSetups.{HasFaultySetup, IsPreparedAs}
 use Rattle.cmd_police.specs.RulesFiles.{IsFaultOfRules}
-use Rattle.cmd_police.specs.SetupPrograms.{HasPrograms}
-use Rattle.cmd_police.specs.TimedLines.{falling_line, falling_text, line_times, octets_before_times, without_times}
+use Rattle.cmd_police.specs.TimedLines.{line_times, octets_before_times}
 
 -- The explanation of a script whose lines have these times, and how it ends: its fault, or that of its lines before the
 -- first time, and Ended; or without a fault its hints, and Whole.
@@ -21,17 +20,11 @@ IsExplainedAtTimes script times text done =
     (IsFaultAtTimes script times text × (done ≡ Ended))
     ⊎ (IsScriptExplained script text Whole × ((before : List ℕ) × IsScriptExplained (octets_before_times times (lines_of script)) before Whole) × (done ≡ Whole))
 
--- The same of a setup script whose lines have these times, which are not in the script any more, with the texts of its files of rules.
-abbrev pub IsTimedExplained : List ℕ → List (Option ℕ) → List (List ℕ) → List ℕ → Done → Type 0
-IsTimedExplained setup times texts text done =
-    (HasFaultyRules IsFaultOfRules setup texts text × (done ≡ Ended))
-    ⊎ ((script : List ℕ) × HasPrograms setup texts script × IsExplainedAtTimes script times text done)
-
--- The same of a setup script, which may have times.
+-- The same of a setup script with times and files of rules, of which these are the texts.
 abbrev pub IsSetupExplained : List ℕ → List (List ℕ) → List ℕ → Done → Type 0
-IsSetupExplained setup texts text done = MatchOption (falling_line setup)
-    (IsTimedExplained (without_times setup) (line_times setup) texts text done)
-    (λ number. (text ≡ falling_text number) × (done ≡ Ended))
+IsSetupExplained setup texts text done =
+    (HasFaultySetup IsFaultOfRules setup texts text × (done ≡ Ended))
+    ⊎ ((script : List ℕ) × IsPreparedAs setup texts script × IsExplainedAtTimes script (line_times setup) text done)
 
 -- The output grew by a part of such a text, or not at all.
 abbrev pub IsExplainedInPart : List ℕ → List (List ℕ) → List ℕ → List ℕ → Type 0

@@ -20,6 +20,7 @@ pub mod LoadedRules
 pub mod StoredRules
 pub mod SetupPrograms
 pub mod FaultyRules
+pub mod PreparedSetups
 pub mod FilesRead
 pub mod SetupTick
 pub mod SetupText

@@ -1,5 +1,5 @@
 -- The card of a setup script, for programs that ask it cell by cell how each goes on.
-use Rattle.std.specs.Prelude.{◌≡◌, ◌⊎◌, ℕ, List, [], ◌++◌, Option, Some, None, MatchOption}
+use Rattle.std.specs.Prelude.{◌≡◌, ◌⊎◌, ℕ, List, [], ◌++◌, Option}
 use Rattle.captures.specs.declared.fault.Fault.{Fault}
 use Rattle.card_core.specs.declared.answer.Answer.{Answer}
 use Rattle.captures_text.specs.RunLines.{closing_lines}
@@ -11,14 +11,13 @@ use Rattle.text_io.specs.Words.{is_filled}
 use Rattle.cmd_run.specs.RunText.{Card, IsLed}
 use Rattle.cmd_police.specs.CommandsUnderTraffic.{CarriesOutWaiting, waiting_comment}
 use Rattle.cmd_police.specs.ConnectionCounts.{counts_heading, counts_lines}
-use Rattle.cmd_police.specs.FaultyRules.{HasFaultyRules}
 use Rattle.cmd_police.specs.NotJudgedCells.{all_judged, not_judged_after, not_judged_lines}
 use Rattle.cmd_police.specs.PoliceLines.{verdict_given}
 use Rattle.cmd_police.specs.PoliceText.{IsFaultAtTimes, IsSetUpAtTimes, TakesCellWithRoom, police_gap}
+use Rattle.cmd_police.specs.PreparedSetups.{HasFaultySetup, IsPreparedAs}
 use Rattle.cmd_police.specs.RulesFiles.{IsFaultOfRules}
 use Rattle.cmd_police.specs.RunComments.{run_comments}
-use Rattle.cmd_police.specs.SetupPrograms.{HasPrograms}
-use Rattle.cmd_police.specs.TimedLines.{WaitingCommand, falling_line, falling_text, line_times, waiting_at, without_times}
+use Rattle.cmd_police.specs.TimedLines.{WaitingCommand, line_times, waiting_at}
 use Rattle.cmd_police.specs.declared.not_judged.NotJudged.{NotJudged}
 use Rattle.cmd_police.specs.declared.policed_card.OpenedCard.{OpenedCard}
 use Rattle.cmd_police.specs.declared.policed_card.OpenedCard.TheVariants.{Faulty, Ready}
@@ -76,16 +75,9 @@ abbrev pub OpensPolicedCard : ℕ → List ℕ → List (Option ℕ) → OpenedC
 OpensPolicedCard tick script times (Faulty text) = IsFaultAtTimes script times text.items
 OpensPolicedCard tick script times (Ready policed) = IsOpenedBy tick script times policed
 
--- What a script with files of rules leads to.
-abbrev pub OpensTimed : ℕ → List ℕ → List (Option ℕ) → List (List ℕ) → OpenedCard → Type 0
-OpensTimed tick setup times texts (Faulty text) =
-    HasFaultyRules IsFaultOfRules setup texts text.items ⊎ ((script : List ℕ) × HasPrograms setup texts script × IsFaultAtTimes script times text.items)
-OpensTimed tick setup times texts (Ready policed) = (script : List ℕ) × HasPrograms setup texts script × IsOpenedBy tick script times policed
-
--- What a script with files of rules and times leads to. If a time falls, the text names its line.
+-- What a script with times and files of rules leads to.
 abbrev pub OpensSetup : ℕ → List ℕ → List (List ℕ) → OpenedCard → Type 0
-OpensSetup tick setup texts (Faulty text) = MatchOption (falling_line setup)
-    (OpensTimed tick (without_times setup) (line_times setup) texts (Faulty text))
-    (λ number. text.items ≡ falling_text number)
-OpensSetup tick setup texts (Ready policed) =
-    (falling_line setup ≡ None) × OpensTimed tick (without_times setup) (line_times setup) texts (Ready policed)
+OpensSetup tick setup texts (Faulty text) =
+    HasFaultySetup IsFaultOfRules setup texts text.items
+    ⊎ ((script : List ℕ) × IsPreparedAs setup texts script × IsFaultAtTimes script (line_times setup) text.items)
+OpensSetup tick setup texts (Ready policed) = (script : List ℕ) × IsPreparedAs setup texts script × IsOpenedBy tick script (line_times setup) policed

@@ -1,32 +1,23 @@
--- The text of `police` for a setup script with files of rules. If the rules of a line have a fault, it is about the first such line, and
--- nothing is policed. Otherwise the cells of the capture are policed by the script with its programs.
-use Rattle.std.specs.Prelude.{◌≡◌, ◌⊎◌, ℕ, List, Option, MatchOption, Result, Ok, Err}
+-- The text of `police` for a setup script with times and files of rules. If it has a fault, the text is about it, and nothing is policed.
+-- Otherwise the cells of the capture are policed by the script with its programs.
+use Rattle.std.specs.Prelude.{◌≡◌, ◌⊎◌, ℕ, List, Option, Result, Ok, Err}
 use Rattle.cmd_police.specs.declared.scope.PoliceScope.{PoliceScope}
 use Rattle.cmd_police.specs.PoliceText.{IsPoliceText}
 use Rattle.text_io.specs.declared.ending.Done.{Done}
 use Rattle.text_io.specs.declared.ending.Done.TheVariants.{Ended}
-use Rattle.cmd_police.specs.FaultyRules.{HasFaultyRules}
 use Rattle.cmd_police.specs.LoadedRules.{shown_rules}
+use Rattle.cmd_police.specs.PreparedSetups.{HasFaultySetup, IsPreparedAs}
 use Rattle.cmd_police.specs.RulesFiles.{IsFaultOfRules, MayBeFaultOfRules}
-use Rattle.cmd_police.specs.SetupPrograms.{HasPrograms}
 use Rattle.cmd_police.specs.SetupTick.{agreed_tick, ticks_differ}
-use Rattle.cmd_police.specs.TimedLines.{falling_line, falling_text, line_times, without_times}
+use Rattle.cmd_police.specs.TimedLines.{line_times, without_times}
 
--- The text for a setup script whose lines have these times, which are not in the script any more, the texts of its
--- files of rules and a whole capture, and how the run ends. `IsFault` says which lines are the fault line of a
--- text of rules and its explanation.
-abbrev pub IsTimedPolicedBy : (List ℕ → List ℕ → List ℕ → Type 0) → PoliceScope → ℕ → List ℕ → List (Option ℕ) → List (List ℕ) → List ℕ → List ℕ → Done → Type 0
-IsTimedPolicedBy IsFault scope tick setup times texts octets text done =
-    (HasFaultyRules IsFault setup texts text × (done ≡ Ended))
-    ⊎ ((script : List ℕ) × HasPrograms setup texts script
-    × IsPoliceText scope tick (shown_rules scope.why setup texts) script times octets text done)
-
--- The text for a setup script, the texts of its files of rules and a whole capture, and how the run ends. If the time
--- of a line falls, the text names the line, and nothing is policed.
+-- The text for a setup script, the texts of its files of rules and a whole capture, and how the run ends. If the setup has a fault, the
+-- text is about it, and nothing is policed. `IsFault` says which lines are the fault line of a text of rules and its explanation.
 abbrev pub IsSetupPolicedBy : (List ℕ → List ℕ → List ℕ → Type 0) → PoliceScope → ℕ → List ℕ → List (List ℕ) → List ℕ → List ℕ → Done → Type 0
-IsSetupPolicedBy IsFault scope tick setup texts octets text done = MatchOption (falling_line setup)
-    (IsTimedPolicedBy IsFault scope tick (without_times setup) (line_times setup) texts octets text done)
-    (λ number. (text ≡ falling_text number) × (done ≡ Ended))
+IsSetupPolicedBy IsFault scope tick setup texts octets text done =
+    (HasFaultySetup IsFault setup texts text × (done ≡ Ended))
+    ⊎ ((script : List ℕ) × IsPreparedAs setup texts script
+    × IsPoliceText scope tick (shown_rules scope.why (without_times setup) texts) script (line_times setup) octets text done)
 
 -- The same, where the fault line is that of `upc-lab rules`, and its explanation that of `upc-lab explain`.
 abbrev pub IsSetupPoliced : PoliceScope → ℕ → List ℕ → List (List ℕ) → List ℕ → List ℕ → Done → Type 0

@@ -12,4 +12,5 @@ pub mod PoliceShown
 pub mod PoliceTotal
 pub mod ScriptLine
 pub mod Expansion
+pub mod Preparing
 pub mod Ticks

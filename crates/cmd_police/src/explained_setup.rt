@@ -4,15 +4,14 @@ ghost use Rattle.std.specs.Prelude.{◌≡◌, ◌≢◌, ◌++◌, Err, IfOk, O
 ghost use Rattle.text_io.specs.Devices.{Adds};
 ghost use Rattle.text_io.specs.Failures.{write_failures};
 ghost use Rattle.text_io.specs.Lines.{lines_of};
-ghost use Rattle.cmd_police.specs.ExplainedSetups.{AreHintsOfSetup, IsExplainedAtTimes, IsExplainedInPart, IsSetupExplained, IsTimedExplained, comment_of_hint, comments_of_hints};
+ghost use Rattle.cmd_police.specs.ExplainedSetups.{AreHintsOfSetup, IsExplainedAtTimes, IsExplainedInPart, IsSetupExplained, comment_of_hint, comments_of_hints};
 ghost use Rattle.cmd_police.specs.RulesFiles.{octets_of_texts};
 
-use crate::expanding::{Expanded, expand_setup};
+use crate::preparing::{Prepared, prepare_setup};
 use crate::script_lines::next_line;
 use crate::setting_up::{Explanation, explanation_of};
 use crate::shared_text::SharedText;
 use crate::stored_commands::before_times;
-use crate::timed_lines::{TimedScript, take_times};
 use std::alloc::{AllocError, Global};
 use text_io::{Done, Output, RunFault, give_last};
 use text_words::add_text;
@@ -36,26 +35,7 @@ fn explain_at_times(
     }
 }
 
-/// The same of a script that may name files of rules, of which `texts` are the octets.
-fn explain_timed(
-    alloc: Global,
-    setup: &[u8],
-    times: &[Option<u64>],
-    texts: &[SharedText],
-) -> Result<Explanation, AllocError>
-    ensures { IfOk result (λ it. IsTimedExplained setup.now times.now (octets_of_texts texts.now) it.text.items it.done) }
-{
-    match expand_setup(alloc, setup, texts)? {
-        Expanded::Faulty(text) => Ok(Explanation {
-            text,
-            done: Done::Ended,
-        }),
-        Expanded::Itself => explain_at_times(alloc, setup, times),
-        Expanded::Replaced(script) => explain_at_times(alloc, &script, times),
-    }
-}
-
-/// The same of a script that may have times too.
+/// Returns the explanation of a script with times and files of rules, of which `texts` are the octets.
 fn setup_explanation(
     alloc: Global,
     setup: &[u8],
@@ -63,9 +43,9 @@ fn setup_explanation(
 ) -> Result<Explanation, AllocError>
     ensures { IfOk result (λ it. IsSetupExplained setup.now (octets_of_texts texts.now) it.text.items it.done) }
 {
-    match take_times(alloc, setup)? {
-        TimedScript::Ready(script, times) => explain_timed(alloc, &script, &times, texts),
-        TimedScript::Falls(text) => Ok(Explanation {
+    match prepare_setup(alloc, setup, texts)? {
+        Prepared::Ready(ready) => explain_at_times(alloc, ready.script(), &ready.times),
+        Prepared::Faulty(text) => Ok(Explanation {
             text,
             done: Done::Ended,
         }),

@@ -15,6 +15,7 @@ mod not_judged;
 mod noted_setups;
 mod police;
 mod policed_card;
+mod preparing;
 mod program_rules;
 mod rule_column;
 mod rules_lines;

@@ -32,7 +32,7 @@ fn set_up_by(command: Command<'_>) -> Option<Vc>
     }
 }
 
-/// Returns the same of a line.
+/// Returns the connection that the command of a line sets up.
 fn set_up_in(side: Side, line: &[u8]) -> Option<Vc>
     ensures { IsSetupOf (command_of side (words_of line.now)) result }
 {

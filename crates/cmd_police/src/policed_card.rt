@@ -3,20 +3,19 @@
 ghost use Rattle.std.specs.Prelude.{◌≡◌, ◌++◌, IfOk, OnOk};
 ghost use Rattle.text_io.specs.Words.{is_filled};
 ghost use Rattle.cmd_run.specs.RunText.{IsLed};
-ghost use Rattle.cmd_police.specs.PolicedCards.{OpensPolicedCard, OpensSetup, OpensTimed, PolicedWorld, PolicesOneCell, ShowsPoliced, policed_report};
+ghost use Rattle.cmd_police.specs.PolicedCards.{OpensPolicedCard, OpensSetup, PolicedWorld, PolicesOneCell, ShowsPoliced, policed_report};
 ghost use Rattle.cmd_police.specs.RulesFiles.{octets_of_texts};
 
 use crate::cell_lines::verdict_in;
 use crate::connection_counts::add_counts;
-use crate::expanding::{Expanded, expand_setup};
 use crate::not_judged::{NotJudged, add_not_judged};
 use crate::police::add_gap;
+use crate::preparing::{Prepared, prepare_setup};
 use crate::run_comments::add_run_comments;
 use crate::setting_up::{SetUp, set_up};
 use crate::shared_text::SharedText;
 use crate::stored_commands::add_waiting;
 use crate::timed_card::TimedCard;
-use crate::timed_lines::{TimedScript, take_times};
 use captures::{Fault, Tick};
 use captures_text::{CapturedCell, ReadingSummary, add_closing};
 use leaky::Verdict;
@@ -119,25 +118,9 @@ pub fn open_card(
     }
 }
 
-/// The same of a script that may name files of rules, of which `texts` are the octets.
-fn open_timed(
-    alloc: Global,
-    setup: &[u8],
-    times: &[Option<u64>],
-    texts: &[SharedText],
-    tick: Tick,
-) -> Result<OpenedCard, AllocError>
-    ensures { IfOk result (OpensTimed tick.nanoseconds setup.now times.now (octets_of_texts texts.now)) }
-{
-    match expand_setup(alloc, setup, texts)? {
-        Expanded::Faulty(text) => Ok(OpenedCard::Faulty(text)),
-        Expanded::Itself => open_card(alloc, setup, times, tick),
-        Expanded::Replaced(script) => open_card(alloc, &script, times, tick),
-    }
-}
-
-/// The same of a script that may name files of rules, of which `texts` are the octets, in the order of [`files_read`](crate::files_read),
-/// and times: a line `at TIME COMMAND` is carried out before the first cell at or after that time, and so are the lines after it.
+/// Opens a card, as [`open_card`] does, by a setup script that may name files of rules and times. `texts` are the octets of these files, in
+/// the order of [`files_read`](crate::files_read). A line `at TIME COMMAND` is carried out before the first cell at or after that time, and so
+/// are the lines after it.
 ///
 /// # Errors
 ///
@@ -150,8 +133,8 @@ pub fn open_setup(
 ) -> Result<OpenedCard, AllocError>
     ensures { IfOk result (OpensSetup tick.nanoseconds setup.now (octets_of_texts texts.now)) }
 {
-    match take_times(alloc, setup)? {
-        TimedScript::Ready(script, times) => open_timed(alloc, &script, &times, texts, tick),
-        TimedScript::Falls(text) => Ok(OpenedCard::Faulty(text)),
+    match prepare_setup(alloc, setup, texts)? {
+        Prepared::Faulty(text) => Ok(OpenedCard::Faulty(text)),
+        Prepared::Ready(ready) => open_card(alloc, ready.script(), &ready.times, tick),
     }
 }

@@ -70,7 +70,7 @@ fn add_deciding_rule(
     add_rule_begin(answers, &rules.decider.placed_rules.begins, decision.line)
 }
 
-/// Appends the same, or a minus sign if there are no rules.
+/// Appends the rule of these that decides a cell, or a minus sign if there are no rules.
 fn add_rule_shown(
     answers: &mut Vec<u8>,
     rules: Option<&ProgramRules>,

@@ -60,7 +60,7 @@ fn faults_of(alloc: Global, script: &[u8]) -> Result<Option<Vec<u8>>, AllocError
     }
 }
 
-/// Returns the explanation of the faults of a script whose lines have these times, of which `before` are those before the first time.
+/// Returns the explanation of the faults of a script, or, if it has none, of those of `before`, its lines before the first time.
 fn faults_at_times(
     alloc: Global,
     script: &[u8],

@@ -1,79 +1,20 @@
-//! The cells of a capture, policed by a setup script with files of rules.
+//! The cells of a capture, policed by a setup script with times and files of rules.
 
 ghost use Rattle.std.specs.Prelude.{IfOk, option_map};
 ghost use Rattle.text_io.specs.Devices.{Adds};
 ghost use Rattle.text_io.specs.Serving.{IsServed};
-ghost use Rattle.cmd_police.specs.LoadedRules.{shown_rules};
-ghost use Rattle.cmd_police.specs.PoliceText.{IsPoliceText};
 ghost use Rattle.cmd_police.specs.RulesFiles.{octets_of_texts};
-ghost use Rattle.cmd_police.specs.FaultyRules.{HasFaultyRules};
-ghost use Rattle.cmd_police.specs.RulesFiles.{IsFaultOfRules, MayBeFaultOfRules};
-ghost use Rattle.cmd_police.specs.SetupText.{IsPolicedAsAgreed, IsSetupPoliced, IsTimedPolicedBy, MayBePolicedAsAgreed, MayBeSetupPoliced};
+ghost use Rattle.cmd_police.specs.SetupText.{IsPolicedAsAgreed, IsSetupPoliced, MayBePolicedAsAgreed, MayBeSetupPoliced};
 
-use crate::expanding::{Expanded, expand_setup};
 use crate::police::{PoliceChoice, police_capture, write_faults};
+use crate::preparing::{Prepared, prepare_setup};
 use crate::program_rules::shown_rules;
 use crate::setup_tick::{add_ticks_differ, agreed_tick};
 use crate::shared_text::SharedText;
-use crate::timed_lines::{TimedScript, take_times};
 use captures::Tick;
 use std::alloc::Global;
 use std::thread::Threads;
 use text_io::{Done, Input, Output, RunFault};
-
-/// Polices the cells of a capture by a script that has the programs of a setup script, whose rules lines about cells show if they are
-/// asked for.
-fn police_script<R: Threads, I: Input + Send, O: Output>(
-    rt: &R,
-    alloc: Global,
-    setup: &[u8],
-    script: &[u8],
-    times: &[Option<u64>],
-    texts: &[SharedText],
-    choice: PoliceChoice,
-    tick: Tick,
-    input: &mut I,
-    output: &mut O,
-) -> Result<Done, RunFault>
-    ensures { IsServed (IsPoliceText choice.scope tick.nanoseconds (shown_rules choice.scope.why setup.now (octets_of_texts texts.now)) script.now times.now)
-        I.Input input.old input.new O.Output output.old output.new result }
-{
-    match shown_rules(alloc, choice.scope.why, setup, texts) {
-        Err(_) => Err(RunFault::NoMemory),
-        Ok(rules) => police_capture(rt, alloc, script, times, rules, choice, tick, input, output),
-    }
-}
-
-/// Polices the cells of a capture, as [`police_setup`] does, by a setup script whose lines have these times, which are
-/// not in the script any more.
-fn police_timed<R: Threads, I: Input + Send, O: Output>(
-    rt: &R,
-    alloc: Global,
-    setup: &[u8],
-    times: &[Option<u64>],
-    texts: &[SharedText],
-    choice: PoliceChoice,
-    tick: Tick,
-    input: &mut I,
-    output: &mut O,
-) -> Result<Done, RunFault>
-    ensures served { IsServed (IsTimedPolicedBy MayBeFaultOfRules choice.scope tick.nanoseconds setup.now times.now (octets_of_texts texts.now))
-        I.Input input.old input.new O.Output output.old output.new result }
-    ensures policed { I.is_known → O.is_known → IfOk result (λ done.
-        Adds (λ text. IsTimedPolicedBy IsFaultOfRules choice.scope tick.nanoseconds setup.now times.now (octets_of_texts texts.now) (I.rest input.old) text done)
-        (O.held output.old) (O.held output.new)) }
-{
-    match expand_setup(alloc, setup, texts) {
-        Err(_) => Err(RunFault::NoMemory),
-        Ok(Expanded::Faulty(text)) => write_faults(output, text),
-        Ok(Expanded::Itself) => police_script(
-            rt, alloc, setup, setup, times, texts, choice, tick, input, output,
-        ),
-        Ok(Expanded::Replaced(script)) => police_script(
-            rt, alloc, setup, &script, times, texts, choice, tick, input, output,
-        ),
-    }
-}
 
 /// Polices the cells of a capture, as [`police_capture`] does, by a setup script that may name files of rules and times. `texts` are the
 /// octets of these files, in the order of [`files_read`](crate::files_read). Each line `rules NAME` loads the program of its text, as the
@@ -104,15 +45,25 @@ pub fn police_setup<R: Threads, I: Input + Send, O: Output>(
         Adds (λ text. IsSetupPoliced choice.scope tick.nanoseconds setup.now (octets_of_texts texts.now) (I.rest input.old) text done)
         (O.held output.old) (O.held output.new)) }
 {
-    match take_times(alloc, setup) {
-        Err(_) => Err(RunFault::NoMemory),
-        Ok(TimedScript::Ready(script, times)) => {
-            police_timed(
-                rt, alloc, &script, &times, texts, choice, tick, input, output,
-            )
-        }
-        Ok(TimedScript::Falls(text)) => write_faults(output, text),
-    }
+    let ready = match prepare_setup(alloc, setup, texts) {
+        Err(_) => return Err(RunFault::NoMemory),
+        Ok(Prepared::Faulty(text)) => return write_faults(output, text),
+        Ok(Prepared::Ready(ready)) => ready,
+    };
+    let Ok(rules) = shown_rules(alloc, choice.scope.why, &ready.plain, texts) else {
+        return Err(RunFault::NoMemory);
+    };
+    police_capture(
+        rt,
+        alloc,
+        ready.script(),
+        &ready.times,
+        rules,
+        choice,
+        tick,
+        input,
+        output,
+    )
 }
 
 /// Polices the cells of a capture, as [`police_setup`] does, with the tick that the setup script names or the one that

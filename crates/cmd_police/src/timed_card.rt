@@ -56,7 +56,7 @@ fn is_taken_under_traffic(line: &[u8]) -> bool
     }
 }
 
-/// Appends the answer to any other command: one that ends no journal.
+/// Appends the answer to a command that ends no journal, so to each but `release` and `cut`.
 fn answer_other(
     alloc: Global,
     card: &mut ScriptCard,
@@ -89,7 +89,7 @@ fn journal_ended_by(command: Command<'_>) -> Option<(&'static [u8], Vc)>
     }
 }
 
-/// Returns the same for a line.
+/// Returns the connection of a line whose command ends a journal, and the beginning of its answer.
 fn ended_journal(side: Side, line: &[u8]) -> Option<(&'static [u8], Vc)>
     ensures { option_map (λ ended. (ended.0.now, ended.1)) result ≡ ended_journal (command_of side (words_of line.now)) }
 {

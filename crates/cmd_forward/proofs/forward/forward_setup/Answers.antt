@@ -1,8 +1,8 @@
 -- The same with files of rules.
 use Rattle.std.proofs.Common.{List, ℕ, [], inr, refl, subst, sym}
 use Rattle.cmd_police.specs.PolicedCards.{OpensSetup, policed_start}
-use Rattle.cmd_police.specs.RulesFiles.{IsFaultOfRules, MayBeFaultOfRules, octets_of_texts}
-use Rattle.cmd_police.specs.TimedLines.{line_times, waiting_at, without_times}
+use Rattle.cmd_police.specs.RulesFiles.{octets_of_texts}
+use Rattle.cmd_police.specs.TimedLines.{line_times, waiting_at}
 use Rattle.text_io.specs.Lines.{lines_of}
 use Rattle.cmd_police.specs.declared.policed_card.OpenedCard.{OpenedCard}
 use Rattle.cmd_police.specs.declared.policed_card.OpenedCard.TheVariants.{Faulty, Ready}
@@ -10,7 +10,7 @@ use Rattle.text_io.specs.declared.ending.Done.TheVariants.{Ended}
 use Rattle.text_io.specs.declared.ending.RunFault.TheVariants.{NoMemory}
 use Rattle.cmd_forward.specs.ForwardText.{IsSetupForwarded, MayBeSetupForwarded, forward_rules}
 use Rattle.cmd_forward.specs.Forwarding.{ForwardsCapture, forward_start}
-use Rattle.cmd_forward.proofs.ForwardTexts.{faults_reported, faults_served, faulty_setup, may_be_forwarded, opened_setup, served_wider, some_setup_forwarded}
+use Rattle.cmd_forward.proofs.ForwardTexts.{faults_reported, faults_served, faulty_setup, may_be_forwarded, served_wider, some_setup_forwarded}
 use Rattle.cmd_forward.proofs.WholeForwarding.{served_nothing}
 use Rattle.cmd_forward.proofs.forward.forward_setup.Goals as goal
 
@@ -58,13 +58,13 @@ returns-in-Ok-Ready-clause-served g c =
     let tick = c.args.tick.nanoseconds in
     let opens : OpensSetup tick setup texts (Ready c.in-Ok-Ready.policed) = subst (λ (o : OpenedCard). OpensSetup tick setup texts o) c.in-Ok-Ready.field-0-is c.in-Ok-Ready.ensures in
     let times = line_times setup in
-    let opened = opens.1.2 in
-    let first = policed_start tick opened.card (waiting_at tick times (lines_of opens.1.0)) in
+    let opened = opens.2 in
+    let first = policed_start tick opened.card (waiting_at tick times (lines_of opens.0)) in
     (served_wider g.I.Input g.O.Output c.args.input.now c.forward_cells.new.input c.args.output.now c.forward_cells.new.output c.args.report.now.items
     c.forward_cells.new.report.items c.forward_cells.result
     (ForwardsCapture forward_rules c.args.others (forward_start tick c.args.link first)) (MayBeSetupForwarded c.args.others tick c.args.link setup texts)
-    (λ octets text report done forwards. opened_setup MayBeFaultOfRules c.args.others tick c.args.link setup texts octets text report done opens.0
-    (inr (opens.1.0, opens.1.1, inr (opened.card, opened.reached, forwards)))) (c.forward_cells.ensures first opened.led opened.shown)).served
+    (λ octets text report done forwards. inr (opens.0, opens.1, inr (opened.card, opened.reached, forwards)))
+    (c.forward_cells.ensures first opened.led opened.shown)).served
 
 pub returns-in-Ok-Ready-clause-reported : goal.returns-in-Ok-Ready-clause-reported
 returns-in-Ok-Ready-clause-reported g c =
@@ -73,10 +73,10 @@ returns-in-Ok-Ready-clause-reported g c =
     let tick = c.args.tick.nanoseconds in
     let opens : OpensSetup tick setup texts (Ready c.in-Ok-Ready.policed) = subst (λ (o : OpenedCard). OpensSetup tick setup texts o) c.in-Ok-Ready.field-0-is c.in-Ok-Ready.ensures in
     let times = line_times setup in
-    let opened = opens.1.2 in
-    let first = policed_start tick opened.card (waiting_at tick times (lines_of opens.1.0)) in
+    let opened = opens.2 in
+    let first = policed_start tick opened.card (waiting_at tick times (lines_of opens.0)) in
     (served_wider g.I.Input g.O.Output c.args.input.now c.forward_cells.new.input c.args.output.now c.forward_cells.new.output c.args.report.now.items
     c.forward_cells.new.report.items c.forward_cells.result
     (ForwardsCapture forward_rules c.args.others (forward_start tick c.args.link first)) (IsSetupForwarded c.args.others tick c.args.link setup texts)
-    (λ octets text report done forwards. opened_setup IsFaultOfRules c.args.others tick c.args.link setup texts octets text report done opens.0
-    (inr (opens.1.0, opens.1.1, inr (opened.card, opened.reached, forwards)))) (c.forward_cells.ensures first opened.led opened.shown)).reported
+    (λ octets text report done forwards. inr (opens.0, opens.1, inr (opened.card, opened.reached, forwards)))
+    (c.forward_cells.ensures first opened.led opened.shown)).reported

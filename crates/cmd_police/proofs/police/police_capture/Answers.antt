@@ -1,15 +1,12 @@
 -- The text of `police` is that of the script's faults, or that of the capture.
-use Rattle.std.proofs.Common.{◌≡◌, ◌∙◌, List, ℕ, [], inl, inr, refl, ap, option_map, subst}
+use Rattle.std.proofs.Common.{◌≡◌, ◌∙◌, inl, inr, refl, ap, option_map, subst}
 use Rattle.card_core.specs.Agreement.{CoreView}
 use Rattle.card_core.specs.declared.shape.Shape.{Shape}
-use Rattle.captures_text.proofs.CaptureTexts.{a_front, all_needed, not_read}
-use Rattle.captures_text.proofs.Progresses.{if_done, if_given, on_fault}
-use Rattle.text_io.proofs.Public.{at-result, nothing-begins}
-use Rattle.text_io.specs.declared.ending.Done.TheVariants.{Ended, Whole}
+use Rattle.text_io.proofs.Public.{served-wider}
 use Rattle.captures_text.specs.CaptureText.{IsCaptureText}
 use Rattle.captures_text.specs.CellFilter.{filter_start}
 use Rattle.upc_cell.specs.declared.side.Side.{Side}
-use Rattle.cmd_police.specs.PoliceText.{IsPoliceText, police_rules, police_start}
+use Rattle.cmd_police.specs.PoliceText.{IsFaultAtTimes, IsPoliceText, police_rules, police_start}
 use Rattle.cmd_police.specs.StoredRules.{shown_stored}
 use Rattle.cmd_police.specs.SpanCounts.{spans_start, ticks_of_span}
 use Rattle.cmd_police.specs.inner.SpansShown.{ShowsSpans}
@@ -17,7 +14,7 @@ use Rattle.cmd_police.specs.declared.setting_up.SetUp.{SetUp}
 use Rattle.cmd_police.specs.TimedLines.{waiting_at}
 use Rattle.cmd_police.specs.inner.SetUpCard.{IsTimedAs, LeadsScriptTo}
 use Rattle.text_io.specs.Lines.{lines_of}
-use Rattle.cmd_police.proofs.PoliceLemmas.{served_as}
+use Rattle.cmd_police.proofs.ServedLemmas.{faults_written, nothing_served}
 use Rattle.cmd_police.proofs.EachCapture.{some_police_text}
 use denote.Param.Send.{IsSend, sendable}
 use Rattle.std.proofs.Crossing.{crosses}
@@ -28,36 +25,23 @@ use Rattle.cmd_police.proofs.RulesSend.{loaded_sends}
 use Rattle.cmd_police.proofs.police.police_capture.Goals as goal
 
 pub returns-in-Err : goal.returns-in-Err
-returns-in-Err g c = record {
-  text = λ ki ko. tt;
-  front = λ ki ko.
-      nothing-begins (IsPoliceText c.args.choice.scope c.args.tick.nanoseconds (shown_stored c.args.rules) c.args.setup.now c.args.times.now (g.I.Input.rest c.args.input.now))
-      (g.O.Output.held c.args.output.now)
-      (some_police_text c.args.choice.scope c.args.tick.nanoseconds (shown_stored c.args.rules) c.args.setup.now c.args.times.now (g.I.Input.rest c.args.input.now));
-  left = λ ki. tt;
-  whole = λ ki same. cc;
-  reading = refl;
-  writing = refl;
-}
+returns-in-Err g c =
+    let rules = shown_stored c.args.rules in
+    nothing_served g.I.Input g.O.Output c.args.input.now c.args.output.now
+    (IsPoliceText c.args.choice.scope c.args.tick.nanoseconds rules c.args.setup.now c.args.times.now)
+    (some_police_text c.args.choice.scope c.args.tick.nanoseconds rules c.args.setup.now c.args.times.now (g.I.Input.rest c.args.input.now))
 
 pub returns-in-Ok-Faulty : goal.returns-in-Ok-Faulty
 returns-in-Ok-Faulty g c =
-    let all = g.I.Input.rest c.args.input.now in
-    let line = c.in-Ok-Faulty.text.items in
-    let IsText = IsPoliceText c.args.choice.scope c.args.tick.nanoseconds (shown_stored c.args.rules) c.args.setup.now c.args.times.now in
-    let printed : (octets : List ℕ) → IsText octets line Ended = λ octets.
-    inl (subst (λ (s : SetUp). LeadsScriptTo c.args.tick.nanoseconds c.args.setup.now c.args.times.now s) c.in-Ok-Faulty.field-0-is c.in-Ok-Faulty.ensures, refl) in
-    record {
-      text = λ ki ko.
-          if_given c.write_faults.result Ended _ _ c.write_faults.ensures.done (c.write_faults.ensures.given ko) (λ gives. (line, gives, printed all));
-      front = λ ki ko.
-          on_fault c.write_faults.result _ _ (c.write_faults.ensures.front ko)
-          (λ part. a_front (IsText all) (g.O.Output.held c.args.output.now) (g.O.Output.held c.write_faults.new.output) line Ended (printed all) part);
-      left = λ ki. if_done c.write_faults.result Ended _ c.write_faults.ensures.done (all_needed IsText all [] all line Ended refl (printed []));
-      whole = λ ki same. let bad : Whole ≡ Ended = at-result c.write_faults.result (λ done. done ≡ Ended) Whole same c.write_faults.ensures.done in cc;
-      reading = not_read c.write_faults.result _ _ c.write_faults.ensures.fault refl;
-      writing = c.write_faults.ensures.writing;
-    }
+    let tick = c.args.tick.nanoseconds in
+    let script = c.args.setup.now in
+    let times = c.args.times.now in
+    let faulty : IsFaultAtTimes script times c.in-Ok-Faulty.text.items =
+    subst (λ (s : SetUp). LeadsScriptTo tick script times s) c.in-Ok-Faulty.field-0-is c.in-Ok-Faulty.ensures in
+    let written = c.write_faults.ensures in
+    faults_written g.I.Input g.O.Output c.args.input.now c.args.output.now c.write_faults.new.output c.write_faults.result
+    (IsPoliceText c.args.choice.scope tick (shown_stored c.args.rules) script times) c.in-Ok-Faulty.text.items (λ octets. inl (faulty, refl))
+    written.done written.given written.front written.fault written.writing
 
 pub returns-in-Ok-Ready : goal.returns-in-Ok-Ready
 returns-in-Ok-Ready g c =
@@ -72,9 +56,9 @@ returns-in-Ok-Ready g c =
     let spans : ShowsSpans c.spans_of-spans.result first.spans =
     subst (λ (side : Side). ShowsSpans c.spans_of-spans.result (spans_start side (option_map (λ nanoseconds. ticks_of_span nanoseconds tick) c.args.choice.scope.every)))
     side c.spans_of-spans.ensures in
-    served_as g.I.Input g.O.Output c.args.input.now c.follow_cells.new.input c.args.output.now c.follow_cells.new.output c.follow_cells.result
-    (IsCaptureText police_rules (filter_start c.args.tick.nanoseconds c.args.choice.scope.link c.args.choice.scope.timing) first) (IsPoliceText c.args.choice.scope c.args.tick.nanoseconds (shown_stored c.args.rules) c.args.setup.now c.args.times.now)
-    (λ octets text done printed. inr (set.card, set.reached, printed))
+    served-wider (IsCaptureText police_rules (filter_start tick c.args.choice.scope.link c.args.choice.scope.timing) first)
+    (IsPoliceText c.args.choice.scope tick (shown_stored c.args.rules) script times) (λ octets text done printed. inr (set.card, set.reached, printed))
+    g.I.Input c.args.input.now c.follow_cells.new.input g.O.Output c.args.output.now c.follow_cells.new.output c.follow_cells.result
     (c.follow_cells.ensures first set.led (record { lines = refl; rules = refl; tick = refl; timed = set.shown; commanded = refl; begun = refl; spans = spans; not_judged = c.none.ensures }))
 
 run_sends : IsSend PoliceRun.the_row

@@ -1,17 +1,13 @@
 -- The text at the tick that is agreed is that of the run at this tick, or the answer about two ticks.
-use Rattle.std.proofs.Common.{◌≡◌, ℕ, List, [], Option, option_map, Result, Ok, Err, refl, subst}
+use Rattle.std.proofs.Common.{ℕ, List, Option, option_map, Result, subst}
 use Rattle.std.proofs.lemmas.Result.{IfOk-weaker}
 use Rattle.captures.specs.declared.clock.Tick.{Tick}
-use Rattle.captures_text.proofs.CaptureTexts.{a_front, all_needed, not_read}
-use Rattle.captures_text.proofs.Progresses.{if_done, if_given, on_fault}
-use Rattle.text_io.proofs.Public.{at-result, nothing-begins}
 use Rattle.text_io.specs.Serving.{IsServed}
 use Rattle.text_io.specs.declared.ending.Done.{Done}
-use Rattle.text_io.specs.declared.ending.Done.TheVariants.{Ended, Whole}
 use Rattle.cmd_police.proofs.Existence.{polices_as_agreed}
+use Rattle.cmd_police.proofs.ServedLemmas.{nothing_served}
 use Rattle.cmd_police.specs.RulesFiles.{octets_of_texts}
 use Rattle.cmd_police.specs.SetupText.{AsAgreed, IsSetupPoliced, MayBePolicedAsAgreed, MayBeSetupPoliced}
-use Rattle.cmd_police.specs.SetupTick.{agreed_tick, ticks_differ}
 use Rattle.cmd_police.proofs.setup_with_rules.police_as_agreed.Goals as goal
 
 abbrev nanoseconds_of : Option Tick → Option ℕ
@@ -37,14 +33,6 @@ returns-in-Err-add_ticks_differ-clause-served g c =
     let texts = octets_of_texts c.args.texts.now in
     let named = nanoseconds_of c.args.named in
     let asked = nanoseconds_of c.args.asked in
-    record {
-      text = λ ki ko. tt;
-      front = λ ki ko.
-          nothing-begins (MayBePolicedAsAgreed c.args.choice.scope named asked c.args.setup.now texts (g.I.Input.rest c.args.input.now))
-          (g.O.Output.held c.args.output.now)
-          (polices_as_agreed c.args.choice.scope named asked c.args.setup.now texts (g.I.Input.rest c.args.input.now));
-      left = λ ki. tt;
-      whole = λ ki same. cc;
-      reading = refl;
-      writing = refl;
-    }
+    nothing_served g.I.Input g.O.Output c.args.input.now c.args.output.now
+    (MayBePolicedAsAgreed c.args.choice.scope named asked c.args.setup.now texts)
+    (polices_as_agreed c.args.choice.scope named asked c.args.setup.now texts (g.I.Input.rest c.args.input.now))
