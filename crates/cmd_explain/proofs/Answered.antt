@@ -1,5 +1,5 @@
 -- Every input has an answer.
-use Rattle.std.proofs.Common.{◌≡◌, ℕ, ◌+◌, ◌<◌, inl, inr, List, [], ◌∷◌, ◌++◌, Option, Some, None, length, reverse, codes, decimal, refl, ap, arith}
+use Rattle.std.proofs.Common.{◌≡◌, ℕ, ◌+◌, ◌<◌, inl, inr, List, [], ◌∷◌, ◌++◌, Option, Some, None, length, refl, ap, arith}
 use Rattle.bpf_asm.proofs.Public.{meaning-or_fault}
 use Rattle.bpf_asm.specs.Grammar.{AreLines, SourceLine}
 use Rattle.bpf_asm.specs.Labels.{statements_of}
@@ -8,70 +8,30 @@ use Rattle.bpf_asm.specs.SourceLines.{source_lines}
 use Rattle.bpf_verify.specs.Accepted.{IsAccepted}
 use Rattle.bpf_code.specs.declared.instr.Instr.{Instr}
 use Rattle.bpf_verify.proofs.Public.{accepted-or_fault}
-use Rattle.bpf_verify.specs.Faults.{FailsFirst}
-use Rattle.bpf_verify.specs.declared.fault.Fault.{Fault}
-use Rattle.bpf_verify.specs.declared.fault.Fault.TheVariants as fault
-use Rattle.cmd_explain.specs.CodeReasons.{IsRest, code_sentence, code_start, numbers_text}
-use Rattle.cmd_explain.specs.Explained.{ExplainsCode, ExplainsSource, ExplainsWithin, IsExplainText, IsFaultsOrScript, IsSourceText}
+use Rattle.cmd_explain.specs.Explained.{ExplainsCode, ExplainsSource, IsExplainText, IsFaultsOrScript, IsSourceText}
 use Rattle.cmd_explain.specs.FaultSentences.{IsFaultsText, PrintsFaults, most_fault_octets}
 use Rattle.cmd_explain.specs.InputKinds.{faults_after, rules_after, source_after}
 use Rattle.cmd_explain.specs.inner.FaultsTotal.{faults-answered}
+use Rattle.cmd_explain.specs.inner.SourcesTotal.{fault-answered, source-answered}
 use Rattle.cmd_explain_rules.proofs.Public.{ended-rules_explained}
 use Rattle.cmd_explain_rules.specs.RulesExplained.{MayBeRulesExplained}
-use Rattle.cmd_explain.specs.SourceHints.{hints_of}
-use Rattle.cmd_explain.specs.LinesFound.{instruction_lines}
 use Rattle.cmd_explain.specs.SourceReasons.{source_explanation}
 use Rattle.cmd_explain_script.proofs.Public.{some-script_text}
 use Rattle.cmd_explain_script.specs.ScriptText.{IsScriptExplained}
 use Rattle.std.specs.Option.{MatchOption}
 use Rattle.text_io.specs.Gathered.{AnswersGathered, gathered}
 use Rattle.text_io.specs.declared.ending.Done.{Done}
-use Rattle.text_io.specs.declared.ending.Done.TheVariants.{Whole, Ended}
-use Rattle.cmd_programs.specs.CodeFaults.{verify_fault}
+use Rattle.text_io.specs.declared.ending.Done.TheVariants.{Ended}
 use Rattle.cmd_programs.specs.Check.{most_source_octets}
 use Rattle.cmd_programs.specs.SourceFaults.{asm_fault}
-use Rattle.text_words.specs.FaultLines.{line, too_long}
-
-some-rest : (code : List Instr) (numbers : List ℕ) (fault : Fault) → FailsFirst code fault → (text : List ℕ) × IsRest code numbers fault text
-some-rest code numbers fault.Empty fails = (line [], refl)
-some-rest code numbers fault.TooLong fails = (line [], refl)
-some-rest code numbers (fault.BadScratch at) fails = (line [], refl)
-some-rest code numbers (fault.ZeroDivisor at) fails = (line [], refl)
-some-rest code numbers (fault.BadShift at) fails = (line [], refl)
-some-rest code numbers (fault.JumpOutside at) fails = (line [], refl)
-some-rest code numbers fault.NoReturn fails = (line [], refl)
-some-rest code numbers (fault.Unwritten at word) fails =
-    let witness = fails.4.1 in
-    (line (numbers_text numbers (reverse witness.0 ++ at ∷ [])), (witness.0, (witness.1, witness.2), refl))
-
-some-code_answer : (source : List ℕ) (code : List Instr) → (text : List ℕ) × (done : Done) × ExplainsCode source code text done
-some-code_answer source code =
-    elim (accepted-or_fault code) [
-      | inl accepted ↦ (line (codes "accepted " ++ decimal (length code)) ++ hints_of (source_lines source) code, Whole, inl (accepted, refl, refl))
-      | inr found ↦
-          let lines = source_lines source in
-          let rest = some-rest code (instruction_lines 1 lines) found.0 found.1 in
-          let more = code_start lines (length code) found.0 ++ (code_sentence found.0 ++ rest.0) in
-          (verify_fault found.0 ++ more, Ended, inr (found.0, found.1, (more, (rest.0, rest.1, refl), refl), refl))
-    ]
-
-some-source_answer : (source : List ℕ) → (text : List ℕ) × (done : Done) × ExplainsSource source text done
-some-source_answer source =
-    elim (meaning-or_fault source) [
-      | inl meant ↦ let answered = some-code_answer source meant.0 in (answered.0, answered.1, inl (meant.0, meant.1, answered.2))
-      | inr found ↦ (asm_fault found.0 ++ source_explanation (source_lines source) found.0, Ended, inr (found.0, found.1, refl, refl))
-    ]
+use Rattle.text_words.specs.FaultLines.{too_long}
 
 -- A code that isn't accepted has a fault.
 faulty-code : (source : List ℕ) (code : List Instr) → (IsAccepted code → ⊥) → (text : List ℕ) × ExplainsCode source code text Ended
 faulty-code source code never =
     elim (accepted-or_fault code) [
       | inl accepted ↦ absurd (never accepted)
-      | inr found ↦
-          let lines = source_lines source in
-          let rest = some-rest code (instruction_lines 1 lines) found.0 found.1 in
-          let more = code_start lines (length code) found.0 ++ (code_sentence found.0 ++ rest.0) in
-          (verify_fault found.0 ++ more, inr (found.0, found.1, (more, (rest.0, rest.1, refl), refl), refl))
+      | inr found ↦ fault-answered source code found.0 found.1
     ]
 
 -- A source without a line means no code that is accepted.
@@ -94,12 +54,12 @@ empty-source_answer =
       | inr found ↦ (asm_fault found.0 ++ source_explanation (source_lines []) found.0, inr (found.0, found.1, refl, refl))
     ]
 
-some-within_answer : (found : Option (List ℕ)) → (text : List ℕ) × (done : Done) × ExplainsWithin found text done
+some-within_answer : (found : Option (List ℕ)) → (text : List ℕ) × (done : Done) × AnswersGathered too_long ExplainsSource found text done
 some-within_answer None = (too_long, Ended, (refl, refl))
-some-within_answer (Some source) = some-source_answer source
+some-within_answer (Some source) = source-answered source
 
--- Every source has an answer.
-pub some-source_text : (source : List ℕ) → (text : List ℕ) × (done : Done) × IsSourceText source text done
+-- Every whole source has an answer.
+some-source_text : (source : List ℕ) → (text : List ℕ) × (done : Done) × IsSourceText source text done
 some-source_text source = some-within_answer (gathered most_source_octets source)
 
 -- Every text of fault lines has an answer, and one without lines has an empty one.

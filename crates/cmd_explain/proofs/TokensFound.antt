@@ -4,8 +4,9 @@ use Rattle.std.specs.List.{cons_option, filter_map}
 use Rattle.std.proofs.lemmas.List.{drop-drop}
 use Rattle.bpf_asm.specs.Tokens.{Token, is_run, is_word, joined, mark, pieces_of, token_of, tokens_of, word_token}
 use Rattle.text_io.specs.Words.{is_blank}
-use Rattle.cmd_explain.specs.FoundTokens.{FindsTokens, found_from, found_tokens, run_size, token_octets}
-use Rattle.cmd_explain.specs.declared.tokens.FoundToken.{FoundToken}
+use Rattle.cmd_explain.specs.FoundTokens.{FindsTokens, found_from, found_tokens, run_size}
+use Rattle.cmd_explain_script.specs.FoundWords.{word_octets}
+use Rattle.cmd_explain_script.specs.declared.found_words.FoundWord.{FoundWord}
 
 -- The pieces after an octet that belongs to a word or doesn't, without the rest of the word.
 abbrev left_pieces : Bool → List (List ℕ) → List (List ℕ)
@@ -75,8 +76,8 @@ abbrev tokens : List (List ℕ) → List Token
 tokens pieces = filter_map token_of pieces
 
 module _ (text : List ℕ) where
-  abbrev words : List FoundToken → List (List ℕ)
-  words found = map (token_octets text) found
+  abbrev words : List FoundWord → List (List ℕ)
+  words found = map (word_octets text) found
 
   module _ (place octet : ℕ) (rest : List ℕ) (is : drop place text ≡ octet ∷ rest) where
     back : drop (place + 1 - 1) text ≡ octet ∷ rest

@@ -4,11 +4,12 @@ use Rattle.bpf_asm.specs.SourceLines.{without_comment}
 use Rattle.bpf_code.specs.declared.instr.Instr.{Instr}
 use Rattle.bpf_verify.specs.declared.fault.Fault.{Fault}
 use Rattle.bpf_verify.specs.declared.fault.Fault.TheVariants as fault
-use Rattle.cmd_explain.specs.BadLines.{column_of, first_number}
+use Rattle.cmd_explain.specs.BadLines.{first_number}
 use Rattle.cmd_explain.specs.CodePaths.{LeavesUnwritten}
 use Rattle.cmd_explain.specs.LinesFound.{instruction_lines, instruction_tokens, line_numbered}
+use Rattle.cmd_explain_script.specs.FoundWords.{column_of}
 use Rattle.cmd_explain_script.specs.Places.{place_words}
-use Rattle.cmd_explain.specs.declared.tokens.FoundToken.{FoundToken}
+use Rattle.cmd_explain_script.specs.declared.found_words.FoundWord.{FoundWord}
 use Rattle.text_words.specs.FaultLines.{line}
 
 -- The place of the instruction that the fault is about, in a code of this many. `Empty` is about none.
@@ -23,7 +24,7 @@ fault_place size fault.NoReturn = size - 1
 fault_place size (fault.Unwritten at word) = at
 
 -- The token of an instruction that the fault is about: its number, or its mnemonic.
-abbrev pub blamed_part : Fault → List ℕ → Option FoundToken
+abbrev pub blamed_part : Fault → List ℕ → Option FoundWord
 blamed_part (fault.BadScratch at) content = first_number (without_comment content) (instruction_tokens content)
 blamed_part (fault.ZeroDivisor at) content = first_number (without_comment content) (instruction_tokens content)
 blamed_part (fault.BadShift at) content = first_number (without_comment content) (instruction_tokens content)

@@ -1,7 +1,7 @@
 -- The output of `upc-lab explain`. If the only word of the first line is `source`, the rest is a source of assembly, and the
 -- answer is the fault that `upc check` finds, and an explanation of it, or that there is none. If it is `rules`, the rest is a text of
 -- rules, and the answer is in the same way that of `upc-lab rules`. If it is `faults`, fault lines follow. Otherwise the input is a script.
-use Rattle.std.specs.Prelude.{◌≡◌, ◌⊎◌, ℕ, List, ◌++◌, length, codes, decimal, Option, MatchOption}
+use Rattle.std.specs.Prelude.{◌≡◌, ◌⊎◌, ℕ, List, ◌++◌, length, codes, decimal, MatchOption}
 use Rattle.bpf_asm.specs.Faults.{IsFault}
 use Rattle.bpf_asm.specs.Meaning.{IsMeaning}
 use Rattle.bpf_asm.specs.SourceLines.{source_lines}
@@ -17,7 +17,7 @@ use Rattle.cmd_explain.specs.InputKinds.{faults_after, rules_after, source_after
 use Rattle.cmd_explain_rules.specs.RulesExplained.{IsRulesExplained, MayBeRulesExplained}
 use Rattle.cmd_explain.specs.SourceReasons.{source_explanation}
 use Rattle.cmd_explain_script.specs.ScriptText.{IsScriptExplained}
-use Rattle.text_io.specs.Gathered.{gathered}
+use Rattle.text_io.specs.Gathered.{AnswersGathered, gathered}
 use Rattle.text_io.specs.declared.ending.Done.{Done}
 use Rattle.text_io.specs.declared.ending.Done.TheVariants.{Whole, Ended}
 use Rattle.cmd_programs.specs.CodeFaults.{verify_fault}
@@ -38,13 +38,9 @@ ExplainsSource source text done =
     ((code : List Instr) × IsMeaning source code × ExplainsCode source code text done)
     ⊎ ((fault : AsmFault) × IsFault source fault × (text ≡ asm_fault fault ++ source_explanation (source_lines source) fault) × (done ≡ Ended))
 
--- The answer to a source, or `too_long` if it is over the limit.
-abbrev pub ExplainsWithin : Option (List ℕ) → List ℕ → Done → Type 0
-ExplainsWithin found text done = MatchOption found ((text ≡ too_long) × (done ≡ Ended)) (λ source. ExplainsSource source text done)
-
--- The output for a whole source, and how the run ends.
+-- The output for a whole source, or `too_long` if it is over the limit, and how the run ends.
 abbrev pub IsSourceText : List ℕ → List ℕ → Done → Type 0
-IsSourceText source text done = ExplainsWithin (gathered most_source_octets source) text done
+IsSourceText source text done = AnswersGathered too_long ExplainsSource (gathered most_source_octets source) text done
 
 -- The output for a script, or for the fault lines after the first line.
 abbrev pub IsFaultsOrScript : List ℕ → List ℕ → Done → Type 0

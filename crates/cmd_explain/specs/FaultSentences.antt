@@ -2,6 +2,7 @@
 use Rattle.std.specs.Prelude.{◌≡◌, ◌==◌, if◌then◌else◌, ℕ, List, [], ◌∷◌, ◌++◌, codes, flat_map, get_or, Option, Some, None}
 use Rattle.std.specs.Str.{bytes_eq}
 use Rattle.bpf_asm.specs.SourceLines.{source_lines}
+use Rattle.cmd_explain_script.specs.Tables.{value_among}
 use Rattle.text_io.specs.Gathered.{AnswersGathered, gathered}
 use Rattle.text_io.specs.Words.{words_of}
 use Rattle.text_io.specs.declared.ending.Done.{Done}
@@ -47,11 +48,6 @@ fault_sentences =
     ∷ (codes "size 6 PeakSlower", codes "in ticks of this length, scr is above pcr")
     ∷ (codes "size 7 TooLarge", codes "a limit is above 2^48 ticks: name a longer tick") ∷ []
 
--- The sentence about the fault of this family, number and name.
-abbrev pub sentence_among : List ℕ → List (List ℕ × List ℕ) → Option (List ℕ)
-sentence_among key [] = None
-sentence_among key (row ∷ rows) = if bytes_eq key row.0 then Some row.1 else sentence_among key rows
-
 -- What an octet of a sentence stands for, where these are the two numbers.
 abbrev pub meant_octet : List ℕ → List ℕ → ℕ → List ℕ
 meant_octet first second octet = if octet == 37 then first else if octet == 64 then second else octet ∷ []
@@ -77,7 +73,7 @@ explained_words content (word ∷ family ∷ []) = []
 explained_words content (word ∷ family ∷ number ∷ []) = []
 explained_words content (word ∷ family ∷ number ∷ name ∷ numbers) =
     if bytes_eq word (codes "fault")
-    then line content ++ line (sentence_text (sentence_among (fault_key family number name) fault_sentences) (get_or numbers 0 []) (get_or numbers 1 []))
+    then line content ++ line (sentence_text (value_among (fault_key family number name) fault_sentences) (get_or numbers 0 []) (get_or numbers 1 []))
     else []
 
 -- The answer to a line of this content.

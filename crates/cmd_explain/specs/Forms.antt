@@ -3,15 +3,15 @@ use Rattle.std.specs.Prelude.{ℕ, ◌+◌, ◌==◌, Bool, false, if◌then◌e
 use Rattle.std.specs.Option.{is_some}
 use Rattle.std.specs.Str.{bytes_eq}
 use Rattle.bpf_asm.specs.Numbers.{number_of_word}
-use Rattle.cmd_explain_script.specs.Meant.{is_near}
-use Rattle.cmd_explain.specs.FoundTokens.{is_name, token_octets}
+use Rattle.cmd_explain_script.specs.FoundWords.{word_octets}
+use Rattle.cmd_explain.specs.FoundTokens.{is_name}
 use Rattle.cmd_explain.specs.declared.forms.Form.{Form}
 use Rattle.cmd_explain.specs.declared.forms.Form.TheVariants as form
 use Rattle.cmd_explain.specs.declared.forms.Shape.{Shape}
 use Rattle.cmd_explain.specs.declared.forms.Shape.TheVariants as shape
 use Rattle.cmd_explain.specs.declared.forms.Slot.{Slot}
 use Rattle.cmd_explain.specs.declared.forms.Slot.TheVariants as slot
-use Rattle.cmd_explain.specs.declared.tokens.FoundToken.{FoundToken}
+use Rattle.cmd_explain_script.specs.declared.found_words.FoundWord.{FoundWord}
 
 -- Each mnemonic, and what it takes.
 abbrev pub known_mnemonics : List (List ℕ × Form)
@@ -26,20 +26,10 @@ known_mnemonics =
     ∷ (codes "jeq", form.Branch) ∷ (codes "jgt", form.Branch) ∷ (codes "jge", form.Branch) ∷ (codes "jset", form.Branch)
     ∷ (codes "jne", form.Inverse) ∷ (codes "jneq", form.Inverse) ∷ (codes "jlt", form.Inverse) ∷ (codes "jle", form.Inverse) ∷ []
 
--- The entry of a word among mnemonics.
-abbrev pub form_among : List ℕ → List (List ℕ × Form) → Option Form
-form_among word [] = None
-form_among word (row ∷ rows) = if bytes_eq word row.0 then Some row.1 else form_among word rows
-
 -- Whether a number is this one.
 abbrev pub spells_number : ℕ → Option ℕ → Bool
 spells_number value None = false
 spells_number value (Some number) = number == value
-
--- The first of these mnemonics that is near a word.
-abbrev pub near_among : List ℕ → List (List ℕ × Form) → Option (List ℕ)
-near_among word [] = None
-near_among word (row ∷ rows) = if is_near word row.0 then Some row.0 else near_among word rows
 
 -- What may come after each mnemonic.
 abbrev pub shapes_of : Form → List Shape
@@ -89,13 +79,13 @@ fits_slot slot.Number token = is_some (number_of_word token)
 fits_slot slot.Name token = is_name token
 
 -- How many of the first tokens fit these slots.
-abbrev pub fitting : List ℕ → List Slot → List FoundToken → ℕ
+abbrev pub fitting : List ℕ → List Slot → List FoundWord → ℕ
 fitting text [] tokens = 0
 fitting text (one ∷ slots) [] = 0
-fitting text (one ∷ slots) (token ∷ tokens) = if fits_slot one (token_octets text token) then 1 + fitting text slots tokens else 0
+fitting text (one ∷ slots) (token ∷ tokens) = if fits_slot one (word_octets text token) then 1 + fitting text slots tokens else 0
 
 -- How many of the first tokens fit one of these shapes, that which most of them fit.
-abbrev pub most_fitting : List ℕ → List Shape → List FoundToken → ℕ
+abbrev pub most_fitting : List ℕ → List Shape → List FoundWord → ℕ
 most_fitting text [] tokens = 0
 most_fitting text (one ∷ shapes) tokens = max (fitting text (slots_of one) tokens) (most_fitting text shapes tokens)
 

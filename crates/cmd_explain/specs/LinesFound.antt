@@ -3,18 +3,18 @@ use Rattle.std.specs.Prelude.{ℕ, ◌+◌, ◌-◌, Bool, true, false, if◌the
 use Rattle.std.specs.Str.{bytes_eq}
 use Rattle.bpf_asm.specs.SourceLines.{without_comment}
 use Rattle.cmd_explain.specs.FoundTokens.{after_label, found_tokens, label_of}
-use Rattle.cmd_explain.specs.declared.tokens.FoundToken.{FoundToken}
+use Rattle.cmd_explain_script.specs.declared.found_words.FoundWord.{FoundWord}
 
 -- The tokens of a line, before its comment.
-abbrev pub tokens_of_line : List ℕ → List FoundToken
+abbrev pub tokens_of_line : List ℕ → List FoundWord
 tokens_of_line line = found_tokens (without_comment line)
 
 -- The tokens of the instruction of a line.
-abbrev pub instruction_tokens : List ℕ → List FoundToken
+abbrev pub instruction_tokens : List ℕ → List FoundWord
 instruction_tokens line = after_label (without_comment line) (tokens_of_line line)
 
 -- Whether there is a token.
-abbrev pub has_token : List FoundToken → Bool
+abbrev pub has_token : List FoundWord → Bool
 has_token [] = false
 has_token (token ∷ tokens) = true
 

@@ -6,9 +6,10 @@ use Rattle.bpf_code.specs.declared.instr.Instr.TheVariants.{LoadAbs, LoadInd, Ld
 use Rattle.bpf_interp.specs.Packet.{octets_loaded}
 use Rattle.bpf_interp.specs.State.{State, Ended}
 use Rattle.bpf_interp.specs.Step.{Does}
-use Rattle.cmd_explain.specs.BadLines.{column_of, first_number}
+use Rattle.cmd_explain.specs.BadLines.{first_number}
 use Rattle.cmd_explain.specs.LinesFound.{has_token, instruction_tokens}
-use Rattle.cmd_explain.specs.declared.tokens.FoundToken.{FoundToken}
+use Rattle.cmd_explain_script.specs.FoundWords.{column_of}
+use Rattle.cmd_explain_script.specs.declared.found_words.FoundWord.{FoundWord}
 use Rattle.cmd_explain_script.specs.Places.{place_words}
 use Rattle.text_words.specs.FaultLines.{line}
 
@@ -30,7 +31,7 @@ OutsideEndsProgram =
     → Does cell i pc a x m next → next ≡ Ended 0
 
 -- The token of such an instruction that is wrong: its offset, or the mnemonic of a load of a header's length.
-abbrev pub hinted_token : Instr → List ℕ → Option FoundToken
+abbrev pub hinted_token : Instr → List ℕ → Option FoundWord
 hinted_token (LdxMsh k) content = slice_get (instruction_tokens content) 0
 hinted_token _ content = first_number (without_comment content) (instruction_tokens content)
 

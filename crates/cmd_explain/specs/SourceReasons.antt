@@ -5,14 +5,15 @@ use Rattle.bpf_asm.specs.SourceLines.{without_comment}
 use Rattle.bpf_asm.specs.declared.fault.AsmFault.{AsmFault}
 use Rattle.bpf_asm.specs.declared.fault.AsmKind.{AsmKind}
 use Rattle.bpf_asm.specs.declared.fault.AsmKind.TheVariants as asm
-use Rattle.cmd_explain.specs.BadLines.{bad_line_sentence, column_of, first_no_number, no_number_sentence, octets_of, wrong_token}
+use Rattle.cmd_explain.specs.BadLines.{bad_line_sentence, first_no_number, no_number_sentence, octets_of, wrong_token}
+use Rattle.cmd_explain_script.specs.FoundWords.{column_of, word_octets}
 use Rattle.cmd_explain_script.specs.Places.{place_words, quoted}
-use Rattle.cmd_explain.specs.Forms.{form_among, known_mnemonics}
-use Rattle.cmd_explain.specs.FoundTokens.{token_octets}
+use Rattle.cmd_explain_script.specs.Tables.{value_among}
+use Rattle.cmd_explain.specs.Forms.{known_mnemonics}
 use Rattle.cmd_explain.specs.LinesFound.{count_between, instruction_lines, instruction_tokens, label_line, line_numbered, tokens_of_line}
 use Rattle.cmd_explain.specs.declared.forms.Form.{Form}
 use Rattle.cmd_explain.specs.declared.forms.Form.TheVariants as form
-use Rattle.cmd_explain.specs.declared.tokens.FoundToken.{FoundToken}
+use Rattle.cmd_explain_script.specs.declared.found_words.FoundWord.{FoundWord}
 use Rattle.text_words.specs.FaultLines.{line}
 
 -- Whether a label operand on this line has the fault, by the line that has its label.
@@ -29,20 +30,20 @@ takes_label _ = false
 
 -- The first label operand of these tokens that has the fault. A label operand comes after a comma, or after `ja`; `after` says whether
 -- the token before these is one of them.
-abbrev pub failing_operand : List (List ℕ) → AsmFault → List ℕ → List ℕ → Bool → List FoundToken → Option FoundToken
+abbrev pub failing_operand : List (List ℕ) → AsmFault → List ℕ → List ℕ → Bool → List FoundWord → Option FoundWord
 failing_operand lines fault numbers text after [] = None
 failing_operand lines fault numbers text after (token ∷ tokens) =
-    if after && label_fails fault.kind fault.line numbers (label_line (token_octets text token) 1 lines) then Some token
-    else failing_operand lines fault numbers text (bytes_eq (token_octets text token) (codes ",")) tokens
+    if after && label_fails fault.kind fault.line numbers (label_line (word_octets text token) 1 lines) then Some token
+    else failing_operand lines fault numbers text (bytes_eq (word_octets text token) (codes ",")) tokens
 
--- The same for the tokens of an instruction.
-abbrev pub failing_label : List (List ℕ) → AsmFault → List ℕ → List FoundToken → Option FoundToken
+-- The first label operand of an instruction with these tokens that has the fault.
+abbrev pub failing_label : List (List ℕ) → AsmFault → List ℕ → List FoundWord → Option FoundWord
 failing_label lines fault text [] = None
 failing_label lines fault text (first ∷ operands) =
-    failing_operand lines fault (instruction_lines 1 lines) text (takes_label (form_among (token_octets text first) known_mnemonics)) operands
+    failing_operand lines fault (instruction_lines 1 lines) text (takes_label (value_among (word_octets text first) known_mnemonics)) operands
 
 -- The token that a fault of this kind is about, if it is about one.
-abbrev pub blamed_token : List (List ℕ) → AsmFault → AsmKind → List ℕ → Option FoundToken
+abbrev pub blamed_token : List (List ℕ) → AsmFault → AsmKind → List ℕ → Option FoundWord
 blamed_token lines fault asm.BadLine content = wrong_token (without_comment content) (instruction_tokens content)
 blamed_token lines fault asm.BadNumber content = first_no_number (without_comment content) (tokens_of_line content)
 blamed_token lines fault asm.LabelTwice content = slice_get (tokens_of_line content) 0
@@ -76,7 +77,7 @@ source_sentence lines asm.BadNumber content blamed = no_number_sentence blamed
 source_sentence lines kind content blamed = label_sentence kind blamed (label_line blamed 1 lines)
 
 -- The explanation of a fault on a line with this content: its line, the column of the token that is wrong, and a sentence.
-abbrev pub line_explanation : List (List ℕ) → AsmFault → List ℕ → Option FoundToken → List ℕ
+abbrev pub line_explanation : List (List ℕ) → AsmFault → List ℕ → Option FoundWord → List ℕ
 line_explanation lines fault content blamed =
     place_words fault.line (column_of blamed) ++ line (source_sentence lines fault.kind content (octets_of (without_comment content) blamed))
 

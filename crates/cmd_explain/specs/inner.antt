@@ -2,3 +2,4 @@
 pub mod FaultsTotal
 pub mod FirstLines
 pub mod Leading
+pub mod SourcesTotal

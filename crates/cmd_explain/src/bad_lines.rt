@@ -3,34 +3,25 @@
 ghost use Rattle.std.specs.Prelude.{◌≡◌, ◌++◌, OnOk, option_map, slice_get};
 ghost use Rattle.bpf_asm.specs.Numbers.{number_of_word};
 ghost use Rattle.cmd_explain_script.specs.Meant.{perhaps_text};
-ghost use Rattle.cmd_explain.specs.BadLines.{bad_line_sentence, column_of, first_no_number, first_number, first_word_sentence, is_no_number, no_mnemonic_sentence, no_number_sentence, octets_of, operands_sentence, wrong_operand, wrong_token};
-ghost use Rattle.cmd_explain.specs.Forms.{known_mnemonics, near_among};
-ghost use Rattle.cmd_explain.specs.FoundTokens.{token_octets};
+ghost use Rattle.cmd_explain.specs.BadLines.{bad_line_sentence, first_no_number, first_number, first_word_sentence, is_no_number, no_mnemonic_sentence, no_number_sentence, octets_of, operands_sentence, wrong_operand, wrong_token};
+ghost use Rattle.cmd_explain.specs.Forms.{known_mnemonics};
+ghost use Rattle.cmd_explain_script.specs.FoundWords.{word_octets};
+ghost use Rattle.cmd_explain_script.specs.Tables.{near_among};
 
 use crate::forms::{Form, form_of, most_fitting, near, operands_text};
-use crate::tokens::{FoundToken, is_name, token_octets};
+use crate::tokens::is_name;
 use bpf_asm::number;
 use cmd_explain_rules::digit;
-use cmd_explain_script::{add_perhaps, add_quoted};
+use cmd_explain_script::{FoundWord, add_perhaps, add_quoted, word_octets};
 use std::alloc::AllocError;
 use text_words::add_text;
 
-/// Returns the column of a token, if there is one.
-pub(crate) fn column_of(token: Option<FoundToken>) -> Option<usize>
-    ensures { result ≡ column_of token }
-{
-    match token {
-        Some(token) => Some(token.column),
-        None => None,
-    }
-}
-
 /// Returns the octets of a token, if there is one.
-pub(crate) fn octets_of(text: &[u8], token: Option<FoundToken>) -> &[u8]
+pub(crate) fn octets_of(text: &[u8], token: Option<FoundWord>) -> &[u8]
     ensures { result.now ≡ octets_of text.now token }
 {
     match token {
-        Some(token) => token_octets(text, token),
+        Some(token) => word_octets(text, token),
         None => &[],
     }
 }
@@ -46,12 +37,12 @@ fn is_no_number(octets: &[u8]) -> bool
 }
 
 /// Returns the first of these tokens that is no number.
-pub(crate) fn first_no_number(text: &[u8], tokens: &[FoundToken]) -> Option<FoundToken>
+pub(crate) fn first_no_number(text: &[u8], tokens: &[FoundWord]) -> Option<FoundWord>
     ensures { result ≡ first_no_number text.now tokens.now }
 {
     let mut left = tokens;
     while let [token, rest @ ..] = left {
-        if is_no_number(token_octets(text, *token)) {
+        if is_no_number(word_octets(text, *token)) {
             return Some(*token);
         }
         left = rest;
@@ -60,12 +51,12 @@ pub(crate) fn first_no_number(text: &[u8], tokens: &[FoundToken]) -> Option<Foun
 }
 
 /// Returns the first of these tokens that is a number.
-pub(crate) fn first_number(text: &[u8], tokens: &[FoundToken]) -> Option<FoundToken>
+pub(crate) fn first_number(text: &[u8], tokens: &[FoundWord]) -> Option<FoundWord>
     ensures { result ≡ first_number text.now tokens.now }
 {
     let mut left = tokens;
     while let [token, rest @ ..] = left {
-        if number(token_octets(text, *token)).is_some() {
+        if number(word_octets(text, *token)).is_some() {
             return Some(*token);
         }
         left = rest;
@@ -123,7 +114,7 @@ fn add_operands(answers: &mut Vec<u8>, mnemonic: &[u8], form: Form) -> Result<()
 pub(crate) fn add_bad_line(
     answers: &mut Vec<u8>,
     text: &[u8],
-    tokens: &[FoundToken],
+    tokens: &[FoundWord],
 ) -> Result<(), AllocError>
     ensures { OnOk result (answers.new.items ≡ answers.old.items ++ bad_line_sentence text.now tokens.now) }
 {
@@ -133,7 +124,7 @@ pub(crate) fn add_bad_line(
             b"a line has a label, an instruction, both or nothing",
         ),
         [first, ..] => {
-            let word = token_octets(text, *first);
+            let word = word_octets(text, *first);
             match form_of(word) {
                 None => add_no_mnemonic(answers, word),
                 Some(form) => add_operands(answers, word, form),
@@ -143,12 +134,12 @@ pub(crate) fn add_bad_line(
 }
 
 /// Returns the token that is wrong in a line outside the grammar, if one is, by the tokens after its label.
-pub(crate) fn wrong_token(text: &[u8], tokens: &[FoundToken]) -> Option<FoundToken>
+pub(crate) fn wrong_token(text: &[u8], tokens: &[FoundWord]) -> Option<FoundWord>
     ensures { result ≡ wrong_token text.now tokens.now }
 {
     match tokens {
         [] => None,
-        [first, operands @ ..] => match form_of(token_octets(text, *first)) {
+        [first, operands @ ..] => match form_of(word_octets(text, *first)) {
             None => Some(*first),
             Some(form) => token_at(operands, most_fitting(text, form, operands)),
         },
@@ -156,7 +147,7 @@ pub(crate) fn wrong_token(text: &[u8], tokens: &[FoundToken]) -> Option<FoundTok
 }
 
 /// Returns the token at this place, if there is one.
-pub(crate) fn token_at(tokens: &[FoundToken], place: usize) -> Option<FoundToken>
+pub(crate) fn token_at(tokens: &[FoundWord], place: usize) -> Option<FoundWord>
     ensures { result ≡ slice_get tokens.now place }
 {
     tokens.get(place).copied()

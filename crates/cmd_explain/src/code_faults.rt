@@ -7,13 +7,13 @@ ghost use Rattle.text_io.specs.Devices.{Adds};
 ghost use Rattle.cmd_explain.specs.LinesFound.{instruction_lines};
 ghost use Rattle.cmd_explain.specs.CodeReasons.{IsCodeExplanation, IsRest, blamed_part, code_place, code_sentence, code_start, fault_place, numbers_text, scratch_name, unwritten_sentence};
 
-use crate::bad_lines::{column_of, first_number, token_at};
+use crate::bad_lines::{first_number, token_at};
 use crate::lines_found::{instruction_lines, line_numbered};
 use crate::path::path_to;
-use crate::tokens::{FoundToken, after_label, before_comment, tokens_of};
+use crate::tokens::{after_label, before_comment, tokens_of};
 use bpf_code::Instr;
 use bpf_verify::Fault;
-use cmd_explain_script::add_place;
+use cmd_explain_script::{FoundWord, add_place, column_of};
 use std::alloc::{AllocError, Global};
 use text_words::{add_number, add_text};
 
@@ -34,11 +34,7 @@ fn fault_place(size: usize, fault: Fault) -> usize
 }
 
 /// Returns the token of an instruction that the fault is about: its number, or its mnemonic.
-fn blamed_part(
-    alloc: Global,
-    fault: Fault,
-    content: &[u8],
-) -> Result<Option<FoundToken>, AllocError>
+fn blamed_part(alloc: Global, fault: Fault, content: &[u8]) -> Result<Option<FoundWord>, AllocError>
     ensures { IfOk result (λ token. token ≡ blamed_part fault content.now) }
 {
     let text = before_comment(content);

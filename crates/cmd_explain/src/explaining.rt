@@ -1,9 +1,9 @@
 //! `upc-lab explain`: the fault of a source, with its line and column and a sentence about it.
 
-ghost use Rattle.std.specs.Prelude.{IfOk, option_map};
+ghost use Rattle.std.specs.Prelude.{IfOk};
 ghost use Rattle.text_io.specs.Devices.{Adds};
 ghost use Rattle.text_io.specs.Serving.{IsServed};
-ghost use Rattle.cmd_explain.specs.Explained.{ExplainsCode, ExplainsSource, ExplainsWithin, IsExplainText, IsSourceText, IsWholeExplanation};
+ghost use Rattle.cmd_explain.specs.Explained.{ExplainsCode, IsExplainText, IsSourceText, IsWholeExplanation};
 
 use crate::code_faults::add_code_explanation;
 use crate::fault_sentences::explain_fault_lines;
@@ -15,13 +15,10 @@ use bpf_code::Instr;
 use bpf_verify::first_fault;
 use cmd_explain_rules::explain_rules;
 use cmd_explain_script::explain_script;
-use cmd_programs::{add_accepted, add_asm_fault, add_verify_fault};
+use cmd_programs::{MOST_SOURCE_OCTETS, add_accepted, add_asm_fault, add_verify_fault};
 use std::alloc::{AllocError, Global};
-use text_io::{Done, Input, Output, RunFault, gather, give_last};
+use text_io::{Answerer, Done, Input, Output, RunFault, answer_whole};
 use text_words::add_too_long;
-
-/// The maximum number of octets of a source.
-const MOST_SOURCE_OCTETS: u32 = 1048576;
 
 /// Answers a code: that it has no fault, with hints, or its first one and an explanation.
 #[tactic(auto, using(std::proofs::lemmas::List::append_assoc))]
@@ -47,62 +44,61 @@ fn explain_code(
     }
 }
 
-/// Answers a source: its code, or its fault and an explanation.
-fn explain_source(alloc: Global, source: &[u8], answers: &mut Vec<u8>) -> Result<Done, AllocError>
-    ensures { IfOk result (λ done. Adds (λ text. ExplainsSource source.now text done) answers.old.items answers.new.items) }
-{
-    match assemble(alloc, source) {
-        Ok(code) => explain_code(alloc, source, &code, answers),
-        Err(
-            AsmFault {
-                kind: AsmKind::NoMemory,
-                ..
-            },
-        ) => Err(AllocError),
-        Err(fault) => {
-            add_asm_fault(answers, fault)?;
-            add_source_explanation(alloc, answers, source, fault)?;
-            Ok(Done::Ended)
-        }
-    }
-}
+/// The program that explains a source.
+struct Sources;
 
-/// Answers a source within the limit, or one over it.
-fn answer_gathered(
-    alloc: Global,
-    found: Option<Vec<u8>>,
-    answers: &mut Vec<u8>,
-) -> Result<Done, AllocError>
-    ensures { IfOk result (λ done. Adds (λ text. ExplainsWithin (option_map (λ octets. octets.items) found) text done)
-        answers.old.items answers.new.items) }
-{
-    match found {
-        Some(source) => explain_source(alloc, &source, answers),
-        None => {
-            add_too_long(answers)?;
-            Ok(Done::Ended)
+impl Answerer for Sources {
+    ghost use Rattle.cmd_explain.specs.Explained.{ExplainsSource};
+    ghost use Rattle.cmd_explain.specs.inner.SourcesTotal.{source-answered};
+    ghost use Rattle.text_words.specs.FaultLines.{too_long};
+
+    ghost prints = { λ sources. ExplainsSource };
+
+    ghost allows = { λ sources. ExplainsSource };
+
+    ghost too_long = { too_long };
+
+    fn answer(
+        &self,
+        alloc: Global,
+        octets: &[u8],
+        answers: &mut Vec<u8>,
+    ) -> Result<Done, AllocError> {
+        match assemble(alloc, octets) {
+            Ok(code) => explain_code(alloc, octets, &code, answers),
+            Err(
+                AsmFault {
+                    kind: AsmKind::NoMemory,
+                    ..
+                },
+            ) => Err(AllocError),
+            Err(fault) => {
+                add_asm_fault(answers, fault)?;
+                add_source_explanation(alloc, answers, octets, fault)?;
+                Ok(Done::Ended)
+            }
         }
     }
+
+    fn refuse(&self, answers: &mut Vec<u8>) -> Result<(), AllocError> {
+        add_too_long(answers)
+    }
+
+    ghost is_wider = { λ sources octets text done prints. prints };
+
+    ghost is_total = { λ sources. source-answered };
 }
 
 /// Answers a source: the fault that `upc check` finds, with its line, the column of the token that is wrong and a sentence, or that
 /// there is none.
-fn explain_gathered<I: Input, O: Output>(
+fn explain_source<I: Input, O: Output>(
     alloc: Global,
     input: &mut I,
     output: &mut O,
 ) -> Result<Done, RunFault>
     ensures { IsServed IsSourceText I.Input input.old input.new O.Output output.old output.new result }
 {
-    let found = match gather(alloc, input, MOST_SOURCE_OCTETS) {
-        Ok(found) => found,
-        Err(fault) => return Err(fault),
-    };
-    let mut answers = Vec::new(alloc);
-    match answer_gathered(alloc, found, &mut answers) {
-        Err(_) => Err(RunFault::NoMemory),
-        Ok(done) => give_last(output, &mut answers, done),
-    }
+    answer_whole(alloc, input, output, MOST_SOURCE_OCTETS, &Sources)
 }
 
 /// Answers the word `source` on the first line and a source of assembly after it by the fault that `upc check` finds, the word `rules`
@@ -124,7 +120,7 @@ pub fn explain_faults<I: Ahead, O: Output>(
 {
     match input.pass_first_line() {
         Err(fault) => Err(fault),
-        Ok(InputKind::Source) => explain_gathered(alloc, input, output),
+        Ok(InputKind::Source) => explain_source(alloc, input, output),
         Ok(InputKind::Rules) => explain_rules(alloc, input, output),
         Ok(InputKind::Faults) => explain_fault_lines(alloc, input, output),
         Ok(InputKind::Script) => explain_script(alloc, input, output),

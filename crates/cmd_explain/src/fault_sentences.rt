@@ -5,7 +5,8 @@ ghost use Rattle.bpf_asm.specs.SourceLines.{source_lines};
 ghost use Rattle.text_io.specs.Devices.{Adds};
 ghost use Rattle.text_io.specs.Serving.{IsServed};
 ghost use Rattle.text_io.specs.Words.{words_of};
-ghost use Rattle.cmd_explain.specs.FaultSentences.{IsFaultsText, explained_line, fault_key, fault_sentences, faults_text, with_numbers, sentence_among, sentence_text};
+ghost use Rattle.cmd_explain.specs.FaultSentences.{IsFaultsText, explained_line, fault_key, fault_sentences, faults_text, with_numbers, sentence_text};
+ghost use Rattle.cmd_explain_script.specs.Tables.{value_among};
 
 use bpf_asm::next_line;
 use std::alloc::{AllocError, Global};
@@ -152,7 +153,7 @@ const FAULT_SENTENCES: [(&[u8], &[u8]); 34] = [
 
 /// Returns the sentence of a fault among these.
 fn sentence_among(key: &[u8], rows: &[(&'static [u8], &'static [u8])]) -> Option<&'static [u8]>
-    ensures { option_map (λ sentence. sentence.now) result ≡ sentence_among key.now (map (λ row. (row.0.now, row.1.now)) rows.now) }
+    ensures { option_map (λ sentence. sentence.now) result ≡ value_among key.now (map (λ row. (row.0.now, row.1.now)) rows.now) }
 {
     let mut left = rows;
     while let [row, rest @ ..] = left {
@@ -166,7 +167,7 @@ fn sentence_among(key: &[u8], rows: &[(&'static [u8], &'static [u8])]) -> Option
 
 /// Returns the sentence of a fault, by its family, number and name.
 fn sentence_of(key: &[u8]) -> Option<&'static [u8]>
-    ensures { option_map (λ sentence. sentence.now) result ≡ sentence_among key.now fault_sentences }
+    ensures { option_map (λ sentence. sentence.now) result ≡ value_among key.now fault_sentences }
 {
     sentence_among(key, &FAULT_SENTENCES)
 }

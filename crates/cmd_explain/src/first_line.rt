@@ -7,7 +7,7 @@ ghost use Rattle.text_io.specs.Words.{words_of};
 ghost use Rattle.cmd_explain.specs.InputKinds.{PassesFirst, after_word, is_alone};
 ghost use Rattle.cmd_explain.specs.inner.FirstLines.{HoldsFirstLine};
 
-use cmd_explain_rules::after;
+use cmd_explain_script::after;
 use std::alloc::{AllocError, Global};
 use text_io::{Failed, Input, RunFault, before_return, first_feed, first_word};
 

@@ -1,12 +1,13 @@
 //! The mnemonics, and the forms of their operands.
 
-ghost use Rattle.std.specs.Prelude.{◌≡◌, map, option_map, slice_get};
+ghost use Rattle.std.specs.Prelude.{◌≡◌, option_map, slice_get};
 ghost use Rattle.bpf_asm.specs.Numbers.{number_of_word};
-ghost use Rattle.cmd_explain.specs.Forms.{fits_slot, fitting, form_among, known_mnemonics, most_fitting, near_among, operands_text, shapes_of, slots_of, spells_number};
+ghost use Rattle.cmd_explain.specs.Forms.{fits_slot, fitting, known_mnemonics, most_fitting, operands_text, shapes_of, slots_of, spells_number};
+ghost use Rattle.cmd_explain_script.specs.Tables.{near_among, value_among};
 
-use crate::tokens::{FoundToken, is_name, token_octets};
+use crate::tokens::is_name;
 use bpf_asm::number;
-use cmd_explain_script::is_near;
+use cmd_explain_script::{FoundWord, near_among, value_among, word_octets};
 
 /// What a mnemonic takes.
 #[derive(Clone, Copy)]
@@ -130,39 +131,11 @@ pub(crate) const MNEMONICS: [(&[u8], Form); 31] = [
     (b"jle", Form::Inverse),
 ];
 
-/// Returns the entry of a word among mnemonics.
-fn form_among(word: &[u8], rows: &[(&[u8], Form)]) -> Option<Form>
-    ensures { result ≡ form_among word.now (map (λ row. (row.0.now, row.1)) rows.now) }
-{
-    let mut left = rows;
-    while let [row, rest @ ..] = left {
-        if word == row.0 {
-            return Some(row.1);
-        }
-        left = rest;
-    }
-    None
-}
-
 /// Returns what a word takes, if it is a mnemonic.
 pub(crate) fn form_of(word: &[u8]) -> Option<Form>
-    ensures { result ≡ form_among word.now known_mnemonics }
+    ensures { result ≡ value_among word.now known_mnemonics }
 {
-    form_among(word, &MNEMONICS)
-}
-
-/// Returns the first of these mnemonics that is near a word.
-fn near_among<'a>(word: &[u8], rows: &'a [(&'static [u8], Form)]) -> Option<&'static [u8]>
-    ensures { option_map (λ near. near.now) result ≡ near_among word.now (map (λ row. (row.0.now, row.1)) rows.entry.now) }
-{
-    let mut left = rows;
-    while let [row, rest @ ..] = left {
-        if is_near(word, row.0) {
-            return Some(row.0);
-        }
-        left = rest;
-    }
-    None
+    value_among(word, &MNEMONICS)
 }
 
 /// Returns the first mnemonic that is near a word.
@@ -264,7 +237,7 @@ fn spells(word: &[u8], value: u32) -> bool
 }
 
 /// Returns how many of the first tokens fit these slots.
-fn fitting(text: &[u8], slots: &[Slot], tokens: &[FoundToken]) -> usize
+fn fitting(text: &[u8], slots: &[Slot], tokens: &[FoundWord]) -> usize
     ensures { result ≡ fitting text.now slots.now tokens.now }
 {
     let mut wanted = slots;
@@ -274,7 +247,7 @@ fn fitting(text: &[u8], slots: &[Slot], tokens: &[FoundToken]) -> usize
         match left {
             [] => return count,
             [token, rest @ ..] => {
-                if !fits_slot(*slot, token_octets(text, *token)) {
+                if !fits_slot(*slot, word_octets(text, *token)) {
                     return count;
                 }
                 count += 1;
@@ -287,7 +260,7 @@ fn fitting(text: &[u8], slots: &[Slot], tokens: &[FoundToken]) -> usize
 }
 
 /// Returns the length of the longest prefix of the tokens that fits a shape of a mnemonic.
-pub(crate) fn most_fitting(text: &[u8], form: Form, tokens: &[FoundToken]) -> usize
+pub(crate) fn most_fitting(text: &[u8], form: Form, tokens: &[FoundWord]) -> usize
     ensures { result ≡ most_fitting text.now (shapes_of form) tokens.now }
 {
     let mut most = 0;

@@ -18,4 +18,3 @@ mod tokens;
 pub use explaining::explain_faults;
 pub use first_line::{Ahead, InputKind, LookedAt};
 pub use forms::{Form, Shape, Slot};
-pub use tokens::FoundToken;

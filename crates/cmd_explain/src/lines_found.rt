@@ -7,22 +7,14 @@ ghost use Rattle.cmd_explain.specs.FoundTokens.{label_of};
 
 use crate::tokens::{after_label, before_comment, has_label, tokens_of};
 use bpf_asm::next_line;
+use cmd_programs::{first_line, lines_after};
 use std::alloc::{AllocError, Global};
 
 /// Returns the line of this number, counted from 1. It is empty if there is none.
 pub(crate) fn line_numbered(source: &[u8], number: usize) -> &[u8]
     ensures { result.now ≡ line_numbered (source_lines source.now) number }
 {
-    let mut left = source;
-    let mut more = number.saturating_sub(1);
-    while let Some((line, rest)) = next_line(left) {
-        if more == 0 {
-            return line;
-        }
-        more -= 1;
-        left = rest;
-    }
-    &[]
+    first_line(lines_after(source, number.saturating_sub(1)))
 }
 
 /// Returns whether a line has an instruction.

@@ -7,13 +7,13 @@ ghost use Rattle.cmd_explain.specs.LinesFound.{instruction_tokens, label_line};
 ghost use Rattle.cmd_explain.specs.SourceReasons.{blamed_token, failing_label, failing_operand, label_fails, label_sentence, label_words, line_explanation, missing_label, source_explanation, source_sentence, takes_label};
 
 use crate::bad_lines::{
-    add_bad_line, add_no_number, column_of, first_no_number, octets_of, token_at, wrong_token,
+    add_bad_line, add_no_number, first_no_number, octets_of, token_at, wrong_token,
 };
 use crate::forms::{Form, form_of};
 use crate::lines_found::{count_between, instruction_lines, label_line, line_numbered};
-use crate::tokens::{FoundToken, after_label, before_comment, token_octets, tokens_of};
+use crate::tokens::{after_label, before_comment, tokens_of};
 use bpf_asm::{AsmFault, AsmKind};
-use cmd_explain_script::{add_place, add_quoted};
+use cmd_explain_script::{FoundWord, add_place, add_quoted, column_of, word_octets};
 use std::alloc::{AllocError, Global};
 use text_words::{add_number, add_text};
 
@@ -44,14 +44,14 @@ fn failing_operand(
     numbers: &[usize],
     text: &[u8],
     begins: bool,
-    tokens: &[FoundToken],
-) -> Result<Option<FoundToken>, AllocError>
+    tokens: &[FoundWord],
+) -> Result<Option<FoundWord>, AllocError>
     ensures { IfOk result (λ token. token ≡ failing_operand (source_lines source.now) fault numbers.now text.now begins tokens.now) }
 {
     let mut left = tokens;
     let mut after = begins;
     while let [token, rest @ ..] = left {
-        let octets = token_octets(text, *token);
+        let octets = word_octets(text, *token);
         let found = label_line(alloc, source, octets)?;
         if after && label_fails(fault.kind, fault.line, numbers, found) {
             return Ok(Some(*token));
@@ -68,15 +68,15 @@ fn failing_label(
     source: &[u8],
     fault: AsmFault,
     text: &[u8],
-    tokens: &[FoundToken],
-) -> Result<Option<FoundToken>, AllocError>
+    tokens: &[FoundWord],
+) -> Result<Option<FoundWord>, AllocError>
     ensures { IfOk result (λ token. token ≡ failing_label (source_lines source.now) fault text.now tokens.now) }
 {
     match tokens {
         [] => Ok(None),
         [first, operands @ ..] => {
             let numbers = instruction_lines(alloc, source)?;
-            let alone = takes_label(form_of(token_octets(text, *first)));
+            let alone = takes_label(form_of(word_octets(text, *first)));
             failing_operand(alloc, source, fault, &numbers, text, alone, operands)
         }
     }
@@ -88,7 +88,7 @@ fn blamed_token(
     source: &[u8],
     fault: AsmFault,
     content: &[u8],
-) -> Result<Option<FoundToken>, AllocError>
+) -> Result<Option<FoundWord>, AllocError>
     ensures { IfOk result (λ token. token ≡ blamed_token (source_lines source.now) fault fault.kind content.now) }
 {
     let text = before_comment(content);

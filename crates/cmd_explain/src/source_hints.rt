@@ -1,16 +1,16 @@
 //! Hints about a source without a fault.
 
-ghost use Rattle.std.specs.Prelude.{◌≡◌, ◌++◌, drop, IfOk, OnOk};
+ghost use Rattle.std.specs.Prelude.{◌≡◌, ◌++◌, IfOk, OnOk};
 ghost use Rattle.bpf_asm.specs.SourceLines.{source_lines};
 ghost use Rattle.bpf_interp.specs.Packet.{octets_loaded};
 ghost use Rattle.cmd_explain.specs.SourceHints.{first_hint, hinted_token, hints_of, is_past_cell, outside_hint};
 
-use crate::bad_lines::{column_of, first_number, token_at};
+use crate::bad_lines::{first_number, token_at};
 use crate::lines_found::has_instruction;
-use crate::tokens::{FoundToken, after_label, before_comment, tokens_of};
+use crate::tokens::{after_label, before_comment, tokens_of};
 use bpf_asm::next_line;
 use bpf_code::{Instr, Size};
-use cmd_explain_script::add_place;
+use cmd_explain_script::{FoundWord, add_place, after, column_of};
 use std::alloc::{AllocError, Global};
 use text_words::add_text;
 
@@ -41,7 +41,7 @@ fn hinted_token(
     alloc: Global,
     instr: Instr,
     content: &[u8],
-) -> Result<Option<FoundToken>, AllocError>
+) -> Result<Option<FoundWord>, AllocError>
     ensures { IfOk result (λ token. token ≡ hinted_token instr content.now) }
 {
     let text = before_comment(content);
@@ -97,16 +97,6 @@ fn add_first_hint(
     }
 }
 
-/// Returns a code without its first instruction.
-fn after_first(code: &[Instr]) -> &[Instr]
-    ensures { result.now ≡ drop 1 code.now }
-{
-    match code {
-        [] => &[],
-        [_, rest @ ..] => rest,
-    }
-}
-
 /// Appends the hints about the code that a source means. Lines and instructions are in one order, so one pass finds the line of each.
 #[tactic(auto, unfolding(crate::specs::SourceHints::hints_of))]
 pub(crate) fn add_hints(
@@ -123,7 +113,7 @@ pub(crate) fn add_hints(
     while let Some((line, rest)) = next_line(left) {
         if has_instruction(alloc, line)? {
             add_first_hint(alloc, answers, count + 1, line, later)?;
-            later = after_first(later);
+            later = after(later, 1);
         }
         count += 1;
         left = rest;

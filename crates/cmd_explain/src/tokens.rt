@@ -1,23 +1,15 @@
 //! The tokens of a source line, with their columns.
 
-ghost use Rattle.std.specs.Prelude.{◌≡◌, ◌++◌, ◌-◌, ◌∷◌, [], take, drop, IfOk, OnOk, MatchOption, None};
+ghost use Rattle.std.specs.Prelude.{◌≡◌, ◌++◌, ◌-◌, ◌∷◌, [], IfOk, OnOk, MatchOption, None};
 ghost use Rattle.bpf_asm.specs.SourceLines.{without_comment};
 ghost use Rattle.bpf_asm.specs.Tokens.{is_word};
 ghost use Rattle.text_io.specs.Words.{is_blank, is_digit};
-ghost use Rattle.cmd_explain.specs.FoundTokens.{after_label, begins_token, found_tokens, is_label, is_name, label_of, run_size, token_here, token_octets, token_size};
+ghost use Rattle.cmd_explain.specs.FoundTokens.{after_label, begins_token, found_tokens, is_label, is_name, label_of, run_size, token_here, token_size};
 ghost use Rattle.cmd_explain.specs.LinesFound.{is_same_label};
 
-use cmd_explain_rules::{after, digit, front, word_octet};
+use cmd_explain_rules::{digit, word_octet};
+use cmd_explain_script::{FoundWord, word_octets};
 use std::alloc::{AllocError, Global};
-
-/// A token of a line.
-#[derive(Clone, Copy)]
-pub struct FoundToken {
-    /// The column of its first octet, counted from 1.
-    pub column: usize,
-    /// How many octets it has.
-    pub size: usize,
-}
 
 /// Returns how many octets of a word a text begins with.
 fn run_size(text: &[u8]) -> usize
@@ -80,7 +72,7 @@ fn token_size(text: &[u8]) -> usize
 
 /// Adds the token that begins with the first octet of a text, if one does.
 fn add_token(
-    tokens: &mut Vec<FoundToken>,
+    tokens: &mut Vec<FoundWord>,
     column: usize,
     inside: bool,
     text: &[u8],
@@ -92,7 +84,7 @@ fn add_token(
         [octet, ..] => {
             if begins_token(inside, *octet) {
                 let size = token_size(text);
-                tokens.push(FoundToken { column, size })?;
+                tokens.push(FoundWord { column, size })?;
             }
             Ok(())
         }
@@ -101,7 +93,7 @@ fn add_token(
 
 /// Returns the tokens of a line, or of what is before its comment.
 #[tactic(auto, unfolding(crate::specs::FoundTokens::found_tokens))]
-pub(crate) fn tokens_of(alloc: Global, text: &[u8]) -> Result<Vec<FoundToken>, AllocError>
+pub(crate) fn tokens_of(alloc: Global, text: &[u8]) -> Result<Vec<FoundWord>, AllocError>
     ensures { IfOk result (λ tokens. tokens.items ≡ found_tokens text.now) }
 {
     let mut tokens = Vec::new(alloc);
@@ -117,13 +109,6 @@ pub(crate) fn tokens_of(alloc: Global, text: &[u8]) -> Result<Vec<FoundToken>, A
     Ok(tokens)
 }
 
-/// Returns the octets of a token of a line.
-pub(crate) fn token_octets(text: &[u8], token: FoundToken) -> &[u8]
-    ensures { result.now ≡ token_octets text.now token }
-{
-    front(after(text, token.column.saturating_sub(1)), token.size)
-}
-
 /// Returns whether octets are a word that does not begin with a digit.
 pub(crate) fn is_name(octets: &[u8]) -> bool
     ensures { result ≡ is_name octets.now }
@@ -135,14 +120,14 @@ pub(crate) fn is_name(octets: &[u8]) -> bool
 }
 
 /// Returns whether two tokens are a label: a name, and `:`.
-fn is_label(text: &[u8], first: FoundToken, second: FoundToken) -> bool
+fn is_label(text: &[u8], first: FoundWord, second: FoundWord) -> bool
     ensures { result ≡ is_label text.now first second }
 {
-    is_name(token_octets(text, first)) && token_octets(text, second) == b":".as_slice()
+    is_name(word_octets(text, first)) && word_octets(text, second) == b":".as_slice()
 }
 
 /// Returns the tokens after the label of a line, if it has one.
-pub(crate) fn after_label<'a>(text: &[u8], tokens: &'a [FoundToken]) -> &'a [FoundToken]
+pub(crate) fn after_label<'a>(text: &[u8], tokens: &'a [FoundWord]) -> &'a [FoundWord]
     ensures { result.now ≡ after_label text.now tokens.entry.now }
 {
     match tokens {
@@ -158,12 +143,12 @@ pub(crate) fn after_label<'a>(text: &[u8], tokens: &'a [FoundToken]) -> &'a [Fou
 }
 
 /// Returns whether a line has this label.
-pub(crate) fn has_label(text: &[u8], tokens: &[FoundToken], label: &[u8]) -> bool
+pub(crate) fn has_label(text: &[u8], tokens: &[FoundWord], label: &[u8]) -> bool
     ensures { result ≡ is_same_label label.now (label_of text.now tokens.now) }
 {
     match tokens {
         [first, second, ..] => {
-            is_label(text, *first, *second) && token_octets(text, *first) == label
+            is_label(text, *first, *second) && word_octets(text, *first) == label
         }
         _ => false,
     }

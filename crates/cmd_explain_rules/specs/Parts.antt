@@ -1,8 +1,8 @@
 -- What a token of a line of rules is.
-use Rattle.std.specs.Prelude.{ℕ, Bool, false, if◌then◌else◌, List, [], ◌∷◌, codes, unwrap_or, Option, Some, None}
-use Rattle.std.specs.Str.{bytes_eq}
+use Rattle.std.specs.Prelude.{ℕ, Bool, false, if◌then◌else◌, List, [], ◌∷◌, codes, unwrap_or}
 use Rattle.bpf_asm.specs.Tokens.{is_word}
 use Rattle.text_io.specs.Words.{is_digit}
+use Rattle.cmd_explain_script.specs.Tables.{value_among}
 use Rattle.cmd_explain_rules.specs.declared.token_parts.Part.{Part}
 use Rattle.cmd_explain_rules.specs.declared.token_parts.Part.TheVariants as part
 use Rattle.cmd_explain_rules.specs.declared.token_parts.Subject.TheVariants as about
@@ -31,11 +31,6 @@ known_marks =
     ∷ (codes "&", part.Mask) ∷ (codes ",", part.Comma) ∷ (codes "/", part.Slash) ∷ (codes "*", part.Star) ∷ (codes "!", part.Not)
     ∷ (codes "=", part.Equal) ∷ (codes "<", part.Order) ∷ (codes ">", part.Order) ∷ []
 
--- What a table has for octets.
-abbrev pub part_among : List ℕ → List (List ℕ × Part) → Option Part
-part_among octets [] = None
-part_among octets (row ∷ rows) = if bytes_eq octets row.0 then Some row.1 else part_among octets rows
-
 -- Whether octets begin with a digit.
 abbrev pub begins_digit : List ℕ → Bool
 begins_digit [] = false
@@ -50,4 +45,4 @@ plain_part (octet ∷ rest) = if is_word octet then part.Name else part.Other
 unfoldable pub part_of : List ℕ → Part
 part_of octets =
     if begins_digit octets then part.Number
-    else unwrap_or (part_among octets known_words) (unwrap_or (part_among octets known_marks) (plain_part octets))
+    else unwrap_or (value_among octets known_words) (unwrap_or (value_among octets known_marks) (plain_part octets))

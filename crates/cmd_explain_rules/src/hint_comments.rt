@@ -7,11 +7,9 @@ ghost use Rattle.cmd_explain_rules.specs.HintComments.{AreHintsAbout, AreHintsOn
 ghost use Rattle.cmd_explain_rules.specs.inner.CommentsFound.{MayBeCommentsFound};
 
 use crate::rule_hints::add_rule_hints;
+use cmd_rules::MOST_RULES_OCTETS;
 use rules_text::{RuleFault, RuleKind, read_with_places};
 use std::alloc::{AllocError, Global};
-
-/// The maximum number of octets of a text of rules.
-pub(crate) const MOST_RULES_OCTETS: u32 = 1048576;
 
 /// The hints about rules as comments.
 #[derive(Debug, Drop)]

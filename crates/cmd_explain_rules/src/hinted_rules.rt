@@ -7,8 +7,8 @@ ghost use Rattle.text_io.specs.Devices.{Adds};
 ghost use Rattle.text_io.specs.Serving.{IsServed};
 ghost use Rattle.cmd_explain_rules.specs.HintComments.{MayBeHintComments, text_of_comments};
 
-use crate::hint_comments::{Comments, MOST_RULES_OCTETS, comments_found};
-use cmd_rules::answer_by_octets;
+use crate::hint_comments::{Comments, comments_found};
+use cmd_rules::{MOST_RULES_OCTETS, answer_by_octets};
 use std::alloc::{AllocError, Global};
 use text_io::{Done, Input, Output, RunFault, gather, give_last};
 use text_words::add_too_long;

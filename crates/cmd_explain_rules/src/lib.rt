@@ -17,7 +17,7 @@ mod token_parts;
 
 pub use hint_comments::{Comments, add_hints_about};
 pub use hinted_rules::compile_with_hints;
-pub use octets::{after, digit, front, word_octet};
+pub use octets::{digit, word_octet};
 pub use rule_faults::add_rule_explanation;
 pub use rule_tokens::RuleWord;
 pub use rules_explained::explain_rules;

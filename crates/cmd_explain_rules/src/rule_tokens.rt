@@ -5,7 +5,8 @@ ghost use Rattle.std.specs.Option.{is_some};
 ghost use Rattle.rules_text.specs.RuleTokens.{first_cut, letters_len, long_marks, row_token, tokens_from};
 ghost use Rattle.cmd_explain_rules.specs.WordsFound.{place_of, rule_word_octets, words_found};
 
-use crate::octets::{after, front, word_octet};
+use crate::octets::word_octet;
+use cmd_explain_script::{after, front};
 use rules_text::after_blanks;
 use std::alloc::{AllocError, Global};
 

@@ -7,10 +7,9 @@ ghost use Rattle.text_io.specs.Devices.{Adds};
 ghost use Rattle.text_io.specs.Serving.{IsServed};
 ghost use Rattle.cmd_explain_rules.specs.RulesExplained.{ExplainsRules, HasNoFault, IsFaultOfText, IsRulesExplained, MayBeRulesExplained, no_fault_text, rules_count, rules_words};
 
-use crate::hint_comments::MOST_RULES_OCTETS;
 use crate::rule_faults::add_rule_explanation;
 use crate::rule_hints::add_rule_hints;
-use cmd_rules::add_rule_fault;
+use cmd_rules::{MOST_RULES_OCTETS, add_rule_fault};
 use rules_cells::{CodeFault, RuleLine, compile};
 use rules_text::{PlacedRules, RuleFault, RuleKind, read_with_places};
 use std::alloc::{AllocError, Global};

@@ -1,9 +1,11 @@
 //! What a token of a line of rules is.
 
-ghost use Rattle.std.specs.Prelude.{◌≡◌, map, option_map};
-ghost use Rattle.cmd_explain_rules.specs.Parts.{begins_digit, known_marks, known_words, part_among, part_of, plain_part};
+ghost use Rattle.std.specs.Prelude.{◌≡◌};
+ghost use Rattle.cmd_explain_script.specs.Tables.{value_among};
+ghost use Rattle.cmd_explain_rules.specs.Parts.{begins_digit, known_marks, known_words, part_of, plain_part};
 
 use crate::octets::{digit, word_octet};
+use cmd_explain_script::value_among;
 
 /// What numbers are compared with, or octets begin at.
 #[derive(Clone, Copy)]
@@ -153,32 +155,18 @@ const MARKS: [(&[u8], Part); 20] = [
     (b">", Part::Order),
 ];
 
-/// Returns what a table has for octets.
-fn part_among(octets: &[u8], rows: &[(&[u8], Part)]) -> Option<Part>
-    ensures { result ≡ part_among octets.now (map (λ row. (row.0.now, row.1)) rows.now) }
-{
-    let mut left = rows;
-    while let [row, rest @ ..] = left {
-        if octets == row.0 {
-            return Some(row.1);
-        }
-        left = rest;
-    }
-    None
-}
-
 /// Returns what octets are, if they are a word of the language.
 fn known_word(octets: &[u8]) -> Option<Part>
-    ensures { result ≡ part_among octets.now known_words }
+    ensures { result ≡ value_among octets.now known_words }
 {
-    part_among(octets, &WORDS)
+    value_among(octets, &WORDS)
 }
 
 /// Returns what octets are, if they are a mark of the language.
 fn known_mark(octets: &[u8]) -> Option<Part>
-    ensures { result ≡ part_among octets.now known_marks }
+    ensures { result ≡ value_among octets.now known_marks }
 {
-    part_among(octets, &MARKS)
+    value_among(octets, &MARKS)
 }
 
 /// Returns whether octets begin with a digit.

@@ -13,7 +13,8 @@ use Rattle.text_script.specs.declared.script_words.Wanted.{Wanted}
 use Rattle.cmd_explain_script.proofs.WordsFound.{finds_words}
 use Rattle.cmd_explain_script.specs.CommandFits.{CommandsFit, fits_command, fits_form, least_words}
 use Rattle.cmd_explain_script.specs.FoundWords.{found_words, word_octets}
-use Rattle.cmd_explain_script.specs.ScriptForms.{card_commands, command_form, fits_script_slot, slots_after, words_fitting}
+use Rattle.cmd_explain_script.specs.ScriptForms.{card_commands, fits_script_slot, slots_after, words_fitting}
+use Rattle.cmd_explain_script.specs.Tables.{value_among}
 use Rattle.cmd_explain_script.specs.declared.forms.ScriptForm.{ScriptForm}
 use Rattle.cmd_explain_script.specs.declared.forms.ScriptForm.TheVariants as form
 use Rattle.cmd_explain_script.specs.declared.forms.ScriptSlot.{ScriptSlot}
@@ -215,7 +216,7 @@ module _ (side : Side) where
   -- All words of a line.
   abbrev is_whole : List (List ℕ) → Bool
   is_whole [] = false
-  is_whole (name ∷ words) = follows side words (command_form name card_commands)
+  is_whole (name ∷ words) = follows side words (value_among name card_commands)
 
   command_whole : (words : List (List ℕ)) → is_some (command_of side words) ≡ is_whole words
   command_whole [] = refl
@@ -225,7 +226,7 @@ module _ (side : Side) where
 
   found_whole : (line : List ℕ) (words : List FoundWord) → fits_command side line words ≡ is_whole (map (word_octets line) words)
   found_whole line [] = refl
-  found_whole line (first ∷ words) = form_follows side line words (command_form (word_octets line first) card_commands)
+  found_whole line (first ∷ words) = form_follows side line words (value_among (word_octets line first) card_commands)
 
 pub commands_fit : CommandsFit
 commands_fit side line = command_whole side (words_of line) ∙ sym (found_whole side line (found_words line) ∙ ap (is_whole side) (finds_words line))

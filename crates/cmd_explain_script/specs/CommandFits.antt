@@ -5,7 +5,8 @@ use Rattle.text_io.specs.Words.{words_of}
 use Rattle.upc_cell.specs.declared.side.Side.{Side}
 use Rattle.text_script.specs.ScriptCommands.{command_of}
 use Rattle.cmd_explain_script.specs.FoundWords.{found_words, word_octets}
-use Rattle.cmd_explain_script.specs.ScriptForms.{card_commands, command_form, slots_after, words_fitting}
+use Rattle.cmd_explain_script.specs.ScriptForms.{card_commands, slots_after, words_fitting}
+use Rattle.cmd_explain_script.specs.Tables.{value_among}
 use Rattle.cmd_explain_script.specs.declared.forms.ScriptForm.{ScriptForm}
 use Rattle.cmd_explain_script.specs.declared.forms.ScriptForm.TheVariants as form
 use Rattle.cmd_explain_script.specs.declared.found_words.FoundWord.{FoundWord}
@@ -29,7 +30,7 @@ fits_form side line words (Some form) =
 -- Whether the words of a line are those of a command.
 abbrev pub fits_command : Side → List ℕ → List FoundWord → Bool
 fits_command side line [] = false
-fits_command side line (first ∷ words) = fits_form side line words (command_form (word_octets line first) card_commands)
+fits_command side line (first ∷ words) = fits_form side line words (value_among (word_octets line first) card_commands)
 
 -- A line is a command of an open card exactly if its first word is the name of one, there are words enough after it, and each fits.
 abbrev pub CommandsFit : Type 0

@@ -1,5 +1,5 @@
 -- The words of a line, with their columns.
-use Rattle.std.specs.Prelude.{◌≡◌, ℕ, ◌+◌, ◌-◌, Bool, false, ◌&&◌, not, if◌then◌else◌, List, [], ◌∷◌, ◌++◌, map, take, drop}
+use Rattle.std.specs.Prelude.{◌≡◌, ℕ, ◌+◌, ◌-◌, Bool, false, ◌&&◌, not, if◌then◌else◌, List, [], ◌∷◌, ◌++◌, map, take, drop, Option, Some, None}
 use Rattle.text_io.specs.Words.{is_blank, words_of}
 use Rattle.cmd_explain_script.specs.declared.found_words.FoundWord.{FoundWord}
 
@@ -30,6 +30,11 @@ found_words line = words_from 1 false line
 -- The octets of a word.
 abbrev pub word_octets : List ℕ → FoundWord → List ℕ
 word_octets line word = take word.size (drop (word.column - 1) line)
+
+-- The column of a word, if there is one.
+abbrev pub column_of : Option FoundWord → Option ℕ
+column_of None = None
+column_of (Some word) = Some word.column
 
 -- The octets of the words that are found are the words of the line, in order.
 abbrev pub FindsWords : Type 0

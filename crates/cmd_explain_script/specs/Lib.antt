@@ -1,6 +1,7 @@
 -- The faults of scripts, explained. Read the modules in this order:
 pub mod Places
 pub mod Meant
+pub mod Tables
 pub mod FoundWords
 pub mod ScriptForms
 pub mod CommandFits

@@ -28,11 +28,6 @@ abbrev pub commands_at : Option Side → List (List ℕ × ScriptForm)
 commands_at None = opening_commands
 commands_at (Some side) = card_commands
 
--- What a command of this name takes.
-abbrev pub command_form : List ℕ → List (List ℕ × ScriptForm) → Option ScriptForm
-command_form word [] = None
-command_form word (row ∷ rows) = if bytes_eq word row.0 then Some row.1 else command_form word rows
-
 -- The words that may follow, in order. Of the contracts one is enough. The side may be left out, and so may `paths` after it.
 abbrev pub slots_after : ScriptForm → List ScriptSlot
 slots_after form.Opening = slot.Size ∷ slot.Size ∷ slot.Size ∷ slot.Size ∷ slot.Side ∷ slot.Paths ∷ []

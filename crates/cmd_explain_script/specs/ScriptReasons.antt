@@ -9,7 +9,7 @@ use Rattle.text_script.specs.declared.script_words.Rate.{Rate}
 use Rattle.text_script.specs.declared.script_words.Wanted.{Wanted}
 use Rattle.text_script.specs.declared.script_words.Wanted.TheVariants as wanted
 use Rattle.text_words.specs.FaultLines.{line}
-use Rattle.cmd_explain_script.specs.FoundWords.{found_words, word_octets}
+use Rattle.cmd_explain_script.specs.FoundWords.{column_of, found_words, word_octets}
 use Rattle.cmd_explain_script.specs.Places.{place_words}
 use Rattle.cmd_explain_script.specs.ScriptFaults.{explained_fault}
 use Rattle.cmd_explain_script.specs.WrongWords.{wrong_sentence, wrong_word}
@@ -156,11 +156,6 @@ is_no_command fault.BadLine = true
 is_no_command fault.NoCard = true
 is_no_command _ = false
 
--- The column of a word, if there is one.
-abbrev pub word_column : Option FoundWord → Option ℕ
-word_column None = None
-word_column (Some word) = Some word.column
-
 -- The word that a fault is about, if it is about one.
 abbrev pub blamed_word : Option Side → List ℕ → List FoundWord → Option ScriptFault → Option FoundWord
 blamed_word side content words None = None
@@ -188,7 +183,7 @@ follows_text faulty (Some fault) = if faulty && may_follow fault then codes "; a
 -- says whether an earlier line has a fault.
 abbrev pub fault_explanation : Bool → Option Side → ℕ → List ℕ → List FoundWord → Option ScriptFault → List ℕ
 fault_explanation faulty side number content words found =
-    place_words number (word_column (blamed_word side content words found))
+    place_words number (column_of (blamed_word side content words found))
     ++ line (fault_sentence side content words found ++ follows_text faulty found)
 
 -- The explanation of a fault line, on a card of this side or before there is one, after a line with a fault or without.

@@ -7,9 +7,10 @@ use Rattle.upc_cell.specs.Side.{has_paths}
 use Rattle.upc_cell.specs.declared.side.Side.TheVariants.{Uni, Nni, UniPaths, NniPaths}
 use Rattle.text_script.specs.ScriptWords.{number_of_digits}
 use Rattle.cmd_explain_script.specs.FoundWords.{word_octets}
-use Rattle.cmd_explain_script.specs.Meant.{is_near, perhaps_text}
+use Rattle.cmd_explain_script.specs.Meant.{perhaps_text}
 use Rattle.cmd_explain_script.specs.Places.{quoted}
-use Rattle.cmd_explain_script.specs.ScriptForms.{card_commands, command_form, commands_at, opening_commands, side_or_user, slots_after, words_fitting}
+use Rattle.cmd_explain_script.specs.ScriptForms.{card_commands, commands_at, opening_commands, side_or_user, slots_after, words_fitting}
+use Rattle.cmd_explain_script.specs.Tables.{near_among, value_among}
 use Rattle.cmd_explain_script.specs.declared.forms.ScriptForm.{ScriptForm}
 use Rattle.cmd_explain_script.specs.declared.forms.ScriptForm.TheVariants as form
 use Rattle.cmd_explain_script.specs.declared.forms.ScriptSlot.{ScriptSlot}
@@ -22,11 +23,11 @@ abbrev pub wrong_after : Side → List ℕ → FoundWord → List FoundWord → 
 wrong_after side line first words None = Some first
 wrong_after side line first words (Some form) = slice_get words (words_fitting side line (slots_after form) words)
 
--- The same, by all words of the line.
+-- The word that is wrong in a line, by all its words.
 abbrev pub wrong_word : Option Side → List ℕ → List FoundWord → Option FoundWord
 wrong_word side line [] = None
 wrong_word side line (first ∷ words) =
-    wrong_after (side_or_user side) line first words (command_form (word_octets line first) (commands_at side))
+    wrong_after (side_or_user side) line first words (value_among (word_octets line first) (commands_at side))
 
 -- Whether octets are a kind of contract with two buckets, and the colon after it.
 abbrev pub is_vbr : List ℕ → Bool
@@ -114,11 +115,6 @@ operand_sentence side name form slot None = takes_sentence side name form
 operand_sentence side name form slot (Some word) =
     if begins_remark word then codes "a remark has a line of its own, which begins with `#`" else slot_sentence side name form slot word
 
--- The first of these commands that is near a word.
-abbrev pub near_command : List ℕ → List (List ℕ × ScriptForm) → Option (List ℕ)
-near_command word [] = None
-near_command word (row ∷ rows) = if is_near word row.0 then Some row.0 else near_command word rows
-
 -- What follows a word that names no command: the command that was perhaps meant, or this text.
 abbrev pub meant_or : Option (List ℕ) → List ℕ → List ℕ
 meant_or None text = text
@@ -127,12 +123,12 @@ meant_or (Some command) text = perhaps_text (Some command)
 -- What follows a word that opens no card: that the command was perhaps meant, or its form.
 unfoldable pub meant_opening : List ℕ → List ℕ
 meant_opening word =
-    meant_or (near_command word opening_commands) (codes "; the first line with words is `card PROGRAMS LINES PORTS JOURNAL`, perhaps with a side")
+    meant_or (near_among word opening_commands) (codes "; the first line with words is `card PROGRAMS LINES PORTS JOURNAL`, perhaps with a side")
 
 -- What follows a word that is no command of an open card: the one that was perhaps meant, or all of them.
 unfoldable pub meant_command : List ℕ → List ℕ
 meant_command word =
-    meant_or (near_command word card_commands) (codes "; the commands are cell, load, retire, setup, reload, release and cut")
+    meant_or (near_among word card_commands) (codes "; the commands are cell, load, retire, setup, reload, release and cut")
 
 -- A text, if there is one, or else this other.
 abbrev pub text_or : Option (List ℕ) → List ℕ → List ℕ
@@ -181,8 +177,8 @@ command_sentence side line name words (Some form) =
     (slice_get (slots_after form) (words_fitting (side_or_user side) line (slots_after form) words))
     (option_map (word_octets line) (slice_get words (words_fitting (side_or_user side) line (slots_after form) words)))
 
--- The same, by all words of the line.
+-- The sentence about a line that is no command, by all its words.
 abbrev pub wrong_sentence : Option Side → List ℕ → List FoundWord → List ℕ
 wrong_sentence side line [] = codes "the line has no words"
 wrong_sentence side line (first ∷ words) =
-    command_sentence side line (word_octets line first) words (command_form (word_octets line first) (commands_at side))
+    command_sentence side line (word_octets line first) words (value_among (word_octets line first) (commands_at side))

@@ -3,7 +3,6 @@
 ghost use Rattle.std.specs.Prelude.{◌≡◌, ◌++◌, ◌||◌, OnOk};
 ghost use Rattle.text_io.specs.Serving.{IsServed};
 ghost use Rattle.cmd_explain_script.specs.ScriptFaults.{is_fault_line};
-ghost use Rattle.cmd_explain_script.specs.ScriptReasons.{script_explanation};
 ghost use Rattle.cmd_explain_script.specs.ScriptText.{IsScriptExplained, explained, lines_text, no_fault_line, one_line_more};
 
 use crate::contract_numbers::NamesNone;
@@ -40,24 +39,8 @@ fn add_no_fault(answers: &mut Vec<u8>, met: usize) -> Result<(), AllocError>
     add_text(answers, b"\n")
 }
 
-/// Appends a fault line and its explanation.
-#[tactic(auto, using(std::proofs::lemmas::List::append_assoc))]
-fn add_fault(
-    alloc: Global,
-    answers: &mut Vec<u8>,
-    faulty: bool,
-    side: Option<Side>,
-    number: usize,
-    line: &[u8],
-    answer: &[u8],
-) -> Result<(), AllocError>
-    ensures { OnOk result (answers.new.items ≡ answers.old.items ++ (answer.now ++ script_explanation faulty side number line.now answer.now)) }
-{
-    add_text(answers, answer)?;
-    add_script_explanation(alloc, answers, faulty, side, number, line, answer)
-}
-
 /// Appends the text for a line of this number with this answer, after these programs were loaded and a line had a fault or none had.
+#[tactic(auto, using(std::proofs::lemmas::List::append_assoc))]
 fn add_explained(
     alloc: Global,
     answers: &mut Vec<u8>,
@@ -71,7 +54,8 @@ fn add_explained(
     ensures { OnOk result (answers.new.items ≡ answers.old.items ++ explained programs.now faulty side number line.now answer.now) }
 {
     if is_fault_line(answer) {
-        add_fault(alloc, answers, faulty, side, number, line, answer)
+        add_text(answers, answer)?;
+        add_script_explanation(alloc, answers, faulty, side, number, line, answer)
     } else {
         add_setup_hint(alloc, answers, programs, number, line)
     }

@@ -1,11 +1,13 @@
 //! The words that each command of a script takes.
 
-ghost use Rattle.std.specs.Prelude.{◌≡◌, map};
+ghost use Rattle.std.specs.Prelude.{◌≡◌};
 ghost use Rattle.std.specs.Option.{is_some};
 ghost use Rattle.text_script.specs.ScriptWords.{number_up_to};
-ghost use Rattle.cmd_explain_script.specs.ScriptForms.{command_form, commands_at, fits_script_slot, side_or_user, slots_after, words_fitting};
+ghost use Rattle.cmd_explain_script.specs.ScriptForms.{commands_at, fits_script_slot, side_or_user, slots_after, words_fitting};
+ghost use Rattle.cmd_explain_script.specs.Tables.{value_among};
 
 use crate::found_words::{FoundWord, word_octets};
+use crate::tables::value_among;
 use text_card::named_side;
 use text_script::{channel_of, contract, number, program};
 use upc_cell::Side;
@@ -66,27 +68,13 @@ pub(crate) const COMMANDS: [(&[u8], ScriptForm); 7] = [
     (b"cut", ScriptForm::Named),
 ];
 
-/// Returns what the command of this name takes, among these.
-fn form_among(word: &[u8], rows: &[(&[u8], ScriptForm)]) -> Option<ScriptForm>
-    ensures { result ≡ command_form word.now (map (λ row. (row.0.now, row.1)) rows.now) }
-{
-    let mut left = rows;
-    while let [row, rest @ ..] = left {
-        if word == row.0 {
-            return Some(row.1);
-        }
-        left = rest;
-    }
-    None
-}
-
 /// Returns what the command of this name takes, on a card of this side or before there is one.
 pub(crate) fn form_at(side: Option<Side>, word: &[u8]) -> Option<ScriptForm>
-    ensures { result ≡ command_form word.now (commands_at side) }
+    ensures { result ≡ value_among word.now (commands_at side) }
 {
     match side {
-        None => form_among(word, &OPENING),
-        Some(_) => form_among(word, &COMMANDS),
+        None => value_among(word, &OPENING),
+        Some(_) => value_among(word, &COMMANDS),
     }
 }
 

@@ -2,11 +2,11 @@
 
 ghost use Rattle.std.specs.Prelude.{◌≡◌, ◌++◌, take, drop, not, IfOk, OnOk};
 ghost use Rattle.text_io.specs.Words.{is_blank};
-ghost use Rattle.cmd_explain_script.specs.FoundWords.{begins_word, found_words, word_here, word_octets, word_size};
+ghost use Rattle.cmd_explain_script.specs.FoundWords.{begins_word, column_of, found_words, word_here, word_octets, word_size};
 
 use std::alloc::{AllocError, Global};
 
-/// A word of a line.
+/// A word of a line, or a token.
 #[derive(Clone, Copy)]
 pub struct FoundWord {
     /// The column of its first octet, counted from 1.
@@ -78,7 +78,7 @@ pub(crate) fn words_of(alloc: Global, line: &[u8]) -> Result<Vec<FoundWord>, All
 }
 
 /// Returns the first octets of a text, at most this many.
-pub(crate) fn front(text: &[u8], size: usize) -> &[u8]
+pub fn front(text: &[u8], size: usize) -> &[u8]
     ensures { result.now ≡ take size text.now }
 {
     if size < text.len() {
@@ -88,20 +88,30 @@ pub(crate) fn front(text: &[u8], size: usize) -> &[u8]
     }
 }
 
-/// Returns what follows this many octets of a text.
-fn after(text: &[u8], size: usize) -> &[u8]
-    ensures { result.now ≡ drop size text.now }
+/// Returns what follows this many of the items.
+pub fn after<T>(items: &[T], count: usize) -> &[T]
+    ensures { result.now ≡ drop count items.now }
 {
-    if size < text.len() {
-        &text[size..]
+    if count < items.len() {
+        &items[count..]
     } else {
-        &text[text.len()..]
+        &items[items.len()..]
     }
 }
 
 /// Returns the octets of a word of a line.
-pub(crate) fn word_octets(line: &[u8], word: FoundWord) -> &[u8]
+pub fn word_octets(line: &[u8], word: FoundWord) -> &[u8]
     ensures { result.now ≡ word_octets line.now word }
 {
     front(after(line, word.column.saturating_sub(1)), word.size)
+}
+
+/// Returns the column of a word, if there is one.
+pub fn column_of(word: Option<FoundWord>) -> Option<usize>
+    ensures { result ≡ column_of word }
+{
+    match word {
+        Some(word) => Some(word.column),
+        None => None,
+    }
 }

@@ -13,12 +13,14 @@ mod places;
 mod reasons;
 mod script_faults;
 mod setup_hints;
+mod tables;
 mod wrong_words;
 
 pub use contract_numbers::NamesNone;
 pub use explaining::explain_script;
 pub use forms::{ScriptForm, ScriptSlot};
-pub use found_words::FoundWord;
+pub use found_words::{FoundWord, after, column_of, front, word_octets};
 pub use meant::{add_perhaps, is_near};
 pub use places::{add_place, add_quoted};
 pub use script_faults::ScriptFault;
+pub use tables::{near_among, value_among};

@@ -1,13 +1,13 @@
 //! The explanation of a fault line.
 
-ghost use Rattle.std.specs.Prelude.{◌≡◌, ◌++◌, OnOk, drop};
+ghost use Rattle.std.specs.Prelude.{◌≡◌, ◌++◌, OnOk};
 ghost use Rattle.std.specs.Option.{is_some};
 ghost use Rattle.text_script.specs.Rates.{rate_fault};
 ghost use Rattle.text_script.specs.ScriptWords.{wanted_of};
 ghost use Rattle.cmd_explain_script.specs.FoundWords.{found_words};
-ghost use Rattle.cmd_explain_script.specs.ScriptReasons.{bad_contract, bad_of_two, bucket_name, contract_at, is_of_bucket, own_sentence, blamed_word, cell_fault_text, code_fault_text, desk_fault_text, fault_explanation, blamed_place, fault_sentence, script_fault_text, follows_text, has_bad_bucket, is_no_command, may_follow, program_place, script_explanation, word_column, word_fault_text};
+ghost use Rattle.cmd_explain_script.specs.ScriptReasons.{bad_contract, bad_of_two, bucket_name, contract_at, is_of_bucket, own_sentence, blamed_word, cell_fault_text, code_fault_text, desk_fault_text, fault_explanation, blamed_place, fault_sentence, script_fault_text, follows_text, has_bad_bucket, is_no_command, may_follow, program_place, script_explanation, word_fault_text};
 
-use crate::found_words::{FoundWord, word_octets, words_of};
+use crate::found_words::{FoundWord, after, column_of, word_octets, words_of};
 use crate::places::add_place;
 use crate::script_faults::{ScriptFault, explained_fault};
 use crate::wrong_words::{add_wrong, word_at, wrong_word};
@@ -63,17 +63,6 @@ fn program_place(line: &[u8], words: &[FoundWord]) -> usize
     }
 }
 
-/// Returns the words after the first four.
-fn contract_words(words: &[FoundWord]) -> &[FoundWord]
-    ensures { result.now ≡ drop 4 words.now }
-{
-    if words.len() > 4 {
-        &words[4..]
-    } else {
-        &words[words.len()..]
-    }
-}
-
 /// Returns the place of the word that a fault is about, from 0.
 fn blamed_place(fault: ScriptFault, line: &[u8], words: &[FoundWord]) -> usize
     ensures { result ≡ blamed_place fault line.now words.now }
@@ -85,7 +74,7 @@ fn blamed_place(fault: ScriptFault, line: &[u8], words: &[FoundWord]) -> usize
         ScriptFault::ManyPorts => 3,
         ScriptFault::LongJournal => 4,
         ScriptFault::ZeroIncrement | ScriptFault::LargeRate => {
-            bad_contract(line, contract_words(words))
+            bad_contract(line, after(words, 4))
         }
         ScriptFault::Ragged
         | ScriptFault::UnknownCode
@@ -299,16 +288,6 @@ pub(crate) fn is_no_command(fault: ScriptFault) -> bool
     matches!(fault, ScriptFault::BadLine | ScriptFault::NoCard)
 }
 
-/// Returns the column of a word, if there is one.
-fn word_column(word: Option<FoundWord>) -> Option<usize>
-    ensures { result ≡ word_column word }
-{
-    match word {
-        Some(word) => Some(word.column),
-        None => None,
-    }
-}
-
 /// Returns the word that a fault is about, if it is about one.
 fn blamed_word(
     side: Option<Side>,
@@ -395,7 +374,7 @@ fn add_fault_explanation(
     add_place(
         answers,
         number,
-        word_column(blamed_word(side, line, words, found)),
+        column_of(blamed_word(side, line, words, found)),
     )?;
     add_sentence(answers, side, line, words, found)?;
     add_text(answers, follows_text(faulty, found))?;

@@ -1,16 +1,17 @@
 //! What is wrong in a line that is no command.
 
-ghost use Rattle.std.specs.Prelude.{◌≡◌, ◌++◌, OnOk, Some, map, option_map, slice_get};
+ghost use Rattle.std.specs.Prelude.{◌≡◌, ◌++◌, OnOk, Some, option_map, slice_get};
 ghost use Rattle.cmd_explain_script.specs.FoundWords.{word_octets};
-ghost use Rattle.cmd_explain_script.specs.ScriptForms.{card_commands, opening_commands, slots_after};
-ghost use Rattle.cmd_explain_script.specs.WrongWords.{begins_remark, command_sentence, no_channel_text, no_contract_text, no_path_text, is_vbr, meant_command, meant_opening, meant_or, near_command, operand_sentence, no_program_text, setup_word_text, slot_sentence, slot_text, takes_sentence, takes_text, tick_text, uncommanded_sentence, uncommanded_text, unknown_sentence, unopened_sentence, unopened_text, wrong_after, wrong_sentence, wrong_word};
+ghost use Rattle.cmd_explain_script.specs.ScriptForms.{slots_after};
+ghost use Rattle.cmd_explain_script.specs.WrongWords.{begins_remark, command_sentence, no_channel_text, no_contract_text, no_path_text, is_vbr, meant_command, meant_opening, meant_or, operand_sentence, no_program_text, setup_word_text, slot_sentence, slot_text, takes_sentence, takes_text, tick_text, uncommanded_sentence, uncommanded_text, unknown_sentence, unopened_sentence, unopened_text, wrong_after, wrong_sentence, wrong_word};
 
 use crate::forms::{
     COMMANDS, OPENING, ScriptForm, ScriptSlot, form_at, side_or_user, slots_after, words_fitting,
 };
 use crate::found_words::{FoundWord, front, word_octets};
-use crate::meant::{add_perhaps, is_near};
+use crate::meant::add_perhaps;
 use crate::places::add_quoted;
+use crate::tables::near_among;
 use std::alloc::AllocError;
 use text_script::number;
 use text_words::add_text;
@@ -229,34 +230,6 @@ fn add_operand(
     }
 }
 
-/// Returns the first of these commands that is near a word.
-fn near_command<'a>(word: &[u8], rows: &'a [(&'static [u8], ScriptForm)]) -> Option<&'static [u8]>
-    ensures { option_map (λ near. near.now) result ≡ near_command word.now (map (λ row. (row.0.now, row.1)) rows.entry.now) }
-{
-    let mut left = rows;
-    while let [row, rest @ ..] = left {
-        if is_near(word, row.0) {
-            return Some(row.0);
-        }
-        left = rest;
-    }
-    None
-}
-
-/// Returns the first command of an open card that is near a word.
-fn near_known(word: &[u8]) -> Option<&'static [u8]>
-    ensures { option_map (λ near. near.now) result ≡ near_command word.now card_commands }
-{
-    near_command(word, &COMMANDS)
-}
-
-/// Returns the command that opens a card, if it is near a word.
-fn near_opening(word: &[u8]) -> Option<&'static [u8]>
-    ensures { option_map (λ near. near.now) result ≡ near_command word.now opening_commands }
-{
-    near_command(word, &OPENING)
-}
-
 /// Appends the command that was perhaps meant, or this text.
 fn add_meant(answers: &mut Vec<u8>, meant: Option<&[u8]>, text: &[u8]) -> Result<(), AllocError>
     ensures { OnOk result (answers.new.items ≡ answers.old.items ++ meant_or (option_map (λ meant. meant.now) meant.entry) text.now) }
@@ -273,7 +246,7 @@ fn add_meant_opening(answers: &mut Vec<u8>, word: &[u8]) -> Result<(), AllocErro
 {
     add_meant(
         answers,
-        near_opening(word),
+        near_among(word, &OPENING),
         b"; the first line with words is `card PROGRAMS LINES PORTS JOURNAL`, perhaps with a side",
     )
 }
@@ -284,7 +257,7 @@ fn add_meant_command(answers: &mut Vec<u8>, word: &[u8]) -> Result<(), AllocErro
 {
     add_meant(
         answers,
-        near_known(word),
+        near_among(word, &COMMANDS),
         b"; the commands are cell, load, retire, setup, reload, release and cut",
     )
 }

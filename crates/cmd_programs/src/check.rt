@@ -14,7 +14,7 @@ use text_io::{Answerer, Done, Input, Output, RunFault, answer_whole};
 use text_words::add_too_long;
 
 /// The maximum number of octets of a source.
-const MOST_SOURCE_OCTETS: u32 = 1048576;
+pub const MOST_SOURCE_OCTETS: u32 = 1048576;
 
 /// Answers a code: its octets, or its first error.
 fn answer_code(alloc: Global, code: Vec<Instr>, answers: &mut Vec<u8>) -> Result<Done, AllocError>

@@ -1,41 +1,14 @@
 -- What the loops over comments keep.
-use Rattle.std.proofs.Common.{◌≡◌, ℕ, zero, suc, ◌+◌, ◌-◌, ◌<◌, ◌≤◌, ◌==◌, ◌≢◌, ◌&&◌, Bool, true, false, not, if◌then◌else◌, List, [], ◌∷◌, ◌++◌, codes, drop, drop-drop, take, length, get_or, refl, sym, ap, ◌∙◌, arith, append-nil, append_assoc}
+use Rattle.std.proofs.Common.{◌≡◌, ℕ, ◌+◌, ◌-◌, ◌<◌, ◌≤◌, ◌==◌, ◌≢◌, ◌&&◌, Bool, true, false, not, if◌then◌else◌, List, [], ◌∷◌, ◌++◌, codes, drop, take, length, get_or, refl, sym, ap, ◌∙◌, arith, append-nil, append_assoc}
 use Rattle.std.proofs.lemmas.Bool.Decides.{nat_tests}
-use Rattle.std.proofs.lemmas.List.{drop_all, drop_more, take_all, take_more}
+use Rattle.std.proofs.lemmas.List.{drop_all, drop_more, get_or-drop, take_all, take_more}
 use Rattle.text_io.specs.Lines.{lines_of}
 use Rattle.rules_text.specs.declared.place.RulePlace.{RulePlace}
 use Rattle.cmd_rules.specs.RuleBegins.{begin_at, begin_text}
-use Rattle.cmd_rules.specs.AsmText.{comment_at, comment_line, comments_from, from_column, line_after, lines_with, next_start_from_end, rule_comment}
+use Rattle.cmd_rules.specs.AsmText.{comment_at, comment_line, comments_from, from_column, lines_with, next_start_from_end, rule_comment}
 use Rattle.cmd_rules.specs.declared.annotating.Comment.{Comment}
 use Rattle.cmd_rules.specs.inner.Comments.{comment_if, otherwise_comment, written_at}
 use Rattle.cmd_rules.proofs.Annotated.{IsFirst, lines_more}
-
--- ---- lines of a text
-
-pub lines_step : (more : ℕ) (lines rest goal : List (List ℕ)) (line : List ℕ) → 0 < more → lines ≡ line ∷ rest → drop more lines ≡ goal → drop (more - 1) rest ≡ goal
-lines_step zero lines rest goal line some is e = absurd (omega arith)
-lines_step (suc n) lines rest goal line some is e =
-    let back : suc n - 1 ≡ n = omega arith in
-    ap (λ (k : ℕ). drop k rest) back ∙ (sym (ap (λ (ls : List (List ℕ)). drop (suc n) ls) is) ∙ e)
-
-pub lines_ended : (more : ℕ) (lines goal : List (List ℕ)) → lines ≡ [] → drop more lines ≡ goal → lines ≡ goal
-lines_ended more lines goal is e =
-    let none : length lines ≡ 0 = ap length is in
-    is ∙ sym (drop_all more lines (omega (arith, none))) ∙ e
-
-pub lines_all : (more : ℕ) (lines goal : List (List ℕ)) → more ≡ 0 → drop more lines ≡ goal → lines ≡ goal
-lines_all more lines goal is e = sym (ap (λ (k : ℕ). drop k lines) is) ∙ e
-
--- The search goes on where another ended.
-pub lines_on : (passed before : ℕ) (lines rest last : List (List ℕ)) → passed ≤ before → rest ≡ drop passed lines → last ≡ drop (before - passed) rest → last ≡ drop before lines
-lines_on passed before lines rest last le is e =
-    let sum : passed + (before - passed) ≡ before = omega arith in
-    e ∙ ap (λ (ls : List (List ℕ)). drop (before - passed) ls) is ∙ drop-drop (before - passed) passed lines ∙ ap (λ (k : ℕ). drop k lines) sum
-
-line_dropped : (lines : List (List ℕ)) (before : ℕ) → line_after lines before ≡ line_after (drop before lines) 0
-line_dropped [] before = ap (λ (ls : List (List ℕ)). line_after ls 0) (sym (drop_all before [] (omega arith)))
-line_dropped (line ∷ lines) zero = refl
-line_dropped (line ∷ lines) (suc before) = line_dropped lines before
 
 -- After more octets than there are, none are left.
 pub nothing_left : (count : ℕ) (octets : List ℕ) → length octets < count → [] ≡ drop count octets
@@ -80,7 +53,7 @@ written_last left (first ∷ more) comment =
 -- A line with code has its comment.
 pub comments_push : (lines : List (List ℕ)) (begins : List RulePlace) (starts_from_end : List ℕ) (comments new : List Comment) (comment : Comment) (rest : List (List ℕ)) (line : List ℕ) (place size next before : ℕ) (begin : RulePlace) → place < length starts_from_end
     → size ≡ get_or starts_from_end place 0 → next ≡ next_start_from_end (drop (place + 1) starts_from_end) → size ≢ next
-    → begin ≡ begin_at begins place → before ≡ begin.line - 1 → rest ≡ drop before lines → line ≡ line_after rest 0
+    → begin ≡ begin_at begins place → before ≡ begin.line - 1 → rest ≡ drop before lines → line ≡ get_or rest 0 []
     → comment.size ≡ size → comment.text.items ≡ comment_line (begin_text begin ++ (codes ": " ++ from_column begin.column line)) → new ≡ comments ++ comment ∷ []
     → ((left : ℕ) → written_at left comments ++ comments_from lines begins left place (drop place starts_from_end) ≡ comments_from lines begins left 0 starts_from_end)
     → (left : ℕ) → written_at left new ++ comments_from lines begins left (place + 1) (drop (place + 1) starts_from_end) ≡ comments_from lines begins left 0 starts_from_end
@@ -90,8 +63,9 @@ comments_push lines begins starts_from_end comments new comment rest line place 
     let differs : (size == next) ≡ false = equal_false size next (λ same. other (size_same ∙ same ∙ sym next_same)) in
     let sized : comment.size ≡ size = size_kept ∙ size_same in
     let after = comments_from lines begins left (place + 1) (drop (place + 1) starts_from_end) in
-    let found : line ≡ line_after lines (begin.line - 1) =
-    first ∙ ap (λ (ls : List (List ℕ)). line_after ls 0) cut ∙ sym (line_dropped lines before) ∙ ap (λ (k : ℕ). line_after lines k) e in
+    let at : before + 0 ≡ begin.line - 1 = omega (arith, e) in
+    let found : line ≡ get_or lines (begin.line - 1) [] =
+    first ∙ ap (λ (ls : List (List ℕ)). get_or ls 0 []) cut ∙ get_or-drop before lines 0 [] ∙ ap (λ (k : ℕ). get_or lines k []) at in
     let text : comment.text.items ≡ rule_comment lines (begin_at begins place) =
     texted ∙ ap (λ (l : List ℕ). comment_line (begin_text begin ++ (codes ": " ++ from_column begin.column l))) found ∙ ap (λ (b : RulePlace). rule_comment lines b) placed_rules in
     let here : comment_if left comment ≡ comment_at lines begins left place size next =

@@ -12,7 +12,7 @@ use Rattle.rules_text.specs.declared.compiler.CodeWithPlaces.{CodeWithPlaces}
 use Rattle.text_io.specs.Lines.{Line, begun_with, lines_of, line_content, without_return}
 use Rattle.rules_text.specs.declared.place.RulePlace.{RulePlace}
 use Rattle.cmd_rules.specs.RuleBegins.{begin_at, begin_text, column_text}
-use Rattle.cmd_rules.specs.AsmText.{asm_text, comment_at, comment_line, comments_from, from_column, line_after, lines_with, next_start_from_end, rule_comment, whole_line}
+use Rattle.cmd_rules.specs.AsmText.{asm_text, comment_at, comment_line, comments_from, from_column, lines_with, next_start_from_end, rule_comment, whole_line}
 use Rattle.cmd_rules.specs.CommentLines.{AddsComments, is_comment}
 use Rattle.cmd_rules.proofs.CommentsAdded.{comments_mean_nothing}
 
@@ -128,7 +128,7 @@ source_free : (octets : List ℕ) → AllLinesFree (source_lines octets)
 unfolding source_lines
 source_free octets = content_free (lines_of octets) (cut octets)
 
-line_free : (lines : List (List ℕ)) (before : ℕ) → AllLinesFree lines → AllFree (line_after lines before)
+line_free : (lines : List (List ℕ)) (before : ℕ) → AllLinesFree lines → AllFree (get_or lines before [])
 line_free [] before f = tt
 line_free (line ∷ lines) zero f = f.0
 line_free (line ∷ lines) (suc before) f = line_free lines before f.1
@@ -163,10 +163,10 @@ puts_comment text f lines rest adds =
 module _ (lines : List (List ℕ)) (begins : List RulePlace) (free : AllLinesFree lines) where
   puts_rule : (begin : RulePlace) → PutsComments (rule_comment lines begin)
   puts_rule begin =
-      let line = from_column begin.column (line_after lines (begin.line - 1)) in
+      let line = from_column begin.column (get_or lines (begin.line - 1) []) in
       puts_comment (begin_text begin ++ (codes ": " ++ line))
       (free_append (begin_text begin) (codes ": " ++ line) (begin_free begin)
-      (refl, (refl, free_from begin.column (line_after lines (begin.line - 1)) (line_free lines (begin.line - 1) free))))
+      (refl, (refl, free_from begin.column (get_or lines (begin.line - 1) []) (line_free lines (begin.line - 1) free))))
 
   puts_if : (is : Bool) (text : List ℕ) → PutsComments text → PutsComments (if is then text else [])
   puts_if true text p = p

@@ -1,6 +1,6 @@
 -- The output of `upc-lab asm`. The whole input is a text of rules. The answer is a source of assembly: the listing of the program that
 -- the rules are compiled to, and before the code of each line of rules a comment with that line.
-use Rattle.std.specs.Prelude.{◌≡◌, ◌⊎◌, ℕ, zero, suc, ◌+◌, ◌-◌, ◌==◌, ◌&&◌, not, if◌then◌else◌, List, [], ◌∷◌, ◌++◌, length, codes, drop, Option, Some, None}
+use Rattle.std.specs.Prelude.{◌≡◌, ◌⊎◌, ℕ, ◌+◌, ◌-◌, ◌==◌, ◌&&◌, not, if◌then◌else◌, List, [], ◌∷◌, ◌++◌, length, codes, get_or, drop, Option, Some, None}
 use Rattle.bpf_asm.specs.Listing.{listing_of}
 use Rattle.bpf_asm.specs.Meaning.{IsMeaning}
 use Rattle.bpf_asm.specs.SourceLines.{source_lines}
@@ -28,12 +28,6 @@ lines_with put place (line ∷ lines) = put place ++ (whole_line line ++ lines_w
 abbrev pub comment_line : List ℕ → List ℕ
 comment_line text = codes "; " ++ (text ++ codes "\n")
 
--- The line after this many others; an empty one if there is none.
-abbrev pub line_after : List (List ℕ) → ℕ → List ℕ
-line_after [] before = []
-line_after (line ∷ lines) zero = line
-line_after (line ∷ lines) (suc before) = line_after lines before
-
 -- A source line from a column on, counted from 1; the whole line if there is no column.
 abbrev pub from_column : Option ℕ → List ℕ → List ℕ
 from_column None line = line
@@ -41,7 +35,7 @@ from_column (Some column) line = drop (column - 1) line
 
 -- The comment of a line of rules: where it begins, and its source line from there on.
 abbrev pub rule_comment : List (List ℕ) → RulePlace → List ℕ
-rule_comment lines begin = comment_line (begin_text begin ++ (codes ": " ++ from_column begin.column (line_after lines (begin.line - 1))))
+rule_comment lines begin = comment_line (begin_text begin ++ (codes ": " ++ from_column begin.column (get_or lines (begin.line - 1) [])))
 
 -- How many instructions the code has from the next line of rules on: the last return is one.
 abbrev pub next_start_from_end : List ℕ → ℕ

@@ -5,12 +5,12 @@ ghost use Rattle.bpf_asm.specs.Listing.{listing_of};
 ghost use Rattle.bpf_asm.specs.Meaning.{IsMeaning};
 ghost use Rattle.bpf_asm.specs.SourceLines.{source_lines};
 ghost use Rattle.text_io.specs.Lines.{Line, lines_of};
-ghost use Rattle.cmd_rules.specs.AsmText.{asm_text, comment_line, comments_from, from_column, line_after, lines_with, next_start_from_end, whole_line};
+ghost use Rattle.cmd_rules.specs.AsmText.{asm_text, comment_line, comments_from, from_column, lines_with, next_start_from_end, whole_line};
 ghost use Rattle.cmd_rules.specs.RuleBegins.{begin_text};
 ghost use Rattle.cmd_rules.specs.inner.Comments.{comment_if, otherwise_comment, written_at};
 
 use crate::begins::{add_begin, begin_at};
-use bpf_asm::next_line;
+use cmd_programs::{first_line, lines_after};
 use rules_text::{CodeWithPlaces, RulePlace};
 use std::alloc::{AllocError, Global};
 use text_io::first_feed;
@@ -37,32 +37,6 @@ fn whole_line(text: &[u8]) -> Option<(&[u8], &[u8])>
     match first_feed(text, 0) {
         Some(at) => Some((&text[..at + 1], &text[at + 1..])),
         None => Some((text, &text[text.len()..])),
-    }
-}
-
-/// What is left of a text after this many lines.
-fn after_lines(text: &[u8], count: usize) -> &[u8]
-    ensures { source_lines result.now ≡ drop count (source_lines text.now) }
-{
-    let mut left = text;
-    let mut more = count;
-    while more > 0 {
-        let Some((_, rest)) = next_line(left) else {
-            return left;
-        };
-        left = rest;
-        more -= 1;
-    }
-    left
-}
-
-/// The first line of a text; an empty one if there is none.
-fn first_line(text: &[u8]) -> &[u8]
-    ensures { result.now ≡ line_after (source_lines text.now) 0 }
-{
-    match next_line(text) {
-        Some((line, _)) => line,
-        None => &text[..0],
     }
 }
 
@@ -128,9 +102,9 @@ fn rest_after<'t>(text: &'t [u8], rest: &'t [u8], passed: usize, before: usize) 
     ensures { source_lines result.now ≡ drop before (source_lines text.now) }
 {
     if before < passed {
-        return after_lines(text, before);
+        return lines_after(text, before);
     }
-    after_lines(rest, before - passed)
+    lines_after(rest, before - passed)
 }
 
 /// The comments of the lines of rules that have code of their own. They are found in one pass over the text, since the numbers of their

@@ -7,11 +7,9 @@ ghost use Rattle.cmd_rules.specs.RulesAnswers.{most_rules_octets};
 ghost use Rattle.cmd_rules.specs.WhyText.{before_comment, is_cells_line, says_cells};
 ghost use Rattle.cmd_rules.specs.inner.RulesTaken.{HasRulesBefore, IsUpTo, TakesOctet, TakesRules};
 
+use crate::whole_text::MOST_RULES_OCTETS;
 use std::alloc::{AllocError, Global};
 use text_io::{Input, LineWords, RunFault, before_return, line_words};
-
-/// The maximum number of octets of a text of rules.
-const MOST_RULES_OCTETS: usize = 1048576;
 
 /// The maximum number of octets of the line `cells`, as of the lines after it.
 const MOST_LINE_OCTETS: usize = 70000;
@@ -72,12 +70,12 @@ fn next_octet<I: Input>(input: &mut I) -> Result<Option<u8>, RunFault>
 /// Whether a text is over the limit, if its last line begins at a place: the lines before it are, or they are with it
 /// and it is too long for the line `cells`.
 fn is_over(octets: usize, start: usize) -> bool
-    ensures over { result ≡ true → (MOST_RULES_OCTETS < start) ⊎ ((MOST_RULES_OCTETS < octets) × (MOST_LINE_OCTETS < octets - start)) }
-    ensures lines { result ≡ false → start ≤ MOST_RULES_OCTETS }
-    ensures within { result ≡ false → octets ≤ MOST_RULES_OCTETS + MOST_LINE_OCTETS }
+    ensures over { result ≡ true → (most_rules_octets < start) ⊎ ((most_rules_octets < octets) × (MOST_LINE_OCTETS < octets - start)) }
+    ensures lines { result ≡ false → start ≤ most_rules_octets }
+    ensures within { result ≡ false → octets ≤ most_rules_octets + MOST_LINE_OCTETS }
 {
-    start > MOST_RULES_OCTETS
-        || (octets > MOST_RULES_OCTETS && octets.saturating_sub(start) > MOST_LINE_OCTETS)
+    start > MOST_RULES_OCTETS as usize
+        || (octets > MOST_RULES_OCTETS as usize && octets.saturating_sub(start) > MOST_LINE_OCTETS)
 }
 
 /// The text of the rules of an input that was read to its end. Its last line begins at a place.
@@ -97,7 +95,7 @@ fn text_at_end(text: Vec<u8>, start: usize) -> Vec<u8>
 fn within_limit(text: Vec<u8>) -> Option<Vec<u8>>
     ensures { option_map (λ text. text.items) result ≡ gathered most_rules_octets text.items }
 {
-    if text.len() > MOST_RULES_OCTETS {
+    if text.len() > MOST_RULES_OCTETS as usize {
         return None;
     }
     Some(text)

@@ -136,8 +136,8 @@ fn is_cell(octets: &[u8])
     let _ = octets;
 }
 
-/// Runs a program on a cell.
-fn value_on(program: &Program, cell: &Cell) -> u32
+/// Runs a program on a cell, and returns its value.
+pub fn value_on(program: &Program, cell: &Cell) -> u32
     ensures cell { IsCell cell.now }
     ensures value { (steps : ℕ) × Value program.now cell.now result steps }
 {

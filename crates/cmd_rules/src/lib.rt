@@ -16,6 +16,7 @@ mod whole_text;
 pub use assembling::assemble_rules;
 pub use begins::{add_begin, add_decider, begin_at};
 pub use compiling::{answer_by_octets, compile_rules};
-pub use decider::Decider;
+pub use decider::{Decider, value_on};
 pub use deciding::decide_cells;
 pub use fault_lines::add_rule_fault;
+pub use whole_text::MOST_RULES_OCTETS;

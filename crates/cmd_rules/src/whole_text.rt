@@ -13,7 +13,7 @@ use text_io::{Answerer, Done, Input, Output, RunFault, answer_whole};
 use text_words::add_too_long;
 
 /// The maximum number of octets of a text of rules.
-const MOST_RULES_OCTETS: u32 = 1048576;
+pub const MOST_RULES_OCTETS: u32 = 1048576;
 
 /// What the program of a text of rules is printed as.
 #[derive(Clone, Copy)]

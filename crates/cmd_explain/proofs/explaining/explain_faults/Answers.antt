@@ -26,18 +26,18 @@ pub returns-in-Ok-Source-clause-served : goal.returns-in-Ok-Source-clause-served
 returns-in-Ok-Source-clause-served g c =
     let old = g.I.Input.rest c.args.input.now in
     let read = g.I.Input.rest c.pass_first_line.new.self in
-    served_after g.I.Input c.args.input.now c.pass_first_line.new.self c.explain_gathered.new.input g.O.Output c.args.output.now c.explain_gathered.new.output
-    c.explain_gathered.result c.in-Ok-Source.ensures.reading (codes "source") IsSourceText (source_follows MayBeRulesExplained)
-    (λ known. subst (λ (kind : InputKind). PassesFirst kind old read) c.in-Ok-Source.field-0-is (c.in-Ok-Source.ensures.octets known)) c.explain_gathered.ensures
+    served_after g.I.Input c.args.input.now c.pass_first_line.new.self c.explain_source.new.input g.O.Output c.args.output.now c.explain_source.new.output
+    c.explain_source.result c.in-Ok-Source.ensures.reading (codes "source") IsSourceText (source_follows MayBeRulesExplained)
+    (λ known. subst (λ (kind : InputKind). PassesFirst kind old read) c.in-Ok-Source.field-0-is (c.in-Ok-Source.ensures.octets known)) c.explain_source.ensures
 
 pub returns-in-Ok-Source-clause-printed : goal.returns-in-Ok-Source-clause-printed
 returns-in-Ok-Source-clause-printed g c = λ known written.
     let old = g.I.Input.rest c.args.input.now in
     let read = g.I.Input.rest c.pass_first_line.new.self in
-    adds_after (codes "source") IsSourceText IsWholeExplanation old read (g.O.Output.held c.args.output.now) (g.O.Output.held c.explain_gathered.new.output)
-    c.explain_gathered.result (source_follows IsRulesExplained)
+    adds_after (codes "source") IsSourceText IsWholeExplanation old read (g.O.Output.held c.args.output.now) (g.O.Output.held c.explain_source.new.output)
+    c.explain_source.result (source_follows IsRulesExplained)
     (subst (λ (kind : InputKind). PassesFirst kind old read) c.in-Ok-Source.field-0-is (c.in-Ok-Source.ensures.octets known))
-    (c.explain_gathered.ensures.text known written)
+    (c.explain_source.ensures.text known written)
 
 pub returns-in-Ok-Rules-clause-served : goal.returns-in-Ok-Rules-clause-served
 returns-in-Ok-Rules-clause-served g c =

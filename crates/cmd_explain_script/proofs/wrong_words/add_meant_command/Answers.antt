@@ -7,4 +7,4 @@ unfolding meant_command
 returns c =
     let text = codes "; the commands are cell, load, retire, setup, reload, release and cut" in
     subst (λ (meant : Option (List ℕ)). OnOk c.add_meant.result (c.add_meant.new.answers.items ≡ c.args.answers.now.items ++ meant_or meant text))
-    c.near_known.ensures c.add_meant.ensures
+    c.near_among.ensures c.add_meant.ensures

@@ -7,4 +7,4 @@ unfolding meant_opening
 returns c =
     let text = codes "; the first line with words is `card PROGRAMS LINES PORTS JOURNAL`, perhaps with a side" in
     subst (λ (meant : Option (List ℕ)). OnOk c.add_meant.result (c.add_meant.new.answers.items ≡ c.args.answers.now.items ++ meant_or meant text))
-    c.near_opening.ensures c.add_meant.ensures
+    c.near_among.ensures c.add_meant.ensures

@@ -2,11 +2,11 @@ use Rattle.std.proofs.Common.{List, inl, subst}
 use Rattle.std.proofs.lemmas.Result.{IfOk-weaker}
 use Rattle.bpf_code.specs.declared.instr.Instr.{Instr}
 use Rattle.cmd_explain.specs.Explained.{ExplainsCode}
-use Rattle.cmd_explain.proofs.explaining.explain_source.Goals as goal
+use Rattle.cmd_explain.proofs.explaining.SourcesAnswerer.answer.Goals as goal
 
 pub returns-in-Ok : goal.returns-in-Ok
 returns-in-Ok c =
-    let source = c.args.source.now in
+    let source = c.args.octets.now in
     IfOk-weaker c.explain_code.result _ _
     (λ done added. (
       added.0,
