@@ -107,8 +107,7 @@ fn add_differ(
 ///
 /// # Errors
 ///
-/// `ReadFailed` or `WriteFailed` if that device failed; the run ends at the first failure. `NoMemory` if an
-/// allocation fails. The output is then a prefix of the answer.
+/// See [`RunFault`].
 pub fn compare_texts<I: Input, O: Output>(
     alloc: Global,
     kinds: TextKinds,

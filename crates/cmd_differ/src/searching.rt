@@ -78,8 +78,7 @@ fn add_unused_of(
 ///
 /// # Errors
 ///
-/// `ReadFailed` or `WriteFailed` if that device failed; the run ends at the first failure. `NoMemory` if an
-/// allocation fails. The output is then a prefix of the answer.
+/// See [`RunFault`].
 pub fn unused_in_text<I: Input, O: Output>(
     alloc: Global,
     input: &mut I,

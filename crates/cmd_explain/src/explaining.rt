@@ -107,8 +107,7 @@ fn explain_source<I: Input, O: Output>(
 ///
 /// # Errors
 ///
-/// `ReadFailed` or `WriteFailed` if that device failed; the run ends at the first failure. `NoMemory` if an
-/// allocation fails. The output is then a prefix of the text.
+/// See [`RunFault`].
 pub fn explain_faults<I: Ahead, O: Output>(
     alloc: Global,
     input: &mut I,

@@ -326,8 +326,7 @@ impl Answerer for FaultLines {
 ///
 /// # Errors
 ///
-/// `ReadFailed` or `WriteFailed` if that device failed; the run ends at the first failure. `NoMemory` if an
-/// allocation fails. The output is then a prefix of the text.
+/// See [`RunFault`].
 pub(crate) fn explain_fault_lines<I: Input, O: Output>(
     alloc: Global,
     input: &mut I,

@@ -36,8 +36,7 @@ fn answer_found(
 ///
 /// # Errors
 ///
-/// `ReadFailed` or `WriteFailed` if that device failed; the run ends at the first failure. `NoMemory` if an
-/// allocation fails. The output is then a prefix of the answer.
+/// See [`RunFault`].
 pub fn compile_with_hints<I: Input, O: Output>(
     alloc: Global,
     input: &mut I,

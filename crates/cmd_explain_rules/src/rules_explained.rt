@@ -169,8 +169,7 @@ impl Answerer for Explainer {
 ///
 /// # Errors
 ///
-/// `ReadFailed` or `WriteFailed` if that device failed; the run ends at the first failure. `NoMemory` if an
-/// allocation fails. The output is then a prefix of the answer.
+/// See [`RunFault`].
 pub fn explain_rules<I: Input, O: Output>(
     alloc: Global,
     input: &mut I,

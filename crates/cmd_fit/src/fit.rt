@@ -212,8 +212,7 @@ fn give_answer<O: Output>(output: &mut O, mut answer: Vec<u8>) -> Result<Done, R
 ///
 /// # Errors
 ///
-/// `ReadFailed` or `WriteFailed` if that device failed; the run ends at the first failure. `NoMemory` if an
-/// allocation fails. The output is then a prefix of the text.
+/// See [`RunFault`].
 pub fn fit_capture<R: Threads, I: Input + Send, O: Output>(
     rt: &R,
     threads: usize,

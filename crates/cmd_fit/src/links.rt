@@ -72,8 +72,7 @@ fn add_text_of<I: Input>(
 ///
 /// # Errors
 ///
-/// `ReadFailed` or `WriteFailed` if that device failed; the run ends at the first failure. `NoMemory` if an allocation fails. The output is
-/// then a prefix of the text.
+/// See [`RunFault`].
 pub fn links_of_capture<I: Input, O: Output>(
     alloc: Global,
     input: &mut I,

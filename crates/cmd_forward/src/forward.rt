@@ -36,8 +36,7 @@ fn report_faults(report: &mut Vec<u8>, text: &[u8]) -> Result<Done, RunFault>
 ///
 /// # Errors
 ///
-/// `ReadFailed` or `WriteFailed` if that device failed; the run ends at the first failure. `NoMemory` if an
-/// allocation fails. The output is then a prefix of the text, and the report has no meaning.
+/// See [`RunFault`]. The report then has no meaning.
 pub fn forward_capture<I: Input, O: Output>(
     alloc: Global,
     script: &[u8],

@@ -22,8 +22,7 @@ use text_io::{Done, Input, Output, RunFault, Window};
 ///
 /// # Errors
 ///
-/// `ReadFailed` or `WriteFailed` if that device failed; the run ends at the first failure. `NoMemory` if an
-/// allocation fails. The output is then a prefix of the text, and the report has no meaning.
+/// See [`RunFault`]. The report then has no meaning.
 pub fn forward_cells<I: Input, O: Output, J: CellJudge>(
     alloc: Global,
     others: Others,

@@ -118,8 +118,7 @@ impl ProgramUser for Lister {
 ///
 /// # Errors
 ///
-/// `ReadFailed` or `WriteFailed` if that device failed; the run ends at the first failure. `NoMemory` if an
-/// allocation fails. The output is then a prefix of the text.
+/// See [`RunFault`].
 pub fn list_program<I: Input, O: Output>(
     alloc: Global,
     input: &mut I,

@@ -98,8 +98,7 @@ impl CellUser for Listed {
 ///
 /// # Errors
 ///
-/// `ReadFailed` or `WriteFailed` if that device failed; the run ends at the first failure. `NoMemory` if an
-/// allocation fails. The output is then a prefix of the text.
+/// See [`RunFault`].
 pub fn trace_cells<I: Input, O: Output>(
     alloc: Global,
     input: &mut I,

@@ -27,8 +27,7 @@ use text_io::{Done, Input, Output, RunFault};
 ///
 /// # Errors
 ///
-/// `ReadFailed` or `WriteFailed` if that device failed; the run ends at the first failure. `NoMemory` if an
-/// allocation fails. The output is then a prefix of the text.
+/// See [`RunFault`].
 pub fn police_setup<R: Threads, I: Input + Send, O: Output>(
     rt: &R,
     alloc: Global,

@@ -139,8 +139,7 @@ impl<U: ProgramUser> Machine for AfterProgram<U> {
 ///
 /// # Errors
 ///
-/// `ReadFailed` or `WriteFailed` if that device failed; the run ends at the first failure. `NoMemory` if an
-/// allocation fails. The output is then a prefix of the text.
+/// See [`RunFault`].
 pub fn answer_program_lines<U: ProgramUser, I: Input, O: Output>(
     alloc: Global,
     input: &mut I,

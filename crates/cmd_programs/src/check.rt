@@ -79,8 +79,7 @@ impl Answerer for Checking {
 ///
 /// # Errors
 ///
-/// `ReadFailed` or `WriteFailed` if that device failed; the run ends at the first failure. `NoMemory` if an
-/// allocation fails. The output is then a prefix of the text.
+/// See [`RunFault`].
 pub fn check_source<I: Input, O: Output>(
     alloc: Global,
     input: &mut I,

@@ -41,8 +41,7 @@ impl CellUser for Program {
 ///
 /// # Errors
 ///
-/// `ReadFailed` or `WriteFailed` if that device failed; the run ends at the first failure. `NoMemory` if an
-/// allocation fails. The output is then a prefix of the text.
+/// See [`RunFault`].
 pub fn eval_bytes<I: Input, O: Output>(
     alloc: Global,
     input: &mut I,

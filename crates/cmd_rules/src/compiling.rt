@@ -39,8 +39,7 @@ pub fn answer_by_octets(
 ///
 /// # Errors
 ///
-/// `ReadFailed` or `WriteFailed` if that device failed; the run ends at the first failure. `NoMemory` if an
-/// allocation fails. The output is then a prefix of the answer.
+/// See [`RunFault`].
 pub fn compile_rules<I: Input, O: Output>(
     alloc: Global,
     input: &mut I,

@@ -248,8 +248,7 @@ fn counts_if(alloc: Global, count: bool) -> Option<Counts>
 ///
 /// # Errors
 ///
-/// `ReadFailed` or `WriteFailed` if that device failed; the run ends at the first failure. `NoMemory` if an
-/// allocation fails. The output is then a prefix of the text.
+/// See [`RunFault`].
 pub fn decide_cells<I: Input, O: Output>(
     alloc: Global,
     count: bool,

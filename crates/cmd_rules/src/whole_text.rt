@@ -60,8 +60,7 @@ impl Answerer for Printed {
 ///
 /// # Errors
 ///
-/// `ReadFailed` or `WriteFailed` if that device failed; the run ends at the first failure. `NoMemory` if an
-/// allocation fails. The output is then a prefix of the answer.
+/// See [`RunFault`].
 pub(crate) fn answer_rules<I: Input, O: Output>(
     alloc: Global,
     printed: Printed,

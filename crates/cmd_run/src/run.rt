@@ -148,8 +148,7 @@ impl Machine for Policing {
 ///
 /// # Errors
 ///
-/// `ReadFailed` or `WriteFailed` if that device failed; the run ends at the first failure. `NoMemory` if an
-/// allocation fails. The output is then a prefix of the text.
+/// See [`RunFault`].
 pub fn run_script<I: Input, O: Output>(
     alloc: Global,
     input: &mut I,

@@ -78,8 +78,7 @@ impl Machine for Sizing {
 ///
 /// # Errors
 ///
-/// `ReadFailed` or `WriteFailed` if that device failed; the run ends at the first failure. `NoMemory` if an
-/// allocation fails. The output is then a prefix of the text.
+/// See [`RunFault`].
 pub fn size_contracts<I: Input, O: Output>(
     alloc: Global,
     input: &mut I,
