@@ -3,7 +3,6 @@
 #![tactic(auto)]
 
 pub mod laws;
-mod listed_lines;
 mod listing;
 mod longest;
 mod step_lines;

@@ -7,11 +7,10 @@ ghost use Rattle.text_io.specs.Serving.{IsServed};
 ghost use Rattle.cmd_list.specs.Comments.{commented};
 ghost use Rattle.cmd_list.specs.ListedProgram.{IsListText, IsProgramListing, octets_text, program_listing};
 
-use crate::listed_lines::{after_line, first_line};
 use crate::longest::longest_run;
 use bpf_asm::listing;
 use bpf_code::{Instr, encode};
-use cmd_programs::{ProgramUser, answer_program_lines};
+use cmd_programs::{ProgramUser, answer_program_lines, first_line, lines_after};
 use std::alloc::{AllocError, Global};
 use text_io::{Done, Input, LineWords, Output, RunFault, Turn, line_words};
 use text_words::{add_bad_line, add_numbered};
@@ -51,7 +50,7 @@ fn add_instructions(alloc: Global, answers: &mut Vec<u8>, code: &[Instr]) -> Res
     let mut lines = listing.as_slice();
     for instr in code {
         add_instruction(alloc, answers, first_line(lines), *instr)?;
-        lines = after_line(lines);
+        lines = lines_after(lines, 1);
     }
     Ok(())
 }

@@ -6,13 +6,12 @@ ghost use Rattle.text_io.specs.Devices.{Adds};
 ghost use Rattle.text_io.specs.Serving.{IsServed};
 ghost use Rattle.cmd_list.specs.Trace.{IsTraceText, PrintsTrace};
 
-use crate::listed_lines::{first_line, lines_after};
 use crate::step_lines::add_step;
 use bpf_asm::listing;
 use bpf_code::Instr;
 use bpf_interp::Registers;
 use bpf_verify::Program;
-use cmd_programs::{CellUser, OnCells, add_value, answer_program_lines};
+use cmd_programs::{CellUser, OnCells, add_value, answer_program_lines, first_line, lines_after};
 use std::alloc::{AllocError, Global};
 use std::marker::Model;
 use std::ops::ControlFlow::{Break, Continue};

@@ -51,7 +51,7 @@ percent_text hundredths = decimal (hundredths / 100) ++ codes "." ++ decimal (hu
 abbrev pub rate_text : SizedRate → List ℕ
 rate_text rate = decimal rate.policed ++ codes " +" ++ percent_text rate.distance
 
--- The same of the sustained rate.
+-- The rate that the bucket of the sustained rate polices, and by how much it is above the one asked for.
 abbrev pub second_rate_text : Option SizedRate → List ℕ
 second_rate_text None = []
 second_rate_text (Some rate) = codes " scr " ++ rate_text rate

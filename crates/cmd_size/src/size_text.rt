@@ -89,7 +89,7 @@ fn add_rate(answers: &mut Vec<u8>, rate: SizedRate) -> Result<(), AllocError>
     add_percent(answers, rate.distance)
 }
 
-/// Appends the same of the sustained rate.
+/// Appends the rate that the bucket of the sustained rate polices, and by how much it is above the one asked for.
 #[tactic(auto, using(std::proofs::lemmas::List::append_assoc))]
 fn add_second_rate(answers: &mut Vec<u8>, sustained: Option<SizedRate>) -> Result<(), AllocError>
     ensures { OnOk result (answers.new.items ≡ answers.old.items ++ second_rate_text sustained) }

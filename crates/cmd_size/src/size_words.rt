@@ -121,10 +121,8 @@ fn rate_after<'a>(name: &[u8], line: &'a [u8]) -> Result<(CellRate, &'a [u8]), S
     ensures fault { IfErr result (λ fault. named_value cell_rate_of name.now (words_of line.now) ≡ Err fault) }
 {
     let (word, rest) = word_after(name, line)?;
-    match cell_rate(word) {
-        Some(rate) => Ok((rate, rest)),
-        None => Err(SizeFault::BadNumber),
-    }
+    let rate = cell_rate(word).ok_or(SizeFault::BadNumber)?;
+    Ok((rate, rest))
 }
 
 /// Returns the time after this name, in nanoseconds, and the rest of the line.
@@ -133,10 +131,8 @@ fn time_after<'a>(name: &[u8], line: &'a [u8]) -> Result<(u64, &'a [u8]), SizeFa
     ensures fault { IfErr result (λ fault. named_value duration_of name.now (words_of line.now) ≡ Err fault) }
 {
     let (word, rest) = word_after(name, line)?;
-    match duration(word) {
-        Some(time) => Ok((time, rest)),
-        None => Err(SizeFault::BadNumber),
-    }
+    let time = duration(word).ok_or(SizeFault::BadNumber)?;
+    Ok((time, rest))
 }
 
 /// Returns the number after this name, and the rest of the line.
@@ -145,10 +141,8 @@ fn number_after<'a>(name: &[u8], line: &'a [u8]) -> Result<(u64, &'a [u8]), Size
     ensures fault { IfErr result (λ fault. named_value number_of_digits name.now (words_of line.now) ≡ Err fault) }
 {
     let (word, rest) = word_after(name, line)?;
-    match number(word) {
-        Some(number) => Ok((number, rest)),
-        None => Err(SizeFault::BadNumber),
-    }
+    let count = number(word).ok_or(SizeFault::BadNumber)?;
+    Ok((count, rest))
 }
 
 /// Reads `cdvt TIME tick TIME`, to the end of the line.

@@ -14,7 +14,7 @@ loop-instr-preserved c =
     let at = c.loop-instr.instr-index in
     let first = first_left listed (source_lines c.loop-instr.lines.now) at c.first_line.result.now c.loop-instr.invariant.left c.first_line.ensures in
     record {
-      left = c.after_line-lines.ensures ∙ drop_one at listed (source_lines c.loop-instr.lines.now) c.loop-instr.invariant.left;
+      left = c.lines_after-lines.ensures ∙ drop_one at listed (source_lines c.loop-instr.lines.now) c.loop-instr.invariant.left;
       printed = printed_more listed code (c.args.answers.now.items ++ program_listing code) at _ c.loop-instr.answers.items c.add_instruction.new.answers.items c.first_line.result.now
           (omega arith) first c.in_ok-add_instruction.ensures c.loop-instr.invariant.printed;
     }
