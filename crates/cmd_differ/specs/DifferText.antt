@@ -41,7 +41,7 @@ PrintsFaultAfter mark found answer = MatchOption found (answer ≡ mark ++ too_l
 abbrev pub FindsText : Option (List ℕ) → PlacedRulesRead → Type 0
 FindsText found placed_rules = (text : List ℕ) × (found ≡ Some text) × (placed_rules_in text ≡ Ok placed_rules)
 
--- The same of a text with a program.
+-- The answer is the fault of a text with a program that was found, after this mark; otherwise the text is over the limit.
 abbrev pub PrintsProgramFault : List ℕ → Option (List ℕ) → List ℕ → Type 0
 PrintsProgramFault mark found answer = MatchOption found (answer ≡ mark ++ too_long)
     (λ text. (fault : List ℕ) × ReadsProgramText text (is_refused fault) × (answer ≡ mark ++ fault))

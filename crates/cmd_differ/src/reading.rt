@@ -10,13 +10,10 @@ ghost use Rattle.cmd_differ.specs.inner.Readings.{ReadsSide, ReadsText, which_ma
 use crate::kinds::TextKind;
 use crate::program_text::program_in;
 use crate::sides::SideText;
-use cmd_rules::add_rule_fault;
+use cmd_rules::{MOST_RULES_OCTETS, add_rule_fault};
 use rules_text::{PlacedRules, RuleFault, RuleKind, read_with_places};
 use std::alloc::{AllocError, Global};
 use text_words::{add_text, add_too_long};
-
-/// The maximum number of octets of a text of rules.
-pub(crate) const MOST_RULES_OCTETS: u32 = 1048576;
 
 /// One of two texts, or the only one.
 #[derive(Clone, Copy, Debug, PartialEq, Eq)]

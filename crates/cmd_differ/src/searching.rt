@@ -10,8 +10,9 @@ ghost use Rattle.cmd_differ.specs.UnusedText.{IsSearched, IsUnusedAnswer, IsUnus
 
 use crate::finding::Finding;
 use crate::giving::give_finding;
-use crate::reading::{MOST_RULES_OCTETS, Which, read_found};
+use crate::reading::{Which, read_found};
 use crate::unused_lines::add_unused_text;
+use cmd_rules::MOST_RULES_OCTETS;
 use rules_diagrams::{Undecided, Unused, unused_rules};
 use rules_text::PlacedRules;
 use std::alloc::{AllocError, Global};

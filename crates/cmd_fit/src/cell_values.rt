@@ -1,35 +1,16 @@
 //! The values that rules give cells.
 
-ghost use Rattle.std.specs.Prelude.{◌≡◌, ℕ, length, IfOk, IfSome, Some};
-ghost use Rattle.bpf_interp.specs.Value.{Value};
-ghost use Rattle.rules_cells.specs.Fields.{IsCell};
+ghost use Rattle.std.specs.Prelude.{◌≡◌, IfOk, IfSome, Some};
 ghost use Rattle.rules_text.specs.RulesRead.{rules_read};
 ghost use Rattle.std.proofs.Props.{props};
 ghost use Rattle.cmd_fit.specs.Flows.{cell_value};
 ghost use Rattle.cmd_fit.specs.inner.GivenValues.{GivesValues};
 
-use bpf_interp::run;
 use bpf_verify::Program;
+use cmd_rules::value_on;
 use rules_cells::{CodeFault, Rules, compile, decide};
 use std::alloc::{AllocError, Global};
 use upc_cell::Cell;
-
-/// Octets of this number are a cell, by the type of octets.
-fn is_cell(octets: &[u8])
-    requires { length octets.now ≡ 52 }
-    ensures { IsCell octets.now }
-{
-    let _ = octets;
-}
-
-/// Runs a program on a cell.
-fn value_on(program: &Program, cell: &Cell) -> u32
-    ensures cell { IsCell cell.now }
-    ensures value { (steps : ℕ) × Value program.now cell.now result steps }
-{
-    is_cell(cell.bytes());
-    run(program, cell).value
-}
 
 /// Rules that give cells their values.
 #[derive(Drop)]

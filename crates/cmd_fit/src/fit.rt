@@ -208,7 +208,7 @@ fn give_answer<O: Output>(output: &mut O, mut answer: Vec<u8>) -> Result<Done, R
 /// the rules with their code.
 ///
 /// With `threads` above 1, records are read on one thread while the cells of earlier ones are answered on another, as
-/// in [`follow_cells`]. The output is the same.
+/// in [`follow_cells`]. The output is the same as with one.
 ///
 /// # Errors
 ///

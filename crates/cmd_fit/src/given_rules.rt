@@ -8,13 +8,10 @@ ghost use Rattle.rules_text.specs.TextOfRules.{rules_in};
 ghost use Rattle.text_words.specs.FaultLines.{too_long};
 
 use crate::cell_values::CellValues;
-use cmd_rules::add_rule_fault;
+use cmd_rules::{MOST_RULES_OCTETS, add_rule_fault};
 use rules_text::{RuleFault, RuleKind, read_rules};
 use std::alloc::{AllocError, Global};
 use text_words::{add_text, add_too_long};
-
-/// The maximum number of octets of a text of rules.
-const MOST_RULES_OCTETS: usize = 1048576;
 
 /// What was read of the rules that are given.
 #[derive(Drop)]
@@ -76,7 +73,7 @@ pub(crate) fn read_given(alloc: Global, octets: Option<&[u8]>) -> Result<GivenRu
     let Some(text) = octets else {
         return Ok(GivenRules::Held(None));
     };
-    if text.len() > MOST_RULES_OCTETS {
+    if text.len() > MOST_RULES_OCTETS as usize {
         let answer = too_long_answer(alloc)?;
         Ok(GivenRules::Faulty(answer))
     } else {
