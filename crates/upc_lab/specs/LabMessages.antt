@@ -2,6 +2,7 @@
 use Rattle.std.specs.Prelude.{ℕ, ◌==◌, Bool, ◌&&◌, if◌then◌else◌, List, [], ◌++◌, codes}
 use Rattle.text_io.specs.declared.ending.RunFault.{RunFault}
 use Rattle.text_io.specs.declared.ending.RunFault.TheVariants.{ReadFailed, WriteFailed, NoMemory}
+use Rattle.upc_lab.specs.declared.reason.Reasoned.{Ghosts as ReasonView}
 use Rattle.cmd_options.specs.declared.choice.Asked.{Asked}
 use Rattle.cmd_options.specs.declared.choice.Asked.TheVariants.{Plain, Why, Cells, Fit, Police, Differ, Forward, Explain}
 use Rattle.cmd_options.specs.declared.choice.Subcommand.{Subcommand}
@@ -13,6 +14,10 @@ abbrev pub lab_failure_line : List ℕ → List ℕ → Bool → RunFault → Li
 lab_failure_line read written closed ReadFailed = read
 lab_failure_line read written closed WriteFailed = if closed then [] else written
 lab_failure_line read written closed NoMemory = codes "upc-lab: out of memory\n"
+
+-- The message for each failure of a run over these devices.
+abbrev pub message_over : {Source Sink : Type 0} → ReasonView Source → Source → ReasonView Sink → Sink → RunFault → List ℕ
+message_over I input O output = lab_failure_line (I.message input) (O.message output) (O.is_closed output)
 
 -- The exit status as a shell expects it: 141, which is 128 and the number of the signal PIPE, if a run failed because nobody
 -- reads the output.

@@ -4,6 +4,7 @@ pub mod LabMessages
 pub mod FailureLines
 pub mod ShownNames
 pub mod Comparison
+pub mod ExactRun
 pub mod ForwardRun
 pub mod ExplainRun
 pub mod RulesRun

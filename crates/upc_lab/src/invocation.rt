@@ -9,7 +9,7 @@ ghost use Rattle.upc_lab.specs.Comparison.{CarriesFinding};
 ghost use Rattle.upc_lab.specs.ExplainRun.{CarriesExplained};
 ghost use Rattle.upc_lab.specs.ForwardRun.{CarriesForward};
 ghost use Rattle.upc_lab.specs.LabEffects.{CarriesAllOut, CarriesAsked, CarriesPlain, CarriesStop, ForwardsAsked, IsStatusIn, MayForwardAsked, WritesSetupHints};
-ghost use Rattle.upc_lab.specs.LabMessages.{lab_failure_line};
+ghost use Rattle.upc_lab.specs.LabMessages.{message_over};
 ghost use Rattle.upc_lab.specs.LabText.{kinds_asked};
 ghost use Rattle.upc_lab.specs.NamedFiles.{explains_setup, rules_in_files, setup_name};
 ghost use Rattle.upc_lab.specs.RulesRun.{CarriesRules};
@@ -79,8 +79,7 @@ fn compile_and_write_hints<I: Ahead + Reasoned, O: Output + Reasoned, E: Output>
     output: &mut O,
     errors: &mut E,
 ) -> u8
-    ensures carried { I.is_known → O.is_known → E.is_known → CarriesRules
-        (lab_failure_line (I.message input.new) (O.message output.new) (O.is_closed output.new))
+    ensures carried { I.is_known → O.is_known → E.is_known → CarriesRules (message_over I.Reasoned input.new O.Reasoned output.new)
         I.Input input.old input.new O.Output output.old output.new E.Output errors.old errors.new result }
     ensures status { (ended : Result TheDone Failed) × (result ≡ status_of ended) }
 {
@@ -99,8 +98,7 @@ fn forward_and_write_report<I: Ahead + Reasoned, O: Output + Reasoned, E: Output
     output: &mut O,
     errors: &mut E,
 ) -> u8
-    ensures carried { I.is_known → O.is_known → E.is_known → CarriesForward
-        (lab_failure_line (I.message input.new) (O.message output.new) (O.is_closed output.new))
+    ensures carried { I.is_known → O.is_known → E.is_known → CarriesForward (message_over I.Reasoned input.new O.Reasoned output.new)
         (ForwardsAsked files.now options.now) (MayForwardAsked files.now options.now)
         I.Input input.old input.new O.Output output.old output.new E.Output errors.old errors.new result }
     ensures status { (ended : Result TheDone Failed) × (result ≡ status_of ended) }
@@ -130,8 +128,7 @@ fn compare_with_old_text<I: Ahead + Reasoned, O: Output + Reasoned, E: Output>(
     output: &mut O,
     errors: &mut E,
 ) -> u8
-    ensures carried { I.is_known → O.is_known → E.is_known → CarriesFinding
-        (lab_failure_line (I.message input.new) (O.message output.new) (O.is_closed output.new))
+    ensures carried { I.is_known → O.is_known → E.is_known → CarriesFinding (message_over I.Reasoned input.new O.Reasoned output.new)
         (IsDifferText (kinds_asked options.now.programs) options.now.all files.now.other_text.items)
         I.Input input.old input.new O.Output output.old output.new E.Output errors.old errors.new result }
     ensures status { (ended : Result TheDone Failed) × (result ≡ status_of ended) }
@@ -155,8 +152,7 @@ fn explain_setup_script<I: Ahead + Reasoned, O: Output + Reasoned, E: Output>(
     output: &mut O,
     errors: &mut E,
 ) -> u8
-    ensures carried { I.is_known → O.is_known → E.is_known → CarriesExplained
-        (lab_failure_line (I.message input.new) (O.message output.new) (O.is_closed output.new))
+    ensures carried { I.is_known → O.is_known → E.is_known → CarriesExplained (message_over I.Reasoned input.new O.Reasoned output.new)
         files.now.script.items (rules_in_files files.now) I.Input input.old input.new O.Output output.old output.new E.Output errors.old errors.new result }
     ensures status { (ended : Result TheDone Failed) × (result ≡ status_of ended) }
 {
@@ -177,8 +173,7 @@ fn run_without_options<I: Ahead + Reasoned, O: Output + Reasoned, E: Output>(
     output: &mut O,
     errors: &mut E,
 ) -> u8
-    ensures carried { I.is_known → O.is_known → E.is_known → CarriesPlain
-        (lab_failure_line (I.message input.new) (O.message output.new) (O.is_closed output.new))
+    ensures carried { I.is_known → O.is_known → E.is_known → CarriesPlain (message_over I.Reasoned input.new O.Reasoned output.new)
         subcommand I.Input input.old input.new O.Output output.old output.new E.Output errors.old errors.new result }
     ensures status { (ended : Result TheDone Failed) × (result ≡ status_of ended) }
 {
@@ -210,8 +205,7 @@ fn run_asked<R: Threads, I: Ahead + Reasoned + Send, O: Output + Reasoned, E: Ou
     output: &mut O,
     errors: &mut E,
 ) -> u8
-    ensures carried { I.is_known → O.is_known → E.is_known → CarriesAsked
-        (lab_failure_line (I.message input.new) (O.message output.new) (O.is_closed output.new))
+    ensures carried { I.is_known → O.is_known → E.is_known → CarriesAsked (message_over I.Reasoned input.new O.Reasoned output.new)
         asked.now files.now I.Input input.old input.new O.Output output.old output.new E.Output errors.old errors.new result }
     ensures status { (ended : Result TheDone Failed) × (result ≡ status_of ended) }
 {
@@ -253,8 +247,7 @@ fn write_help_or_message<I: Ahead + Reasoned, O: Output + Reasoned, E: Output>(
     output: &mut O,
     errors: &mut E,
 ) -> u8
-    ensures carried { I.is_known → O.is_known → E.is_known → CarriesStop
-        (lab_failure_line (I.message input.new) (O.message output.new) (O.is_closed output.new))
+    ensures carried { I.is_known → O.is_known → E.is_known → CarriesStop (message_over I.Reasoned input.new O.Reasoned output.new)
         stop.now I.Input input.old input.new O.Output output.old output.new E.Output errors.old errors.new result }
     ensures status { IsStatusOfStop stop.now result }
 {
@@ -282,8 +275,7 @@ pub fn carry_out<R: Threads, I: Ahead + Reasoned + Send, O: Output + Reasoned, E
     output: &mut O,
     errors: &mut E,
 ) -> u8
-    ensures carried { I.is_known → O.is_known → E.is_known → CarriesAllOut
-        (lab_failure_line (I.message input.new) (O.message output.new) (O.is_closed output.new))
+    ensures carried { I.is_known → O.is_known → E.is_known → CarriesAllOut (message_over I.Reasoned input.new O.Reasoned output.new)
         chosen.now named.now I.Input input.old input.new O.Output output.old output.new E.Output errors.old errors.new result }
     ensures status { IsStatusIn chosen.now named.now result }
 {

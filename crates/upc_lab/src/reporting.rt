@@ -5,7 +5,7 @@ ghost use Rattle.cmd_differ.specs.Findings.{ended_by};
 ghost use Rattle.text_command_line.specs.ExitStatus.{status_of};
 ghost use Rattle.text_command_line.specs.Messages.{Reports, WritesMessage};
 ghost use Rattle.upc_lab.specs.Comparison.{finding_status};
-ghost use Rattle.upc_lab.specs.LabMessages.{lab_failure_line, shell_status_of};
+ghost use Rattle.upc_lab.specs.LabMessages.{message_over, shell_status_of};
 
 use crate::reason::Reasoned;
 use cmd_differ::{Finding, ended_by};
@@ -14,7 +14,7 @@ use text_io::{Done, Output, RunFault};
 
 /// The message for a failure of a run over these devices.
 fn line_of<'a, I: Reasoned, O: Reasoned>(fault: RunFault, input: &'a I, output: &'a O) -> &'a [u8]
-    ensures { result.now ≡ lab_failure_line (I.message input.now) (O.message output.now) (O.is_closed output.now) fault }
+    ensures { result.now ≡ message_over I.Reasoned input.now O.Reasoned output.now fault }
 {
     match fault {
         RunFault::ReadFailed => input.message(),
@@ -37,8 +37,7 @@ pub(crate) fn report<I: Reasoned, O: Reasoned, E: Output>(
     errors: &mut E,
 ) -> u8
     ensures status { result ≡ status_of ended }
-    ensures reported { E.is_known → Reports
-        (lab_failure_line (I.message input.now) (O.message output.now) (O.is_closed output.now))
+    ensures reported { E.is_known → Reports (message_over I.Reasoned input.now O.Reasoned output.now)
         E.Output errors.old errors.new ended }
 {
     match ended {
@@ -76,8 +75,7 @@ pub(crate) fn report_finding<I: Reasoned, O: Reasoned, E: Output>(
     errors: &mut E,
 ) -> u8
     ensures status { result ≡ finding_status ended }
-    ensures reported { E.is_known → Reports
-        (lab_failure_line (I.message input.now) (O.message output.now) (O.is_closed output.now))
+    ensures reported { E.is_known → Reports (message_over I.Reasoned input.now O.Reasoned output.now)
         E.Output errors.old errors.new (ended_by ended) }
 {
     let status = finding_status(&ended);
@@ -96,7 +94,7 @@ pub(crate) fn report_run<I: Reasoned, O: Reasoned, E: Output>(
     ensures status { result ≡ status_of ended }
     ensures ok { E.is_known → OnOk ended (WritesMessage E.Output errors.old errors.new said.now) }
     ensures failed { E.is_known → IfErr ended (λ fault. WritesMessage E.Output errors.old errors.new
-        (lab_failure_line (I.message input.now) (O.message output.now) (O.is_closed output.now) fault)) }
+        (message_over I.Reasoned input.now O.Reasoned output.now fault)) }
 {
     match ended {
         Ok(_) => write_message(errors, said),

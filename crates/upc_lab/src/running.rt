@@ -1,12 +1,12 @@
 //! Runs the subcommands that read a capture and write nothing but their answer, as their options say.
 
-ghost use Rattle.std.specs.Prelude.{◌≡◌, option_map};
+ghost use Rattle.std.specs.Prelude.{◌≡◌, IfOk, option_map};
+ghost use Rattle.text_io.specs.Devices.{Adds};
 ghost use Rattle.text_io.specs.Serving.{IsServed};
 ghost use Rattle.captures_text.specs.CellsText.{IsCellsText};
 ghost use Rattle.cmd_fit.specs.FitAsked.{IsFitAsked};
-ghost use Rattle.cmd_police.specs.SetupText.{MayBePolicedAsAgreed};
+ghost use Rattle.upc_lab.specs.LabEffects.{MayPoliceAsked, PolicesAsked};
 ghost use Rattle.upc_lab.specs.LabText.{fit_choice, kinds_asked, others_asked, rules_asked, scope_asked};
-ghost use Rattle.upc_lab.specs.NamedFiles.{rules_in_files, tick_in_files};
 
 use crate::named_files::NamedFiles;
 use captures_text::cells_of_capture;
@@ -136,9 +136,9 @@ pub(crate) fn run_police<R: Threads, I: Ahead + Send, O: Output>(
     input: &mut I,
     output: &mut O,
 ) -> Result<Done, RunFault>
-    ensures { IsServed (MayBePolicedAsAgreed (scope_asked options.now) (tick_in_files files.now)
-        (option_map (λ asked. asked.nanoseconds) options.now.tick) files.now.script.items (rules_in_files files.now))
-        I.Input input.old input.new O.Output output.old output.new result }
+    ensures served { IsServed (MayPoliceAsked files.now options.now) I.Input input.old input.new O.Output output.old output.new result }
+    ensures policed { I.is_known → O.is_known → IfOk result (λ done.
+        Adds (λ text. PolicesAsked files.now options.now (I.rest input.old) text done) (O.held output.old) (O.held output.new)) }
 {
     police_as_agreed(
         rt,

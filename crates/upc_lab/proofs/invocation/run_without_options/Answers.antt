@@ -14,5 +14,14 @@ returns-in-Unused-clause-carried g c = λ known written shown. rw c.in-Unused.is
   reports = c.report_finding.ensures.reported shown;
 })
 
+pub returns-in-Asm-clause-carried : goal.returns-in-Asm-clause-carried
+returns-in-Asm-clause-carried g c = λ known written shown. rw c.in-Asm.is (record {
+  ended = c.assemble_rules.result;
+  status_is = c.report.ensures.status;
+  served = c.assemble_rules.ensures.served;
+  printed = c.assemble_rules.ensures.printed known written;
+  reports = c.report.ensures.reported shown;
+})
+
 pub returns-in-Unused-clause-status : goal.returns-in-Unused-clause-status
 returns-in-Unused-clause-status g c = finding_ends c.report_finding.result (c.unused_in_text.result, c.report_finding.ensures.status)
