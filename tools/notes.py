@@ -75,6 +75,11 @@ def sum_of_crate(crate):
     return sum_of(repr(crate.said), *own, *(sum_of_statements(it) for it in below))
 
 
+def sum_of_edit(crate, edit):
+    """Returns the checksum of a planted bug and of all that its refusal rests on."""
+    return sum_of(sum_of_crate(crate), edit.noted_as, *(text for pair in edit.pairs for text in pair))
+
+
 def notes_in(file):
     """Returns the notes of a file: the name of each by its checksum."""
     if not os.path.exists(file):
@@ -97,10 +102,11 @@ def note(summed, what):
 
 
 def write_for_others():
-    """Writes the last note of each name, by names. Edits that are no longer tried have none."""
-    last = {name: summed for file in (ELSEWHERE, HERE) for summed, name in notes_in(file).items()}
-    tried = {edit.noted_as for crate in kit.crates() for edit in edits_of(crate.name) if edit.is_deep}
-    last = {name: summed for name, summed in last.items() if not name.endswith(".edit") or name in tried}
+    """Writes the last note of each name, by names, but of planted bugs those alone that are of the present files."""
+    known = {**notes_in(ELSEWHERE), **notes_in(HERE)}
+    last = {name: summed for summed, name in known.items() if not name.endswith(".edit")}
+    present = {edit.noted_as: sum_of_edit(crate, edit) for crate in kit.crates() for edit in edits_of(crate.name) if edit.is_deep}
+    last |= {name: summed for name, summed in present.items() if summed in known}
     with open(ELSEWHERE, "w", encoding="utf-8") as it:
         it.writelines(f"{summed} {name}\n" for name, summed in sorted(last.items()))
 
