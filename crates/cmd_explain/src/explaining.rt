@@ -17,7 +17,7 @@ use cmd_explain_rules::explain_rules;
 use cmd_explain_script::explain_script;
 use cmd_programs::{MOST_SOURCE_OCTETS, add_accepted, add_asm_fault, add_verify_fault};
 use std::alloc::{AllocError, Global};
-use text_io::{Answerer, Done, Input, Output, RunFault, answer_whole};
+use text_io::{Answerer, Done, Ending, Input, Output, answer_whole};
 use text_words::add_too_long;
 
 /// Answers a code: that it has no fault, with hints, or its first one and an explanation.
@@ -91,11 +91,7 @@ impl Answerer for Sources {
 
 /// Answers a source: the fault that `upc check` finds, with its line, the column of the token that is wrong and a sentence, or that
 /// there is none.
-fn explain_source<I: Input, O: Output>(
-    alloc: Global,
-    input: &mut I,
-    output: &mut O,
-) -> Result<Done, RunFault>
+fn explain_source<I: Input, O: Output>(alloc: Global, input: &mut I, output: &mut O) -> Ending
     ensures { IsServed IsSourceText I.Input input.old input.new O.Output output.old output.new result }
 {
     answer_whole(alloc, input, output, MOST_SOURCE_OCTETS, &Sources)
@@ -107,12 +103,8 @@ fn explain_source<I: Input, O: Output>(
 ///
 /// # Errors
 ///
-/// See [`RunFault`].
-pub fn explain_faults<I: Ahead, O: Output>(
-    alloc: Global,
-    input: &mut I,
-    output: &mut O,
-) -> Result<Done, RunFault>
+/// See [`text_io::RunFault`].
+pub fn explain_faults<I: Ahead, O: Output>(alloc: Global, input: &mut I, output: &mut O) -> Ending
     ensures served { IsServed IsExplainText I.Input input.old input.new O.Output output.old output.new result }
     ensures printed { I.is_known → O.is_known → IfOk result (λ done.
         Adds (λ text. IsWholeExplanation (I.rest input.old) text done) (O.held output.old) (O.held output.new)) }

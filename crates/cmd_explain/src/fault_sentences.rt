@@ -10,7 +10,7 @@ ghost use Rattle.cmd_explain_script.specs.Tables.{value_among};
 
 use bpf_asm::next_line;
 use std::alloc::{AllocError, Global};
-use text_io::{Answerer, Done, Input, Output, RunFault, answer_whole, first_word};
+use text_io::{Answerer, Done, Ending, Input, Output, answer_whole, first_word};
 use text_words::{add_text, add_too_long};
 
 /// The maximum number of octets of fault lines.
@@ -326,12 +326,12 @@ impl Answerer for FaultLines {
 ///
 /// # Errors
 ///
-/// See [`RunFault`].
+/// See [`text_io::RunFault`].
 pub(crate) fn explain_fault_lines<I: Input, O: Output>(
     alloc: Global,
     input: &mut I,
     output: &mut O,
-) -> Result<Done, RunFault>
+) -> Ending
     ensures served { IsServed IsFaultsText I.Input input.old input.new O.Output output.old output.new result }
     ensures printed { I.is_known → O.is_known → IfOk result (λ done.
         Adds (λ text. IsFaultsText (I.rest input.old) text done) (O.held output.old) (O.held output.new)) }

@@ -13,7 +13,7 @@ use cmd_rules::{MOST_RULES_OCTETS, add_rule_fault};
 use rules_cells::{CodeFault, RuleLine, compile};
 use rules_text::{PlacedRules, RuleFault, RuleKind, read_with_places};
 use std::alloc::{AllocError, Global};
-use text_io::{Answerer, Done, Input, Output, RunFault, answer_whole};
+use text_io::{Answerer, Done, Ending, Input, Output, answer_whole};
 use text_words::{add_number, add_text, add_too_long};
 
 /// Returns how many of these lines are rules.
@@ -169,12 +169,8 @@ impl Answerer for Explainer {
 ///
 /// # Errors
 ///
-/// See [`RunFault`].
-pub fn explain_rules<I: Input, O: Output>(
-    alloc: Global,
-    input: &mut I,
-    output: &mut O,
-) -> Result<Done, RunFault>
+/// See [`text_io::RunFault`].
+pub fn explain_rules<I: Input, O: Output>(alloc: Global, input: &mut I, output: &mut O) -> Ending
     ensures served { IsServed MayBeRulesExplained I.Input input.old input.new O.Output output.old output.new result }
     ensures printed { I.is_known → O.is_known → IfOk result (λ done.
         Adds (λ answer. IsRulesExplained (I.rest input.old) answer done) (O.held output.old) (O.held output.new)) }

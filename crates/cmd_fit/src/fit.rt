@@ -22,7 +22,7 @@ use captures::Fault;
 use captures_text::{CapturedCell, CellFollower, ReadingSummary, add_closing, follow_cells};
 use std::alloc::{AllocError, Global};
 use std::thread::Threads;
-use text_io::{Done, Input, Output, RunFault, Turn, give_last};
+use text_io::{Done, Ending, Input, Output, RunFault, Turn, give_last};
 use upc_cell::{Cell, Side};
 
 /// Returns the cell loss priority of a cell.
@@ -161,7 +161,7 @@ fn fit_cells<R: Threads, I: Input + Send, O: Output>(
     values: Option<CellValues>,
     input: &mut I,
     output: &mut O,
-) -> Result<Done, RunFault>
+) -> Ending
     ensures { IsServed (IsFitText (scope_of choice (rules_held values)) choice.tick.nanoseconds choice.link choice.timing)
         I.Input input.old input.new O.Output output.old output.new result }
 {
@@ -180,7 +180,7 @@ fn fit_cells<R: Threads, I: Input + Send, O: Output>(
 }
 
 /// Writes the answer to a text of rules with a fault, in place of the limits.
-fn give_answer<O: Output>(output: &mut O, mut answer: Vec<u8>) -> Result<Done, RunFault>
+fn give_answer<O: Output>(output: &mut O, mut answer: Vec<u8>) -> Ending
     ensures done { IfOk result (λ done. done ≡ Done.Ended) }
     ensures given { O.is_known → OnOk result (O.held output.new ≡ O.held output.old ++ answer.items) }
     ensures front { O.is_known → OnErr result (IsPart (O.held output.old) (O.held output.new) answer.items) }
@@ -221,7 +221,7 @@ pub fn fit_capture<R: Threads, I: Input + Send, O: Output>(
     rules: Option<&[u8]>,
     input: &mut I,
     output: &mut O,
-) -> Result<Done, RunFault>
+) -> Ending
     ensures { IsServed (IsFitAsked choice (option_map (λ text. text.now) rules.entry)) I.Input input.old input.new O.Output output.old output.new result }
 {
     match read_given(alloc, rules) {

@@ -12,7 +12,7 @@ use bpf_asm::listing;
 use bpf_code::{Instr, encode};
 use cmd_programs::{ProgramUser, answer_program_lines, first_line, lines_after};
 use std::alloc::{AllocError, Global};
-use text_io::{Done, Input, LineWords, Output, RunFault, Turn, line_words};
+use text_io::{Ending, Input, LineWords, Output, Turn, line_words};
 use text_words::{add_bad_line, add_numbered};
 
 /// Appends the octets of an instruction, in lower case hexadecimal digits.
@@ -117,12 +117,8 @@ impl ProgramUser for Lister {
 ///
 /// # Errors
 ///
-/// See [`RunFault`].
-pub fn list_program<I: Input, O: Output>(
-    alloc: Global,
-    input: &mut I,
-    output: &mut O,
-) -> Result<Done, RunFault>
+/// See [`text_io::RunFault`].
+pub fn list_program<I: Input, O: Output>(alloc: Global, input: &mut I, output: &mut O) -> Ending
     ensures { IsServed IsListText I.Input input.old input.new O.Output output.old output.new result }
 {
     answer_program_lines::<Lister, I, O>(alloc, input, output)

@@ -15,7 +15,7 @@ use cmd_programs::{CellUser, OnCells, add_value, answer_program_lines, first_lin
 use std::alloc::{AllocError, Global};
 use std::marker::Model;
 use std::ops::ControlFlow::{Break, Continue};
-use text_io::{Done, Input, Output, RunFault};
+use text_io::{Ending, Input, Output};
 use upc_cell::Cell;
 
 /// A program and its listing. Contracts see the program.
@@ -97,12 +97,8 @@ impl CellUser for Listed {
 ///
 /// # Errors
 ///
-/// See [`RunFault`].
-pub fn trace_cells<I: Input, O: Output>(
-    alloc: Global,
-    input: &mut I,
-    output: &mut O,
-) -> Result<Done, RunFault>
+/// See [`text_io::RunFault`].
+pub fn trace_cells<I: Input, O: Output>(alloc: Global, input: &mut I, output: &mut O) -> Ending
     ensures { IsServed IsTraceText I.Input input.old input.new O.Output output.old output.new result }
 {
     answer_program_lines::<OnCells<Listed>, I, O>(alloc, input, output)

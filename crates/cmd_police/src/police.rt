@@ -41,7 +41,7 @@ use leaky::{Excess, Levels, Verdict, excess_at};
 use line_record::Line;
 use std::alloc::{AllocError, Global};
 use std::thread::Threads;
-use text_io::{Done, Input, Output, RunFault, Turn, give_last};
+use text_io::{Done, Ending, Input, Output, RunFault, Turn, give_last};
 use upc_cell::{Cell, Side, Vc};
 
 /// Returns the item with this number, counted from 1, if there is one.
@@ -262,7 +262,7 @@ fn spans_of(alloc: Global, side: Side, scope: PoliceScope, tick: Tick) -> Spans
 /// # Errors
 ///
 /// `WriteFailed` if the device failed. The output is then a prefix of the text.
-pub fn write_faults<O: Output>(output: &mut O, mut text: Vec<u8>) -> Result<Done, RunFault>
+pub fn write_faults<O: Output>(output: &mut O, mut text: Vec<u8>) -> Ending
     ensures done { IfOk result (λ done. done ≡ Done.Ended) }
     ensures given { O.is_known → OnOk result (O.held output.new ≡ O.held output.old ++ text.items) }
     ensures front { O.is_known → OnErr result (IsPart (O.held output.old) (O.held output.new) text.items) }
@@ -296,7 +296,7 @@ pub fn police_capture<R: Threads, I: Input + Send, O: Output>(
     tick: Tick,
     input: &mut I,
     output: &mut O,
-) -> Result<Done, RunFault>
+) -> Ending
     ensures { IsServed (IsPoliceText choice.scope tick.nanoseconds (shown_stored rules) setup.now times.now) I.Input input.old input.new O.Output output.old output.new result }
 {
     match set_up(alloc, setup, times, tick) {

@@ -25,7 +25,7 @@ use std::alloc::{AllocError, Global};
 use std::marker::Brand;
 use std::sync::Wait;
 use std::thread::Threads;
-use text_io::{Done, Input, Output, RunFault, answer_lines, give_last};
+use text_io::{Done, Ending, Input, Output, RunFault, answer_lines, give_last};
 use text_script::{Deal, Names, add_ready, deal_lines, first_line, is_cell_line};
 
 /// Answers the lines before the first cell line, and returns the lines from there on.
@@ -196,7 +196,7 @@ fn run_lines<G: Gate + Sync, R: Threads + Wait + Sync, O: Output>(
     script: &Script,
     output: &mut O,
     gate: &G,
-) -> Result<Done, RunFault>
+) -> Ending
     ensures text { IfOk result (λ done. (text : List ℕ)
         × (O.is_known → O.held output.new ≡ O.held output.old ++ text)
         × OfLines script.now.lines.items (λ lines. IsCardText script.now.shape lines text done)) }
@@ -222,7 +222,7 @@ pub fn run_ports<R: Threads + Wait + Sync, I: Input, O: Output>(
     alloc: Global,
     input: &mut I,
     output: &mut O,
-) -> Result<Done, RunFault>
+) -> Ending
     ensures { IsServed IsPortsText I.Input input.old input.new O.Output output.old output.new result }
 {
     run_ports_with(rt, alloc, input, output, &NoWait)
@@ -245,7 +245,7 @@ pub fn run_ports_with<G: Gate + Sync, R: Threads + Wait + Sync, I: Input, O: Out
     input: &mut I,
     output: &mut O,
     gate: &G,
-) -> Result<Done, RunFault>
+) -> Ending
     // One answer for each line; which of its possible answers is left open.
     ensures { IsServed IsPortsText I.Input input.old input.new O.Output output.old output.new result }
 {

@@ -10,7 +10,7 @@ use crate::program_reading::check_code;
 use bpf_asm::{AsmFault, AsmKind, assemble};
 use bpf_code::Instr;
 use std::alloc::{AllocError, Global};
-use text_io::{Answerer, Done, Input, Output, RunFault, answer_whole};
+use text_io::{Answerer, Done, Ending, Input, Output, answer_whole};
 use text_words::add_too_long;
 
 /// The maximum number of octets of a source.
@@ -79,12 +79,8 @@ impl Answerer for Checking {
 ///
 /// # Errors
 ///
-/// See [`RunFault`].
-pub fn check_source<I: Input, O: Output>(
-    alloc: Global,
-    input: &mut I,
-    output: &mut O,
-) -> Result<Done, RunFault>
+/// See [`text_io::RunFault`].
+pub fn check_source<I: Input, O: Output>(alloc: Global, input: &mut I, output: &mut O) -> Ending
     ensures { IsServed IsCheckText I.Input input.old input.new O.Output output.old output.new result }
 {
     answer_whole(alloc, input, output, MOST_SOURCE_OCTETS, &Checking)

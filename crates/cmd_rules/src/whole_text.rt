@@ -9,7 +9,7 @@ ghost use Rattle.cmd_rules.specs.inner.PrintedAs.{prints_as};
 use crate::assembling::answer_by_source;
 use crate::compiling::answer_by_octets;
 use std::alloc::{AllocError, Global};
-use text_io::{Answerer, Done, Input, Output, RunFault, answer_whole};
+use text_io::{Answerer, Done, Ending, Input, Output, answer_whole};
 use text_words::add_too_long;
 
 /// The maximum number of octets of a text of rules.
@@ -60,13 +60,13 @@ impl Answerer for Printed {
 ///
 /// # Errors
 ///
-/// See [`RunFault`].
+/// See [`text_io::RunFault`].
 pub(crate) fn answer_rules<I: Input, O: Output>(
     alloc: Global,
     printed: Printed,
     input: &mut I,
     output: &mut O,
-) -> Result<Done, RunFault>
+) -> Ending
     ensures served { IsServed (MayBeAnswerBy (prints_as printed)) I.Input input.old input.new O.Output output.old output.new result }
     ensures printed { I.is_known → O.is_known → IfOk result (λ done.
         Adds (λ answer. IsAnswerBy (prints_as printed) (I.rest input.old) answer done) (O.held output.old) (O.held output.new)) }

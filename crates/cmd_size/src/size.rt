@@ -11,7 +11,7 @@ use crate::size_text::{add_size_fault, add_sizes};
 use crate::size_words::figures;
 use crate::sizing::sized;
 use std::alloc::{AllocError, Global};
-use text_io::{Done, Input, Machine, Output, RunFault, Turn, answer_lines};
+use text_io::{Done, Ending, Input, Machine, Output, Turn, answer_lines};
 use text_script::asking_word;
 use text_words::add_too_long;
 
@@ -78,12 +78,8 @@ impl Machine for Sizing {
 ///
 /// # Errors
 ///
-/// See [`RunFault`].
-pub fn size_contracts<I: Input, O: Output>(
-    alloc: Global,
-    input: &mut I,
-    output: &mut O,
-) -> Result<Done, RunFault>
+/// See [`text_io::RunFault`].
+pub fn size_contracts<I: Input, O: Output>(alloc: Global, input: &mut I, output: &mut O) -> Ending
     ensures { IsServed IsSizesText I.Input input.old input.new O.Output output.old output.new result }
 {
     let mut sizing = Sizing;

@@ -24,3 +24,6 @@ pub enum RunFault {
     #[error("out of memory")]
     NoMemory,
 }
+
+/// How a run ended, or why it failed.
+pub type Ending = Result<Done, RunFault>;

@@ -8,7 +8,7 @@ ghost use Rattle.text_io.specs.declared.ending.Done.{Done as TheDone};
 
 use crate::delivery::give_last;
 use crate::device::{Input, Output};
-use crate::ending::{Done, RunFault};
+use crate::ending::{Done, Ending, RunFault};
 use crate::gathering::gather;
 use std::alloc::{AllocError, Global};
 
@@ -73,7 +73,7 @@ pub fn answer_whole<I: Input, O: Output, A: Answerer>(
     output: &mut O,
     most: u32,
     answerer: &A,
-) -> Result<Done, RunFault>
+) -> Ending
     ensures served { IsServed (λ octets. AnswersGathered A.too_long (A.allows answerer.now) (gathered most octets))
         I.Input input.old input.new O.Output output.old output.new result }
     ensures printed { I.is_known → O.is_known → IfOk result (λ done.

@@ -14,7 +14,7 @@ use std::alloc::Global;
 use std::sync::Wait;
 use std::thread::Threads;
 use text_command_line::{Choice, Stop, status, write_message};
-use text_io::{Done, Input, Output, RunFault, give_all};
+use text_io::{Ending, Input, Output, RunFault, give_all};
 
 /// The message for a failure.
 fn line_of(fault: RunFault) -> &'static [u8]
@@ -28,7 +28,7 @@ fn line_of(fault: RunFault) -> &'static [u8]
 }
 
 /// Writes the message for a failed run, and returns the exit status of any run.
-fn report<E: Output>(errors: &mut E, ended: Result<Done, RunFault>) -> u8
+fn report<E: Output>(errors: &mut E, ended: Ending) -> u8
     ensures status { result ≡ status_of ended }
     ensures reported { E.is_known → Reports failure_line E.Output errors.old errors.new ended }
 {
