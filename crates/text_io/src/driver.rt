@@ -12,7 +12,7 @@ ghost use Rattle.text_io.specs.declared.ending.Done.{Done as TheDone};
 
 use crate::delivery::{give_if_enough, give_last};
 use crate::device::{Input, Output};
-use crate::ending::{Done, Ending, RunFault};
+use crate::ending::{Answered, Done, Ending, RunFault};
 use crate::line_ends::{before_return, first_feed};
 use crate::machine::{Machine, Turn};
 use crate::refilling::refill;
@@ -61,7 +61,7 @@ fn answer_end<M: Machine>(
     met: u32,
     octets: &[u8],
     answers: &mut Vec<u8>,
-) -> Result<Done, AllocError>
+) -> Answered
     requires { (k : ℕ) → k < length octets.now → slice_index octets.now k ≢ 10 }
     ensures { IfOk result (λ done. (here : List ℕ) × (answers.new.items ≡ answers.old.items ++ here)
         × OfEach M.rules (M.shows machine.old)

@@ -1,5 +1,6 @@
 //! How a run ends.
 
+use std::alloc::AllocError;
 use thiserror::Error;
 
 /// Whether all input was answered.
@@ -27,3 +28,9 @@ pub enum RunFault {
 
 /// How a run ended, or why it failed.
 pub type Ending = Result<Done, RunFault>;
+
+/// Whether the input was answered whole, by a function that appends to the answers. The error is that memory is short.
+pub type Answered = Result<Done, AllocError>;
+
+/// Whether a function could append its text to the answers. The error is that memory is short.
+pub type Added = Result<(), AllocError>;
