@@ -10,7 +10,10 @@ use crate::answer_texts::add_no_program;
 use crate::program_reading::read_code;
 use bpf_code::Instr;
 use std::alloc::{AllocError, Global};
-use text_io::{Done, Ending, Input, LineWords, Machine, Output, Turn, answer_lines, line_words};
+use text_io::{
+    Added, Answered, Done, Ending, Input, LineWords, Machine, Output, Turn, answer_lines,
+    line_words,
+};
 use text_words::{add_bad_hex, add_bad_line, add_too_long, octets_of_word};
 
 /// What a subcommand does with a program.
@@ -119,7 +122,7 @@ impl<U: ProgramUser> Machine for AfterProgram<U> {
         }
     }
 
-    fn close(&self, answers: &mut Vec<u8>) -> Result<Done, AllocError> {
+    fn close(&self, answers: &mut Vec<u8>) -> Answered {
         if self.user.is_some() {
             return Ok(Done::Whole);
         }
@@ -127,7 +130,7 @@ impl<U: ProgramUser> Machine for AfterProgram<U> {
         Ok(Done::Ended)
     }
 
-    fn refuse(&self, answers: &mut Vec<u8>) -> Result<(), AllocError> {
+    fn refuse(&self, answers: &mut Vec<u8>) -> Added {
         add_too_long(answers)
     }
 

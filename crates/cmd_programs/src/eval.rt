@@ -10,7 +10,7 @@ use bpf_code::Instr;
 use bpf_interp::run;
 use bpf_verify::Program;
 use std::alloc::{AllocError, Global};
-use text_io::{Ending, Input, Output};
+use text_io::{Added, Ending, Input, Output};
 use upc_cell::Cell;
 
 /// Answers each cell with the value of the program.
@@ -28,7 +28,7 @@ impl CellUser for Program {
     }
 
     #[inline(always)]
-    fn answer_cell(&self, cell: &Cell, answers: &mut Vec<u8>) -> Result<(), AllocError> {
+    fn answer_cell(&self, cell: &Cell, answers: &mut Vec<u8>) -> Added {
         let outcome = run(self, cell);
         add_value(answers, outcome.value, outcome.steps)
     }

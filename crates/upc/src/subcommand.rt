@@ -16,7 +16,7 @@ use text_io::{Ending, Input, Output};
 /// # Errors
 ///
 /// See [`text_io::RunFault`].
-pub fn run_alone<I: Input, O: Output>(
+pub fn run_on_one_thread<I: Input, O: Output>(
     alloc: Global,
     choice: Choice,
     input: &mut I,
