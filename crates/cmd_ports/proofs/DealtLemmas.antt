@@ -28,7 +28,7 @@ use Rattle.text_script.specs.Dealing.{fault_dealt, is_cell_line, port_of, Dealt,
 use Rattle.cmd_ports.specs.inner.DeskTexts.{ObeysEach, MayObeyLine}
 use Rattle.cmd_ports.specs.inner.Script.{AnswersLater, OfLines}
 use Rattle.text_io.specs.Devices.{Adds}
-use Rattle.cmd_ports.specs.inner.InOrder.{AllPrint, IsTextOfAnswerer, PrintsCell, Unprinted, after_answerer, cells_after, first_cell, first_text, lengths_after, first_length, texts_after}
+use Rattle.cmd_ports.specs.inner.InOrder.{AllPrint, IsTextOfAnswerer, PrintsCell, Unprinted, after_answerer, cells_after, first_cell, first_or, without_first}
 use Rattle.text_words.specs.FaultLines.{wrong_length}
 use Rattle.cmd_ports.specs.inner.Answered.{cell_counts, cells_counts}
 use Rattle.cmd_ports.proofs.CountsLemmas.{nothing-plus}
@@ -306,10 +306,10 @@ fault-left side all rest line lines now next last names names' text (WrongLength
     let whole : last.lengths ≡ now.lengths ++ (count ∷ grown.lengths) =
     grown.lengths_are ∙ ap (λ (xs : List ℕ). xs ++ grown.lengths) next_lengths ∙ append_assoc now.lengths (count ∷ []) grown.lengths in
     let same : rest.lengths ≡ count ∷ grown.lengths = append_cancel_left now.lengths rest.lengths (count ∷ grown.lengths) (sym left.lengths_are ∙ whole) in
-    let lengths : last.lengths ≡ next.lengths ++ lengths_after rest.lengths =
-    grown.lengths_are ∙ ap (λ (xs : List ℕ). next.lengths ++ xs) (sym (ap lengths_after same)) in
+    let lengths : last.lengths ≡ next.lengths ++ without_first rest.lengths =
+    grown.lengths_are ∙ ap (λ (xs : List ℕ). next.lengths ++ xs) (sym (ap (λ (xs : List ℕ). without_first xs) same)) in
     nobody-left side all rest (after_answerer answerers.WrongLength rest) line lines now next last names names' text answerers.WrongLength (wrong_length count) refl refl refl lengths
-    (λ here is. is ∙ ap (λ (xs : List ℕ). wrong_length (first_length xs)) same) may
+    (λ here is. is ∙ ap (λ (xs : List ℕ). wrong_length (first_or 0 xs)) same) may
     (ap (λ (d : Dealt). d.order) deals) (fault-arrivals (WrongLength count) now next deals) (fault-desk (WrongLength count) now next deals) grown left goes_on
 
 -- The line of a cell has its answer, and its counts are those of the stored cell.
@@ -357,10 +357,10 @@ cell-left side all rest here line lines now next last names names' text deals gr
 record DeskStep (side : Side) (line : List ℕ) (names names' : List Id) (desk : List (List ℕ)) (here : List ℕ) (texts : List (List ℕ)) : Type 0 where
   mid : List Id
   answer : MayObeyLine side (words_of line) names here mid
-  prints : ObeysEach side desk mid (texts_after texts) names'
+  prints : ObeysEach side desk mid (without_first texts) names'
 
 desk-step : (side : Side) (line : List ℕ) (names names' : List Id) (desk : List (List ℕ)) (here : List ℕ) (texts : List (List ℕ))
-    → ObeysEach side (line ∷ desk) names texts names' → here ≡ first_text texts → DeskStep side line names names' desk here texts
+    → ObeysEach side (line ∷ desk) names texts names' → here ≡ first_or [] texts → DeskStep side line names names' desk here texts
 desk-step side line names names' desk here [] prints is = absurd prints
 desk-step side line names names' desk here (own ∷ texts) (mid, answer, prints) is = record {
   mid = mid;

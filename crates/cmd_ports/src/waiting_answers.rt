@@ -54,10 +54,10 @@ fn first_of(own: &[AnsweredCell]) -> Option<(&AnsweredCell, &[AnsweredCell])>
 }
 
 impl<'a> Rest<'a> {
-    ghost use Rattle.std.specs.Prelude.{◌≡◌, slice_get};
+    ghost use Rattle.std.specs.Prelude.{◌≡◌, [], slice_get};
     ghost use Rattle.std.specs.Option.{option_copied};
     ghost use Rattle.text_script.specs.declared.dealing.Answerer.TheVariants.{Port, Desk, WrongLength};
-    ghost use Rattle.cmd_ports.specs.inner.InOrder.{after_answerer, first_cell, first_length, first_text};
+    ghost use Rattle.cmd_ports.specs.inner.InOrder.{after_answerer, first_cell, first_or};
     ghost use Rattle.cmd_ports.specs.inner.Rest.{unprinted};
 
     /// Takes the next answered cell of the port of this number, if there is one.
@@ -78,7 +78,7 @@ impl<'a> Rest<'a> {
 
     /// Takes the next text of the desk. It is empty if there is none.
     pub fn next_text(&mut self) -> &'a [u8]
-        ensures first { result.now ≡ first_text (unprinted self.old).texts }
+        ensures first { result.now ≡ first_or [] (unprinted self.old).texts }
         ensures rest { unprinted self.new ≡ after_answerer Desk (unprinted self.old) }
     {
         match self.texts {
@@ -92,7 +92,7 @@ impl<'a> Rest<'a> {
 
     /// Takes the next length. It is 0 if there is none.
     pub fn next_length(&mut self) -> usize
-        ensures first { result ≡ first_length (unprinted self.old).lengths }
+        ensures first { result ≡ first_or 0 (unprinted self.old).lengths }
         ensures rest { unprinted self.new ≡ after_answerer WrongLength (unprinted self.old) }
     {
         match self.lengths {

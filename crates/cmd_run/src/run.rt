@@ -132,11 +132,13 @@ impl Machine for Policing {
     }
 
     fn close(&self, answers: &mut Vec<u8>) -> Answered {
-        if self.card.is_some() {
-            return Ok(Done::Whole);
+        match &self.card {
+            None => {
+                add_no_card(answers)?;
+                Ok(Done::Ended)
+            }
+            Some(_) => Ok(Done::Whole),
         }
-        add_no_card(answers)?;
-        Ok(Done::Ended)
     }
 
     fn refuse(&self, answers: &mut Vec<u8>) -> Added {

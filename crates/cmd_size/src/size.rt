@@ -79,6 +79,5 @@ impl Machine for Sizing {
 pub fn size_contracts<I: Input, O: Output>(alloc: Global, input: &mut I, output: &mut O) -> Ending
     ensures { IsServed IsSizesText I.Input input.old input.new O.Output output.old output.new result }
 {
-    let mut sizing = Sizing;
-    answer_lines(alloc, input, output, &mut sizing)
+    answer_lines(alloc, input, output, &mut Sizing)
 }

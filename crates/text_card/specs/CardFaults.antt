@@ -12,17 +12,13 @@ use Rattle.text_words.specs.FaultLines.{line}
 abbrev pub no_card : List ℕ
 no_card = codes "fault script 2 NoCard\n"
 
--- The number and the name of the first number of a shape that is out of its limits. NoMemory is never printed.
-abbrev pub shape_name : CardFault → List ℕ
-shape_name card.Programs = codes "1 Programs"
-shape_name card.Lines = codes "2 Lines"
-shape_name card.Ports = codes "3 Ports"
-shape_name card.Journal = codes "4 Journal"
-shape_name card.NoMemory = codes "5 NoMemory"
-
--- The answer to a shape that no card has.
+-- The answer to a shape that no card has: which of its numbers is the first out of its limits. NoMemory is never printed.
 abbrev pub shape_fault_line : CardFault → List ℕ
-shape_fault_line fault = line (codes "fault shape " ++ shape_name fault)
+shape_fault_line card.Programs = line (codes "fault shape 1 Programs")
+shape_fault_line card.Lines = line (codes "fault shape 2 Lines")
+shape_fault_line card.Ports = line (codes "fault shape 3 Ports")
+shape_fault_line card.Journal = line (codes "fault shape 4 Journal")
+shape_fault_line card.NoMemory = line (codes "fault shape 5 NoMemory")
 
 -- The answer to two numbers that are no rate.
 abbrev pub gcra_fault : GcraFault → List ℕ

@@ -29,23 +29,15 @@ cells_after cells number None = cells
 cells_after cells number (Some []) = cells
 cells_after cells number (Some (one ∷ own)) = slice_set cells number own
 
--- The first text, or an empty one if there is none.
-abbrev pub first_text : List (List ℕ) → List ℕ
-first_text [] = []
-first_text (text ∷ texts) = text
+-- The first of a list, or this if there is none.
+abbrev pub first_or : {A : Type 0} → A → List A → A
+first_or otherwise [] = otherwise
+first_or otherwise (one ∷ more) = one
 
-abbrev pub texts_after : List (List ℕ) → List (List ℕ)
-texts_after [] = []
-texts_after (text ∷ texts) = texts
-
--- The first length, or 0 if there is none.
-abbrev pub first_length : List ℕ → ℕ
-first_length [] = 0
-first_length (count ∷ lengths) = count
-
-abbrev pub lengths_after : List ℕ → List ℕ
-lengths_after [] = []
-lengths_after (count ∷ lengths) = lengths
+-- A list without its first.
+abbrev pub without_first : {A : Type 0} → List A → List A
+without_first [] = []
+without_first (one ∷ more) = more
 
 -- The text is the line of the cell's answer; it is empty if there is no such cell.
 abbrev pub PrintsCell : Side → List Id → Option AnsweredCell → List ℕ → Type 0
@@ -56,18 +48,18 @@ PrintsCell side names (Some arrival) text =
 -- The text of one answerer, from what isn't printed yet.
 abbrev pub IsTextOfAnswerer : Side → List Id → Unprinted → Answerer → List ℕ → Type 0
 IsTextOfAnswerer side names rest (Port number) text = PrintsCell side names (first_cell (slice_get rest.cells number)) text
-IsTextOfAnswerer side names rest Desk text = text ≡ first_text rest.texts
+IsTextOfAnswerer side names rest Desk text = text ≡ first_or [] rest.texts
 IsTextOfAnswerer side names rest BadLine text = text ≡ bad_line
 IsTextOfAnswerer side names rest BadHex text = text ≡ bad_hex
-IsTextOfAnswerer side names rest WrongLength text = text ≡ wrong_length (first_length rest.lengths)
+IsTextOfAnswerer side names rest WrongLength text = text ≡ wrong_length (first_or 0 rest.lengths)
 
 -- What isn't printed after it.
 abbrev pub after_answerer : Answerer → Unprinted → Unprinted
 after_answerer (Port number) rest = record rest { cells = cells_after rest.cells number (slice_get rest.cells number) }
-after_answerer Desk rest = record rest { texts = texts_after rest.texts }
+after_answerer Desk rest = record rest { texts = without_first rest.texts }
 after_answerer BadLine rest = rest
 after_answerer BadHex rest = rest
-after_answerer WrongLength rest = record rest { lengths = lengths_after rest.lengths }
+after_answerer WrongLength rest = record rest { lengths = without_first rest.lengths }
 
 -- The texts of all answerers, one after another, and nothing else.
 abbrev pub AllPrint : Side → List Id → Unprinted → List Answerer → List ℕ → Type 0

@@ -7,13 +7,15 @@ use Rattle.upc_cell.specs.declared.vc.Vc.{Vc}
 use Rattle.bpf_code.specs.declared.instr.Instr.{Instr}
 use Rattle.gen_arena.specs.declared.id.Id.{Id}
 use Rattle.card_core.specs.Refusals.{enter_refusal, judge_refusal, load_fault, missing_fault, pick_refusal, picking_refusal, reload_fault, retire_fault, setup_fault}
-use Rattle.card_core.specs.Steps.{Enters, FindsNoMemory, IsRefused, Judges, Picks, WorldStep, judged_answer, left_by_judge, left_by_pick, picking_of}
+use Rattle.card_core.specs.Steps.{Enters, FindsNoMemory, IsRefused, Judges, Picks, Succeeds, WorldStep, judged_answer, left_by, left_by_judge, left_by_pick, picking_of}
 use Rattle.card_core.specs.World.{Picking, PortState, World, connection_in, entered, outside, picked}
 use Rattle.card_core.specs.declared.answer.Answer.{Answer}
 use Rattle.card_core.specs.declared.answer.Answer.TheVariants as answer
 use Rattle.card_core.specs.declared.ask.Ask.{Ask}
 use Rattle.card_core.specs.declared.reply.Reply.{Reply}
 use Rattle.card_core.specs.declared.reply.Reply.TheVariants.{Entered, Picked, Answered, NotLoaded, NotSetUp, Refused}
+use Rattle.card_core.specs.declared.fault.DeskFault.{DeskFault}
+use Rattle.card_core.specs.declared.step.Step.{Step}
 use Rattle.card_core.specs.declared.step.Step.TheVariants.{Enter, Pick, Judge, Load, Retire, Setup, Reload, Release, Cut}
 use Rattle.cmd_run.specs.inner.CardSteps.{desk-cases}
 
@@ -25,35 +27,38 @@ PortIs world state = slice_get world.ports 0 ≡ Some state
 abbrev Same : World → World → Type 0
 Same before after = after.ports ≡ before.ports
 
+-- A step of the desk that leaves the ports if it succeeds leaves them in any case.
+desk-ports : (wrap : DeskFault → Reply) (found : Option DeskFault) (before after : World) (step : Step) (reply : Reply)
+    → (left_by before step).ports ≡ before.ports → (Succeeds before step reply after → Same before after)
+    → MatchOption (option_map wrap found) (Succeeds before step reply after ⊎ FindsNoMemory before step reply after)
+    (λ refused. IsRefused before step refused reply after) → Same before after
+desk-ports wrap found before after step reply left succeeds =
+    desk-cases (Same before after) wrap found before after step reply succeeds (λ l. ap (λ w. w.ports) l.world)
+    (λ fault r. ap (λ w. w.ports) r.world ∙ left)
+
 pub load-ports : (before after : World) (code : List Instr) (reply : Reply) → WorldStep before (Load code) reply after → Same before after
 load-ports before after code reply =
-    desk-cases (Same before after) (λ fault. NotLoaded fault code) (load_fault before) before after (Load code) reply
-    (λ s. ap (λ w. w.ports) s.world) (λ l. ap (λ w. w.ports) l.world) (λ fault r. ap (λ w. w.ports) r.world)
+    desk-ports (λ fault. NotLoaded fault code) (load_fault before) before after (Load code) reply refl (λ s. ap (λ w. w.ports) s.world)
 
 pub retire-ports : (before after : World) (id : Id) (reply : Reply) → WorldStep before (Retire id) reply after → Same before after
 retire-ports before after id reply =
-    desk-cases (Same before after) (λ fault. Refused fault) (retire_fault before id) before after (Retire id) reply
-    (λ s. ap (λ w. w.ports) s.world) (λ l. ap (λ w. w.ports) l.world) (λ fault r. ap (λ w. w.ports) r.world)
+    desk-ports (λ fault. Refused fault) (retire_fault before id) before after (Retire id) reply refl (λ s. ap (λ w. w.ports) s.world)
 
 pub setup-ports : (before after : World) (ask : Ask) (reply : Reply) → WorldStep before (Setup ask) reply after → Same before after
 setup-ports before after ask reply =
-    desk-cases (Same before after) (λ fault. NotSetUp fault ask) (setup_fault before ask) before after (Setup ask) reply
-    (λ s. ap (λ w. w.ports) s.world) (λ l. ap (λ w. w.ports) l.world) (λ fault r. ap (λ w. w.ports) r.world)
+    desk-ports (λ fault. NotSetUp fault ask) (setup_fault before ask) before after (Setup ask) reply refl (λ s. ap (λ w. w.ports) s.world)
 
 pub reload-ports : (before after : World) (vc : Vc) (id : Id) (reply : Reply) → WorldStep before (Reload vc id) reply after → Same before after
 reload-ports before after vc id reply =
-    desk-cases (Same before after) (λ fault. Refused fault) (reload_fault before vc id) before after (Reload vc id) reply
-    (λ s. ap (λ w. w.ports) s.world) (λ l. ap (λ w. w.ports) l.world) (λ fault r. ap (λ w. w.ports) r.world)
+    desk-ports (λ fault. Refused fault) (reload_fault before vc id) before after (Reload vc id) reply refl (λ s. ap (λ w. w.ports) s.world)
 
 pub release-ports : (before after : World) (vc : Vc) (reply : Reply) → WorldStep before (Release vc) reply after → Same before after
 release-ports before after vc reply =
-    desk-cases (Same before after) (λ fault. Refused fault) (missing_fault before vc) before after (Release vc) reply
-    (λ s. ap (λ w. w.ports) s.world) (λ l. ap (λ w. w.ports) l.world) (λ fault r. ap (λ w. w.ports) r.world)
+    desk-ports (λ fault. Refused fault) (missing_fault before vc) before after (Release vc) reply refl (λ s. ap (λ w. w.ports) s.world)
 
 pub cut-ports : (before after : World) (vc : Vc) (reply : Reply) → WorldStep before (Cut vc) reply after → Same before after
 cut-ports before after vc reply =
-    desk-cases (Same before after) (λ fault. Refused fault) (missing_fault before vc) before after (Cut vc) reply
-    (λ s. ap (λ w. w.ports) s.world) (λ l. ap (λ w. w.ports) l.world) (λ fault r. ap (λ w. w.ports) r.world)
+    desk-ports (λ fault. Refused fault) (missing_fault before vc) before after (Cut vc) reply refl (λ s. ap (λ w. w.ports) s.world)
 
 -- A state that is written to place 0 is there.
 put-there : (states : List PortState) (old new : PortState) → slice_get states 0 ≡ Some old → slice_get (slice_set states 0 new) 0 ≡ Some new
