@@ -3,4 +3,5 @@ pub mod Comments
 pub mod Trace
 pub mod LongestRun
 pub mod ListedProgram
+pub mod OneOutput
 pub mod inner

@@ -7,6 +7,7 @@ ghost use Rattle.bpf_interp.specs.Value.{Value};
 ghost use Rattle.bpf_verify.specs.Accepted.{IsAccepted};
 ghost use Rattle.cmd_list.specs.ListedProgram.{IsListText, ListsLine};
 ghost use Rattle.cmd_list.specs.LongestRun.{IsLongestRun};
+ghost use Rattle.cmd_list.specs.OneOutput.{HasOneOutput};
 ghost use Rattle.cmd_list.specs.Trace.{IsTraceText, PrintsTrace};
 ghost use Rattle.text_io.specs.Lines.{lines_of};
 ghost use Rattle.text_io.specs.declared.ending.Done.{Done as TheDone};
@@ -27,8 +28,7 @@ pub fn every_input_has_a_trace()
 
 /// An input has at most one trace, with one end.
 pub fn an_input_has_one_trace()
-    ensures { (octets one other : List ℕ) (ends other_ends : TheDone)
-        → IsTraceText octets one ends → IsTraceText octets other other_ends → (one ≡ other) × (ends ≡ other_ends) }
+    ensures { HasOneOutput IsTraceText }
 {}
 
 /// The output of a whole run of `list` lists the program of a line of the input, and is a source that means this program.
@@ -46,8 +46,7 @@ pub fn every_input_has_a_listing()
 
 /// An input has at most one output of `list`, with one end.
 pub fn an_input_has_one_listing()
-    ensures { (octets one other : List ℕ) (ends other_ends : TheDone)
-        → IsListText octets one ends → IsListText octets other other_ends → (one ≡ other) × (ends ≡ other_ends) }
+    ensures { HasOneOutput IsListText }
 {}
 
 /// An accepted code has one longest run, which begins at most as many instructions as the code has.
