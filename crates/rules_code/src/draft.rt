@@ -1,6 +1,6 @@
 //! A code that is made from its end to its front.
 
-ghost use Rattle.std.specs.Prelude.{◌≡◌, ◌-◌, ◌≤◌, ◌<◌, ◌^◌, [], ◌∷◌, length, IfOk, OnOk};
+ghost use Rattle.std.specs.Prelude.{◌≡◌, ◌==◌, if◌then◌else◌, ◌-◌, ◌≤◌, ◌<◌, ◌^◌, [], ◌∷◌, length, IfOk, OnOk};
 ghost use Rattle.bpf_code.specs.declared.instr.Instr.TheVariants.{Jump};
 ghost use Rattle.rules_code.specs.Labels.{near_code, near_label, branched};
 ghost use Rattle.rules_code.specs.inner.Making.{IsMade};
@@ -42,6 +42,14 @@ pub struct Ways {
     pub met: usize,
     /// Where a packet goes that doesn't.
     pub unmet: usize,
+}
+
+/// The label of one side of two tests. The later test begins at `entry` and has this label for the side; where it begins there, the side
+/// is that of the first test.
+pub(crate) fn side_label(entry: usize, label: usize, first: usize) -> usize
+    ensures { result ≡ if entry == label then first else label }
+{
+    if entry == label { first } else { label }
 }
 
 impl Draft {

@@ -1,6 +1,5 @@
 //! Why tests have no code.
 
-use std::alloc::AllocError;
 use thiserror::Error;
 
 /// Why no code was made of lines.
@@ -12,16 +11,4 @@ pub enum CodeFault {
     /// An allocation failed.
     #[error("NoMemory")]
     NoMemory,
-}
-
-impl From<AllocError> for CodeFault {
-    ghost use Rattle.std.specs.Prelude.{◌≡◌};
-    ghost use Rattle.rules_code.specs.declared.fault.CodeFault.TheVariants.{NoMemory};
-
-    ghost from_gives = { λ e fault. fault ≡ NoMemory };
-
-    /// Returns the fault of a failed allocation.
-    fn from(_: AllocError) -> CodeFault {
-        CodeFault::NoMemory
-    }
 }

@@ -8,7 +8,7 @@ ghost use Rattle.rules_code.specs.TestCode.{is_same_mask, is_same_load, is_same_
 ghost use Rattle.rules_code.specs.inner.Making.{IsMade};
 
 use crate::bits::{BitTest, bits_of};
-use crate::draft::{Draft, Ways};
+use crate::draft::{Draft, Ways, side_label};
 use crate::packet_part::{Part, Span};
 use bpf_code::{By, Instr, Op, Size, Test};
 use std::alloc::AllocError;
@@ -231,15 +231,10 @@ fn put_before(
     ensures { IfOk result (IsMade (spans_from mask span (record { code = draft.old; ways = more })) draft.new) }
 {
     let first = put_span(draft, mask, span, more.met, more.entry)?;
-    let unmet = if more.entry == more.unmet {
-        first.unmet
-    } else {
-        more.unmet
-    };
     Ok(Ways {
         entry: first.entry,
         met: first.met,
-        unmet,
+        unmet: side_label(more.entry, more.unmet, first.unmet),
     })
 }
 

@@ -5,7 +5,7 @@ ghost use Rattle.rules_code.specs.TestCode.{known_after, known_with_operand, tur
 ghost use Rattle.rules_code.specs.inner.Chains.{chain_code, held_before, known_after_operand, known_after_tests, operand_code};
 ghost use Rattle.rules_code.specs.inner.Making.{IsMade};
 
-use crate::draft::{Draft, Ways};
+use crate::draft::{Draft, Ways, side_label};
 use crate::leaves::{held_to_compare, known_at_join, put_among};
 use crate::packet_part::{KnownOnBranches, Part};
 use crate::plain_test::PlainTest;
@@ -169,14 +169,9 @@ fn put_operand(
     } else {
         turned_ways(put_test(draft, test, held, later.unmet, later.entry)?)
     };
-    let met = if later.entry == later.met {
-        first.met
-    } else {
-        later.met
-    };
     Ok(Ways {
         entry: first.entry,
-        met,
+        met: side_label(later.entry, later.met, first.met),
         unmet: first.unmet,
     })
 }

@@ -5,7 +5,9 @@ use Rattle.upc_cell.specs.declared.side.Side.TheVariants.{Uni, Nni}
 use Rattle.rules_text.specs.Laws.{IsHeadWritten, IsRuleWritten}
 use Rattle.rules_text.specs.LineGrammar.{Awaited, field_of_list, LineContext, ListRead, field_list, denied_list, path_list, Reading, StatementRead, SubjectRead, awaits_start, awaits_unit, awaits_operator, awaits_offset, awaits_relation, awaits_mask, awaits_sign, awaits_constant, awaits_dots, awaits_high, awaits_comma, awaits_low, awaits_slash, awaits_channel, awaits_arrow, awaits_value, awaits_only_value, awaits_side, awaits_end, blank_statement, group_after_or, group_test, group_with, lacks_room, line_statement, list_test, value_statement, side_statement, may_be_name, negated_if, no_group, nothing_read, path_test, range_of_one, read_arrow, read_awaited, read_channel, read_comma, read_constant, read_dots, read_high, read_low, read_mask, read_offset, read_operator, read_relation, read_only_value, read_side, read_sign, read_slash, read_start, read_token, read_value, statement_at_end, subject_of, whole_test, with_block, with_closed_parenthesis, with_head, with_list, with_range, with_unit}
 use Rattle.rules_text.specs.RuleGrammar.{HeadForm, bare_head, equal_head, unequal_head, path_head, OrderForm, less_order, at_most_order, greater_order, at_least_order, RangeForm, TestForm, order_unit, path_unit, list_unit, field_tokens, head_tokens, list_of_head, list_tokens, mask_tokens, order_sign, spans_written, subject_tokens, test_tokens, test_written, unit_tokens}
-use Rattle.rules_text.specs.RulesRead.{SignRead, any_cell, equal_sign, unequal_sign, less_sign, at_most_sign, greater_sign, at_least_sign, TestRead, block_line, comparing, compared, end_line, rule_line}
+use Rattle.rules_text.specs.RulesRead.{any_cell, TestRead, block_line, comparing, compared, end_line, rule_line}
+use Rattle.rules_text.specs.declared.lexer.Sign.{Sign}
+use Rattle.rules_text.specs.declared.lexer.Sign.TheVariants.{Equal as equal_sign, Unequal as unequal_sign, Less as less_sign, AtMost as at_most_sign, Greater as greater_sign, AtLeast as at_least_sign}
 use Rattle.rules_text.specs.RuleTokens.{RuleFound, RuleToken, and_word, arrow_mark, close_brace, close_parenthesis, comma_mark, dots_mark, mask_mark, number_word, open_brace, or_word, otherwise_word, side_word, sign_mark, size_word, slash_mark, star_mark, uni_word, nni_word}
 use Rattle.rules_text.specs.Subjects.{most_of_field, number_within, octets_at_token, value_read}
 use Rattle.rules_text.specs.TextOfRules.{fault_column, read_then, statement_from, fault_in_line}
@@ -225,7 +227,7 @@ mask_read context tokens subject reading next token e bare begun none =
     made_by (tokens ++ (token ∷ [])) made next (Ok made) found.2 refl
     (renamed (tokens ++ (token ∷ [])) _ (subject_tokens masked) made same (grown tokens (subject_tokens subject ++ (mask_mark ∷ [])) token reading made begun refl refl), none)
 
-constant_read : (context : LineContext) (tokens : List RuleToken) (subject : SubjectRead) (sign : SignRead) (order : OrderForm) (reading next : Reading) (token : RuleToken)
+constant_read : (context : LineContext) (tokens : List RuleToken) (subject : SubjectRead) (sign : Sign) (order : OrderForm) (reading next : Reading) (token : RuleToken)
     → read_constant context subject sign reading token ≡ Ok next → sign ≡ order_sign order → InOpen tokens (subject_tokens subject ++ (sign_mark sign ∷ [])) reading → reading.spans ≡ []
     → Explained (tokens ++ (token ∷ [])) next
 unfolding read_constant

@@ -5,7 +5,9 @@ use Rattle.bpf_code.specs.declared.instr.Size.{Size}
 use Rattle.rules_code.specs.declared.packet_part.Span.{Span}
 use Rattle.rules_text.specs.LineGrammar.{Awaited, GroupRead, LineContext, ListRead, field_list, denied_list, path_list, Reading, SubjectRead, awaits_start, awaits_unit, awaits_operator, awaits_offset, awaits_relation, awaits_mask, awaits_sign, awaits_constant, awaits_dots, awaits_high, awaits_comma, awaits_low, awaits_slash, awaits_channel, group_test, group_with, no_group, field_of_list, list_test, path_test, read_awaited, read_channel, read_comma, read_constant, read_dots, read_high, read_low, read_mask, read_offset, read_operator, read_relation, read_sign, read_slash, read_start, read_token, read_unit, range_of_one, subject_of, with_closed_parenthesis, with_list, with_open_parenthesis, with_range, with_unit}
 use Rattle.rules_text.specs.RuleGrammar.{FieldFits, HeadFits, HeadForm, bare_head, equal_head, unequal_head, path_head, OrderForm, less_order, at_most_order, greater_order, at_least_order, head_tokens, list_of_head, order_sign, HighFits, ListFits, MaskFits, RangeForm, SubjectFits, field_tokens, high_tokens, list_tokens, mask_tokens, span_from, spans_written, subject_tokens}
-use Rattle.rules_text.specs.RulesRead.{FieldRead, vpi_field, SignRead, equal_sign, unequal_sign, TestRead, comparing, compared, gfc_field, vci_field, pti_field, clp_field, octets_field}
+use Rattle.rules_text.specs.RulesRead.{FieldRead, vpi_field, TestRead, comparing, compared, gfc_field, vci_field, pti_field, clp_field, octets_field}
+use Rattle.rules_text.specs.declared.lexer.Sign.{Sign}
+use Rattle.rules_text.specs.declared.lexer.Sign.TheVariants.{Equal as equal_sign, Unequal as unequal_sign}
 use Rattle.rules_text.specs.RuleTokens.{RuleToken, test_word, not_word, and_word, or_word, field_word, size_word, number_word, arrow_mark, open_brace, open_parenthesis, close_parenthesis, mask_mark, comma_mark, dots_mark, slash_mark, star_mark, sign_mark}
 use Rattle.rules_text.specs.Subjects.{header_read, most_of_field, octets_read}
 
@@ -213,7 +215,7 @@ unequal_step : (context : LineContext) (column : ℕ) (reading : Reading) (group
 unfolding read_awaited read_sign
 unequal_step context column reading group comparisons subject = refl
 
-pub constant_step : (context : LineContext) (column : ℕ) (reading : Reading) (group : GroupRead) (comparisons : ℕ) (subject : SubjectRead) (sign : SignRead) (k : ℕ)
+pub constant_step : (context : LineContext) (column : ℕ) (reading : Reading) (group : GroupRead) (comparisons : ℕ) (subject : SubjectRead) (sign : Sign) (k : ℕ)
     → k ≤ most_of_field context.side subject.field → comparisons < 4096
     → read_token context column (at_state reading (awaits_constant subject sign) group [] comparisons) (number_word k)
     ≡ Ok (at_state reading awaits_operator (group_with group (comparing subject.field subject.mask (compared sign k))) [] (comparisons + 1))

@@ -7,7 +7,7 @@ use Rattle.rules_text.specs.TextOfRules.{is_equal, name_found, name_with_sign, n
 use Rattle.rules_text.specs.declared.fault.RuleKind.{RuleKind}
 use Rattle.rules_text.specs.declared.fault.RuleKind.TheVariants.{BadLine, BadNumber, TooLarge, OutsideCell, AfterOtherwise, Unbalanced, TooDeep, TooLong, NoMemory, UnknownName, NameTaken}
 use Rattle.rules_text.specs.declared.lexer.Found.{Found}
-use Rattle.rules_text.specs.inner.Seen.{found_seen}
+use Rattle.rules_text.specs.SeenTokens.{found_seen}
 use Rattle.rules_text.specs.inner.SeenFaults.{fault_seen}
 
 -- The letters of a token, whose columns the code counts from 0.

@@ -15,7 +15,7 @@ use Rattle.rules_text.specs.RuleTokens.{RuleToken, no_room}
 use Rattle.rules_text.specs.declared.lexer.Token.{Token}
 use Rattle.rules_text.specs.declared.names.NameTable.{NameTable}
 use Rattle.rules_text.specs.declared.names.Name.{Name}
-use Rattle.rules_text.specs.inner.Seen.{rule_token_seen}
+use Rattle.rules_text.specs.SeenTokens.{rule_token_seen}
 use Rattle.rules_text.specs.inner.SeenReading.{name_seen, names_seen}
 use Rattle.rules_text.specs.inner.SeenNameTable.{IsFoundByLetters, meaning_at, meaning_of, name_index}
 

@@ -28,7 +28,8 @@ use Rattle.rules_code.proofs.Bare.{Bare, BareLine, all_of_bare, any_bare, bare, 
 use Rattle.upc_cell.specs.Side.{last_vpi}
 use Rattle.upc_cell.specs.declared.side.Side.{Side}
 use Rattle.rules_text.specs.CodeOfText.{IsCodeOfText}
-use Rattle.rules_text.specs.RulesRead.{FieldRead, gfc_field, vpi_field, vci_field, pti_field, clp_field, octets_field, equal_sign, unequal_sign, less_sign, at_most_sign, greater_sign, at_least_sign, RelationRead, compared, listed, TestRead, TestsRead, any_cell, f5_cell, user_cell, comparing, negation, conjunction, disjunction, no_tests, more_tests, LineRead, rule_line, block_line, end_line, RulesRead, field_read, line_read, relation_read, rules_read, test_read, tests_read}
+use Rattle.rules_text.specs.RulesRead.{FieldRead, gfc_field, vpi_field, vci_field, pti_field, clp_field, octets_field, RelationRead, compared, listed, TestRead, TestsRead, any_cell, f5_cell, user_cell, comparing, negation, conjunction, disjunction, no_tests, more_tests, LineRead, rule_line, block_line, end_line, RulesRead, field_read, line_read, relation_read, rules_read, test_read, tests_read}
+use Rattle.rules_text.specs.declared.lexer.Sign.TheVariants.{Equal as equal_sign, Unequal as unequal_sign, Less as less_sign, AtMost as at_most_sign, Greater as greater_sign, AtLeast as at_least_sign}
 use Rattle.rules_text.specs.TextOfRules.{rules_in}
 use Rattle.rules_text.specs.declared.fault.RuleFault.{RuleFault}
 use Rattle.rules_text.proofs.Values.{among_last}

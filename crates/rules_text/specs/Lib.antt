@@ -1,6 +1,7 @@
 pub mod RulesRead
 pub mod TestWords
 pub mod RuleTokens
+pub mod SeenTokens
 pub mod ContinuedLines
 pub mod Subjects
 pub mod LineGrammar

@@ -5,7 +5,9 @@ use Rattle.bpf_code.specs.declared.instr.Size.{Size}
 use Rattle.rules_code.specs.declared.packet_part.Span.{Span}
 use Rattle.upc_cell.specs.declared.side.Side.{Side}
 use Rattle.upc_cell.specs.declared.side.Side.TheVariants as side_of
-use Rattle.rules_text.specs.RulesRead.{FieldRead, vpi_field, vci_field, LineRead, SignRead, equal_sign, unequal_sign, TestRead, any_cell, comparing, negation, conjunction, two_tests, joined_by_and, joined_by_or, compared, listed, rule_line, block_line, end_line}
+use Rattle.rules_text.specs.RulesRead.{FieldRead, vpi_field, vci_field, LineRead, TestRead, any_cell, comparing, negation, conjunction, two_tests, joined_by_and, joined_by_or, compared, listed, rule_line, block_line, end_line}
+use Rattle.rules_text.specs.declared.lexer.Sign.{Sign}
+use Rattle.rules_text.specs.declared.lexer.Sign.TheVariants.{Equal as equal_sign, Unequal as unequal_sign}
 use Rattle.rules_text.specs.RuleTokens.{RuleToken, test_word, name_word, no_room, not_word, and_word, or_word, otherwise_word, side_word, uni_word, nni_word, field_word, size_word, arrow_mark, open_brace, close_brace, open_parenthesis, close_parenthesis, mask_mark, comma_mark, dots_mark, slash_mark, star_mark, sign_mark}
 use Rattle.rules_text.specs.Subjects.{header_read, most_of_field, number_within, octets_at_token, value_read}
 use Rattle.rules_text.specs.declared.fault.RuleKind.{RuleKind}
@@ -64,7 +66,7 @@ pub data Awaited : Type 0 where
   -- after a mask: a sign or a number
   awaits_sign : SubjectRead → Awaited
   -- the number after a sign
-  awaits_constant : SubjectRead → SignRead → Awaited
+  awaits_constant : SubjectRead → Sign → Awaited
   -- after the first number of a range: `..`, `,`, or what comes after a unit
   awaits_dots : ListRead → ℕ → Awaited
   -- the number after `..`
@@ -310,7 +312,7 @@ read_mask context subject reading token =
     Ok (record reading { awaited = awaits_sign (record { field = subject.field; mask = Some mask }) }))
 
 -- The number after a sign.
-unfoldable pub read_constant : LineContext → SubjectRead → SignRead → Reading → RuleToken → LineStep
+unfoldable pub read_constant : LineContext → SubjectRead → Sign → Reading → RuleToken → LineStep
 read_constant context subject sign reading token =
     found_then (number_within (most_of_field context.side subject.field) token) (λ k.
     with_unit reading (comparing subject.field subject.mask (compared sign k)))

@@ -3,7 +3,9 @@
 use Rattle.std.specs.Prelude.{◌≡◌, ◌+◌, ◌≤◌, ◌<◌, ℕ, Bool, not, false, List, [], ◌∷◌, ◌++◌, length, Option, Some, None, Ok}
 use Rattle.rules_code.specs.declared.packet_part.Span.{Span}
 use Rattle.rules_text.specs.LineGrammar.{LineContext, ListRead, field_list, denied_list, path_list, SubjectRead, field_of_list, list_test, negated_if, path_test}
-use Rattle.rules_text.specs.RulesRead.{FieldRead, vpi_field, octets_field, SignRead, equal_sign, unequal_sign, less_sign, at_most_sign, greater_sign, at_least_sign, TestRead, comparing, joined_by_and, joined_by_or, compared}
+use Rattle.rules_text.specs.RulesRead.{FieldRead, vpi_field, octets_field, TestRead, comparing, joined_by_and, joined_by_or, compared}
+use Rattle.rules_text.specs.declared.lexer.Sign.{Sign}
+use Rattle.rules_text.specs.declared.lexer.Sign.TheVariants.{Equal as equal_sign, Unequal as unequal_sign, Less as less_sign, AtMost as at_most_sign, Greater as greater_sign, AtLeast as at_least_sign}
 use Rattle.rules_text.specs.RuleTokens.{RuleToken, test_word, not_word, and_word, or_word, field_word, size_word, number_word, open_parenthesis, close_parenthesis, mask_mark, comma_mark, dots_mark, slash_mark, star_mark, sign_mark}
 use Rattle.rules_text.specs.Subjects.{header_read, most_of_field, octets_read}
 
@@ -62,7 +64,7 @@ abbrev pub subject_tokens : SubjectRead → List RuleToken
 subject_tokens subject = field_tokens subject.field ++ mask_tokens subject.mask
 
 -- The sign.
-abbrev pub order_sign : OrderForm → SignRead
+abbrev pub order_sign : OrderForm → Sign
 order_sign less_order = less_sign
 order_sign at_most_order = at_most_sign
 order_sign greater_order = greater_sign

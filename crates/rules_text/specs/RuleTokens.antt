@@ -6,8 +6,10 @@ use Rattle.bpf_asm.specs.Tokens.{is_word}
 use Rattle.bpf_code.specs.declared.instr.Size.{Size}
 use Rattle.bpf_code.specs.declared.instr.Size.TheVariants.{Octet, Half, Word}
 use Rattle.text_io.specs.Words.{is_blank, is_digit}
-use Rattle.rules_text.specs.RulesRead.{FieldRead, gfc_field, vpi_field, vci_field, pti_field, clp_field, SignRead, equal_sign, unequal_sign, less_sign, at_most_sign, greater_sign, at_least_sign, TestRead, any_cell, f5_cell, user_cell}
-use Rattle.rules_text.specs.TestWords.{f4_cell, f4_segment_cell, f4_end_cell, f5_segment_cell, f5_end_cell, oam_cell, rm_cell, meta_signalling_cell, broadcast_cell, signalling_cell, ilmi_cell, idle_cell}
+use Rattle.rules_text.specs.RulesRead.{FieldRead, gfc_field, vpi_field, vci_field, pti_field, clp_field, TestRead, any_cell, f5_cell, user_cell}
+use Rattle.rules_text.specs.declared.lexer.Sign.{Sign}
+use Rattle.rules_text.specs.declared.lexer.Sign.TheVariants.{Equal as equal_sign, Unequal as unequal_sign, Less as less_sign, AtMost as at_most_sign, Greater as greater_sign, AtLeast as at_least_sign}
+use Rattle.rules_text.specs.TestWords.{cell_of_channel, cell_of_type, f4_cell, oam_cell, idle_cell}
 
 -- A token: a word of the language (of those that are tests, the test), a number, a word that begins with a digit and is no number, any other
 -- word, which may be a name, a mark, or anything else. The value of a contract comes from its name alone, and `no_room` from a name whose
@@ -41,80 +43,42 @@ pub data RuleToken : Type 0 where
   dots_mark : RuleToken
   slash_mark : RuleToken
   star_mark : RuleToken
-  sign_mark : SignRead → RuleToken
+  sign_mark : Sign → RuleToken
   no_token : RuleToken
 
 -- The words of the language. The last six of those that are tests are tcpdump's for channels.
 abbrev pub rule_words : List (List ℕ × RuleToken)
 rule_words =
-    (codes "any", test_word any_cell)
-    ∷ (codes "user", test_word user_cell)
-    ∷ (codes "oam", test_word oam_cell)
-    ∷ (codes "oamf4", test_word f4_cell)
-    ∷ (codes "oamf4s", test_word f4_segment_cell)
-    ∷ (codes "oamf4e", test_word f4_end_cell)
-    ∷ (codes "oamf5", test_word f5_cell)
-    ∷ (codes "oamf5s", test_word f5_segment_cell)
-    ∷ (codes "oamf5e", test_word f5_end_cell)
-    ∷ (codes "rm", test_word rm_cell)
-    ∷ (codes "metasig", test_word meta_signalling_cell)
-    ∷ (codes "bcast", test_word broadcast_cell)
-    ∷ (codes "signal", test_word signalling_cell)
-    ∷ (codes "ilmi", test_word ilmi_cell)
-    ∷ (codes "idle", test_word idle_cell)
-    ∷ (codes "oamf4sc", test_word f4_segment_cell)
-    ∷ (codes "oamf4ec", test_word f4_end_cell)
-    ∷ (codes "metac", test_word meta_signalling_cell)
-    ∷ (codes "bcc", test_word broadcast_cell)
-    ∷ (codes "sc", test_word signalling_cell)
-    ∷ (codes "ilmic", test_word ilmi_cell)
-    ∷ (codes "not", not_word)
-    ∷ (codes "and", and_word)
-    ∷ (codes "or", or_word)
-    ∷ (codes "otherwise", otherwise_word)
-    ∷ (codes "refuse", refuse_word)
-    ∷ (codes "drop", refuse_word)
-    ∷ (codes "side", side_word)
-    ∷ (codes "uni", uni_word)
-    ∷ (codes "nni", nni_word)
-    ∷ (codes "define", define_word)
-    ∷ (codes "contract", contract_word)
-    ∷ (codes "gfc", field_word gfc_field)
-    ∷ (codes "vpi", field_word vpi_field)
-    ∷ (codes "vci", field_word vci_field)
-    ∷ (codes "pti", field_word pti_field)
-    ∷ (codes "clp", field_word clp_field)
-    ∷ (codes "octet", size_word Octet)
-    ∷ (codes "half", size_word Half)
+    (codes "any", test_word any_cell) ∷ (codes "user", test_word user_cell) ∷ (codes "oam", test_word oam_cell)
+    ∷ (codes "oamf4", test_word f4_cell) ∷ (codes "oamf4s", test_word (cell_of_channel 3))
+    ∷ (codes "oamf4e", test_word (cell_of_channel 4)) ∷ (codes "oamf5", test_word f5_cell)
+    ∷ (codes "oamf5s", test_word (cell_of_type 4)) ∷ (codes "oamf5e", test_word (cell_of_type 5))
+    ∷ (codes "rm", test_word (cell_of_type 6)) ∷ (codes "metasig", test_word (cell_of_channel 1))
+    ∷ (codes "bcast", test_word (cell_of_channel 2)) ∷ (codes "signal", test_word (cell_of_channel 5))
+    ∷ (codes "ilmi", test_word (cell_of_channel 16)) ∷ (codes "idle", test_word idle_cell)
+    ∷ (codes "oamf4sc", test_word (cell_of_channel 3)) ∷ (codes "oamf4ec", test_word (cell_of_channel 4))
+    ∷ (codes "metac", test_word (cell_of_channel 1)) ∷ (codes "bcc", test_word (cell_of_channel 2))
+    ∷ (codes "sc", test_word (cell_of_channel 5)) ∷ (codes "ilmic", test_word (cell_of_channel 16)) ∷ (codes "not", not_word)
+    ∷ (codes "and", and_word) ∷ (codes "or", or_word) ∷ (codes "otherwise", otherwise_word) ∷ (codes "refuse", refuse_word)
+    ∷ (codes "drop", refuse_word) ∷ (codes "side", side_word) ∷ (codes "uni", uni_word) ∷ (codes "nni", nni_word)
+    ∷ (codes "define", define_word) ∷ (codes "contract", contract_word) ∷ (codes "gfc", field_word gfc_field)
+    ∷ (codes "vpi", field_word vpi_field) ∷ (codes "vci", field_word vci_field) ∷ (codes "pti", field_word pti_field)
+    ∷ (codes "clp", field_word clp_field) ∷ (codes "octet", size_word Octet) ∷ (codes "half", size_word Half)
     ∷ (codes "word", size_word Word) ∷ []
 
 -- The marks of two octets.
 abbrev pub long_marks : List (List ℕ × RuleToken)
 long_marks =
-    (codes "->", arrow_mark)
-    ∷ (codes "..", dots_mark)
-    ∷ (codes "&&", and_word)
-    ∷ (codes "||", or_word)
-    ∷ (codes "==", sign_mark equal_sign)
-    ∷ (codes "!=", sign_mark unequal_sign)
-    ∷ (codes "<=", sign_mark at_most_sign)
+    (codes "->", arrow_mark) ∷ (codes "..", dots_mark) ∷ (codes "&&", and_word) ∷ (codes "||", or_word)
+    ∷ (codes "==", sign_mark equal_sign) ∷ (codes "!=", sign_mark unequal_sign) ∷ (codes "<=", sign_mark at_most_sign)
     ∷ (codes ">=", sign_mark at_least_sign) ∷ []
 
 -- The marks of one octet.
 abbrev pub short_marks : List (List ℕ × RuleToken)
 short_marks =
-    (codes "{", open_brace)
-    ∷ (codes "}", close_brace)
-    ∷ (codes "(", open_parenthesis)
-    ∷ (codes ")", close_parenthesis)
-    ∷ (codes "&", mask_mark)
-    ∷ (codes ",", comma_mark)
-    ∷ (codes "/", slash_mark)
-    ∷ (codes "*", star_mark)
-    ∷ (codes "!", not_word)
-    ∷ (codes "=", sign_mark equal_sign)
-    ∷ (codes "<", sign_mark less_sign)
-    ∷ (codes ">", sign_mark greater_sign) ∷ []
+    (codes "{", open_brace) ∷ (codes "}", close_brace) ∷ (codes "(", open_parenthesis) ∷ (codes ")", close_parenthesis)
+    ∷ (codes "&", mask_mark) ∷ (codes ",", comma_mark) ∷ (codes "/", slash_mark) ∷ (codes "*", star_mark) ∷ (codes "!", not_word)
+    ∷ (codes "=", sign_mark equal_sign) ∷ (codes "<", sign_mark less_sign) ∷ (codes ">", sign_mark greater_sign) ∷ []
 
 -- The token that a table has for these octets, if it has one.
 abbrev pub row_token : List ℕ → List (List ℕ × RuleToken) → Option RuleToken

@@ -11,6 +11,8 @@ use Rattle.rules_cells.specs.declared.rules.Rules.{Rules}
 use Rattle.rules_cells.specs.declared.test.Test.{Test, Row_of-Test, end_of-Test, more_of-Test}
 use Rattle.rules_cells.specs.declared.test.Test as asked
 use Rattle.rules_code.specs.declared.packet_part.Span.{Span}
+use Rattle.rules_text.specs.declared.lexer.Sign.{Sign}
+use Rattle.rules_text.specs.declared.lexer.Sign.TheVariants.{Equal as equal_sign, Unequal as unequal_sign, Less as less_sign, AtMost as at_most_sign, Greater as greater_sign, AtLeast as at_least_sign}
 use Rattle.upc_cell.specs.declared.side.Side.{Side}
 
 -- A field: one of the header, or the octets from an offset on.
@@ -22,18 +24,9 @@ pub data FieldRead : Type 0 where
   clp_field : FieldRead
   octets_field : Size → ℕ → FieldRead
 
--- A sign between a field and a number.
-pub data SignRead : Type 0 where
-  equal_sign : SignRead
-  unequal_sign : SignRead
-  less_sign : SignRead
-  at_most_sign : SignRead
-  greater_sign : SignRead
-  at_least_sign : SignRead
-
 -- What a field is compared with: a number, or a list of ranges.
 pub data RelationRead : Type 0 where
-  compared : SignRead → ℕ → RelationRead
+  compared : Sign → ℕ → RelationRead
   listed : List Span → RelationRead
 
 mutual

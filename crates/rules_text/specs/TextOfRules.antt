@@ -8,7 +8,8 @@ use Rattle.upc_cell.specs.declared.side.Side.TheVariants.{Uni}
 use Rattle.rules_text.specs.ContinuedLines.{first_token_place, line_begin, place_past, rule_lines, rule_place}
 use Rattle.rules_text.specs.declared.place.TextPlace.{TextPlace}
 use Rattle.rules_text.specs.declared.place.RulePlace.{RulePlace}
-use Rattle.rules_text.specs.RulesRead.{LineRead, RulesRead, equal_sign, rule_line, block_line, end_line}
+use Rattle.rules_text.specs.RulesRead.{LineRead, RulesRead, rule_line, block_line, end_line}
+use Rattle.rules_text.specs.declared.lexer.Sign.TheVariants.{Equal as equal_sign}
 use Rattle.rules_text.specs.RuleTokens.{RuleFound, RuleToken, contract_value, contract_word, define_word, rule_tokens, sign_mark}
 use Rattle.rules_text.specs.LineGrammar.{LineContext, Reading, StatementRead, blank_statement, side_statement, line_statement, value_statement, may_be_name, read_token, statement_at_end}
 use Rattle.rules_text.specs.Names.{FormRead, rule_form, value_form, NameRead, defined_as, expanded, definition_form, form_start, letters_of, most_added, name_meaning, room_left}

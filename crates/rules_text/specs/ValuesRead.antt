@@ -10,7 +10,9 @@ use Rattle.rules_code.specs.PlainTests.{is_among, kept_bits}
 use Rattle.upc_cell.specs.Header.{gfc_of, vci_of, pti_of, clp_of}
 use Rattle.upc_cell.specs.Side.{vpi_at}
 use Rattle.upc_cell.specs.declared.side.Side.{Side}
-use Rattle.rules_text.specs.RulesRead.{FieldRead, gfc_field, vpi_field, vci_field, pti_field, clp_field, octets_field, SignRead, equal_sign, unequal_sign, less_sign, at_most_sign, greater_sign, at_least_sign, RelationRead, compared, listed, TestRead, any_cell, f5_cell, user_cell, comparing, negation, conjunction, disjunction, TestsRead, no_tests, more_tests, LineRead, rule_line, block_line, end_line, RulesRead}
+use Rattle.rules_text.specs.RulesRead.{FieldRead, gfc_field, vpi_field, vci_field, pti_field, clp_field, octets_field, RelationRead, compared, listed, TestRead, any_cell, f5_cell, user_cell, comparing, negation, conjunction, disjunction, TestsRead, no_tests, more_tests, LineRead, rule_line, block_line, end_line, RulesRead}
+use Rattle.rules_text.specs.declared.lexer.Sign.{Sign}
+use Rattle.rules_text.specs.declared.lexer.Sign.TheVariants.{Equal as equal_sign, Unequal as unequal_sign, Less as less_sign, AtMost as at_most_sign, Greater as greater_sign, AtLeast as at_least_sign}
 use Rattle.rules_text.specs.TextOfRules.{rules_in}
 
 -- The number that a cell has in a field, its header read at this side.
@@ -23,7 +25,7 @@ field_number side clp_field cell = clp_of cell
 field_number side (octets_field size at) cell = big_number (octets_loaded size) (drop at cell)
 
 -- Whether a number is related to another as the sign says.
-abbrev pub sign_holds : SignRead → ℕ → ℕ → Bool
+abbrev pub sign_holds : Sign → ℕ → ℕ → Bool
 sign_holds equal_sign k number = number == k
 sign_holds unequal_sign k number = not (number == k)
 sign_holds less_sign k number = nat_lt number k

@@ -1,4 +1,4 @@
-pub mod Seen
+pub mod SeenCuts
 pub mod SeenReading
 pub mod SeenFaults
 pub mod TokensRead

@@ -3,7 +3,7 @@
 ghost use Rattle.std.specs.Prelude.{◌≡◌, IfOk};
 ghost use Rattle.rules_text.specs.RulesRead.{test_read};
 ghost use Rattle.rules_text.specs.TestWords.{f4_cell, idle_cell};
-ghost use Rattle.rules_text.specs.inner.Seen.{class_seen};
+ghost use Rattle.rules_text.specs.SeenTokens.{class_seen};
 
 use crate::group::any_of_two;
 use crate::subject::equal;
@@ -13,7 +13,7 @@ use std::alloc::{AllocError, Global};
 
 /// What a word that is a test holds of: cells of ITU-T I.361 and I.610.
 #[derive(Clone, Copy)]
-pub(crate) enum Class {
+pub enum Class {
     /// Every cell.
     Any,
     /// User data.

@@ -4,7 +4,7 @@ ghost use Rattle.std.specs.Prelude.{◌≡◌, ◌≢◌, ◌+◌, ◌≤◌, �
 ghost use Rattle.rules_text.specs.Names.{expanded, name_meaning, read_for, rule_form};
 ghost use Rattle.rules_text.specs.RuleTokens.{tokens_from};
 ghost use Rattle.rules_text.specs.TextOfRules.{contract_given, contract_number, definition_given, definition_tokens, given_by, gives_name, is_equal, name_found, new_name};
-ghost use Rattle.rules_text.specs.inner.Seen.{found_seen, rule_token_seen};
+ghost use Rattle.rules_text.specs.SeenTokens.{found_seen, rule_token_seen};
 ghost use Rattle.rules_text.specs.inner.SeenFaults.{IsReadAs};
 ghost use Rattle.rules_text.specs.inner.SeenReading.{context_seen, line_statement_seen, name_seen, names_seen};
 ghost use Rattle.rules_text.specs.inner.SeenNameTable.{IsFoundByLetters};

@@ -44,6 +44,9 @@ pub enum RuleKind {
     NameTaken,
 }
 
+/// A step of a reader: nothing if it was taken, or the kind of its fault.
+pub(crate) type Step = Result<(), RuleKind>;
+
 impl From<AllocError> for RuleKind {
     ghost use Rattle.std.specs.Prelude.{◌≡◌};
     ghost use Rattle.rules_text.specs.declared.fault.RuleKind.TheVariants.{NoMemory};

@@ -6,7 +6,8 @@ ghost use Rattle.text_io.specs.Words.{is_blank, is_digit};
 ghost use Rattle.rules_text.specs.LineGrammar.{lacks_room, may_be_name};
 ghost use Rattle.rules_text.specs.TextOfRules.{starts_word};
 ghost use Rattle.rules_text.specs.RuleTokens.{begins_with_feed, first_cut, letters_len, long_marks, longest_mark, row_token, rule_words, separates, short_marks, token_of_letters, tokens_from};
-ghost use Rattle.rules_text.specs.inner.Seen.{cut_seen, found_seen, rule_token_seen, some_token};
+ghost use Rattle.rules_text.specs.SeenTokens.{found_seen, rule_token_seen};
+ghost use Rattle.rules_text.specs.inner.SeenCuts.{cut_seen, some_token};
 ghost use Rattle.rules_text.specs.inner.SeenLines.{skipped};
 
 use crate::class::Class;
@@ -16,7 +17,7 @@ use rules_cells::Field;
 
 /// How a number is related to a constant.
 #[derive(Clone, Copy)]
-pub(crate) enum Sign {
+pub enum Sign {
     /// `=`
     Equal,
     /// `!=`
@@ -33,7 +34,7 @@ pub(crate) enum Sign {
 
 /// A token.
 #[derive(Clone, Copy)]
-pub(crate) enum Token {
+pub enum Token {
     /// A word that is a test.
     Test(Class),
     Not,
@@ -104,7 +105,7 @@ impl Token {
 
 /// A token in its line.
 #[derive(Clone, Copy)]
-pub(crate) struct Found {
+pub struct Found {
     /// The token.
     pub token: Token,
     /// The column of its first octet, counted from 0.
@@ -120,8 +121,8 @@ struct Cut {
     size: usize,
 }
 
-/// The words of the language.
-const WORDS: [(&[u8], Token); 40] = [
+/// The words of the language (`rule_words`), each with its token.
+pub const WORDS: [(&[u8], Token); 40] = [
     (b"any", Token::Test(Class::Any)),
     (b"user", Token::Test(Class::User)),
     (b"oam", Token::Test(Class::Oam)),
@@ -284,15 +285,15 @@ fn passed(line: &[u8], at: usize, comment: bool) -> Option<bool>
     None
 }
 
-/// Whether an octet is an ASCII digit.
-fn digit(octet: u8) -> bool
+/// Returns whether an octet is an ASCII digit.
+pub fn digit(octet: u8) -> bool
     ensures { result ≡ is_digit octet }
 {
     b'0' <= octet && octet <= b'9'
 }
 
-/// Whether an octet belongs to words: an ASCII letter, a digit or `_`.
-fn letter(octet: u8) -> bool
+/// Returns whether an octet belongs to words: an ASCII letter, a digit or `_`.
+pub fn word_octet(octet: u8) -> bool
     ensures { result ≡ is_word octet }
 {
     digit(octet)
@@ -305,11 +306,11 @@ fn letter(octet: u8) -> bool
 pub(crate) fn begins_word(octet: u8) -> bool
     ensures { result ≡ starts_word octet }
 {
-    letter(octet) && !digit(octet)
+    word_octet(octet) && !digit(octet)
 }
 
-/// Returns the column after spaces, tabs, line ends, `;` and comments of a line of rules, from a column on; both are counted from 0.
-pub fn after_blanks(line: &[u8], from: usize) -> usize
+/// The column after spaces, tabs, line ends, `;` and comments of a line of rules, from a column on; both are counted from 0.
+fn after_blanks(line: &[u8], from: usize) -> usize
     requires { from ≤ length line.now }
     ensures least { from ≤ result }
     ensures most { result ≤ length line.now }
@@ -332,7 +333,7 @@ fn word_len(text: &[u8]) -> usize
     ensures letters { result ≡ letters_len text.now }
 {
     for (at, octet) in text.iter().enumerate() {
-        if !letter(*octet) {
+        if !word_octet(*octet) {
             return at;
         }
     }
@@ -386,7 +387,7 @@ fn first_token(octets: &[u8]) -> Cut
     ensures some { 0 < result.size }
     ensures within { result.size ≤ length octets.now }
 {
-    if !letter(octets[0]) {
+    if !word_octet(octets[0]) {
         return mark(octets);
     }
     let size = word_len(octets);
@@ -396,8 +397,8 @@ fn first_token(octets: &[u8]) -> Cut
     }
 }
 
-/// The first token from a column on, if there is one before the end of the line.
-pub(crate) fn next_token(line: &[u8], from: usize) -> Option<Found>
+/// Returns the first token of a line of rules from a column on, counted from 0, if there is one before the end of the line.
+pub fn next_token(line: &[u8], from: usize) -> Option<Found>
     requires { from ≤ length line.now }
     ensures tokens { MatchOption result (tokens_from (from + 1) 0 (drop from line.now) ≡ [])
         (λ found. tokens_from (from + 1) 0 (drop from line.now) ≡ found_seen found ∷ tokens_from (found.end + 1) 0 (drop found.end line.now)) }

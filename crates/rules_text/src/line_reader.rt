@@ -5,10 +5,10 @@ ghost use Rattle.rules_text.specs.LineGrammar.{LineContext, read_arrow, read_awa
 ghost use Rattle.rules_text.specs.Names.{first_awaited, form_start};
 ghost use Rattle.rules_text.specs.TextOfRules.{fault_column, statement_from};
 ghost use Rattle.rules_text.specs.declared.fault.RuleKind.TheVariants.{Unbalanced};
-ghost use Rattle.rules_text.specs.inner.Seen.{rule_token_seen};
+ghost use Rattle.rules_text.specs.SeenTokens.{rule_token_seen};
 ghost use Rattle.rules_text.specs.inner.SeenReading.{TakesLineStep, TakesLineStepOrNoMemory, context_seen, form_seen, reading_seen, statement_found, wants_seen};
 
-use crate::fault::{RuleFault, RuleKind, fault_in_line};
+use crate::fault::{RuleFault, RuleKind, Step, fault_in_line};
 use crate::group::Group;
 use crate::lexer::{Sign, Token};
 use crate::names::Form;
@@ -144,14 +144,13 @@ impl LineReader {
         }
     }
 
+    /// Where memory comes from.
+    pub(crate) fn alloc(&self) -> Global {
+        *self.spans.allocator()
+    }
+
     /// Reads a token at a column, counted from 1.
-    pub(crate) fn read(
-        &mut self,
-        alloc: Global,
-        context: Context,
-        column: usize,
-        token: Token,
-    ) -> Result<(), RuleKind>
+    pub(crate) fn read(&mut self, context: Context, column: usize, token: Token) -> Step
         ensures { TakesLineStepOrNoMemory result self.new (read_token (context_seen context) column (reading_seen self.old) (rule_token_seen token)) }
     {
         if token.is_name() {
@@ -160,35 +159,29 @@ impl LineReader {
         if token.lacks_room() {
             return Err(RuleKind::TooLong);
         }
-        self.read_known(alloc, context, column, token)
+        self.read_known(context, column, token)
     }
 
     /// Reads a token that is no unknown name, and no name for which there is no room.
     #[tactic(auto, unfolding(crate::specs::LineGrammar::read_awaited))]
-    fn read_known(
-        &mut self,
-        alloc: Global,
-        context: Context,
-        column: usize,
-        token: Token,
-    ) -> Result<(), RuleKind>
+    fn read_known(&mut self, context: Context, column: usize, token: Token) -> Step
         ensures { TakesLineStepOrNoMemory result self.new (read_awaited (wants_seen self.old.wants) (context_seen context) column (reading_seen self.old) (rule_token_seen token)) }
     {
         match self.wants {
-            Wants::Start => self.start(alloc, context, column, token),
-            Wants::Unit => self.unit(alloc, context, column, token),
-            Wants::Operator => self.operator(alloc, context, token),
+            Wants::Start => self.start(context, column, token),
+            Wants::Unit => self.unit(context, column, token),
+            Wants::Operator => self.operator(context, token),
             Wants::Offset(size) => self.offset(size, token),
             Wants::Relation(subject) => self.relation(context, subject, token),
             Wants::Mask(subject) => self.mask(context, subject, token),
             Wants::Sign(subject) => self.sign(context, subject, token),
-            Wants::Constant(subject, sign) => self.constant(alloc, context, subject, sign, token),
-            Wants::Dots(of, low) => self.dots(alloc, context, of, low, token),
+            Wants::Constant(subject, sign) => self.constant(context, subject, sign, token),
+            Wants::Dots(of, low) => self.dots(context, of, low, token),
             Wants::High(of, low) => self.high(context, of, low, token),
-            Wants::Comma(of, span) => self.comma(alloc, context, of, span, token),
+            Wants::Comma(of, span) => self.comma(context, of, span, token),
             Wants::Low(of) => self.low(context, of, token),
             Wants::Slash(path) => self.slash(path, token),
-            Wants::Channel(path) => self.channel(alloc, context, path, token),
+            Wants::Channel(path) => self.channel(context, path, token),
             Wants::Arrow => self.arrow(token),
             Wants::Value => self.value(token),
             Wants::OnlyValue => self.only_value(token),
@@ -221,13 +214,7 @@ impl LineReader {
 
     /// Reads the first token of a line.
     #[tactic(auto, unfolding(crate::specs::LineGrammar::read_start))]
-    fn start(
-        &mut self,
-        alloc: Global,
-        context: Context,
-        column: usize,
-        token: Token,
-    ) -> Result<(), RuleKind>
+    fn start(&mut self, context: Context, column: usize, token: Token) -> Step
         ensures { TakesLineStepOrNoMemory result self.new (read_start (context_seen context) column (reading_seen self.old) (rule_token_seen token)) }
     {
         match token {
@@ -253,13 +240,13 @@ impl LineReader {
                 self.wants = Wants::End;
                 Ok(())
             }
-            _ => self.unit(alloc, context, column, token),
+            _ => self.unit(context, column, token),
         }
     }
 
     /// Reads `->` after `otherwise`.
     #[tactic(auto, unfolding(crate::specs::LineGrammar::read_arrow))]
-    fn arrow(&mut self, token: Token) -> Result<(), RuleKind>
+    fn arrow(&mut self, token: Token) -> Step
         ensures { TakesLineStep result self.new (read_arrow (reading_seen self.old) (rule_token_seen token)) }
     {
         match token {
@@ -273,7 +260,7 @@ impl LineReader {
 
     /// Reads the value of a rule.
     #[tactic(auto, unfolding(crate::specs::LineGrammar::read_value))]
-    fn value(&mut self, token: Token) -> Result<(), RuleKind>
+    fn value(&mut self, token: Token) -> Step
         ensures { TakesLineStep result self.new (read_value (reading_seen self.old) (rule_token_seen token)) }
     {
         let value = value_of(token)?;
@@ -285,7 +272,7 @@ impl LineReader {
 
     /// Reads the value of `otherwise`, or the number of a contract.
     #[tactic(auto, unfolding(crate::specs::LineGrammar::read_only_value))]
-    fn only_value(&mut self, token: Token) -> Result<(), RuleKind>
+    fn only_value(&mut self, token: Token) -> Step
         ensures { TakesLineStep result self.new (read_only_value (reading_seen self.old) (rule_token_seen token)) }
     {
         let value = value_of(token)?;
@@ -296,7 +283,7 @@ impl LineReader {
 
     /// Reads the side.
     #[tactic(auto, unfolding(crate::specs::LineGrammar::read_side))]
-    fn side_name(&mut self, token: Token) -> Result<(), RuleKind>
+    fn side_name(&mut self, token: Token) -> Step
         ensures { TakesLineStep result self.new (read_side (reading_seen self.old) (rule_token_seen token)) }
     {
         match token {

@@ -3,7 +3,7 @@
 ghost use Rattle.std.specs.Prelude.{◌≡◌, ◌++◌, ◌∷◌, ◌&&◌, not, [], List, map, length, None, IfOk};
 ghost use Rattle.rules_text.specs.Names.{admitted, defined_as, is_list, is_no_path, name_meaning, within_room};
 ghost use Rattle.rules_text.specs.RuleTokens.{RuleToken};
-ghost use Rattle.rules_text.specs.inner.Seen.{rule_token_seen};
+ghost use Rattle.rules_text.specs.SeenTokens.{rule_token_seen};
 ghost use Rattle.rules_text.specs.inner.SeenReading.{form_seen, name_seen, names_seen};
 ghost use Rattle.rules_text.specs.inner.SeenNameTable.{IsFoundByLetters, meaning_seen};
 

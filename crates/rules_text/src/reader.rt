@@ -8,7 +8,7 @@ ghost use Rattle.rules_text.specs.RulesInMemory.{HasPlacedRules, HasRules, place
 ghost use Rattle.rules_text.specs.TextFaults.{IsFaultOf};
 ghost use Rattle.rules_text.specs.TextOfRules.{context_of, formed_statement, name_given, placed_rules_at_end, placed_rules_in, placed_fault, rules_in, text_with, text_with_line, text_with_room, with_line, text_with_name};
 ghost use Rattle.rules_text.specs.declared.fault.RuleKind.TheVariants.{NoMemory};
-ghost use Rattle.rules_text.specs.inner.Seen.{found_seen};
+ghost use Rattle.rules_text.specs.SeenTokens.{found_seen};
 ghost use Rattle.rules_text.specs.inner.SeenFaults.{IsReadAs};
 ghost use Rattle.rules_text.specs.inner.SeenNameTable.{IsFoundByLetters};
 ghost use Rattle.rules_text.specs.inner.SeenReading.{context_seen, line_statement_seen, name_seen, names_seen, text_seen};

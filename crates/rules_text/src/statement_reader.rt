@@ -4,7 +4,7 @@ ghost use Rattle.std.specs.Prelude.{◌≡◌, ◌+◌, ◌≤◌, ◌<◌, drop
 ghost use Rattle.rules_text.specs.Names.{ending, meant, read_for, room_left};
 ghost use Rattle.rules_text.specs.RuleTokens.{rule_tokens, tokens_from};
 ghost use Rattle.rules_text.specs.TextOfRules.{formed_statement};
-ghost use Rattle.rules_text.specs.inner.Seen.{found_seen, rule_token_seen};
+ghost use Rattle.rules_text.specs.SeenTokens.{found_seen, rule_token_seen};
 ghost use Rattle.rules_text.specs.inner.SeenFaults.{IsReadAs};
 ghost use Rattle.rules_text.specs.inner.SeenReading.{context_seen, form_seen, line_statement_seen, names_seen, reading_seen};
 ghost use Rattle.rules_text.specs.inner.SeenNameTable.{IsFoundByLetters};
@@ -18,17 +18,11 @@ use std::alloc::Global;
 
 impl LineReader {
     /// Reads a token at a place.
-    fn read_at(
-        &mut self,
-        alloc: Global,
-        context: Context,
-        column: usize,
-        token: Token,
-    ) -> Result<(), RuleFault>
+    fn read_at(&mut self, context: Context, column: usize, token: Token) -> Result<(), RuleFault>
         ensures { IsReadAs result (token_read (context_seen context) column (reading_seen self.old) (rule_token_seen token)) (λ _. reading_seen self.new) }
     {
         let unbalanced = self.unbalanced_at(column);
-        match self.read(alloc, context, column, token) {
+        match self.read(context, column, token) {
             Ok(()) => Ok(()),
             Err(RuleKind::Unbalanced) => Err(fault_in_line(RuleKind::Unbalanced, unbalanced)),
             Err(kind) => Err(fault_in_line(kind, column)),
@@ -38,7 +32,6 @@ impl LineReader {
     /// Reads tokens at a place.
     fn read_all(
         &mut self,
-        alloc: Global,
         context: Context,
         column: usize,
         tokens: &[Token],
@@ -47,7 +40,7 @@ impl LineReader {
     {
         let mut left = tokens;
         while let [token, rest @ ..] = left {
-            self.read_at(alloc, context, column, *token)?;
+            self.read_at(context, column, *token)?;
             left = rest;
         }
         Ok(())
@@ -56,7 +49,6 @@ impl LineReader {
     /// Reads a token, or in its place what it means.
     fn read_found(
         &mut self,
-        alloc: Global,
         context: Context,
         form: Form,
         found: Found,
@@ -68,27 +60,21 @@ impl LineReader {
         let column = found.start + 1;
         if meant.is_empty() {
             let own = [admit(form, found.token)];
-            self.read_all(alloc, context, column, &own)
+            self.read_all(context, column, &own)
         } else {
-            self.read_all(alloc, context, column, meant)
+            self.read_all(context, column, meant)
         }
     }
 
     /// Ends a definition: reads `-> refuse`, so that it must end where the test of a rule does. Nothing is read after another line.
-    fn read_end(
-        &mut self,
-        alloc: Global,
-        context: Context,
-        form: Form,
-        column: usize,
-    ) -> Result<(), RuleFault>
+    fn read_end(&mut self, context: Context, form: Form, column: usize) -> Result<(), RuleFault>
         ensures { IsReadAs result (all_tokens_read (context_seen context) column (reading_seen self.old) (ending (form_seen form))) (λ _. reading_seen self.new) }
     {
         match form {
             Form::Rule | Form::Value => Ok(()),
             Form::Test | Form::List => {
                 let end = [Token::Arrow, Token::Refuse];
-                self.read_all(alloc, context, column, &end)
+                self.read_all(context, column, &end)
             }
         }
     }
@@ -146,11 +132,11 @@ pub(crate) fn statement_in(
     let mut from = start;
     while let Some(found) = next_token(line, from) {
         let meant = meant_by(names, room, line, found);
-        reader.read_found(alloc, context, form, found, meant)?;
+        reader.read_found(context, form, found, meant)?;
         room = room.saturating_sub(meant.len());
         from = found.end;
     }
     let column = from + 1;
-    reader.read_end(alloc, context, form, column)?;
+    reader.read_end(context, form, column)?;
     reader.finish(column)
 }

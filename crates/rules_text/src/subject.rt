@@ -3,8 +3,9 @@
 ghost use Rattle.std.specs.Prelude.{◌≡◌, [], ◌∷◌, ◌++◌, None, IfOk};
 ghost use Rattle.rules_text.specs.LineGrammar.{field_of_list, list_test};
 ghost use Rattle.rules_text.specs.Subjects.{header_read, most_of_field, number_within, octets_at_token, octets_read, value_read};
-ghost use Rattle.rules_text.specs.RulesRead.{compared, comparing, equal_sign, field_read, relation_read, test_read};
-ghost use Rattle.rules_text.specs.inner.Seen.{sign_seen, rule_token_seen};
+ghost use Rattle.rules_text.specs.RulesRead.{compared, comparing, field_read, relation_read, test_read};
+ghost use Rattle.rules_text.specs.declared.lexer.Sign.TheVariants.{Equal as equal_sign};
+ghost use Rattle.rules_text.specs.SeenTokens.{rule_token_seen};
 ghost use Rattle.rules_text.specs.inner.SeenReading.{field_found, list_seen};
 
 use crate::fault::RuleKind;
@@ -49,7 +50,7 @@ pub(crate) fn header_field(side: Side, name: Field) -> Result<Field, RuleKind>
 
 /// The relation to a constant.
 pub(crate) fn relation_of(sign: Sign, k: u32) -> Relation
-    ensures { relation_read result ≡ compared (sign_seen sign) k }
+    ensures { relation_read result ≡ compared sign k }
 {
     match sign {
         Sign::Equal => Relation::Equal(k),

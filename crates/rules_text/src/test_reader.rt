@@ -4,17 +4,16 @@ ghost use Rattle.std.specs.Prelude.{◌≡◌, ◌≢◌, Ok, Err, IfOk, IfErr};
 ghost use Rattle.rules_text.specs.LineGrammar.{no_group, read_operator, read_unit, whole_test, with_block, with_closed_parenthesis, with_head, with_open_parenthesis, with_unit};
 ghost use Rattle.rules_text.specs.RulesRead.{test_read};
 ghost use Rattle.rules_text.specs.declared.fault.RuleKind.TheVariants.{NoMemory};
-ghost use Rattle.rules_text.specs.inner.Seen.{class_seen, rule_token_seen};
+ghost use Rattle.rules_text.specs.SeenTokens.{class_seen, rule_token_seen};
 ghost use Rattle.rules_text.specs.inner.SeenReading.{TakesLineStepOrNoMemory, context_seen, group_seen, reading_seen};
 
 use crate::class::{Class, test_of};
-use crate::fault::RuleKind;
+use crate::fault::{RuleKind, Step};
 use crate::group::Group;
 use crate::lexer::Token;
 use crate::line_reader::{Context, LineReader, Statement, Wants};
 use crate::subject::{Subject, header_field, number_for};
 use rules_cells::{Field, RuleLine, Test};
-use std::alloc::Global;
 
 /// The maximum number of comparisons, words and ranges of a test.
 pub(crate) const MOST_COMPARISONS: usize = 4096;
@@ -25,13 +24,7 @@ const MOST_DEEP: usize = 64;
 impl LineReader {
     /// Reads a token where a unit of a test begins.
     #[tactic(auto, unfolding(crate::specs::LineGrammar::read_unit))]
-    pub(crate) fn unit(
-        &mut self,
-        alloc: Global,
-        context: Context,
-        column: usize,
-        token: Token,
-    ) -> Result<(), RuleKind>
+    pub(crate) fn unit(&mut self, context: Context, column: usize, token: Token) -> Step
         ensures { TakesLineStepOrNoMemory result self.new (read_unit (context_seen context) column (reading_seen self.old) (rule_token_seen token)) }
     {
         match token {
@@ -41,7 +34,7 @@ impl LineReader {
                 Ok(())
             }
             Token::LeftParenthesis => self.open_parenthesis(context, column),
-            Token::Test(class) => self.word(alloc, class),
+            Token::Test(class) => self.word(class),
             Token::Field(name) => {
                 let field = header_field(context.side, name)?;
                 self.wants = Wants::Relation(Subject { field, mask: None });
@@ -60,20 +53,17 @@ impl LineReader {
     }
 
     /// Adds a word that is a test.
-    pub(crate) fn word(&mut self, alloc: Global, class: Class) -> Result<(), RuleKind>
+    pub(crate) fn word(&mut self, class: Class) -> Step
         ensures { TakesLineStepOrNoMemory result self.new (with_unit (reading_seen self.old) (class_seen class)) }
     {
+        let alloc = self.alloc();
         let test = test_of(alloc, class)?;
-        self.add(alloc, test)
+        self.add(test)
     }
 
     /// Opens a parenthesis.
     #[tactic(auto, unfolding(crate::specs::LineGrammar::with_open_parenthesis))]
-    pub(crate) fn open_parenthesis(
-        &mut self,
-        context: Context,
-        column: usize,
-    ) -> Result<(), RuleKind>
+    pub(crate) fn open_parenthesis(&mut self, context: Context, column: usize) -> Step
         ensures { TakesLineStepOrNoMemory result self.new (with_open_parenthesis (context_seen context) column (reading_seen self.old)) }
     {
         if context.blocks >= MOST_DEEP || self.around.len() >= MOST_DEEP - context.blocks {
@@ -90,12 +80,13 @@ impl LineReader {
 
     /// Adds a unit to the test.
     #[tactic(auto, unfolding(crate::specs::LineGrammar::with_unit))]
-    pub(crate) fn add(&mut self, alloc: Global, test: Test) -> Result<(), RuleKind>
+    pub(crate) fn add(&mut self, test: Test) -> Step
         ensures { TakesLineStepOrNoMemory result self.new (with_unit (reading_seen self.old) (test_read test)) }
     {
         if self.comparisons >= MOST_COMPARISONS {
             return Err(RuleKind::TooLong);
         }
+        let alloc = self.alloc();
         self.group.add(alloc, test)?;
         self.comparisons += 1;
         self.wants = Wants::Operator;
@@ -104,12 +95,7 @@ impl LineReader {
 
     /// Reads a token after a unit.
     #[tactic(auto, unfolding(crate::specs::LineGrammar::read_operator))]
-    pub(crate) fn operator(
-        &mut self,
-        alloc: Global,
-        context: Context,
-        token: Token,
-    ) -> Result<(), RuleKind>
+    pub(crate) fn operator(&mut self, context: Context, token: Token) -> Step
         ensures { TakesLineStepOrNoMemory result self.new (read_operator (context_seen context) (reading_seen self.old) (rule_token_seen token)) }
     {
         match token {
@@ -118,22 +104,24 @@ impl LineReader {
                 Ok(())
             }
             Token::Or => {
+                let alloc = self.alloc();
                 self.group.alternate(alloc)?;
                 self.wants = Wants::Unit;
                 Ok(())
             }
-            Token::RightParenthesis => self.close_parenthesis(alloc),
-            Token::LeftBrace => self.block(alloc, context),
-            Token::Arrow => self.head(alloc),
+            Token::RightParenthesis => self.close_parenthesis(),
+            Token::LeftBrace => self.block(context),
+            Token::Arrow => self.head(),
             _ => Err(RuleKind::BadLine),
         }
     }
 
     /// Closes a parenthesis.
     #[tactic(auto, unfolding(crate::specs::LineGrammar::with_closed_parenthesis))]
-    pub(crate) fn close_parenthesis(&mut self, alloc: Global) -> Result<(), RuleKind>
+    pub(crate) fn close_parenthesis(&mut self) -> Step
         ensures { TakesLineStepOrNoMemory result self.new (with_closed_parenthesis (reading_seen self.old)) }
     {
+        let alloc = self.alloc();
         let Some(around) = self.around.pop() else {
             return Err(RuleKind::Unbalanced);
         };
@@ -150,7 +138,7 @@ impl LineReader {
 
     /// Takes the whole test. All parentheses must be closed.
     #[tactic(auto, unfolding(crate::specs::LineGrammar::whole_test))]
-    pub(crate) fn whole(&mut self, alloc: Global) -> Result<Test, RuleKind>
+    pub(crate) fn whole(&mut self) -> Result<Test, RuleKind>
         ensures ok { IfOk result (λ test. whole_test (reading_seen self.old) ≡ Ok (test_read test)) }
         ensures rest { IfOk result (λ _. self.new ≡ record self.old { group = self.new.group }) }
         ensures group { IfOk result (λ _. group_seen self.new.group ≡ no_group) }
@@ -160,7 +148,7 @@ impl LineReader {
             return Err(RuleKind::Unbalanced);
         }
         let group = std::mem::replace(&mut self.group, Group::new());
-        match group.whole(alloc)? {
+        match group.whole(self.alloc())? {
             None => Err(RuleKind::BadLine),
             Some(test) => Ok(test),
         }
@@ -168,10 +156,10 @@ impl LineReader {
 
     /// Begins a block with the test.
     #[tactic(auto, unfolding(crate::specs::LineGrammar::with_block))]
-    pub(crate) fn block(&mut self, alloc: Global, context: Context) -> Result<(), RuleKind>
+    pub(crate) fn block(&mut self, context: Context) -> Step
         ensures { TakesLineStepOrNoMemory result self.new (with_block (context_seen context) (reading_seen self.old)) }
     {
-        let test = self.whole(alloc)?;
+        let test = self.whole()?;
         if context.blocks >= MOST_DEEP {
             return Err(RuleKind::TooDeep);
         }
@@ -182,10 +170,10 @@ impl LineReader {
 
     /// Keeps the test of a rule.
     #[tactic(auto, unfolding(crate::specs::LineGrammar::with_head))]
-    pub(crate) fn head(&mut self, alloc: Global) -> Result<(), RuleKind>
+    pub(crate) fn head(&mut self) -> Step
         ensures { TakesLineStepOrNoMemory result self.new (with_head (reading_seen self.old)) }
     {
-        let test = self.whole(alloc)?;
+        let test = self.whole()?;
         self.test = test;
         self.wants = Wants::Value;
         Ok(())

@@ -23,7 +23,7 @@ use Rattle.rules_text.specs.declared.names.Form.{Form}
 use Rattle.rules_text.specs.declared.names.Form.TheVariants as form
 use Rattle.rules_text.specs.declared.names.Name.{Name}
 use Rattle.rules_text.specs.declared.names.NameTable.{NameTable}
-use Rattle.rules_text.specs.inner.Seen.{rule_token_seen, sign_seen}
+use Rattle.rules_text.specs.SeenTokens.{rule_token_seen}
 
 -- A field with a mask.
 abbrev pub subject_seen : Subject → SubjectRead
@@ -44,7 +44,7 @@ wants_seen (wants.Offset size) = awaits_offset size
 wants_seen (wants.Relation subject) = awaits_relation (subject_seen subject)
 wants_seen (wants.Mask subject) = awaits_mask (subject_seen subject)
 wants_seen (wants.Sign subject) = awaits_sign (subject_seen subject)
-wants_seen (wants.Constant subject sign) = awaits_constant (subject_seen subject) (sign_seen sign)
+wants_seen (wants.Constant subject sign) = awaits_constant (subject_seen subject) sign
 wants_seen (wants.Dots of low) = awaits_dots (list_seen of) low
 wants_seen (wants.High of low) = awaits_high (list_seen of) low
 wants_seen (wants.Comma of span) = awaits_comma (list_seen of) span

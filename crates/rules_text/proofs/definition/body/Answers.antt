@@ -2,7 +2,7 @@ use Rattle.std.proofs.Common.{◌+◌, ◌-◌, List, length, refl, ◌++◌, dr
 use Rattle.std.proofs.lemmas.List.{length-map}
 use Rattle.rules_text.specs.Names.{expanded, read_for, rule_form}
 use Rattle.rules_text.specs.RuleTokens.{RuleFound, RuleToken, tokens_from}
-use Rattle.rules_text.specs.inner.Seen.{found_seen, rule_token_seen}
+use Rattle.rules_text.specs.SeenTokens.{found_seen, rule_token_seen}
 use Rattle.rules_text.specs.inner.SeenReading.{names_seen}
 use Rattle.rules_text.proofs.NamePlaces.{body_last, body_many, body_next}
 use Rattle.rules_text.proofs.NameSteps.{body_end, body_more}

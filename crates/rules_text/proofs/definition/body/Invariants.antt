@@ -2,7 +2,7 @@
 use Rattle.std.proofs.Common.{◌≡◌, ◌≤◌, ◌+◌, ◌-◌, ◌++◌, drop, length, map}
 use Rattle.rules_text.specs.Names.{expanded, rule_form}
 use Rattle.rules_text.specs.RuleTokens.{tokens_from}
-use Rattle.rules_text.specs.inner.Seen.{rule_token_seen}
+use Rattle.rules_text.specs.SeenTokens.{rule_token_seen}
 use Rattle.rules_text.specs.inner.SeenReading.{names_seen}
 use Rattle.rules_text.proofs.definition.body.Given as goal
 

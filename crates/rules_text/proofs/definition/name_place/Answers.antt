@@ -1,7 +1,7 @@
 use Rattle.std.proofs.Common.{◌+◌, Err, drop, slice_range, sym, ap, ◌∙◌}
 use Rattle.rules_text.specs.RuleTokens.{tokens_from}
 use Rattle.rules_text.specs.declared.fault.RuleFault.{RuleFault}
-use Rattle.rules_text.specs.inner.Seen.{found_seen}
+use Rattle.rules_text.specs.SeenTokens.{found_seen}
 use Rattle.rules_text.specs.inner.SeenReading.{names_seen}
 use Rattle.rules_text.proofs.NamePlaces.{has_place, letters_same, name_bad, name_good, sign_bad, sign_good, sign_none}
 use Rattle.rules_text.proofs.definition.name_place.Goals as goal

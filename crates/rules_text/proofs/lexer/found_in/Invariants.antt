@@ -1,7 +1,7 @@
 -- The rest of the table has the same token as the whole table.
 use Rattle.std.proofs.Common.{◌≡◌, map, length}
 use Rattle.rules_text.specs.RuleTokens.{row_token}
-use Rattle.rules_text.specs.inner.Seen.{rule_token_seen}
+use Rattle.rules_text.specs.SeenTokens.{rule_token_seen}
 use Rattle.rules_text.proofs.lexer.found_in.Given as goal
 
 abbrev pub invariant-loop-left : goal.invariant-loop-left

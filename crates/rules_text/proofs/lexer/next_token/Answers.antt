@@ -1,6 +1,6 @@
 use Rattle.std.proofs.Common.{◌<◌, ◌≤◌, ◌+◌, length, drop, ◌∙◌, arith, length-drop}
 use Rattle.std.proofs.lemmas.List.{take_rest}
-use Rattle.rules_text.specs.inner.Seen.{cut_seen}
+use Rattle.rules_text.specs.inner.SeenCuts.{cut_seen}
 use Rattle.rules_text.proofs.TokenSteps.{token_more, tokens_none}
 use Rattle.rules_text.proofs.lexer.next_token.Goals as goal
 

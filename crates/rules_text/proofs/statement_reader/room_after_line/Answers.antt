@@ -1,7 +1,7 @@
 use Rattle.std.proofs.Common.{◌+◌, List, drop, map, sym, ap, ◌∙◌}
 use Rattle.rules_text.specs.Names.{room_left}
 use Rattle.rules_text.specs.RuleTokens.{RuleFound, tokens_from}
-use Rattle.rules_text.specs.inner.Seen.{found_seen, rule_token_seen}
+use Rattle.rules_text.specs.SeenTokens.{found_seen, rule_token_seen}
 use Rattle.rules_text.specs.inner.SeenReading.{names_seen}
 use Rattle.rules_text.proofs.NameSteps.{left_end, left_more}
 use Rattle.rules_text.proofs.NameTables.{less_seen}

@@ -2,7 +2,7 @@ use Rattle.std.proofs.Common.{◌+◌, List, drop, map, sym, ap, ◌∙◌}
 use Rattle.rules_text.specs.Names.{expanded}
 use Rattle.rules_text.specs.RuleTokens.{RuleFound, tokens_from}
 use Rattle.rules_text.specs.TextOfRules.{statement_from}
-use Rattle.rules_text.specs.inner.Seen.{found_seen, rule_token_seen}
+use Rattle.rules_text.specs.SeenTokens.{found_seen, rule_token_seen}
 use Rattle.rules_text.specs.inner.SeenReading.{context_seen, form_seen, names_seen, reading_seen}
 use Rattle.rules_text.proofs.NameSteps.{found_fault, found_more, line_end_fault, line_ended}
 use Rattle.rules_text.proofs.NameTables.{less_seen}

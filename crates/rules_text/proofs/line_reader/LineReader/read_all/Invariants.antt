@@ -1,6 +1,6 @@
 -- The rest of the tokens, read on from here, gives what all of them give.
 use Rattle.std.proofs.Common.{◌≡◌, map, length}
-use Rattle.rules_text.specs.inner.Seen.{rule_token_seen}
+use Rattle.rules_text.specs.SeenTokens.{rule_token_seen}
 use Rattle.rules_text.specs.inner.SeenReading.{context_seen, reading_seen}
 use Rattle.rules_text.specs.inner.TokensRead.{all_tokens_read}
 use Rattle.rules_text.proofs.line_reader.LineReader.read_all.Given as goal

@@ -2,7 +2,7 @@ use Rattle.std.proofs.Common.{◌≡◌, inr, ◌+◌, Ok, Err, drop, sym, ap, �
 use Rattle.rules_text.specs.RuleTokens.{tokens_from}
 use Rattle.rules_text.specs.TextOfRules.{TextReading, text_with_name}
 use Rattle.rules_text.specs.declared.fault.RuleFault.{RuleFault}
-use Rattle.rules_text.specs.inner.Seen.{found_seen}
+use Rattle.rules_text.specs.SeenTokens.{found_seen}
 use Rattle.rules_text.specs.inner.SeenReading.{line_statement_seen, name_seen, text_seen}
 use Rattle.rules_text.proofs.ReadingSteps.{line_empty, line_closed, line_with_statement, line_with_name, line_name_fault, line_fault, all_taken, part_returned}
 use Rattle.rules_text.proofs.reader.TextReader.read_line.Goals as goal
