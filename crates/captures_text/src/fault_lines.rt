@@ -1,10 +1,13 @@
 //! The fault lines of captures. Each function appends to the answers.
 
-ghost use Rattle.std.specs.Prelude.{◌≡◌, ◌++◌, decimal, OnOk};
+ghost use Rattle.std.specs.Prelude.{◌≡◌, ◌≢◌, ◌++◌, decimal, Err, IfOk, OnErr, OnOk};
 ghost use Rattle.captures_text.specs.CaptureFaults.{capture_fault_line, file_fault_line, record_fault_text};
+ghost use Rattle.text_io.specs.Devices.{IsPart};
+ghost use Rattle.text_io.specs.Failures.{write_failures};
 
 use captures::{Fault, FileFault, RecordFault};
 use std::alloc::AllocError;
+use text_io::{Done, Output, RunFault, give_last};
 use text_words::{add_number, add_numbered, add_text};
 
 /// Appends the answer to a file that isn't read.
@@ -76,4 +79,19 @@ pub(crate) fn add_capture_fault(answers: &mut Vec<u8>, fault: Fault) -> Result<(
     add_number(answers, fault.at)?;
     answers.push(b'\n')?;
     Ok(())
+}
+
+/// Writes a text about faults in place of the answer to a capture.
+///
+/// # Errors
+///
+/// `WriteFailed` if the device failed. The output is then a prefix of the text.
+pub fn write_faults<O: Output>(output: &mut O, mut text: Vec<u8>) -> Result<Done, RunFault>
+    ensures done { IfOk result (λ done. done ≡ Done.Ended) }
+    ensures given { O.is_known → OnOk result (O.held output.new ≡ O.held output.old ++ text.items) }
+    ensures front { O.is_known → OnErr result (IsPart (O.held output.old) (O.held output.new) text.items) }
+    ensures fault { result ≢ Err RunFault.ReadFailed }
+    ensures writing { O.failures output.new ≡ write_failures result (O.failures output.old) }
+{
+    give_last(output, &mut text, Done::Ended)
 }

@@ -27,7 +27,7 @@ pub use capture::{find_opening, follow_cells, short_fault};
 pub use captured_cell::CapturedCell;
 pub use cells::cells_of_capture;
 pub use driver::done_at;
-pub use fault_lines::add_file_fault;
+pub use fault_lines::{add_file_fault, write_faults};
 pub use filter::{CellFilter, Filtered};
 pub use follower::CellFollower;
 pub use line_choice::LineChoice;

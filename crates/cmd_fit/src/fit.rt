@@ -1,8 +1,6 @@
 //! The least limits of the connections of a capture.
 
-ghost use Rattle.std.specs.Prelude.{◌≡◌, ◌≢◌, ◌++◌, Err, IfOk, OnErr, OnOk, is_some, option_map};
-ghost use Rattle.text_io.specs.Devices.{IsPart};
-ghost use Rattle.text_io.specs.Failures.{write_failures};
+ghost use Rattle.std.specs.Prelude.{◌≡◌, is_some, option_map};
 ghost use Rattle.text_io.specs.Serving.{IsServed};
 ghost use Rattle.upc_cell.specs.Header.{clp_of};
 ghost use Rattle.cmd_fit.specs.FitAsked.{IsFitAsked, scope_of};
@@ -19,10 +17,12 @@ use crate::flow::Flow;
 use crate::flows::Flows;
 use crate::given_rules::{GivenRules, read_given};
 use captures::Fault;
-use captures_text::{CapturedCell, CellFollower, ReadingSummary, add_closing, follow_cells};
+use captures_text::{
+    CapturedCell, CellFollower, ReadingSummary, add_closing, follow_cells, write_faults,
+};
 use std::alloc::{AllocError, Global};
 use std::thread::Threads;
-use text_io::{Done, Input, Output, RunFault, Turn, give_last};
+use text_io::{Done, Input, Output, RunFault, Turn};
 use upc_cell::{Cell, Side};
 
 /// Returns the cell loss priority of a cell.
@@ -179,17 +179,6 @@ fn fit_cells<R: Threads, I: Input + Send, O: Output>(
     )
 }
 
-/// Writes the answer to a text of rules with a fault, in place of the limits.
-fn give_answer<O: Output>(output: &mut O, mut answer: Vec<u8>) -> Result<Done, RunFault>
-    ensures done { IfOk result (λ done. done ≡ Done.Ended) }
-    ensures given { O.is_known → OnOk result (O.held output.new ≡ O.held output.old ++ answer.items) }
-    ensures front { O.is_known → OnErr result (IsPart (O.held output.old) (O.held output.new) answer.items) }
-    ensures fault { result ≢ Err RunFault.ReadFailed }
-    ensures writing { O.failures output.new ≡ write_failures result (O.failures output.old) }
-{
-    give_last(output, &mut answer, Done::Ended)
-}
-
 /// Answers a capture by the least limit of each of its connections, in ticks, under which all its cells conform to one
 /// bucket of this increment, in ticks: what is called the observed cell delay variation. A line for each connection, in
 /// order of path and channel, has its path, its channel, the number of its cells, the limit, and the number of the
@@ -226,7 +215,7 @@ pub fn fit_capture<R: Threads, I: Input + Send, O: Output>(
 {
     match read_given(alloc, rules) {
         Err(_) => Err(RunFault::NoMemory),
-        Ok(GivenRules::Faulty(answer)) => give_answer(output, answer),
+        Ok(GivenRules::Faulty(answer)) => write_faults(output, answer),
         Ok(GivenRules::Held(values)) => {
             fit_cells(rt, threads, alloc, choice, values, input, output)
         }

@@ -1,13 +1,11 @@
 //! The cells of a capture, policed.
 
-ghost use Rattle.std.specs.Prelude.{◌≡◌, ◌≢◌, ◌≤◌, ◌++◌, ◌||◌, List, ℕ, Err, IfOk, OnErr, OnOk, option_map};
+ghost use Rattle.std.specs.Prelude.{◌≡◌, ◌≤◌, ◌++◌, ◌||◌, List, ℕ, IfOk, OnOk, option_map};
 ghost use Rattle.card_core.specs.Sections.{answer_to};
 ghost use Rattle.text_io.specs.Lines.{lines_of};
 ghost use Rattle.card_core.specs.Agreement.{CoreAgrees};
 ghost use Rattle.card_core.specs.World.{Connection, World};
 ghost use Rattle.line_record.specs.History.{numbered};
-ghost use Rattle.text_io.specs.Devices.{IsPart};
-ghost use Rattle.text_io.specs.Failures.{write_failures};
 ghost use Rattle.text_io.specs.Serving.{IsServed};
 ghost use Rattle.upc_cell.specs.Connection.{vc_of};
 ghost use Rattle.cmd_police.specs.PoliceLines.{excess_of_answer};
@@ -33,7 +31,7 @@ use crate::stored_commands::add_waiting;
 use crate::timed_card::TimedCard;
 use captures::{Fault, Tick};
 use captures_text::{
-    CapturedCell, CellFollower, LineChoice, ReadingSummary, add_closing, follow_cells,
+    CapturedCell, CellFollower, LineChoice, ReadingSummary, add_closing, follow_cells, write_faults,
 };
 use card_core::{Core, Judgement, Unjudged};
 use cmd_run::ScriptCard;
@@ -41,7 +39,7 @@ use leaky::{Excess, Levels, Verdict, excess_at};
 use line_record::Line;
 use std::alloc::{AllocError, Global};
 use std::thread::Threads;
-use text_io::{Done, Input, Output, RunFault, Turn, give_last};
+use text_io::{Done, Input, Output, RunFault, Turn};
 use upc_cell::{Cell, Side, Vc};
 
 /// Returns the item with this number, counted from 1, if there is one.
@@ -255,21 +253,6 @@ fn spans_of(alloc: Global, side: Side, scope: PoliceScope, tick: Tick) -> Spans
         None => None,
     };
     Spans::new(alloc, side, length)
-}
-
-/// Writes a text about faults in place of a policed capture.
-///
-/// # Errors
-///
-/// `WriteFailed` if the device failed. The output is then a prefix of the text.
-pub fn write_faults<O: Output>(output: &mut O, mut text: Vec<u8>) -> Result<Done, RunFault>
-    ensures done { IfOk result (λ done. done ≡ Done.Ended) }
-    ensures given { O.is_known → OnOk result (O.held output.new ≡ O.held output.old ++ text.items) }
-    ensures front { O.is_known → OnErr result (IsPart (O.held output.old) (O.held output.new) text.items) }
-    ensures fault { result ≢ Err RunFault.ReadFailed }
-    ensures writing { O.failures output.new ≡ write_failures result (O.failures output.old) }
-{
-    give_last(output, &mut text, Done::Ended)
 }
 
 /// Polices the cells of a capture by a card that a setup script opens, whose lines have these times, one for each. Lines with a time are
