@@ -51,14 +51,8 @@ scope_asked options = record { link = options.link; timing = options.timing; lin
 
 -- What options of `fit` ask for, beside rules.
 abbrev pub fit_choice : FitOptions → FitChoice
-fit_choice options = record {
-  increment = options.increment;
-  tick = options.tick;
-  link = options.link;
-  timing = options.timing;
-  side = options.side;
-  clp = options.clp;
-}
+fit_choice options =
+    record { increment = options.increment; tick = options.tick; link = options.link; timing = options.timing; side = options.side; clp = options.clp }
 
 -- The octets of a file of rules, which are these, if there is such a file.
 abbrev pub octets_if_named : {Name : Type 0} → Option Name → List ℕ → Option (List ℕ)
