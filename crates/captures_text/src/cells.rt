@@ -7,7 +7,7 @@ ghost use Rattle.text_io.specs.Serving.{IsServed};
 
 use crate::capture::follow_cells;
 use crate::captured_cell::CapturedCell;
-use crate::follower::CellFollower;
+use crate::follower::{CellFollower, Followed};
 use crate::reading_summary::ReadingSummary;
 use crate::run_lines::add_closing;
 use captures::{Fault, Link, Tick, TimeSource};
@@ -84,11 +84,7 @@ impl CellFollower for Cells {
 
     ghost rules = { cells_rules };
 
-    fn follow_cell(
-        &mut self,
-        captured: &CapturedCell,
-        answers: &mut Vec<u8>,
-    ) -> Result<Turn, AllocError> {
+    fn follow_cell(&mut self, captured: &CapturedCell, answers: &mut Vec<u8>) -> Followed {
         add_captured(answers, self.numbered, captured)?;
         Ok(Turn::GoesOn)
     }
@@ -96,10 +92,10 @@ impl CellFollower for Cells {
     fn close(
         &self,
         summary: &ReadingSummary,
-        ending: Option<Fault>,
+        end: Option<Fault>,
         answers: &mut Vec<u8>,
     ) -> Result<(), AllocError> {
-        add_closing(answers, summary, ending)
+        add_closing(answers, summary, end)
     }
 
     ghost is_total = { fixed_total cells_steps cells_closes };

@@ -11,6 +11,9 @@ use captures::Fault;
 use std::alloc::AllocError;
 use text_io::Turn;
 
+/// Whether the run goes on after a cell, or after several. The error is that memory is short.
+pub type Followed = Result<Turn, AllocError>;
+
 /// A follower gets the cells of a capture that count, one after another, and answers each.
 ///
 /// Its `rules` say which answers are right. They depend on a state of the specification, the world. A follower may store less than a world:
@@ -23,11 +26,7 @@ pub trait CellFollower {
     ghost rules: { CellRules World };
 
     /// Appends the answer to a cell to the answers.
-    fn follow_cell(
-        &mut self,
-        captured: &CapturedCell,
-        answers: &mut Vec<u8>,
-    ) -> Result<Turn, AllocError>
+    fn follow_cell(&mut self, captured: &CapturedCell, answers: &mut Vec<u8>) -> Followed
         ensures { IfOk result (λ turn.
             FollowsCell rules (shows self.old) captured.now turn (shows self.new) answers.old.items answers.new.items) };
 
@@ -35,10 +34,10 @@ pub trait CellFollower {
     fn close(
         &self,
         summary: &ReadingSummary,
-        ending: Option<Fault>,
+        end: Option<Fault>,
         answers: &mut Vec<u8>,
     ) -> Result<(), AllocError>
-        ensures { OnOk result (ClosesCells rules (shows self.now) summary.now ending answers.old.items answers.new.items) };
+        ensures { OnOk result (ClosesCells rules (shows self.now) summary.now end answers.old.items answers.new.items) };
 
     ghost is_total: { AnswersEachCell rules };
 }
@@ -53,7 +52,7 @@ pub(crate) fn answer_cells<F: CellFollower>(
     follower: &mut F,
     cells: &[CapturedCell],
     answers: &mut Vec<u8>,
-) -> Result<Turn, AllocError>
+) -> Followed
     ensures { IfOk result (λ turn.
         AnswersCells F.rules (F.shows follower.old) cells.now turn (F.shows follower.new) answers.old.items answers.new.items) }
 {

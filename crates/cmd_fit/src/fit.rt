@@ -11,14 +11,14 @@ ghost use Rattle.cmd_fit.specs.inner.FitShown.{fit_world};
 ghost use Rattle.cmd_fit.specs.inner.RulesHeld.{rules_held};
 
 use crate::cell_values::CellValues;
-use crate::fit_choice::FitChoice;
 use crate::fit_lines::{add_fit_fault, add_heading};
 use crate::flow::Flow;
 use crate::flows::Flows;
 use crate::given_rules::{GivenRules, read_given};
 use captures::Fault;
 use captures_text::{
-    CapturedCell, CellFollower, ReadingSummary, add_closing, follow_cells, write_faults,
+    CapturedCell, CellFollower, FitChoice, Followed, ReadingSummary, add_closing, follow_cells,
+    write_faults,
 };
 use std::alloc::{AllocError, Global};
 use std::thread::Threads;
@@ -115,11 +115,7 @@ impl CellFollower for FitRun {
 
     ghost rules = { fit_rules };
 
-    fn follow_cell(
-        &mut self,
-        captured: &CapturedCell,
-        answers: &mut Vec<u8>,
-    ) -> Result<Turn, AllocError> {
+    fn follow_cell(&mut self, captured: &CapturedCell, answers: &mut Vec<u8>) -> Followed {
         if !is_of_class(&captured.cell, self.clp) {
             return Ok(Turn::GoesOn);
         }
@@ -139,14 +135,14 @@ impl CellFollower for FitRun {
     fn close(
         &self,
         summary: &ReadingSummary,
-        ending: Option<Fault>,
+        end: Option<Fault>,
         answers: &mut Vec<u8>,
     ) -> Result<(), AllocError> {
         let valued = self.is_valued();
         add_heading(answers, valued)?;
         self.flows
             .add_lines(self.alloc, answers, self.side, valued)?;
-        add_closing(answers, summary, ending)
+        add_closing(answers, summary, end)
     }
 
     ghost is_total = { fixed_total fit_steps fit_closes };

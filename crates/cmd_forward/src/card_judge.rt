@@ -41,10 +41,10 @@ impl CellJudge for PolicedCard {
     fn close(
         &self,
         summary: &ReadingSummary,
-        ending: Option<Fault>,
+        end: Option<Fault>,
         report: &mut Vec<u8>,
     ) -> Result<(), AllocError> {
-        self.add_report(report, summary, ending)
+        self.add_report(report, summary, end)
     }
 
     ghost is_total = { forward-total };

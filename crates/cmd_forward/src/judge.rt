@@ -27,10 +27,10 @@ pub trait CellJudge {
     fn close(
         &self,
         summary: &ReadingSummary,
-        ending: Option<Fault>,
+        end: Option<Fault>,
         report: &mut Vec<u8>,
     ) -> Result<(), AllocError>
-        ensures { OnOk result (ClosesReport rules (shows self.now) summary.now ending report.old.items report.new.items) };
+        ensures { OnOk result (ClosesReport rules (shows self.now) summary.now end report.old.items report.new.items) };
 
     ghost is_total: { JudgesEachCell rules };
 }

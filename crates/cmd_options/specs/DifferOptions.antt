@@ -6,7 +6,7 @@ use Rattle.clap.specs.Simple.{App}
 use Rattle.clap.specs.Walk.{Text}
 use Rattle.text_command_line.specs.Arguments.{app_with_rules, argument_rule}
 use Rattle.text_command_line.specs.CommandLines.{argument_value}
-use Rattle.cmd_options.specs.OptionValues.{pairs_of, file_name_of}
+use Rattle.cmd_options.specs.OptionValues.{pairs_of, file_name_of, one_of_two}
 use Rattle.cmd_options.specs.declared.differ.DifferOptions.{DifferOptions}
 use Rattle.cmd_options.specs.declared.programs.Programs.{Programs}
 use Rattle.cmd_options.specs.declared.programs.Programs.TheVariants as which
@@ -20,10 +20,7 @@ differ_app = app_with_rules (codes "upc-lab differ") (argument_rule (codes "OLD"
 -- Which texts a word says to be programs.
 abbrev pub programs_named : Text → Option Programs
 programs_named word =
-    if bytes_eq word (codes "old") then Some which.Old
-    else if bytes_eq word (codes "new") then Some which.New
-    else if bytes_eq word (codes "both") then Some which.Both
-    else None
+    if bytes_eq word (codes "old") then Some which.Old else one_of_two (codes "new") which.New (codes "both") which.Both word
 
 -- Which texts are said to be programs. Without a word both are rules.
 abbrev pub programs_of : Option Text → Option Programs

@@ -38,8 +38,8 @@ fit_asking increment nanoseconds link timing side clp rules =
 
 -- What options of `fit` ask for.
 abbrev pub asked_by : FitOptions → FitAsked
-asked_by options = fit_asking options.increment options.tick.nanoseconds options.link options.timing options.side options.clp
-    (option_map string_bytes options.rules)
+asked_by options = fit_asking options.choice.increment options.choice.tick.nanoseconds options.choice.link options.choice.timing
+    options.choice.side options.choice.clp (option_map string_bytes options.rules)
 
 -- What these values spell, if each spells something.
 abbrev pub fit_values : Option Text → Option Text → Option Text → Option Text → Option Text → Option Text → Option Text → Option Text → Option FitAsked

@@ -12,26 +12,15 @@ use crate::values::{
     LINK, TICK, TIME, WRONG_LINK, WRONG_TICK, WRONG_TIME, asked_clp_of, fit_increment_of,
     fit_side_of, owned, rules_name_of, spelled, tick_of, timing_of,
 };
-use captures::{Link, Tick, TimeSource};
+use captures_text::FitChoice;
 use std::alloc::Global;
 use text_command_line::{Argument, Form, Options, Stop, Value, values_of_words};
-use upc_cell::Side;
 
 /// What `upc-lab fit` should do.
 #[derive(Debug, PartialEq, Eq, Drop)]
 pub struct FitOptions {
-    /// The increment of the bucket, in ticks: 1 to 2^48.
-    pub increment: u64,
-    /// How long a tick is.
-    pub tick: Tick,
-    /// The link whose cells are read. Without one the cells of a capture may be of one link only.
-    pub link: Option<Link>,
-    /// Which time of a record counts.
-    pub timing: TimeSource,
-    /// The side at which headers are read, and whether connections are virtual paths.
-    pub side: Side,
-    /// The cell loss priority (CLP) of the cells that are read, 0 or 1. Without one all cells are read.
-    pub clp: Option<u8>,
+    /// What is asked for beside rules.
+    pub choice: FitChoice,
     /// The name of the file with the rules by whose values lines are told apart, if one is given.
     pub rules: Option<String>,
 }
@@ -124,13 +113,13 @@ fn read(alloc: Global, values: &[Value]) -> Result<FitOptions, Stop>
     let Ok(rules) = owned(alloc, rules) else {
         return Err(Stop::NoMemory);
     };
-    Ok(FitOptions {
+    let choice = FitChoice {
         increment,
         tick,
         link,
         timing,
         side,
         clp,
-        rules,
-    })
+    };
+    Ok(FitOptions { choice, rules })
 }

@@ -59,6 +59,9 @@ pub(crate) const TIME: Argument = Argument {
     help: "Which time of a record counts: its own (record), or that of its packet in a pcap or pcapng file (packet)",
 };
 
+/// The message about an empty name of the setup file.
+pub(crate) const WRONG_SETUP: &str = "error: SETUP is the name of a file\n";
+
 /// The message about a wrong value of `--time`.
 pub(crate) const WRONG_TIME: &str = "error: the value of '--time' is record or packet\n";
 

@@ -31,7 +31,8 @@ use crate::stored_commands::add_waiting;
 use crate::timed_card::TimedCard;
 use captures::{Fault, Tick};
 use captures_text::{
-    CapturedCell, CellFollower, LineChoice, ReadingSummary, add_closing, follow_cells, write_faults,
+    CapturedCell, CellFollower, Followed, LineChoice, ReadingSummary, add_closing, follow_cells,
+    write_faults,
 };
 use card_core::{Core, Judgement, Unjudged};
 use cmd_run::ScriptCard;
@@ -194,11 +195,7 @@ impl CellFollower for PoliceRun {
     ghost rules = { police_rules };
 
     #[inline(always)]
-    fn follow_cell(
-        &mut self,
-        captured: &CapturedCell,
-        answers: &mut Vec<u8>,
-    ) -> Result<Turn, AllocError> {
+    fn follow_cell(&mut self, captured: &CapturedCell, answers: &mut Vec<u8>) -> Followed {
         let cell = &captured.cell;
         let moment = captured.moment;
         let carried = self.timed.carry_out(moment, answers)?;
@@ -226,7 +223,7 @@ impl CellFollower for PoliceRun {
     fn close(
         &self,
         summary: &ReadingSummary,
-        ending: Option<Fault>,
+        end: Option<Fault>,
         answers: &mut Vec<u8>,
     ) -> Result<(), AllocError> {
         self.spans.add_present(answers)?;
@@ -238,7 +235,7 @@ impl CellFollower for PoliceRun {
         add_not_judged(answers, &self.not_judged)?;
         add_waiting(answers, &self.timed.commands)?;
         add_run_comments(answers, self.tick, summary)?;
-        add_closing(answers, summary, ending)
+        add_closing(answers, summary, end)
     }
 
     ghost is_total = { police-total };
