@@ -9,8 +9,9 @@ ghost use Rattle.cmd_options.specs.inner.Answered.{AnswersValues, fit_spelled};
 
 use crate::link::link_of;
 use crate::values::{
-    LINK, TICK, TIME, WRONG_LINK, WRONG_TICK, WRONG_TIME, asked_clp_of, fit_increment_of,
-    fit_side_of, owned, rules_name_of, spelled, tick_of, timing_of,
+    LINK, TICK, TIME, WRONG_CLP, WRONG_INCREMENT, WRONG_LINK, WRONG_RULES, WRONG_SIDE, WRONG_TICK,
+    WRONG_TIME, asked_clp_of, fit_increment_of, fit_side_of, owned, rules_name_of, spelled,
+    tick_of, timing_of,
 };
 use captures_text::FitChoice;
 use std::alloc::Global;
@@ -87,29 +88,13 @@ pub fn fit_options(alloc: Global, words: Vec<String>) -> Result<FitOptions, Stop
 fn read(alloc: Global, values: &[Value]) -> Result<FitOptions, Stop>
     ensures { AnswersValues asked_by (fit_spelled (texts_of values.now)) result }
 {
-    let increment = spelled(
-        alloc,
-        fit_increment_of(values),
-        "error: the value of '--increment' is a number of ticks from 1 to 281474976710656\n",
-    )?;
+    let increment = spelled(alloc, fit_increment_of(values), WRONG_INCREMENT)?;
     let tick = spelled(alloc, tick_of(values), WRONG_TICK)?;
     let link = spelled(alloc, link_of(values), WRONG_LINK)?;
     let timing = spelled(alloc, timing_of(values), WRONG_TIME)?;
-    let side = spelled(
-        alloc,
-        fit_side_of(values),
-        "error: the value of '--side' is uni or nni\n",
-    )?;
-    let clp = spelled(
-        alloc,
-        asked_clp_of(values),
-        "error: the value of '--clp' is 0 or 1\n",
-    )?;
-    let rules = spelled(
-        alloc,
-        rules_name_of(values),
-        "error: the value of '--rules' is the name of a file\n",
-    )?;
+    let side = spelled(alloc, fit_side_of(values), WRONG_SIDE)?;
+    let clp = spelled(alloc, asked_clp_of(values), WRONG_CLP)?;
+    let rules = spelled(alloc, rules_name_of(values), WRONG_RULES)?;
     let Ok(rules) = owned(alloc, rules) else {
         return Err(Stop::NoMemory);
     };
