@@ -22,7 +22,7 @@ use captures::{
 };
 use std::alloc::Global;
 use std::thread::Threads;
-use text_io::{Done, Failed, Input, Output, RunFault, Window};
+use text_io::{Done, Ending, Failed, Input, Output, RunFault, Window};
 
 /// Reads the first octets of a file, until they say what it is or the file ends, and returns what it is.
 pub fn find_opening<I: Input>(
@@ -62,7 +62,7 @@ pub fn short_fault(octets: &[u8]) -> Fault
 }
 
 /// Answers a file that isn't read.
-fn refuse<O: Output>(alloc: Global, output: &mut O, fault: FileFault) -> Result<Done, RunFault>
+fn refuse<O: Output>(alloc: Global, output: &mut O, fault: FileFault) -> Ending
     ensures done { IfOk result (λ done. done ≡ Done.Ended) }
     ensures given { O.is_known → OnOk result (O.held output.new ≡ O.held output.old ++ file_fault_line fault) }
     ensures front { O.is_known → OnErr result (IsPart (O.held output.old) (O.held output.new) (file_fault_line fault)) }
@@ -83,7 +83,7 @@ fn close_short<O: Output, F: CellFollower>(
     follower: &F,
     summary: &ReadingSummary,
     octets: &[u8],
-) -> Result<Done, RunFault>
+) -> Ending
     ensures done { IfOk result (λ done. done ≡ Done.Ended) }
     ensures given { O.is_known → OnOk result (OfEachWorld F.rules (F.shows follower.now) (λ world.
         O.held output.new ≡ O.held output.old ++ F.rules.closes world summary.now (Some (fault_if_short octets.now)))) }
@@ -119,7 +119,7 @@ pub fn follow_cells<R: Threads, I: Input + Send, O: Output, F: CellFollower + Se
     input: &mut I,
     output: &mut O,
     follower: &mut F,
-) -> Result<Done, RunFault>
+) -> Ending
     ensures { OfEachWorld F.rules (F.shows follower.old) (λ world.
         IsServed (IsCaptureText F.rules (filter_start tick.nanoseconds link timing) world)
         I.Input input.old input.new O.Output output.old output.new result) }

@@ -13,7 +13,7 @@ use crate::run_lines::add_closing;
 use captures::{Fault, Link, Tick, TimeSource};
 use std::alloc::{AllocError, Global};
 use std::thread::Threads;
-use text_io::{Done, Input, Output, RunFault, Turn};
+use text_io::{Ending, Input, Output, Turn};
 use text_words::{add_number, add_text};
 use upc_cell::{CELL_OCTETS, Cell};
 
@@ -111,7 +111,7 @@ impl CellFollower for Cells {
 ///
 /// # Errors
 ///
-/// See [`RunFault`].
+/// See [`text_io::RunFault`].
 pub fn cells_of_capture<R: Threads, I: Input + Send, O: Output>(
     rt: &R,
     threads: usize,
@@ -122,7 +122,7 @@ pub fn cells_of_capture<R: Threads, I: Input + Send, O: Output>(
     numbered: bool,
     input: &mut I,
     output: &mut O,
-) -> Result<Done, RunFault>
+) -> Ending
     ensures { IsServed (IsCellsText tick.nanoseconds link timing numbered) I.Input input.old input.new O.Output output.old output.new result }
 {
     let mut cells = Cells { numbered };

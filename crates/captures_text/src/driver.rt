@@ -19,7 +19,7 @@ use crate::two_threads::give_and_go_ahead;
 use captures::Fault;
 use std::alloc::Global;
 use std::thread::Threads;
-use text_io::{Done, Input, Output, RunFault, give_if_enough, give_last, refill};
+use text_io::{Done, Ending, Input, Output, RunFault, give_if_enough, give_last, refill};
 
 /// Returns how a run ends when its capture ends: `Ended` at a fault, otherwise `Whole`.
 pub fn done_at(ending: Option<Fault>) -> Done
@@ -37,7 +37,7 @@ fn finish<O: Output, F: CellFollower>(
     follower: &F,
     reading: &ReadingAhead,
     answers: &mut Vec<u8>,
-) -> Result<Done, RunFault>
+) -> Ending
     requires { first_frame reading.now.reader.format reading.now.reader.at reading.now.window ≡ None }
     ensures given { O.is_known → IfOk result (λ done. OfEachWorld F.rules (F.shows follower.now) (λ world. (here : List ℕ)
         × (O.held output.new ≡ O.held output.old ++ (answers.old.items ++ here))
@@ -75,7 +75,7 @@ pub(crate) fn follow_on<R: Threads, I: Input + Send, O: Output, F: CellFollower 
     output: &mut O,
     follower: &mut F,
     mut reading: ReadingAhead,
-) -> Result<Done, RunFault>
+) -> Ending
     requires { length reading.window ≤ 524288 }
     ensures text { I.is_known → O.is_known → IfOk result (λ done. OfEachWorld F.rules (F.shows follower.old) (λ first.
         Adds (λ text. IsQueuedText F.rules reading [] first (reading.window ++ I.rest input.old) text done)

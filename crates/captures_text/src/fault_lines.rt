@@ -7,7 +7,7 @@ ghost use Rattle.text_io.specs.Failures.{write_failures};
 
 use captures::{Fault, FileFault, RecordFault};
 use std::alloc::AllocError;
-use text_io::{Done, Output, RunFault, give_last};
+use text_io::{Done, Ending, Output, give_last};
 use text_words::{add_number, add_numbered, add_text};
 
 /// Appends the answer to a file that isn't read.
@@ -86,7 +86,7 @@ pub(crate) fn add_capture_fault(answers: &mut Vec<u8>, fault: Fault) -> Result<(
 /// # Errors
 ///
 /// `WriteFailed` if the device failed. The output is then a prefix of the text.
-pub fn write_faults<O: Output>(output: &mut O, mut text: Vec<u8>) -> Result<Done, RunFault>
+pub fn write_faults<O: Output>(output: &mut O, mut text: Vec<u8>) -> Ending
     ensures done { IfOk result (λ done. done ≡ Done.Ended) }
     ensures given { O.is_known → OnOk result (O.held output.new ≡ O.held output.old ++ text.items) }
     ensures front { O.is_known → OnErr result (IsPart (O.held output.old) (O.held output.new) text.items) }

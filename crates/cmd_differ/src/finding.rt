@@ -3,7 +3,7 @@
 ghost use Rattle.std.specs.Prelude.{◌≡◌};
 ghost use Rattle.cmd_differ.specs.Findings.{ended_by, finding_done};
 
-use text_io::{Done, RunFault};
+use text_io::{Done, Ending, RunFault};
 
 /// What was found of one text of rules, or of two.
 #[derive(Clone, Copy, Debug, PartialEq, Eq)]
@@ -29,7 +29,7 @@ pub(crate) fn done_of(finding: Finding) -> Done
 }
 
 /// How a run with this result ends: where nothing was found, it is a whole answer.
-pub fn ended_by(found: Result<Finding, RunFault>) -> Result<Done, RunFault>
+pub fn ended_by(found: Result<Finding, RunFault>) -> Ending
     ensures { result ≡ ended_by found }
 {
     match found {

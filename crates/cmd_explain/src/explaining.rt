@@ -17,17 +17,12 @@ use cmd_explain_rules::explain_rules;
 use cmd_explain_script::explain_script;
 use cmd_programs::{MOST_SOURCE_OCTETS, add_accepted, add_asm_fault, add_verify_fault};
 use std::alloc::{AllocError, Global};
-use text_io::{Answerer, Done, Input, Output, RunFault, answer_whole};
-use text_words::add_too_long;
+use text_io::{Answered, Answerer, Done, Ending, Input, Output, answer_whole};
+use text_words::TOO_LONG;
 
 /// Answers a code: that it has no fault, with hints, or its first one and an explanation.
 #[tactic(auto, using(std::proofs::lemmas::List::append_assoc))]
-fn explain_code(
-    alloc: Global,
-    source: &[u8],
-    code: &[Instr],
-    answers: &mut Vec<u8>,
-) -> Result<Done, AllocError>
+fn explain_code(alloc: Global, source: &[u8], code: &[Instr], answers: &mut Vec<u8>) -> Answered
     ensures { IfOk result (λ done. Adds (λ text. ExplainsCode source.now code.now text done) answers.old.items answers.new.items) }
 {
     match first_fault(code) {
@@ -50,20 +45,12 @@ struct Sources;
 impl Answerer for Sources {
     ghost use Rattle.cmd_explain.specs.Explained.{ExplainsSource};
     ghost use Rattle.cmd_explain.specs.inner.SourcesTotal.{source-answered};
-    ghost use Rattle.text_words.specs.FaultLines.{too_long};
 
     ghost prints = { λ sources. ExplainsSource };
 
     ghost allows = { λ sources. ExplainsSource };
 
-    ghost too_long = { too_long };
-
-    fn answer(
-        &self,
-        alloc: Global,
-        octets: &[u8],
-        answers: &mut Vec<u8>,
-    ) -> Result<Done, AllocError> {
+    fn answer(&self, alloc: Global, octets: &[u8], answers: &mut Vec<u8>) -> Answered {
         match assemble(alloc, octets) {
             Ok(code) => explain_code(alloc, octets, &code, answers),
             Err(
@@ -80,10 +67,6 @@ impl Answerer for Sources {
         }
     }
 
-    fn refuse(&self, answers: &mut Vec<u8>) -> Result<(), AllocError> {
-        add_too_long(answers)
-    }
-
     ghost is_wider = { λ sources octets text done prints. prints };
 
     ghost is_total = { λ sources. source-answered };
@@ -91,14 +74,10 @@ impl Answerer for Sources {
 
 /// Answers a source: the fault that `upc check` finds, with its line, the column of the token that is wrong and a sentence, or that
 /// there is none.
-fn explain_source<I: Input, O: Output>(
-    alloc: Global,
-    input: &mut I,
-    output: &mut O,
-) -> Result<Done, RunFault>
+fn explain_source<I: Input, O: Output>(alloc: Global, input: &mut I, output: &mut O) -> Ending
     ensures { IsServed IsSourceText I.Input input.old input.new O.Output output.old output.new result }
 {
-    answer_whole(alloc, input, output, MOST_SOURCE_OCTETS, &Sources)
+    answer_whole(alloc, input, output, MOST_SOURCE_OCTETS, TOO_LONG, &Sources)
 }
 
 /// Answers the word `source` on the first line and a source of assembly after it by the fault that `upc check` finds, the word `rules`
@@ -107,12 +86,8 @@ fn explain_source<I: Input, O: Output>(
 ///
 /// # Errors
 ///
-/// See [`RunFault`].
-pub fn explain_faults<I: Ahead, O: Output>(
-    alloc: Global,
-    input: &mut I,
-    output: &mut O,
-) -> Result<Done, RunFault>
+/// See [`text_io::RunFault`].
+pub fn explain_faults<I: Ahead, O: Output>(alloc: Global, input: &mut I, output: &mut O) -> Ending
     ensures served { IsServed IsExplainText I.Input input.old input.new O.Output output.old output.new result }
     ensures printed { I.is_known → O.is_known → IfOk result (λ done.
         Adds (λ text. IsWholeExplanation (I.rest input.old) text done) (O.held output.old) (O.held output.new)) }

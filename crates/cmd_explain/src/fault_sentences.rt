@@ -10,8 +10,8 @@ ghost use Rattle.cmd_explain_script.specs.Tables.{value_among};
 
 use bpf_asm::next_line;
 use std::alloc::{AllocError, Global};
-use text_io::{Answerer, Done, Input, Output, RunFault, answer_whole, first_word};
-use text_words::{add_text, add_too_long};
+use text_io::{Answered, Answerer, Done, Ending, Input, Output, answer_whole, first_word};
+use text_words::{TOO_LONG, add_text};
 
 /// The maximum number of octets of fault lines.
 const MOST_FAULT_OCTETS: u32 = 1048576;
@@ -289,52 +289,39 @@ fn add_explained_lines(alloc: Global, answers: &mut Vec<u8>, text: &[u8]) -> Res
 }
 
 /// The program that explains fault lines.
-#[derive(Clone, Copy)]
-struct FaultLines;
+struct Faults;
 
-impl Answerer for FaultLines {
+impl Answerer for Faults {
     ghost use Rattle.cmd_explain.specs.FaultSentences.{PrintsFaults};
     ghost use Rattle.cmd_explain.specs.inner.FaultsTotal.{faults-answered};
-    ghost use Rattle.text_words.specs.FaultLines.{too_long};
 
-    ghost prints = { λ lines. PrintsFaults };
+    ghost prints = { λ faults. PrintsFaults };
 
-    ghost allows = { λ lines. PrintsFaults };
+    ghost allows = { λ faults. PrintsFaults };
 
-    ghost too_long = { too_long };
-
-    fn answer(
-        &self,
-        alloc: Global,
-        octets: &[u8],
-        answers: &mut Vec<u8>,
-    ) -> Result<Done, AllocError> {
+    fn answer(&self, alloc: Global, octets: &[u8], answers: &mut Vec<u8>) -> Answered {
         add_explained_lines(alloc, answers, octets)?;
         Ok(Done::Ended)
     }
 
-    fn refuse(&self, answers: &mut Vec<u8>) -> Result<(), AllocError> {
-        add_too_long(answers)
-    }
+    ghost is_wider = { λ faults octets text done prints. prints };
 
-    ghost is_wider = { λ lines octets text done prints. prints };
-
-    ghost is_total = { λ lines. faults-answered };
+    ghost is_total = { λ faults. faults-answered };
 }
 
 /// Answers fault lines, each by itself and a sentence.
 ///
 /// # Errors
 ///
-/// See [`RunFault`].
+/// See [`text_io::RunFault`].
 pub(crate) fn explain_fault_lines<I: Input, O: Output>(
     alloc: Global,
     input: &mut I,
     output: &mut O,
-) -> Result<Done, RunFault>
+) -> Ending
     ensures served { IsServed IsFaultsText I.Input input.old input.new O.Output output.old output.new result }
     ensures printed { I.is_known → O.is_known → IfOk result (λ done.
         Adds (λ text. IsFaultsText (I.rest input.old) text done) (O.held output.old) (O.held output.new)) }
 {
-    answer_whole(alloc, input, output, MOST_FAULT_OCTETS, &FaultLines)
+    answer_whole(alloc, input, output, MOST_FAULT_OCTETS, TOO_LONG, &Faults)
 }

@@ -10,7 +10,7 @@ ghost use Rattle.cmd_explain_rules.specs.HintComments.{MayBeHintComments, text_o
 use crate::hint_comments::{Comments, comments_found};
 use cmd_rules::{MOST_RULES_OCTETS, answer_by_octets};
 use std::alloc::{AllocError, Global};
-use text_io::{Done, Input, Output, RunFault, gather, give_last};
+use text_io::{Done, Ending, Input, Output, RunFault, gather, give_last};
 use text_words::add_too_long;
 
 /// Answers a text within the limit, or one over it.
@@ -42,7 +42,7 @@ pub fn compile_with_hints<I: Input, O: Output>(
     input: &mut I,
     output: &mut O,
     comments: &mut Comments,
-) -> Result<Done, RunFault>
+) -> Ending
     ensures served { IsServed MayBeRulesText I.Input input.old input.new O.Output output.old output.new result }
     ensures printed { I.is_known → O.is_known → IfOk result (λ done.
         Adds (λ answer. IsRulesText (I.rest input.old) answer done) (O.held output.old) (O.held output.new)) }

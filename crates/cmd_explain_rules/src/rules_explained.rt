@@ -13,8 +13,8 @@ use cmd_rules::{MOST_RULES_OCTETS, add_rule_fault};
 use rules_cells::{CodeFault, RuleLine, compile};
 use rules_text::{PlacedRules, RuleFault, RuleKind, read_with_places};
 use std::alloc::{AllocError, Global};
-use text_io::{Answerer, Done, Input, Output, RunFault, answer_whole};
-use text_words::{add_number, add_text, add_too_long};
+use text_io::{Answered, Answerer, Done, Ending, Input, Output, answer_whole};
+use text_words::{TOO_LONG, add_number, add_text};
 
 /// Returns how many of these lines are rules.
 fn rules_count(lines: &[RuleLine]) -> usize
@@ -131,53 +131,36 @@ pub(crate) fn explain_text(
     }
 }
 
-/// Explains a text of rules.
-#[derive(Clone, Copy)]
-pub(crate) struct Explainer;
+/// The program that explains a text of rules.
+struct Rules;
 
-impl Answerer for Explainer {
+impl Answerer for Rules {
     ghost use Rattle.std.proofs.Common.{inl};
-    ghost use Rattle.text_words.specs.FaultLines.{too_long};
     ghost use Rattle.cmd_explain_rules.specs.RulesExplained.{ExplainsRules, MayExplain};
     ghost use Rattle.cmd_explain_rules.specs.inner.SomeAnswer.{may-explain};
 
-    ghost prints = { λ me. ExplainsRules };
+    ghost prints = { λ rules. ExplainsRules };
 
-    ghost allows = { λ me. MayExplain };
+    ghost allows = { λ rules. MayExplain };
 
-    ghost too_long = { too_long };
-
-    fn answer(
-        &self,
-        alloc: Global,
-        octets: &[u8],
-        answers: &mut Vec<u8>,
-    ) -> Result<Done, AllocError> {
+    fn answer(&self, alloc: Global, octets: &[u8], answers: &mut Vec<u8>) -> Answered {
         explain_text(alloc, octets, answers)
     }
 
-    fn refuse(&self, answers: &mut Vec<u8>) -> Result<(), AllocError> {
-        add_too_long(answers)
-    }
+    ghost is_wider = { λ rules text answer done prints. inl prints };
 
-    ghost is_wider = { λ me text answer done prints. inl prints };
-
-    ghost is_total = { λ me text. may-explain text };
+    ghost is_total = { λ rules text. may-explain text };
 }
 
 /// Answers a text of rules, the whole input: the fault line of `upc-lab rules`, or that there is no fault. docs/LAB.md has the format.
 ///
 /// # Errors
 ///
-/// See [`RunFault`].
-pub fn explain_rules<I: Input, O: Output>(
-    alloc: Global,
-    input: &mut I,
-    output: &mut O,
-) -> Result<Done, RunFault>
+/// See [`text_io::RunFault`].
+pub fn explain_rules<I: Input, O: Output>(alloc: Global, input: &mut I, output: &mut O) -> Ending
     ensures served { IsServed MayBeRulesExplained I.Input input.old input.new O.Output output.old output.new result }
     ensures printed { I.is_known → O.is_known → IfOk result (λ done.
         Adds (λ answer. IsRulesExplained (I.rest input.old) answer done) (O.held output.old) (O.held output.new)) }
 {
-    answer_whole(alloc, input, output, MOST_RULES_OCTETS, &Explainer)
+    answer_whole(alloc, input, output, MOST_RULES_OCTETS, TOO_LONG, &Rules)
 }

@@ -13,7 +13,7 @@ use crate::setup_hints::add_setup_hint;
 use cmd_run::Policing;
 use std::alloc::{AllocError, Global};
 use text_card::add_no_card;
-use text_io::{Done, Input, Machine, Output, RunFault, Turn, answer_lines};
+use text_io::{Done, Ending, Input, Machine, Output, Turn, answer_lines};
 use text_words::{add_number, add_text, add_too_long};
 use upc_cell::Side;
 
@@ -151,12 +151,8 @@ impl Machine for Explaining {
 ///
 /// # Errors
 ///
-/// See [`RunFault`].
-pub fn explain_script<I: Input, O: Output>(
-    alloc: Global,
-    input: &mut I,
-    output: &mut O,
-) -> Result<Done, RunFault>
+/// See [`text_io::RunFault`].
+pub fn explain_script<I: Input, O: Output>(alloc: Global, input: &mut I, output: &mut O) -> Ending
     ensures { IsServed IsScriptExplained I.Input input.old input.new O.Output output.old output.new result }
 {
     let mut explaining = Explaining {

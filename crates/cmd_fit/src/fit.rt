@@ -22,7 +22,7 @@ use captures_text::{
 };
 use std::alloc::{AllocError, Global};
 use std::thread::Threads;
-use text_io::{Done, Input, Output, RunFault, Turn};
+use text_io::{Ending, Input, Output, RunFault, Turn};
 use upc_cell::{Cell, Side};
 
 /// Returns the cell loss priority of a cell.
@@ -157,7 +157,7 @@ fn fit_cells<R: Threads, I: Input + Send, O: Output>(
     values: Option<CellValues>,
     input: &mut I,
     output: &mut O,
-) -> Result<Done, RunFault>
+) -> Ending
     ensures { IsServed (IsFitText (scope_of choice (rules_held values)) choice.tick.nanoseconds choice.link choice.timing)
         I.Input input.old input.new O.Output output.old output.new result }
 {
@@ -206,7 +206,7 @@ pub fn fit_capture<R: Threads, I: Input + Send, O: Output>(
     rules: Option<&[u8]>,
     input: &mut I,
     output: &mut O,
-) -> Result<Done, RunFault>
+) -> Ending
     ensures { IsServed (IsFitAsked choice (option_map (λ text. text.now) rules.entry)) I.Input input.old input.new O.Output output.old output.new result }
 {
     match read_given(alloc, rules) {

@@ -14,10 +14,10 @@ use crate::links_reading::LinksReading;
 use captures::{FileFault, Opening, Reader};
 use captures_text::{WINDOW_ROOM, add_file_fault, find_opening, short_fault};
 use std::alloc::Global;
-use text_io::{Done, Input, Output, RunFault, Window, give_last};
+use text_io::{Done, Ending, Input, Output, RunFault, Window, give_last};
 
 /// Appends the answer to a file that isn't read.
-fn refuse(answers: &mut Vec<u8>, fault: FileFault) -> Result<Done, RunFault>
+fn refuse(answers: &mut Vec<u8>, fault: FileFault) -> Ending
     ensures said { OnOk result (answers.new.items ≡ answers.old.items ++ file_fault_line fault) }
     ensures done { IfOk result (λ done. done ≡ Done.Ended) }
     ensures fault { IfErr result (λ fault. fault ≡ RunFault.NoMemory) }
@@ -29,11 +29,7 @@ fn refuse(answers: &mut Vec<u8>, fault: FileFault) -> Result<Done, RunFault>
 }
 
 /// Reads a capture to its end, and appends the text.
-fn add_text_of<I: Input>(
-    alloc: Global,
-    input: &mut I,
-    answers: &mut Vec<u8>,
-) -> Result<Done, RunFault>
+fn add_text_of<I: Input>(alloc: Global, input: &mut I, answers: &mut Vec<u8>) -> Ending
     ensures text { I.is_known → IfOk result (λ done. (text : List ℕ) × (answers.new.items ≡ answers.old.items ++ text)
         × IsLinksText (I.rest input.old) text done) }
     ensures left { I.is_known → IfOk result (λ done.
@@ -73,11 +69,7 @@ fn add_text_of<I: Input>(
 /// # Errors
 ///
 /// See [`RunFault`].
-pub fn links_of_capture<I: Input, O: Output>(
-    alloc: Global,
-    input: &mut I,
-    output: &mut O,
-) -> Result<Done, RunFault>
+pub fn links_of_capture<I: Input, O: Output>(alloc: Global, input: &mut I, output: &mut O) -> Ending
     ensures { IsServed IsLinksText I.Input input.old input.new O.Output output.old output.new result }
 {
     let mut answers = Vec::new(alloc);

@@ -13,14 +13,10 @@ use crate::link_table::LinkTable;
 use crate::links_reading::{LinksReading, StepOutcome};
 use captures::Fault;
 use captures_text::{READING_OCTETS, done_at};
-use text_io::{Done, Input, RunFault};
+use text_io::{Done, Ending, Input, RunFault};
 
 /// Appends the text after all records.
-pub(crate) fn finish(
-    answers: &mut Vec<u8>,
-    table: &LinkTable,
-    ending: Option<Fault>,
-) -> Result<Done, RunFault>
+pub(crate) fn finish(answers: &mut Vec<u8>, table: &LinkTable, ending: Option<Fault>) -> Ending
     ensures said { OnOk result (answers.new.items ≡ answers.old.items ++ links_lines (links_state table.now) ending) }
     ensures done { IfOk result (λ done. done ≡ ends_at ending) }
     ensures fault { IfErr result (λ fault. fault ≡ RunFault.NoMemory) }
@@ -36,7 +32,7 @@ pub(crate) fn read_on<I: Input>(
     input: &mut I,
     mut reading: LinksReading,
     answers: &mut Vec<u8>,
-) -> Result<Done, RunFault>
+) -> Ending
     requires { length reading.window ≤ 524288 }
     ensures text { I.is_known → IfOk result (λ done. (text : List ℕ) × (answers.new.items ≡ answers.old.items ++ text)
         × LinksHere reading (reading.window ++ I.rest input.old) text done) }

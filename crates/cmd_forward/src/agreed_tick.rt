@@ -12,10 +12,10 @@ use crate::others::Others;
 use captures::{Link, Tick};
 use cmd_police::{SharedText, TicksDiffer, add_ticks_differ, agreed_tick};
 use std::alloc::Global;
-use text_io::{Done, Input, Output, RunFault};
+use text_io::{Done, Ending, Input, Output, RunFault};
 
 /// Appends the answer about two ticks that differ to the report.
-fn report_ticks(report: &mut Vec<u8>, ticks: TicksDiffer) -> Result<Done, RunFault>
+fn report_ticks(report: &mut Vec<u8>, ticks: TicksDiffer) -> Ending
     ensures done { IfOk result (λ done. done ≡ Done.Ended) }
     ensures grew { OnOk result (report.new.items ≡ report.old.items ++ ticks_differ ticks.named ticks.asked) }
     ensures fault { OnErr result (result ≡ Err RunFault.NoMemory) }
@@ -44,7 +44,7 @@ pub fn forward_as_agreed<I: Input, O: Output>(
     input: &mut I,
     output: &mut O,
     report: &mut Vec<u8>,
-) -> Result<Done, RunFault>
+) -> Ending
     ensures served { IsServed (HasReportedText (MayBeForwardedAsAgreed others (option_map (λ tick. tick.nanoseconds) named)
         (option_map (λ tick. tick.nanoseconds) asked) link setup.now (octets_of_texts texts.now)))
         I.Input input.old input.new O.Output output.old output.new result }

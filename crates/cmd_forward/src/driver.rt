@@ -14,7 +14,7 @@ use crate::others::Others;
 use crate::stepping::{ForwardReading, StepOutcome};
 use captures_text::{READING_OCTETS, done_at};
 use std::alloc::Global;
-use text_io::{Done, Input, Output, RunFault, give_if_enough, give_last, refill};
+use text_io::{Done, Ending, Input, Output, RunFault, give_if_enough, give_last, refill};
 
 /// ReportsText the end of the input, where the octets that wait are no whole frame, and writes the last records.
 fn finish<O: Output, J: CellJudge>(
@@ -24,7 +24,7 @@ fn finish<O: Output, J: CellJudge>(
     reading: &ForwardReading,
     written: &mut Vec<u8>,
     report: &mut Vec<u8>,
-) -> Result<Done, RunFault>
+) -> Ending
     requires { first_frame reading.now.reader.format reading.now.reader.at reading.now.window ≡ None }
     ensures said { IfOk result (λ done. OfEachJudgeWorld J.rules (J.shows judge.now) (λ world. (said : List ℕ)
         × (report.new.items ≡ report.old.items ++ said)
@@ -50,7 +50,7 @@ pub(crate) fn forward_on<I: Input, O: Output, J: CellJudge>(
     judge: &mut J,
     mut reading: ForwardReading,
     report: &mut Vec<u8>,
-) -> Result<Done, RunFault>
+) -> Ending
     requires { length reading.window ≤ 524288 }
     ensures text { I.is_known → O.is_known → IfOk result (λ done. OfEachJudgeWorld J.rules (J.shows judge.old) (λ first. (said : List ℕ)
         × (report.new.items ≡ report.old.items ++ said)

@@ -11,10 +11,10 @@ use crate::others::Others;
 use captures::{Link, Tick};
 use cmd_police::{OpenedCard, SharedText, open_card, open_setup};
 use std::alloc::Global;
-use text_io::{Done, Input, Output, RunFault};
+use text_io::{Done, Ending, Input, Output, RunFault};
 
 /// Appends the explanation of a faulty setup to the report.
-fn report_faults(report: &mut Vec<u8>, text: &[u8]) -> Result<Done, RunFault>
+fn report_faults(report: &mut Vec<u8>, text: &[u8]) -> Ending
     ensures done { IfOk result (λ done. done ≡ Done.Ended) }
     ensures grew { OnOk result (report.new.items ≡ report.old.items ++ text.now) }
     ensures fault { OnErr result (result ≡ Err RunFault.NoMemory) }
@@ -47,7 +47,7 @@ pub fn forward_capture<I: Input, O: Output>(
     input: &mut I,
     output: &mut O,
     report: &mut Vec<u8>,
-) -> Result<Done, RunFault>
+) -> Ending
     ensures { IsServedWithReport (IsForwarded others tick.nanoseconds link script.now times.now)
         I.Input input.old input.new O.Output output.old output.new report.old.items report.new.items result }
 {
@@ -86,7 +86,7 @@ pub fn forward_setup<I: Input, O: Output>(
     input: &mut I,
     output: &mut O,
     report: &mut Vec<u8>,
-) -> Result<Done, RunFault>
+) -> Ending
     ensures served { IsServed (HasReportedText (MayBeSetupForwarded others tick.nanoseconds link setup.now (octets_of_texts texts.now)))
         I.Input input.old input.new O.Output output.old output.new result }
     ensures reported { ReportsText (IsSetupForwarded others tick.nanoseconds link setup.now (octets_of_texts texts.now))

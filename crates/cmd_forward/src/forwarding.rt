@@ -11,7 +11,7 @@ use crate::stepping::ForwardReading;
 use captures::{Link, Opening, Reader, Tick, TimeSource};
 use captures_text::{CellFilter, WINDOW_ROOM, add_file_fault, find_opening, short_fault};
 use std::alloc::Global;
-use text_io::{Done, Input, Output, RunFault, Window};
+use text_io::{Done, Ending, Input, Output, RunFault, Window};
 
 /// Writes the records of a capture that go on, in order, each as it was received, or with its cell tagged, and appends
 /// to the report what is to be said at the end. Records whose cells count go on as `judge` says, and all others as
@@ -32,7 +32,7 @@ pub fn forward_cells<I: Input, O: Output, J: CellJudge>(
     output: &mut O,
     judge: &mut J,
     report: &mut Vec<u8>,
-) -> Result<Done, RunFault>
+) -> Ending
     ensures { OfEachJudgeWorld J.rules (J.shows judge.old) (λ world.
         IsServedWithReport (ForwardsCapture J.rules others (forward_start tick.nanoseconds link world))
         I.Input input.old input.new O.Output output.old output.new report.old.items report.new.items result) }

@@ -12,11 +12,11 @@ use bpf_asm::listing;
 use bpf_code::{Instr, encode};
 use cmd_programs::{ProgramUser, answer_program_lines, first_line, lines_after};
 use std::alloc::{AllocError, Global};
-use text_io::{Done, Input, LineWords, Output, RunFault, Turn, line_words};
+use text_io::{Added, Ending, Input, LineWords, Output, Turn, line_words};
 use text_words::{add_bad_line, add_numbered};
 
 /// Appends the octets of an instruction, in lower case hexadecimal digits.
-fn add_octets(alloc: Global, answers: &mut Vec<u8>, instr: Instr) -> Result<(), AllocError>
+fn add_octets(alloc: Global, answers: &mut Vec<u8>, instr: Instr) -> Added
     ensures { OnOk result (answers.new.items ≡ answers.old.items ++ octets_text instr) }
 {
     let octets = encode(alloc, &[instr]).map_err(|_| AllocError)?;
@@ -26,12 +26,7 @@ fn add_octets(alloc: Global, answers: &mut Vec<u8>, instr: Instr) -> Result<(), 
 
 /// Appends the line of an instruction: its line in the listing, and its octets as a comment.
 #[tactic(auto, using(std::proofs::lemmas::List::append_assoc))]
-fn add_instruction(
-    alloc: Global,
-    answers: &mut Vec<u8>,
-    listed: &[u8],
-    instr: Instr,
-) -> Result<(), AllocError>
+fn add_instruction(alloc: Global, answers: &mut Vec<u8>, listed: &[u8], instr: Instr) -> Added
     ensures { OnOk result (answers.new.items ≡ answers.old.items ++ commented listed.now (octets_text instr)) }
 {
     answers.extend_from_slice(listed)?;
@@ -42,7 +37,7 @@ fn add_instruction(
 }
 
 /// Appends the lines of a code's listing, each with the octets of its instruction as a comment.
-fn add_instructions(alloc: Global, answers: &mut Vec<u8>, code: &[Instr]) -> Result<(), AllocError>
+fn add_instructions(alloc: Global, answers: &mut Vec<u8>, code: &[Instr]) -> Added
     requires { IsAccepted code.now }
     ensures { OnOk result (answers.new.items ≡ answers.old.items ++ program_listing code.now) }
 {
@@ -61,7 +56,7 @@ fn add_instructions(alloc: Global, answers: &mut Vec<u8>, code: &[Instr]) -> Res
 /// # Errors
 ///
 /// Only if an allocation fails: no jump of an accepted code leaves it.
-pub fn add_listing(alloc: Global, answers: &mut Vec<u8>, code: &[Instr]) -> Result<(), AllocError>
+pub fn add_listing(alloc: Global, answers: &mut Vec<u8>, code: &[Instr]) -> Added
     requires { IsAccepted code.now }
     ensures { OnOk result (Adds (IsProgramListing code.now) answers.old.items answers.new.items) }
 {
@@ -117,12 +112,8 @@ impl ProgramUser for Lister {
 ///
 /// # Errors
 ///
-/// See [`RunFault`].
-pub fn list_program<I: Input, O: Output>(
-    alloc: Global,
-    input: &mut I,
-    output: &mut O,
-) -> Result<Done, RunFault>
+/// See [`text_io::RunFault`].
+pub fn list_program<I: Input, O: Output>(alloc: Global, input: &mut I, output: &mut O) -> Ending
     ensures { IsServed IsListText I.Input input.old input.new O.Output output.old output.new result }
 {
     answer_program_lines::<Lister, I, O>(alloc, input, output)

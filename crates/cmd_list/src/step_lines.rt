@@ -9,12 +9,12 @@ ghost use Rattle.cmd_list.specs.Trace.{end_text, registers_text, result_text, sc
 use bpf_code::Instr;
 use bpf_interp::Registers;
 use byteorder::{BigEndian, ByteOrder};
-use std::alloc::AllocError;
 use std::ops::ControlFlow::{self, Break, Continue};
+use text_io::Added;
 use text_words::add_number;
 
 /// Appends a number as eight hexadecimal digits.
-fn add_word(answers: &mut Vec<u8>, number: u32) -> Result<(), AllocError>
+fn add_word(answers: &mut Vec<u8>, number: u32) -> Added
     ensures { OnOk result (answers.new.items ≡ answers.old.items ++ word_text number) }
 {
     let mut octets = [0; 4];
@@ -28,7 +28,7 @@ fn add_word(answers: &mut Vec<u8>, number: u32) -> Result<(), AllocError>
 
 /// Appends the index and the value of a scratch word.
 #[tactic(auto, using(std::proofs::lemmas::List::append_assoc))]
-fn add_scratch(answers: &mut Vec<u8>, index: u32, value: u32) -> Result<(), AllocError>
+fn add_scratch(answers: &mut Vec<u8>, index: u32, value: u32) -> Added
     ensures { OnOk result (answers.new.items ≡ answers.old.items ++ scratch_text index value) }
 {
     answers.extend_from_slice(b" m")?;
@@ -38,7 +38,7 @@ fn add_scratch(answers: &mut Vec<u8>, index: u32, value: u32) -> Result<(), Allo
 }
 
 /// Appends the scratch word that the instruction wrote, if it is a store.
-fn add_written(answers: &mut Vec<u8>, instr: &Instr, before: &Registers) -> Result<(), AllocError>
+fn add_written(answers: &mut Vec<u8>, instr: &Instr, before: &Registers) -> Added
     ensures { (m : List (ℕ × ℕ)) → OnOk result (answers.new.items ≡ answers.old.items
         ++ written_text instr.now (memory_after instr.now before.now.a before.now.x m)) }
 {
@@ -51,7 +51,7 @@ fn add_written(answers: &mut Vec<u8>, instr: &Instr, before: &Registers) -> Resu
 
 /// Appends the registers A and X.
 #[tactic(auto, using(std::proofs::lemmas::List::append_assoc))]
-fn add_registers(answers: &mut Vec<u8>, registers: &Registers) -> Result<(), AllocError>
+fn add_registers(answers: &mut Vec<u8>, registers: &Registers) -> Added
     ensures { OnOk result
         (answers.new.items ≡ answers.old.items ++ registers_text registers.now.a registers.now.x) }
 {
@@ -63,7 +63,7 @@ fn add_registers(answers: &mut Vec<u8>, registers: &Registers) -> Result<(), All
 
 /// Appends the value with which an instruction ended the program.
 #[tactic(auto, using(std::proofs::lemmas::List::append_assoc))]
-fn add_end(answers: &mut Vec<u8>, value: u32) -> Result<(), AllocError>
+fn add_end(answers: &mut Vec<u8>, value: u32) -> Added
     ensures { OnOk result (answers.new.items ≡ answers.old.items ++ end_text value) }
 {
     answers.extend_from_slice(b"ends ")?;
@@ -77,7 +77,7 @@ fn add_result(
     instr: &Instr,
     before: &Registers,
     flow: &ControlFlow<u32, Registers>,
-) -> Result<(), AllocError>
+) -> Added
     ensures { (m : List (ℕ × ℕ)) → OnOk result (answers.new.items ≡ answers.old.items
         ++ result_text instr.now (state_after flow.now (memory_after instr.now before.now.a before.now.x m))) }
 {
@@ -98,7 +98,7 @@ pub(crate) fn add_step(
     instr: &Instr,
     before: &Registers,
     flow: &ControlFlow<u32, Registers>,
-) -> Result<(), AllocError>
+) -> Added
     ensures { (m : List (ℕ × ℕ)) → OnOk result (answers.new.items ≡ answers.old.items ++ commented listed.now
         (result_text instr.now (state_after flow.now (memory_after instr.now before.now.a before.now.x m)))) }
 {

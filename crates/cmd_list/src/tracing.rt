@@ -15,7 +15,7 @@ use cmd_programs::{CellUser, OnCells, add_value, answer_program_lines, first_lin
 use std::alloc::{AllocError, Global};
 use std::marker::Model;
 use std::ops::ControlFlow::{Break, Continue};
-use text_io::{Done, Input, Output, RunFault};
+use text_io::{Added, Ending, Input, Output};
 use upc_cell::Cell;
 
 /// A program and its listing. Contracts see the program.
@@ -38,12 +38,7 @@ impl Model for Listed {
 }
 
 /// Appends a line for each instruction that the program runs on a cell, and then the program's value.
-fn add_trace(
-    program: &Program,
-    listing: &[u8],
-    cell: &Cell,
-    answers: &mut Vec<u8>,
-) -> Result<(), AllocError>
+fn add_trace(program: &Program, listing: &[u8], cell: &Cell, answers: &mut Vec<u8>) -> Added
     requires { listing.now ≡ listing_of program.now }
     ensures { OnOk result (Adds (PrintsTrace program.now cell.now) answers.old.items answers.new.items) }
 {
@@ -84,7 +79,7 @@ impl CellUser for Listed {
         })
     }
 
-    fn answer_cell(&self, cell: &Cell, answers: &mut Vec<u8>) -> Result<(), AllocError> {
+    fn answer_cell(&self, cell: &Cell, answers: &mut Vec<u8>) -> Added {
         add_trace(&self.program, &self.listing, cell, answers)
     }
 
@@ -97,12 +92,8 @@ impl CellUser for Listed {
 ///
 /// # Errors
 ///
-/// See [`RunFault`].
-pub fn trace_cells<I: Input, O: Output>(
-    alloc: Global,
-    input: &mut I,
-    output: &mut O,
-) -> Result<Done, RunFault>
+/// See [`text_io::RunFault`].
+pub fn trace_cells<I: Input, O: Output>(alloc: Global, input: &mut I, output: &mut O) -> Ending
     ensures { IsServed IsTraceText I.Input input.old input.new O.Output output.old output.new result }
 {
     answer_program_lines::<OnCells<Listed>, I, O>(alloc, input, output)

@@ -13,7 +13,7 @@ use crate::setting_up::{Explanation, explanation_of};
 use crate::shared_text::SharedText;
 use crate::stored_commands::before_times;
 use std::alloc::{AllocError, Global};
-use text_io::{Done, Output, RunFault, give_last};
+use text_io::{Done, Ending, Output, RunFault, give_last};
 use text_words::add_text;
 
 /// Returns the explanation of a script whose lines have these times, one for each.
@@ -64,7 +64,7 @@ pub fn explain_setup<O: Output>(
     setup: &[u8],
     texts: &[SharedText],
     output: &mut O,
-) -> Result<Done, RunFault>
+) -> Ending
     ensures explained { O.is_known → IfOk result (λ done.
         Adds (λ text. IsSetupExplained setup.now (octets_of_texts texts.now) text done) (O.held output.old) (O.held output.new)) }
     ensures front { O.is_known → OnErr result (IsExplainedInPart setup.now (octets_of_texts texts.now) (O.held output.old) (O.held output.new)) }

@@ -40,7 +40,7 @@ use leaky::{Excess, Levels, Verdict, excess_at};
 use line_record::Line;
 use std::alloc::{AllocError, Global};
 use std::thread::Threads;
-use text_io::{Done, Input, Output, RunFault, Turn};
+use text_io::{Ending, Input, Output, RunFault, Turn};
 use upc_cell::{Cell, Side, Vc};
 
 /// Returns the item with this number, counted from 1, if there is one.
@@ -276,7 +276,7 @@ pub fn police_capture<R: Threads, I: Input + Send, O: Output>(
     tick: Tick,
     input: &mut I,
     output: &mut O,
-) -> Result<Done, RunFault>
+) -> Ending
     ensures { IsServed (IsPoliceText choice.scope tick.nanoseconds (shown_stored rules) setup.now times.now) I.Input input.old input.new O.Output output.old output.new result }
 {
     match set_up(alloc, setup, times, tick) {

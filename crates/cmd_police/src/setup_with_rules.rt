@@ -15,7 +15,7 @@ use captures::Tick;
 use captures_text::write_faults;
 use std::alloc::Global;
 use std::thread::Threads;
-use text_io::{Done, Input, Output, RunFault};
+use text_io::{Ending, Input, Output, RunFault};
 
 /// Polices the cells of a capture, as [`police_capture`] does, by a setup script that may name files of rules and times. `texts` are the
 /// octets of these files, in the order of [`files_read`](crate::files_read). Each line `rules NAME` loads the program of its text, as the
@@ -38,7 +38,7 @@ pub fn police_setup<R: Threads, I: Input + Send, O: Output>(
     tick: Tick,
     input: &mut I,
     output: &mut O,
-) -> Result<Done, RunFault>
+) -> Ending
     ensures served { IsServed (MayBeSetupPoliced choice.scope tick.nanoseconds setup.now (octets_of_texts texts.now))
         I.Input input.old input.new O.Output output.old output.new result }
     ensures policed { I.is_known → O.is_known → IfOk result (λ done.
@@ -83,7 +83,7 @@ pub fn police_as_agreed<R: Threads, I: Input + Send, O: Output>(
     asked: Option<Tick>,
     input: &mut I,
     output: &mut O,
-) -> Result<Done, RunFault>
+) -> Ending
     ensures served { IsServed (MayBePolicedAsAgreed choice.scope (option_map (λ tick. tick.nanoseconds) named) (option_map (λ tick. tick.nanoseconds) asked)
         setup.now (octets_of_texts texts.now)) I.Input input.old input.new O.Output output.old output.new result }
     ensures policed { I.is_known → O.is_known → IfOk result (λ done.

@@ -35,7 +35,7 @@ use Rattle.cmd_ports.specs.inner.Arrivals.{AnswersPort, HasCell, IsStoredFrom, I
 use Rattle.text_script.specs.CellLine.{IsCellLine}
 use Rattle.text_script.specs.Dealing.{is_cell_line}
 use Rattle.cmd_ports.specs.inner.InOrder.{PrintsCell}
-use Rattle.cmd_ports.specs.inner.Answered.{answer_kept, cell_counts, header_of, ruled, shown_cell}
+use Rattle.cmd_ports.specs.inner.Answered.{answer_kept, cell_counts, header_of, decision_kept, shown_cell}
 use Rattle.cmd_ports.proofs.CountsLemmas.{same-counts}
 use Rattle.cmd_ports.proofs.DeskLemmas.{bad-cell}
 
@@ -63,7 +63,7 @@ same-judged (a ∷ b ∷ c ∷ []) whole verdict judging = absurd (omega (arith,
 same-judged (a ∷ b ∷ c ∷ d ∷ rest) whole verdict judging = same-verdict verdict judging a b c d rest
 
 same-answer : (side : Side) (all : List Id) (vc : Vc) (octets : List ℕ) (moment : ℕ) → length octets ≡ 52 → (answer : Answer) → IfSome (judged_in_answer answer) (IsJudgedAnswer octets moment)
-    → answer_text side all vc (answer_kept (shown_cell (header_of octets)) (ruled answer)) ≡ answer_text side all vc answer
+    → answer_text side all vc (answer_kept (shown_cell (header_of octets)) (decision_kept answer)) ≡ answer_text side all vc answer
 same-answer side all vc octets moment whole (Judged line number when value program verdict leaving) judged =
     let judging = judging_text side vc (number_of_program all program) value in
     ap (λ (t : List ℕ). Some t) (same-judged octets whole verdict judging ∙ ap (λ (l : List ℕ). verdict_text verdict judging l) (sym judged.leaves))
@@ -100,14 +100,14 @@ stored-answered side all names line one text is prints =
     let digits = is.brings.0 in
     let word = is.brings.2 in
     let shown = shown_cell (header_of is.cell) in
-    let prints' : answer_text side all (vc_of side shown) (answer_kept shown (ruled is.answer)) ≡ Some text =
+    let prints' : answer_text side all (vc_of side shown) (answer_kept shown (decision_kept is.answer)) ≡ Some text =
     subst (λ (t : AnsweredCell). answer_text side all (vc_of side (shown_cell t.header)) (answer_kept (shown_cell t.header) t.decision) ≡ Some text) is.kept prints in
     polices-line side all names (words_of line) is.moment digits word.0 is.cell text (cell_counts one) is.brings.1 word.1 word.2 word.3
     (record {
       answer = is.answer;
       possible = is.possible;
       printed = sym (same-answer side all (vc_of side is.cell) is.cell is.moment word.3 is.answer is.possible.judged)
-          ∙ ap (λ (vc : Vc). answer_text side all vc (answer_kept shown (ruled is.answer))) (sym (same-vc side is.cell)) ∙ prints';
+          ∙ ap (λ (vc : Vc). answer_text side all vc (answer_kept shown (decision_kept is.answer))) (sym (same-vc side is.cell)) ∙ prints';
       counted = ap cell_counts is.kept ∙ same-counts is.cell is.answer;
     })
 

@@ -5,8 +5,9 @@ use Rattle.gen_arena.specs.declared.id.Id.{Id}
 use Rattle.line_record.specs.Tally.{nothing}
 use Rattle.line_record.specs.declared.tally.Tally.{Tally}
 use Rattle.upc_cell.specs.declared.side.Side.{Side}
+use Rattle.text_io.specs.Devices.{Adds}
 use Rattle.text_io.specs.Words.{words_of}
-use Rattle.cmd_ports.specs.ScriptAnswers.{AnswersEach}
+use Rattle.cmd_ports.specs.ScriptAnswers.{AnswersEach, AnswersScript}
 use Rattle.text_script.specs.Dealing.{AreLinesOf, is_cell_line}
 use Rattle.cmd_ports.specs.inner.FirstLines.{from_first_cell}
 use Rattle.cmd_ports.specs.inner.DeskTexts.{MayObeyLine}
@@ -90,3 +91,15 @@ both-answered side each later names names' one other counts first rest =
           (subst (λ (t : Tally). AnswersEach side after.0 (first.first ++ from_first_cell each) names (one ++ other) after.0 t) (nothing-plus counts)
           (each-append side after.0 first.first (from_first_cell each) names names' after.0 one other nothing counts (first.answers after.0) after.1)),
     )
+
+-- The lines before the first cell line are answered, and then those from there on.
+pub script-answered : (side : Side) (octets later : List ℕ) (names names' : List Id) (start mid new : List ℕ) (counts : Tally) → names ≡ []
+    → Adds (λ text. OfLines octets (λ each. AnswersFirst side each later names names' text)) start mid
+    → Adds (λ text. OfLines later (λ rest. AnswersLater side rest names' text counts)) mid new
+    → Adds (λ text. OfLines octets (λ each. AnswersScript side each text counts)) start new
+script-answered side octets later names names' start mid new counts unnamed one rest = (
+  one.0 ++ rest.0,
+  rest.1 ∙ ap (λ (t : List ℕ). t ++ rest.0) one.1 ∙ append_assoc start one.0 rest.0,
+  λ each are. subst (λ (names : List Id). AnswersLater side each names (one.0 ++ rest.0) counts) unnamed
+      (both-answered side each later names names' one.0 rest.0 counts (one.2 each are) rest.2),
+)

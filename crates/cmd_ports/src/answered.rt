@@ -1,7 +1,7 @@
 //! The stored part of an answered cell: what the line of the answer shows.
 
 ghost use Rattle.std.specs.Prelude.{◌≡◌};
-ghost use Rattle.cmd_ports.specs.inner.Answered.{judgement_by, ruled, shown_cell, answered_cell};
+ghost use Rattle.cmd_ports.specs.inner.Answered.{judgement_by, decision_kept, shown_cell, answered_cell};
 
 use card_core::{Answer, Judgement, Unjudged};
 use gen_arena::Id;
@@ -28,30 +28,28 @@ pub struct AnsweredCell {
 }
 
 /// Returns the stored part of the answer: the ruling on a judged cell, or the reason why it isn't judged.
-fn ruled(answer: &Answer) -> Result<Ruling, Unjudged>
-    ensures { result ≡ ruled answer.now }
+fn decision_kept(answer: &Answer) -> Result<Ruling, Unjudged>
+    ensures { result ≡ decision_kept answer.now }
 {
-    Err(match *answer {
+    match *answer {
         Answer::Judged {
             value,
             program,
             verdict,
             ..
-        } => {
-            return Ok(Ruling {
-                program,
-                value,
-                verdict,
-            });
-        }
-        Answer::NoConnection => Unjudged::NoConnection,
-        Answer::Released => Unjudged::Released,
-        Answer::Stale => Unjudged::Stale,
-        Answer::MomentBack { last } => Unjudged::LineFault(LineFault::Back(last)),
-        Answer::MomentTooLate => Unjudged::LineFault(LineFault::TooLate),
-        Answer::JournalFull => Unjudged::LineFault(LineFault::Full),
-        Answer::NoMemory => Unjudged::LineFault(LineFault::NoMemory),
-    })
+        } => Ok(Ruling {
+            program,
+            value,
+            verdict,
+        }),
+        Answer::NoConnection => Err(Unjudged::NoConnection),
+        Answer::Released => Err(Unjudged::Released),
+        Answer::Stale => Err(Unjudged::Stale),
+        Answer::MomentBack { last } => Err(Unjudged::LineFault(LineFault::Back(last))),
+        Answer::MomentTooLate => Err(Unjudged::LineFault(LineFault::TooLate)),
+        Answer::JournalFull => Err(Unjudged::LineFault(LineFault::Full)),
+        Answer::NoMemory => Err(Unjudged::LineFault(LineFault::NoMemory)),
+    }
 }
 
 /// Returns the stored part of this cell and its answer.
@@ -61,7 +59,7 @@ pub fn answered_cell(cell: &Cell, answer: &Answer) -> AnsweredCell
     let octets = cell.bytes();
     AnsweredCell {
         header: [octets[0], octets[1], octets[2], octets[3]],
-        decision: ruled(answer),
+        decision: decision_kept(answer),
     }
 }
 

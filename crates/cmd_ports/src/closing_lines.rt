@@ -7,14 +7,13 @@ ghost use Rattle.cmd_ports.specs.ClosingText.{closing_text, done_of, totals_line
 
 use line_record::Tally;
 use port_card::Closing;
-use std::alloc::AllocError;
-use text_io::Done;
+use text_io::{Added, Done};
 use text_script::add_tally;
 use text_words::add_number;
 
 /// Adds the totals of the verdicts.
 #[tactic(auto, using(std::proofs::lemmas::List::append_assoc))]
-fn add_totals(answers: &mut Vec<u8>, totals: Tally) -> Result<(), AllocError>
+fn add_totals(answers: &mut Vec<u8>, totals: Tally) -> Added
     ensures { OnOk result (answers.new.items ≡ answers.old.items ++ totals_line totals) }
 {
     answers.extend_from_slice(b"totals")?;
@@ -25,7 +24,7 @@ fn add_totals(answers: &mut Vec<u8>, totals: Tally) -> Result<(), AllocError>
 
 /// Adds the fault line of a line of the card whose counts differ from those of the seats. `number` is its number, from 0.
 #[tactic(auto, using(std::proofs::lemmas::List::append_assoc))]
-fn add_uneven(answers: &mut Vec<u8>, number: u16) -> Result<(), AllocError>
+fn add_uneven(answers: &mut Vec<u8>, number: u16) -> Added
     ensures { OnOk result (answers.new.items ≡ answers.old.items ++ uneven_line number) }
 {
     answers.extend_from_slice(b"fault card 1 Uneven ")?;
@@ -35,7 +34,7 @@ fn add_uneven(answers: &mut Vec<u8>, number: u16) -> Result<(), AllocError>
 }
 
 /// Adds the totals, or the first uneven line.
-pub fn add_closing(answers: &mut Vec<u8>, closing: &Closing) -> Result<(), AllocError>
+pub fn add_closing(answers: &mut Vec<u8>, closing: &Closing) -> Added
     ensures { OnOk result (answers.new.items
         ≡ answers.old.items ++ closing_text (lines_total closing.now.lines.items) closing.now.uneven) }
 {

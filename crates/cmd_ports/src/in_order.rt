@@ -11,20 +11,15 @@ ghost use Rattle.cmd_ports.specs.inner.Answered.{answer_kept, shown_cell};
 
 use crate::answered::{AnsweredCell, judgement_of, shown_cell};
 use crate::waiting_answers::Rest;
-use std::alloc::AllocError;
 use text_card::{add_judged, add_unjudged};
+use text_io::Added;
 use text_script::{Answerer, Names};
 use text_words::{add_bad_hex, add_bad_line, add_wrong_length};
 use upc_cell::Side;
 
 /// Adds the answer to a cell.
 #[tactic(auto, using(crate::proofs::InOrderLemmas::unjudged_unnumbered))]
-fn add_arrival(
-    side: Side,
-    names: &Names,
-    arrival: &AnsweredCell,
-    answers: &mut Vec<u8>,
-) -> Result<(), AllocError>
+fn add_arrival(side: Side, names: &Names, arrival: &AnsweredCell, answers: &mut Vec<u8>) -> Added
     ensures { OnOk result (AddsSome
         (answer_text side names.now (vc_of side (shown_cell arrival.now.header)) (answer_kept (shown_cell arrival.now.header) arrival.now.decision))
         answers.old.items answers.new.items) }
@@ -47,7 +42,7 @@ fn add_from(
     names: &Names,
     rest: &mut Rest<'_>,
     answers: &mut Vec<u8>,
-) -> Result<(), AllocError>
+) -> Added
     ensures text { OnOk result (Adds (IsTextOfAnswerer side names.now (unprinted rest.old) answerer)
         answers.old.items answers.new.items) }
     ensures rest { unprinted rest.new ≡ after_answerer answerer (unprinted rest.old) }
@@ -71,7 +66,7 @@ pub fn add_in_order(
     names: &Names,
     rest: Rest<'_>,
     answers: &mut Vec<u8>,
-) -> Result<(), AllocError>
+) -> Added
     ensures { OnOk result (Adds (AllPrint side names.now (unprinted rest.entry) order.now)
         answers.old.items answers.new.items) }
 {

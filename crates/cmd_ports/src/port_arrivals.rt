@@ -12,6 +12,7 @@ use crate::port_job::PortJob;
 use port_card::{Card, Gate, Ledgers, PortSeat};
 use std::alloc::{AllocError, Global};
 use std::sync::Wait;
+use text_io::Added;
 use text_script::{CellLine, read_cell_line};
 use upc_cell::Side;
 
@@ -39,10 +40,7 @@ fn arrive_from<S: Ledgers, G: Gate, R: Wait>(
 }
 
 /// Adds an answered cell, if there is one.
-fn add_stored(
-    arrivals: &mut Vec<AnsweredCell>,
-    stored: Option<AnsweredCell>,
-) -> Result<(), AllocError>
+fn add_stored(arrivals: &mut Vec<AnsweredCell>, stored: Option<AnsweredCell>) -> Added
     ensures { OnOk result (arrivals.new.items ≡ arrivals.old.items ++ option_to_list stored) }
 {
     match stored {

@@ -1,17 +1,16 @@
 //! `upc ports`: a script whose cells arrive at ports that are threads of their own.
 
-ghost use Rattle.std.specs.Prelude.{◌≡◌, ◌≢◌, ◌<◌, ◌++◌, ℕ, List, [], All, Err, IfOk, IfSome, OnErr, OnOk, length};
+ghost use Rattle.std.specs.Prelude.{◌≡◌, ◌≢◌, ◌<◌, ◌++◌, ℕ, List, [], All, Err, IfOk, OnErr, length};
 ghost use Rattle.line_record.specs.Tally.{nothing};
 ghost use Rattle.text_io.specs.Devices.{Adds};
 ghost use Rattle.text_io.specs.Failures.{write_failures};
 ghost use Rattle.text_io.specs.Printing.{IsFront};
 ghost use Rattle.text_io.specs.Serving.{IsServed};
-ghost use Rattle.port_card.specs.Closing.{lines_total, seats_total};
+ghost use Rattle.port_card.specs.Closing.{seats_total};
 ghost use Rattle.port_card.specs.Names.{AreFor};
 ghost use Rattle.port_card.specs.Seats.{tally_of_seat};
 ghost use Rattle.cmd_ports.specs.PortsText.{IsCardText, IsPortsText};
-ghost use Rattle.cmd_ports.specs.ScriptAnswers.{AnswersScript};
-ghost use Rattle.cmd_ports.specs.inner.Script.{AnswersCard, AnswersFirst, AnswersLater, OfLines};
+ghost use Rattle.cmd_ports.specs.inner.Script.{AnswersFirst, AnswersLater, IsScriptClosed, OfLines};
 
 use crate::at_once::{AtOnce, run_at_once};
 use crate::busy_ports::seats_of;
@@ -25,7 +24,7 @@ use std::alloc::{AllocError, Global};
 use std::marker::Brand;
 use std::sync::Wait;
 use std::thread::Threads;
-use text_io::{Done, Input, Output, RunFault, answer_lines, give_last};
+use text_io::{Done, Ending, Input, Output, RunFault, answer_lines, give_last};
 use text_script::{Deal, Names, add_ready, deal_lines, first_line, is_cell_line};
 
 /// Answers the lines before the first cell line, and returns the lines from there on.
@@ -86,28 +85,6 @@ fn answer_later<S: Ledgers + Send + Sync, G: Gate + Sync, R: Threads + Wait + Sy
     seats_of(alloc, ports)
 }
 
-/// Answers the lines of a script on a card, and returns the seats.
-fn answer_lines_on<S: Ledgers + Send + Sync, G: Gate + Sync, R: Threads + Wait + Sync>(
-    rt: &R,
-    card: &Card<S>,
-    seats: Vec<PortSeat<S>>,
-    desk: ScriptDesk<S>,
-    lines: &[u8],
-    gate: &G,
-    answers: &mut Vec<u8>,
-) -> Result<Vec<PortSeat<S>>, AllocError>
-    requires some { 0 < length seats.items }
-    requires unused { All (λ seat. tally_of_seat seat ≡ nothing) seats.items }
-    requires unnamed { desk.names ≡ [] }
-    ensures { IfOk result (λ used. Adds
-        (λ text. OfLines lines.now (λ each. AnswersScript card.now.side each text (seats_total used.items)))
-        answers.old.items answers.new.items) }
-{
-    let mut desk = desk;
-    let later = answer_first(rt, card, &mut desk, lines, answers)?;
-    answer_later(rt, card, seats, desk, later, gate, answers)
-}
-
 /// A card that was opened for a script.
 #[derive(Drop)]
 struct Opened<S: Ledgers> {
@@ -153,16 +130,17 @@ fn answer_script<S: Ledgers + Send + Sync, G: Gate + Sync, R: Threads + Wait + S
 ) -> Result<Closing, AllocError>
     requires names { blanks ≡ S.names }
     requires for_shape { AreFor script.now.shape S.names }
-    ensures answers { IfOk result (λ closing. Adds
-        (λ text. OfLines script.now.lines.items (λ each.
-        AnswersCard script.now.shape.side each text (lines_total closing.lines.items)))
-        answers.old.items answers.new.items) }
-    ensures lines { IfOk result (λ closing. length closing.lines.items ≡ script.now.shape.lines) }
-    ensures within { IfOk result (λ closing. IfSome closing.uneven (λ number. number < script.now.shape.lines)) }
+    ensures { IfOk result (λ closing. IsScriptClosed script.now.shape script.now.lines.items
+        answers.old.items answers.new.items closing.lines.items closing.uneven) }
 {
-    let Opened { card, seats, desk } = open_card::<S>(alloc, script, blanks)?;
+    let Opened {
+        card,
+        seats,
+        mut desk,
+    } = open_card::<S>(alloc, script, blanks)?;
     add_ready(answers)?;
-    let seats = answer_lines_on(rt, &card, seats, desk, &script.lines, gate, answers)?;
+    let later = answer_first(rt, &card, &mut desk, &script.lines, answers)?;
+    let seats = answer_later(rt, &card, seats, desk, later, gate, answers)?;
     match card.close(alloc, seats) {
         Ok(closing) => Ok(closing),
         Err(_) => Err(AllocError),
@@ -170,20 +148,15 @@ fn answer_script<S: Ledgers + Send + Sync, G: Gate + Sync, R: Threads + Wait + S
 }
 
 /// Answers a whole script as `answer_script` does, with ledgers that no other card has.
-fn answer_alone<G: Gate + Sync, R: Threads + Wait + Sync>(
+fn answer_with_own_ledgers<G: Gate + Sync, R: Threads + Wait + Sync>(
     rt: &R,
     alloc: Global,
     script: &Script,
     gate: &G,
     answers: &mut Vec<u8>,
 ) -> Result<Closing, AllocError>
-    // As `answer_script`.
-    ensures answers { IfOk result (λ closing. Adds
-        (λ text. OfLines script.now.lines.items (λ each.
-        AnswersCard script.now.shape.side each text (lines_total closing.lines.items)))
-        answers.old.items answers.new.items) }
-    ensures lines { IfOk result (λ closing. length closing.lines.items ≡ script.now.shape.lines) }
-    ensures within { IfOk result (λ closing. IfSome closing.uneven (λ number. number < script.now.shape.lines)) }
+    ensures { IfOk result (λ closing. IsScriptClosed script.now.shape script.now.lines.items
+        answers.old.items answers.new.items closing.lines.items closing.uneven) }
 {
     let blanks = Blanks::new(script.shape.lines, script.shape.ports);
     answer_script::<Brand, G, R>(rt, alloc, script, blanks, gate, answers)
@@ -196,7 +169,7 @@ fn run_lines<G: Gate + Sync, R: Threads + Wait + Sync, O: Output>(
     script: &Script,
     output: &mut O,
     gate: &G,
-) -> Result<Done, RunFault>
+) -> Ending
     ensures text { IfOk result (λ done. (text : List ℕ)
         × (O.is_known → O.held output.new ≡ O.held output.old ++ text)
         × OfLines script.now.lines.items (λ lines. IsCardText script.now.shape lines text done)) }
@@ -207,7 +180,7 @@ fn run_lines<G: Gate + Sync, R: Threads + Wait + Sync, O: Output>(
     ensures writing { O.failures output.new ≡ write_failures result (O.failures output.old) }
 {
     let mut answers = Vec::new(alloc);
-    let Ok(closing) = answer_alone(rt, alloc, script, gate, &mut answers) else {
+    let Ok(closing) = answer_with_own_ledgers(rt, alloc, script, gate, &mut answers) else {
         return Err(RunFault::NoMemory);
     };
     if add_closing(&mut answers, &closing).is_err() {
@@ -222,7 +195,7 @@ pub fn run_ports<R: Threads + Wait + Sync, I: Input, O: Output>(
     alloc: Global,
     input: &mut I,
     output: &mut O,
-) -> Result<Done, RunFault>
+) -> Ending
     ensures { IsServed IsPortsText I.Input input.old input.new O.Output output.old output.new result }
 {
     run_ports_with(rt, alloc, input, output, &NoWait)
@@ -245,7 +218,7 @@ pub fn run_ports_with<G: Gate + Sync, R: Threads + Wait + Sync, I: Input, O: Out
     input: &mut I,
     output: &mut O,
     gate: &G,
-) -> Result<Done, RunFault>
+) -> Ending
     // One answer for each line; which of its possible answers is left open.
     ensures { IsServed IsPortsText I.Input input.old input.new O.Output output.old output.new result }
 {

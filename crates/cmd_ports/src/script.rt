@@ -9,7 +9,7 @@ use card_core::Shape;
 use std::alloc::{AllocError, Global};
 use std::mem::replace;
 use text_card::{add_no_card, add_shape_fault, read_card};
-use text_io::{Done, Machine, Turn};
+use text_io::{Added, Answered, Done, Machine, Turn};
 use text_script::asking_word;
 use text_words::add_too_long;
 use upc_cell::Side;
@@ -94,7 +94,7 @@ impl Machine for Script {
         Ok(Turn::GoesOn)
     }
 
-    fn close(&self, answers: &mut Vec<u8>) -> Result<Done, AllocError> {
+    fn close(&self, answers: &mut Vec<u8>) -> Answered {
         if self.is_open {
             return Ok(Done::Whole);
         }
@@ -102,7 +102,7 @@ impl Machine for Script {
         Ok(Done::Ended)
     }
 
-    fn refuse(&self, answers: &mut Vec<u8>) -> Result<(), AllocError> {
+    fn refuse(&self, answers: &mut Vec<u8>) -> Added {
         add_too_long(answers)
     }
 

@@ -10,6 +10,7 @@ use port_card::{Card, Desk, Ledgers};
 use std::alloc::{AllocError, Global};
 use std::sync::Wait;
 use text_card::{add_desk_fault, add_gcra_fault, add_no_such_program};
+use text_io::Added;
 use text_script::{
     Command, Names, Wanted, add_cut, add_loaded, add_released, add_reloaded, add_retired, add_set,
     contracts, contracts_of, read_command,
@@ -41,7 +42,7 @@ impl<S: Ledgers> ScriptDesk<S> {
         card: &Card<S>,
         digits: &[u8],
         answers: &mut Vec<u8>,
-    ) -> Result<(), AllocError>
+    ) -> Added
         ensures { OnOk result (AddsReply (MayObey card.now.side (load digits.now))
             self.old.names self.new.names answers.old.items answers.new.items) }
     {
@@ -67,7 +68,7 @@ impl<S: Ledgers> ScriptDesk<S> {
         card: &Card<S>,
         number: u64,
         answers: &mut Vec<u8>,
-    ) -> Result<(), AllocError>
+    ) -> Added
         ensures { OnOk result (AddsReply (MayObey card.now.side (retire number))
             self.old.names self.new.names answers.old.items answers.new.items) }
     {
@@ -89,7 +90,7 @@ impl<S: Ledgers> ScriptDesk<S> {
         number: u64,
         wanted: &ArrayVec<Wanted, 4>,
         answers: &mut Vec<u8>,
-    ) -> Result<(), AllocError>
+    ) -> Added
         ensures { OnOk result (AddsReply (MayObey card.now.side (setup vc number wanted.now.items))
             self.old.names self.new.names answers.old.items answers.new.items) }
     {
@@ -120,7 +121,7 @@ impl<S: Ledgers> ScriptDesk<S> {
         number: u64,
         words: &[u8],
         answers: &mut Vec<u8>,
-    ) -> Result<(), AllocError>
+    ) -> Added
         ensures { OnOk result (AddsReply (MayObeySeen card.now.side (setup_seen vc number words.now))
             self.old.names self.new.names answers.old.items answers.new.items) }
     {
@@ -138,7 +139,7 @@ impl<S: Ledgers> ScriptDesk<S> {
         vc: Vc,
         number: u64,
         answers: &mut Vec<u8>,
-    ) -> Result<(), AllocError>
+    ) -> Added
         ensures { OnOk result (AddsReply (MayObey card.now.side (reload vc number))
             self.old.names self.new.names answers.old.items answers.new.items) }
     {
@@ -152,13 +153,7 @@ impl<S: Ledgers> ScriptDesk<S> {
     }
 
     /// Releases a connection.
-    fn release<R: Wait>(
-        &mut self,
-        rt: &R,
-        card: &Card<S>,
-        vc: Vc,
-        answers: &mut Vec<u8>,
-    ) -> Result<(), AllocError>
+    fn release<R: Wait>(&mut self, rt: &R, card: &Card<S>, vc: Vc, answers: &mut Vec<u8>) -> Added
         ensures { OnOk result (AddsReply (MayObey card.now.side (release vc))
             self.old.names self.new.names answers.old.items answers.new.items) }
     {
@@ -170,13 +165,7 @@ impl<S: Ledgers> ScriptDesk<S> {
     }
 
     /// Adds a connection's journal as the answer, and begins a new one.
-    fn cut<R: Wait>(
-        &mut self,
-        rt: &R,
-        card: &Card<S>,
-        vc: Vc,
-        answers: &mut Vec<u8>,
-    ) -> Result<(), AllocError>
+    fn cut<R: Wait>(&mut self, rt: &R, card: &Card<S>, vc: Vc, answers: &mut Vec<u8>) -> Added
         ensures { OnOk result (AddsReply (MayObey card.now.side (cut vc))
             self.old.names self.new.names answers.old.items answers.new.items) }
     {
@@ -194,7 +183,7 @@ impl<S: Ledgers> ScriptDesk<S> {
         card: &Card<S>,
         command: &Command<'_>,
         answers: &mut Vec<u8>,
-    ) -> Result<(), AllocError>
+    ) -> Added
         ensures { OnOk result (AddsReply (MayObeySeen card.now.side (command_seen command.now))
             self.old.names self.new.names answers.old.items answers.new.items) }
     {
@@ -218,7 +207,7 @@ impl<S: Ledgers> ScriptDesk<S> {
         card: &Card<S>,
         line: &[u8],
         answers: &mut Vec<u8>,
-    ) -> Result<(), AllocError>
+    ) -> Added
         ensures { OnOk result (AddsReply (MayObeyLine card.now.side (words_of line.now))
             self.old.names self.new.names answers.old.items answers.new.items) }
     {

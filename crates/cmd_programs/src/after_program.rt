@@ -10,7 +10,10 @@ use crate::answer_texts::add_no_program;
 use crate::program_reading::read_code;
 use bpf_code::Instr;
 use std::alloc::{AllocError, Global};
-use text_io::{Done, Input, LineWords, Machine, Output, RunFault, Turn, answer_lines, line_words};
+use text_io::{
+    Added, Answered, Done, Ending, Input, LineWords, Machine, Output, Turn, answer_lines,
+    line_words,
+};
 use text_words::{add_bad_hex, add_bad_line, add_too_long, octets_of_word};
 
 /// What a subcommand does with a program.
@@ -119,7 +122,7 @@ impl<U: ProgramUser> Machine for AfterProgram<U> {
         }
     }
 
-    fn close(&self, answers: &mut Vec<u8>) -> Result<Done, AllocError> {
+    fn close(&self, answers: &mut Vec<u8>) -> Answered {
         if self.user.is_some() {
             return Ok(Done::Whole);
         }
@@ -127,7 +130,7 @@ impl<U: ProgramUser> Machine for AfterProgram<U> {
         Ok(Done::Ended)
     }
 
-    fn refuse(&self, answers: &mut Vec<u8>) -> Result<(), AllocError> {
+    fn refuse(&self, answers: &mut Vec<u8>) -> Added {
         add_too_long(answers)
     }
 
@@ -139,12 +142,12 @@ impl<U: ProgramUser> Machine for AfterProgram<U> {
 ///
 /// # Errors
 ///
-/// See [`RunFault`].
+/// See [`text_io::RunFault`].
 pub fn answer_program_lines<U: ProgramUser, I: Input, O: Output>(
     alloc: Global,
     input: &mut I,
     output: &mut O,
-) -> Result<Done, RunFault>
+) -> Ending
     ensures { IsServed (IsProgramText U.texts) I.Input input.old input.new O.Output output.old output.new result }
 {
     let mut machine = AfterProgram::<U> { alloc, user: None };

@@ -4,17 +4,18 @@
 ghost use Rattle.std.specs.Prelude.{◌≡◌, ◌++◌, codes, decimal, OnOk};
 ghost use Rattle.hex.specs.Hex.{encode_lower};
 ghost use Rattle.cmd_programs.specs.Check.{accepted_text};
-ghost use Rattle.cmd_programs.specs.SourceFaults.{asm_fault, asm_name};
+ghost use Rattle.cmd_programs.specs.SourceFaults.{asm_fault};
 ghost use Rattle.text_words.specs.FaultLines.{line, no_program};
 
 use bpf_asm::{AsmFault, AsmKind};
 use bpf_code::{Instr, encode};
 use std::alloc::{AllocError, Global};
-use text_words::{TextFromEnd, add_number, add_text};
+use text_io::Added;
+use text_words::{TextFromEnd, add_number, add_numbered, add_text};
 
 /// Appends the answer to an accepted program with this number of instructions.
 #[tactic(auto, using(std::proofs::lemmas::List::append_assoc))]
-pub fn add_accepted(answers: &mut Vec<u8>, instructions: usize) -> Result<(), AllocError>
+pub fn add_accepted(answers: &mut Vec<u8>, instructions: usize) -> Added
     ensures { OnOk result
         (answers.new.items ≡ answers.old.items ++ line (codes "accepted " ++ decimal instructions)) }
 {
@@ -26,7 +27,7 @@ pub fn add_accepted(answers: &mut Vec<u8>, instructions: usize) -> Result<(), Al
 
 /// Appends a line of octets, in lower case hexadecimal digits.
 #[tactic(auto, using(std::proofs::lemmas::List::append_assoc))]
-fn add_octets(alloc: Global, answers: &mut Vec<u8>, octets: &[u8]) -> Result<(), AllocError>
+fn add_octets(alloc: Global, answers: &mut Vec<u8>, octets: &[u8]) -> Added
     ensures { OnOk result (answers.new.items ≡ answers.old.items ++ line (encode_lower octets.now)) }
 {
     let digits = hex::encode(alloc, octets)?;
@@ -37,7 +38,7 @@ fn add_octets(alloc: Global, answers: &mut Vec<u8>, octets: &[u8]) -> Result<(),
 
 /// Appends the number of instructions of a code, and a line of their octets in hexadecimal: the answer of `upc check` to a program.
 #[tactic(auto, using(std::proofs::lemmas::List::append_assoc))]
-pub fn add_program(alloc: Global, answers: &mut Vec<u8>, code: &[Instr]) -> Result<(), AllocError>
+pub fn add_program(alloc: Global, answers: &mut Vec<u8>, code: &[Instr]) -> Added
     ensures { OnOk result (answers.new.items ≡ answers.old.items ++ accepted_text code.now) }
 {
     let octets = encode(alloc, code).map_err(|_| AllocError)?;
@@ -46,7 +47,7 @@ pub fn add_program(alloc: Global, answers: &mut Vec<u8>, code: &[Instr]) -> Resu
 }
 
 /// Appends the answer to an input without a program.
-pub fn add_no_program(answers: &mut Vec<u8>) -> Result<(), AllocError>
+pub fn add_no_program(answers: &mut Vec<u8>) -> Added
     ensures { OnOk result (answers.new.items ≡ answers.old.items ++ no_program) }
 {
     add_text(answers, b"fault script 4 NoProgram\n")
@@ -58,7 +59,7 @@ const VALUE_ROOM: usize = 34;
 /// Appends the value of a program and the number of instructions executed.
 #[inline(always)]
 #[tactic(auto, using(std::proofs::lemmas::List::append_assoc))]
-pub fn add_value(answers: &mut Vec<u8>, value: u32, steps: u32) -> Result<(), AllocError>
+pub fn add_value(answers: &mut Vec<u8>, value: u32, steps: u32) -> Added
     ensures { OnOk result (answers.new.items ≡ answers.old.items
         ++ line (codes "value " ++ decimal value ++ codes " steps " ++ decimal steps)) }
 {
@@ -71,31 +72,19 @@ pub fn add_value(answers: &mut Vec<u8>, value: u32, steps: u32) -> Result<(), Al
     answers.extend_from_slice(text.as_slice())
 }
 
-/// The number and the name of an error in a source.
-fn name_of(kind: AsmKind) -> &'static [u8]
-    ensures { result.now ≡ asm_name kind }
-{
-    match kind {
-        AsmKind::BadLine => b"1 BadLine",
-        AsmKind::BadNumber => b"2 BadNumber",
-        AsmKind::LabelTwice => b"3 LabelTwice",
-        AsmKind::UnknownLabel => b"4 UnknownLabel",
-        AsmKind::Backward => b"5 Backward",
-        AsmKind::TooFar => b"6 TooFar",
-        AsmKind::DanglingLabel => b"7 DanglingLabel",
-        AsmKind::NoMemory => b"8 NoMemory",
-    }
-}
-
 /// Appends the answer to a source with an error.
-#[tactic(auto, using(std::proofs::lemmas::List::append_assoc))]
-pub fn add_asm_fault(answers: &mut Vec<u8>, fault: AsmFault) -> Result<(), AllocError>
+pub fn add_asm_fault(answers: &mut Vec<u8>, fault: AsmFault) -> Added
     ensures { OnOk result (answers.new.items ≡ answers.old.items ++ asm_fault fault) }
 {
-    answers.extend_from_slice(b"fault asm ")?;
-    answers.extend_from_slice(name_of(fault.kind))?;
-    answers.push(b' ')?;
-    add_number(answers, fault.line as u64)?;
-    answers.push(b'\n')?;
-    Ok(())
+    let at = fault.line;
+    match fault.kind {
+        AsmKind::BadLine => add_numbered(answers, b"fault asm 1 BadLine ", at),
+        AsmKind::BadNumber => add_numbered(answers, b"fault asm 2 BadNumber ", at),
+        AsmKind::LabelTwice => add_numbered(answers, b"fault asm 3 LabelTwice ", at),
+        AsmKind::UnknownLabel => add_numbered(answers, b"fault asm 4 UnknownLabel ", at),
+        AsmKind::Backward => add_numbered(answers, b"fault asm 5 Backward ", at),
+        AsmKind::TooFar => add_numbered(answers, b"fault asm 6 TooFar ", at),
+        AsmKind::DanglingLabel => add_numbered(answers, b"fault asm 7 DanglingLabel ", at),
+        AsmKind::NoMemory => add_numbered(answers, b"fault asm 8 NoMemory ", at),
+    }
 }

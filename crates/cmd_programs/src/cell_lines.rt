@@ -2,15 +2,14 @@
 
 ghost use Rattle.std.specs.Prelude.{◌∷◌, [], OnOk};
 ghost use Rattle.text_io.specs.Devices.{Adds};
-ghost use Rattle.text_io.specs.declared.machine.Turn.TheVariants.{GoesOn};
-ghost use Rattle.cmd_programs.specs.AfterProgram.{LaterLine};
-ghost use Rattle.cmd_programs.specs.CellLines.{CellLine, cell_texts};
+ghost use Rattle.cmd_programs.specs.CellLines.{CellLine};
+ghost use Rattle.cmd_programs.specs.inner.CellLaws.{AnswersCellLine};
 
 use crate::after_program::ProgramUser;
 use crate::answer_texts::add_accepted;
 use bpf_code::Instr;
 use std::alloc::{AllocError, Global};
-use text_io::{LineWords, Turn, line_words};
+use text_io::{Added, LineWords, Turn, line_words};
 use text_words::{
     CellWord, add_bad_hex, add_bad_line, add_wrong_length, cell_of_digits, cell_of_word,
 };
@@ -36,19 +35,14 @@ pub trait CellUser: Drop {
         ensures { IfOk result (λ user. code user ≡ accepted.items) };
 
     /// Appends the answer to a cell.
-    fn answer_cell(&self, cell: &Cell, answers: &mut Vec<u8>) -> Result<(), AllocError>
+    fn answer_cell(&self, cell: &Cell, answers: &mut Vec<u8>) -> Added
         ensures { OnOk result (Adds (prints (code self.now) cell.now) answers.old.items answers.new.items) };
 
     ghost is_total: { (accepted : List TheInstr) → IsAccepted accepted → EachCellHasText (prints accepted) };
 }
 
 /// Answers a cell line of one word.
-fn answer_word<C: CellUser>(
-    alloc: Global,
-    user: &C,
-    word: &[u8],
-    answers: &mut Vec<u8>,
-) -> Result<(), AllocError>
+fn answer_word<C: CellUser>(alloc: Global, user: &C, word: &[u8], answers: &mut Vec<u8>) -> Added
     ensures { OnOk result (Adds (CellLine (C.prints (C.code user.now)) (word.now ∷ [])) answers.old.items answers.new.items) }
 {
     match cell_of_word(alloc, word)? {
@@ -60,14 +54,8 @@ fn answer_word<C: CellUser>(
 
 /// Answers a line after the program line, word by word.
 #[inline(never)]
-fn answer_words<C: CellUser>(
-    alloc: Global,
-    user: &C,
-    line: &[u8],
-    answers: &mut Vec<u8>,
-) -> Result<(), AllocError>
-    ensures { OnOk result (Adds (λ here. LaterLine (cell_texts C.prints) (C.code user.now) line.now here GoesOn)
-        answers.old.items answers.new.items) }
+fn answer_words<C: CellUser>(alloc: Global, user: &C, line: &[u8], answers: &mut Vec<u8>) -> Added
+    ensures { OnOk result (Adds (AnswersCellLine C.prints (C.code user.now) line.now) answers.old.items answers.new.items) }
 {
     match line_words(line) {
         LineWords::Silent => Ok(()),
@@ -78,14 +66,8 @@ fn answer_words<C: CellUser>(
 
 /// Answers a line after the program line. A line of digits alone is one word, so words aren't searched for.
 #[inline(always)]
-fn answer_digits<C: CellUser>(
-    alloc: Global,
-    user: &C,
-    line: &[u8],
-    answers: &mut Vec<u8>,
-) -> Result<(), AllocError>
-    ensures { OnOk result (Adds (λ here. LaterLine (cell_texts C.prints) (C.code user.now) line.now here GoesOn)
-        answers.old.items answers.new.items) }
+fn answer_digits<C: CellUser>(alloc: Global, user: &C, line: &[u8], answers: &mut Vec<u8>) -> Added
+    ensures { OnOk result (Adds (AnswersCellLine C.prints (C.code user.now) line.now) answers.old.items answers.new.items) }
 {
     match cell_of_digits(line) {
         Some(cell) => user.answer_cell(&cell, answers),

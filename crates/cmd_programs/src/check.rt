@@ -1,6 +1,8 @@
 //! `upc check`: assembles and checks a source.
 
-ghost use Rattle.std.specs.Prelude.{IfOk};
+ghost use Rattle.std.specs.Prelude.{IfErr, IfOk};
+ghost use Rattle.bpf_asm.specs.Faults.{IsFault};
+ghost use Rattle.bpf_asm.specs.Meaning.{IsMeaning};
 ghost use Rattle.cmd_programs.specs.Check.{IsCheckText, PrintsCode};
 ghost use Rattle.text_io.specs.Devices.{Adds};
 ghost use Rattle.text_io.specs.Serving.{IsServed};
@@ -10,14 +12,35 @@ use crate::program_reading::check_code;
 use bpf_asm::{AsmFault, AsmKind, assemble};
 use bpf_code::Instr;
 use std::alloc::{AllocError, Global};
-use text_io::{Answerer, Done, Input, Output, RunFault, answer_whole};
-use text_words::add_too_long;
+use text_io::{Answered, Answerer, Done, Ending, Input, Output, answer_whole};
+use text_words::TOO_LONG;
 
 /// The maximum number of octets of a source.
 pub const MOST_SOURCE_OCTETS: u32 = 1048576;
 
+/// Assembles a source: the code that it means, or its error.
+///
+/// # Errors
+///
+/// `AllocError` if an allocation failed.
+fn assembled(alloc: Global, source: &[u8]) -> Result<Result<Vec<Instr>, AsmFault>, AllocError>
+    ensures code { IfOk result (λ read. IfOk read (λ code. IsMeaning source.now code.items)) }
+    ensures fault { IfOk result (λ read. IfErr read (λ fault. IsFault source.now fault)) }
+{
+    match assemble(alloc, source) {
+        Ok(code) => Ok(Ok(code)),
+        Err(
+            AsmFault {
+                kind: AsmKind::NoMemory,
+                ..
+            },
+        ) => Err(AllocError),
+        Err(fault) => Ok(Err(fault)),
+    }
+}
+
 /// Answers a code: its octets, or its first error.
-fn answer_code(alloc: Global, code: Vec<Instr>, answers: &mut Vec<u8>) -> Result<Done, AllocError>
+fn answer_code(alloc: Global, code: Vec<Instr>, answers: &mut Vec<u8>) -> Answered
     ensures { IfOk result (λ done.
         Adds (λ text. PrintsCode code.items text done) answers.old.items answers.new.items) }
 {
@@ -31,33 +54,19 @@ fn answer_code(alloc: Global, code: Vec<Instr>, answers: &mut Vec<u8>) -> Result
 }
 
 /// Answers a source: its code, or its error.
-struct Checking;
+struct Checker;
 
-impl Answerer for Checking {
+impl Answerer for Checker {
     ghost use Rattle.cmd_programs.specs.Check.{PrintsSource};
     ghost use Rattle.cmd_programs.specs.inner.CheckLaws.{source-printed};
-    ghost use Rattle.text_words.specs.FaultLines.{too_long};
 
-    ghost prints = { λ checking. PrintsSource };
+    ghost prints = { λ checker. PrintsSource };
 
-    ghost allows = { λ checking. PrintsSource };
+    ghost allows = { λ checker. PrintsSource };
 
-    ghost too_long = { too_long };
-
-    fn answer(
-        &self,
-        alloc: Global,
-        octets: &[u8],
-        answers: &mut Vec<u8>,
-    ) -> Result<Done, AllocError> {
-        match assemble(alloc, octets) {
+    fn answer(&self, alloc: Global, octets: &[u8], answers: &mut Vec<u8>) -> Answered {
+        match assembled(alloc, octets)? {
             Ok(code) => answer_code(alloc, code, answers),
-            Err(
-                AsmFault {
-                    kind: AsmKind::NoMemory,
-                    ..
-                },
-            ) => Err(AllocError),
             Err(fault) => {
                 add_asm_fault(answers, fault)?;
                 Ok(Done::Ended)
@@ -65,13 +74,9 @@ impl Answerer for Checking {
         }
     }
 
-    fn refuse(&self, answers: &mut Vec<u8>) -> Result<(), AllocError> {
-        add_too_long(answers)
-    }
+    ghost is_wider = { λ checker octets text done prints. prints };
 
-    ghost is_wider = { λ checking octets text done prints. prints };
-
-    ghost is_total = { λ checking. source-printed };
+    ghost is_total = { λ checker. source-printed };
 }
 
 /// Answers a source of assembly: the number of instructions of its program and their octets in lower case hexadecimal
@@ -79,13 +84,9 @@ impl Answerer for Checking {
 ///
 /// # Errors
 ///
-/// See [`RunFault`].
-pub fn check_source<I: Input, O: Output>(
-    alloc: Global,
-    input: &mut I,
-    output: &mut O,
-) -> Result<Done, RunFault>
+/// See [`text_io::RunFault`].
+pub fn check_source<I: Input, O: Output>(alloc: Global, input: &mut I, output: &mut O) -> Ending
     ensures { IsServed IsCheckText I.Input input.old input.new O.Output output.old output.new result }
 {
-    answer_whole(alloc, input, output, MOST_SOURCE_OCTETS, &Checking)
+    answer_whole(alloc, input, output, MOST_SOURCE_OCTETS, TOO_LONG, &Checker)
 }

@@ -10,7 +10,7 @@ use bpf_code::Instr;
 use bpf_interp::run;
 use bpf_verify::Program;
 use std::alloc::{AllocError, Global};
-use text_io::{Done, Input, Output, RunFault};
+use text_io::{Added, Ending, Input, Output};
 use upc_cell::Cell;
 
 /// Answers each cell with the value of the program.
@@ -28,7 +28,7 @@ impl CellUser for Program {
     }
 
     #[inline(always)]
-    fn answer_cell(&self, cell: &Cell, answers: &mut Vec<u8>) -> Result<(), AllocError> {
+    fn answer_cell(&self, cell: &Cell, answers: &mut Vec<u8>) -> Added {
         let outcome = run(self, cell);
         add_value(answers, outcome.value, outcome.steps)
     }
@@ -41,12 +41,8 @@ impl CellUser for Program {
 ///
 /// # Errors
 ///
-/// See [`RunFault`].
-pub fn eval_bytes<I: Input, O: Output>(
-    alloc: Global,
-    input: &mut I,
-    output: &mut O,
-) -> Result<Done, RunFault>
+/// See [`text_io::RunFault`].
+pub fn eval_bytes<I: Input, O: Output>(alloc: Global, input: &mut I, output: &mut O) -> Ending
     ensures { IsServed IsEvalText I.Input input.old input.new O.Output output.old output.new result }
 {
     answer_program_lines::<OnCells<Program>, I, O>(alloc, input, output)

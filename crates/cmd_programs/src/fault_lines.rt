@@ -6,12 +6,13 @@ ghost use Rattle.cmd_programs.specs.CodeFaults.{decode_fault, verify_fault};
 use bpf_code::DecodeFault;
 use bpf_verify::Fault;
 use std::alloc::AllocError;
-use text_words::{add_number, add_numbered, add_text};
+use text_io::Added;
+use text_words::{add_number, add_numbered, add_text, add_two_numbers};
 
 /// Appends the answer to eight octets that spell no instruction: their place, counted in instructions from 0, and the
 /// number in the first two.
 #[tactic(auto, using(std::proofs::lemmas::List::append_assoc))]
-fn add_unknown_code(answers: &mut Vec<u8>, at: usize, code: u16) -> Result<(), AllocError>
+fn add_unknown_code(answers: &mut Vec<u8>, at: usize, code: u16) -> Added
     ensures { OnOk result
         (answers.new.items ≡ answers.old.items ++ decode_fault (DecodeFault.UnknownCode at code)) }
 {
@@ -29,7 +30,7 @@ fn add_unknown_code(answers: &mut Vec<u8>, at: usize, code: u16) -> Result<(), A
 }
 
 /// Appends the answer to octets that aren't a code. The contract excludes NoMemory.
-pub fn add_decode_fault(answers: &mut Vec<u8>, fault: DecodeFault) -> Result<(), AllocError>
+pub fn add_decode_fault(answers: &mut Vec<u8>, fault: DecodeFault) -> Added
     ensures { fault ≢ DecodeFault.NoMemory →
         OnOk result (answers.new.items ≡ answers.old.items ++ decode_fault fault) }
 {
@@ -41,21 +42,20 @@ pub fn add_decode_fault(answers: &mut Vec<u8>, fault: DecodeFault) -> Result<(),
 }
 
 /// Appends the answer to a read of a scratch word that some path doesn't write before.
-#[tactic(auto, using(std::proofs::lemmas::List::append_assoc))]
-fn add_unwritten(answers: &mut Vec<u8>, at: usize, word: u32) -> Result<(), AllocError>
+fn add_unwritten(answers: &mut Vec<u8>, at: usize, word: u32) -> Added
     ensures { OnOk result
         (answers.new.items ≡ answers.old.items ++ verify_fault (Fault.Unwritten at word)) }
 {
-    answers.extend_from_slice(b"fault verify 8 Unwritten ")?;
-    add_number(answers, at as u64)?;
-    answers.push(b' ')?;
-    add_number(answers, u64::from(word))?;
-    answers.push(b'\n')?;
-    Ok(())
+    add_two_numbers(
+        answers,
+        b"fault verify 8 Unwritten ",
+        at as u64,
+        u64::from(word),
+    )
 }
 
 /// Appends the answer to a code that isn't a program.
-pub fn add_verify_fault(answers: &mut Vec<u8>, fault: Fault) -> Result<(), AllocError>
+pub fn add_verify_fault(answers: &mut Vec<u8>, fault: Fault) -> Added
     ensures { OnOk result (answers.new.items ≡ answers.old.items ++ verify_fault fault) }
 {
     match fault {

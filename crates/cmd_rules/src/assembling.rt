@@ -13,7 +13,7 @@ use crate::whole_text::{Printed, answer_rules};
 use bpf_asm::listing;
 use rules_text::{CodeWithPlaces, compile_with_places};
 use std::alloc::{AllocError, Global};
-use text_io::{Done, Input, Output, RunFault};
+use text_io::{Done, Ending, Input, Output};
 
 /// Appends the source of a code of rules. `JumpOutside` isn't met: an accepted code has no such jump.
 fn add_source(
@@ -55,11 +55,7 @@ pub(crate) fn answer_by_source(
 /// # Errors
 ///
 /// As [`crate::compile_rules`] has them.
-pub fn assemble_rules<I: Input, O: Output>(
-    alloc: Global,
-    input: &mut I,
-    output: &mut O,
-) -> Result<Done, RunFault>
+pub fn assemble_rules<I: Input, O: Output>(alloc: Global, input: &mut I, output: &mut O) -> Ending
     ensures served { IsServed MayBeAsmText I.Input input.old input.new O.Output output.old output.new result }
     ensures printed { I.is_known → O.is_known → IfOk result (λ done.
         Adds (λ answer. IsAsmText (I.rest input.old) answer done) (O.held output.old) (O.held output.new)) }

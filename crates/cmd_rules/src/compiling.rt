@@ -10,7 +10,7 @@ use crate::whole_text::{Printed, answer_rules};
 use cmd_programs::add_program;
 use rules_text::compile_text;
 use std::alloc::{AllocError, Global};
-use text_io::{Done, Input, Output, RunFault};
+use text_io::{Done, Ending, Input, Output};
 
 /// Appends the answer to a text: the number of instructions and the octets of the program of its rules, or the fault of the text.
 ///
@@ -39,12 +39,8 @@ pub fn answer_by_octets(
 ///
 /// # Errors
 ///
-/// See [`RunFault`].
-pub fn compile_rules<I: Input, O: Output>(
-    alloc: Global,
-    input: &mut I,
-    output: &mut O,
-) -> Result<Done, RunFault>
+/// See [`text_io::RunFault`].
+pub fn compile_rules<I: Input, O: Output>(alloc: Global, input: &mut I, output: &mut O) -> Ending
     ensures served { IsServed MayBeRulesText I.Input input.old input.new O.Output output.old output.new result }
     ensures printed { I.is_known → O.is_known → IfOk result (λ done.
         Adds (λ answer. IsRulesText (I.rest input.old) answer done) (O.held output.old) (O.held output.new)) }

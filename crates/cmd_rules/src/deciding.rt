@@ -22,8 +22,8 @@ use rules_cells::Decision;
 use rules_text::RulePlace;
 use std::alloc::{AllocError, Global};
 use text_io::{
-    Done, Input, LineWords, Machine, Output, RunFault, Turn, answer_lines, first_word, give_last,
-    line_words,
+    Done, Ending, Input, LineWords, Machine, Output, RunFault, Turn, answer_lines, first_word,
+    give_last, line_words,
 };
 use text_words::{
     CellWord, add_bad_hex, add_bad_line, add_number, add_text, add_too_long, add_wrong_length,
@@ -254,7 +254,7 @@ pub fn decide_cells<I: Input, O: Output>(
     count: bool,
     input: &mut I,
     output: &mut O,
-) -> Result<Done, RunFault>
+) -> Ending
     ensures served { IsServed (MayBeWhyText count) I.Input input.old input.new O.Output output.old output.new result }
     ensures printed { I.is_known → O.is_known → IfOk result (λ done.
         Adds (λ answer. IsWhyText count (I.rest input.old) answer done) (O.held output.old) (O.held output.new)) }

@@ -8,9 +8,9 @@ ghost use Rattle.cmd_rules.specs.inner.PrintedAs.{prints_as};
 
 use crate::assembling::answer_by_source;
 use crate::compiling::answer_by_octets;
-use std::alloc::{AllocError, Global};
-use text_io::{Answerer, Done, Input, Output, RunFault, answer_whole};
-use text_words::add_too_long;
+use std::alloc::Global;
+use text_io::{Answered, Answerer, Ending, Input, Output, answer_whole};
+use text_words::TOO_LONG;
 
 /// The maximum number of octets of a text of rules.
 pub const MOST_RULES_OCTETS: u32 = 1048576;
@@ -27,28 +27,16 @@ pub(crate) enum Printed {
 impl Answerer for Printed {
     ghost use Rattle.cmd_rules.specs.inner.PrintedAs.{MayPrint, may-answer, prints_as};
     ghost use Rattle.std.proofs.Common.{inl};
-    ghost use Rattle.text_words.specs.FaultLines.{too_long};
 
     ghost prints = { prints_as };
 
     ghost allows = { λ printed. MayPrint (prints_as printed) };
 
-    ghost too_long = { too_long };
-
-    fn answer(
-        &self,
-        alloc: Global,
-        octets: &[u8],
-        answers: &mut Vec<u8>,
-    ) -> Result<Done, AllocError> {
+    fn answer(&self, alloc: Global, octets: &[u8], answers: &mut Vec<u8>) -> Answered {
         match *self {
             Printed::Octets => answer_by_octets(alloc, octets, answers),
             Printed::Source => answer_by_source(alloc, octets, answers),
         }
-    }
-
-    fn refuse(&self, answers: &mut Vec<u8>) -> Result<(), AllocError> {
-        add_too_long(answers)
     }
 
     ghost is_wider = { λ printed text answer done prints. inl prints };
@@ -60,16 +48,16 @@ impl Answerer for Printed {
 ///
 /// # Errors
 ///
-/// See [`RunFault`].
+/// See [`text_io::RunFault`].
 pub(crate) fn answer_rules<I: Input, O: Output>(
     alloc: Global,
     printed: Printed,
     input: &mut I,
     output: &mut O,
-) -> Result<Done, RunFault>
+) -> Ending
     ensures served { IsServed (MayBeAnswerBy (prints_as printed)) I.Input input.old input.new O.Output output.old output.new result }
     ensures printed { I.is_known → O.is_known → IfOk result (λ done.
         Adds (λ answer. IsAnswerBy (prints_as printed) (I.rest input.old) answer done) (O.held output.old) (O.held output.new)) }
 {
-    answer_whole(alloc, input, output, MOST_RULES_OCTETS, &printed)
+    answer_whole(alloc, input, output, MOST_RULES_OCTETS, TOO_LONG, &printed)
 }

@@ -9,7 +9,10 @@ ghost use Rattle.cmd_run.specs.inner.Policing.{OpensAs};
 use crate::script_card::ScriptCard;
 use std::alloc::{AllocError, Global};
 use text_card::{add_no_card, add_shape_fault, read_card};
-use text_io::{Done, Input, LineWords, Machine, Output, RunFault, Turn, answer_lines, line_words};
+use text_io::{
+    Added, Answered, Done, Ending, Input, LineWords, Machine, Output, Turn, answer_lines,
+    line_words,
+};
 use text_script::add_ready;
 use text_words::add_too_long;
 use upc_cell::Side;
@@ -128,7 +131,7 @@ impl Machine for Policing {
         }
     }
 
-    fn close(&self, answers: &mut Vec<u8>) -> Result<Done, AllocError> {
+    fn close(&self, answers: &mut Vec<u8>) -> Answered {
         if self.card.is_some() {
             return Ok(Done::Whole);
         }
@@ -136,7 +139,7 @@ impl Machine for Policing {
         Ok(Done::Ended)
     }
 
-    fn refuse(&self, answers: &mut Vec<u8>) -> Result<(), AllocError> {
+    fn refuse(&self, answers: &mut Vec<u8>) -> Added {
         add_too_long(answers)
     }
 
@@ -148,12 +151,8 @@ impl Machine for Policing {
 ///
 /// # Errors
 ///
-/// See [`RunFault`].
-pub fn run_script<I: Input, O: Output>(
-    alloc: Global,
-    input: &mut I,
-    output: &mut O,
-) -> Result<Done, RunFault>
+/// See [`text_io::RunFault`].
+pub fn run_script<I: Input, O: Output>(alloc: Global, input: &mut I, output: &mut O) -> Ending
     ensures { IsServed IsRunText I.Input input.old input.new O.Output output.old output.new result }
 {
     let mut policing = Policing::new(alloc);

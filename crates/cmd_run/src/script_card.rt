@@ -6,9 +6,10 @@ use bpf_verify::Program;
 use card_core::{Answer, Ask, CardFault, Core, Judgement, Shape, Unjudged};
 use cmd_programs::read_code;
 use gen_arena::Id;
-use std::alloc::{AllocError, Global};
+use std::alloc::Global;
 use std::marker::Model;
 use text_card::{add_desk_fault, add_gcra_fault, add_judged, add_no_such_program, add_unjudged};
+use text_io::Added;
 use text_script::{
     Command, Names, Wanted, add_cut, add_loaded, add_released, add_reloaded, add_retired, add_set,
     asking_word, contracts, contracts_of, named_command, read_common_cell,
@@ -102,12 +103,7 @@ impl ScriptCard {
 
     /// Loads the program of this code.
     #[inline(never)]
-    fn load_code(
-        &mut self,
-        digits: &[u8],
-        code: Vec<Instr>,
-        answers: &mut Vec<u8>,
-    ) -> Result<(), AllocError>
+    fn load_code(&mut self, digits: &[u8], code: Vec<Instr>, answers: &mut Vec<u8>) -> Added
         requires { IsAccepted code.items }
         ensures { OnOk result (Moves (λ before. TakesCommand before (load digits.now) (Load code.items))
             self.old self.new answers.old.items answers.new.items) }
@@ -122,12 +118,7 @@ impl ScriptCard {
 
     /// Loads the program of these octets, if they spell one.
     #[inline(never)]
-    fn load(
-        &mut self,
-        alloc: Global,
-        digits: &[u8],
-        answers: &mut Vec<u8>,
-    ) -> Result<(), AllocError>
+    fn load(&mut self, alloc: Global, digits: &[u8], answers: &mut Vec<u8>) -> Added
         ensures { OnOk result (Moves (λ before. Obeys before (load digits.now))
             self.old self.new answers.old.items answers.new.items) }
     {
@@ -142,7 +133,7 @@ impl ScriptCard {
 
     /// Retires a program.
     #[inline(never)]
-    fn retire(&mut self, number: u64, answers: &mut Vec<u8>) -> Result<(), AllocError>
+    fn retire(&mut self, number: u64, answers: &mut Vec<u8>) -> Added
         ensures { OnOk result (Moves (λ before. Obeys before (retire number))
             self.old self.new answers.old.items answers.new.items) }
     {
@@ -163,7 +154,7 @@ impl ScriptCard {
         number: u64,
         wanted: &ArrayVec<Wanted, 4>,
         answers: &mut Vec<u8>,
-    ) -> Result<(), AllocError>
+    ) -> Added
         ensures { OnOk result (Moves (λ before. Obeys before (setup vc number wanted.now.items))
             self.old self.new answers.old.items answers.new.items) }
     {
@@ -194,7 +185,7 @@ impl ScriptCard {
         number: u64,
         words: &[u8],
         answers: &mut Vec<u8>,
-    ) -> Result<(), AllocError>
+    ) -> Added
         ensures { OnOk result (Moves (λ before. ObeysSeen before (setup_seen vc number words.now))
             self.old self.new answers.old.items answers.new.items) }
     {
@@ -206,7 +197,7 @@ impl ScriptCard {
 
     /// Gives a connection another program.
     #[inline(never)]
-    fn reload(&mut self, vc: Vc, number: u64, answers: &mut Vec<u8>) -> Result<(), AllocError>
+    fn reload(&mut self, vc: Vc, number: u64, answers: &mut Vec<u8>) -> Added
         ensures { OnOk result (Moves (λ before. Obeys before (reload vc number))
             self.old self.new answers.old.items answers.new.items) }
     {
@@ -222,7 +213,7 @@ impl ScriptCard {
 
     /// Releases a connection.
     #[inline(never)]
-    fn release(&mut self, vc: Vc, answers: &mut Vec<u8>) -> Result<(), AllocError>
+    fn release(&mut self, vc: Vc, answers: &mut Vec<u8>) -> Added
         ensures { OnOk result (Moves (λ before. Obeys before (release vc))
             self.old self.new answers.old.items answers.new.items) }
     {
@@ -235,7 +226,7 @@ impl ScriptCard {
 
     /// Returns a connection's journal and begins a new one.
     #[inline(never)]
-    fn cut(&mut self, vc: Vc, answers: &mut Vec<u8>) -> Result<(), AllocError>
+    fn cut(&mut self, vc: Vc, answers: &mut Vec<u8>) -> Added
         ensures { OnOk result (Moves (λ before. Obeys before (cut vc))
             self.old self.new answers.old.items answers.new.items) }
     {
@@ -275,7 +266,7 @@ impl ScriptCard {
 
     /// Polices a cell.
     #[inline(always)]
-    fn police(&mut self, moment: u64, cell: &Cell, answers: &mut Vec<u8>) -> Result<(), AllocError>
+    fn police(&mut self, moment: u64, cell: &Cell, answers: &mut Vec<u8>) -> Added
         ensures { OnOk result (Moves (λ before. PolicesCell before moment cell.now)
             self.old self.new answers.old.items answers.new.items) }
     {
@@ -295,13 +286,7 @@ impl ScriptCard {
 
     /// Polices the cell of a word, if the word spells one.
     #[inline(never)]
-    fn cell(
-        &mut self,
-        alloc: Global,
-        moment: u64,
-        word: &[u8],
-        answers: &mut Vec<u8>,
-    ) -> Result<(), AllocError>
+    fn cell(&mut self, alloc: Global, moment: u64, word: &[u8], answers: &mut Vec<u8>) -> Added
         ensures { OnOk result (Moves (λ before. Obeys before (cell moment word.now))
             self.old self.new answers.old.items answers.new.items) }
     {
@@ -313,12 +298,7 @@ impl ScriptCard {
     }
 
     /// Carries out a command.
-    fn obey(
-        &mut self,
-        alloc: Global,
-        command: &Command<'_>,
-        answers: &mut Vec<u8>,
-    ) -> Result<(), AllocError>
+    fn obey(&mut self, alloc: Global, command: &Command<'_>, answers: &mut Vec<u8>) -> Added
         ensures { OnOk result (Moves (λ before. ObeysSeen before (command_seen command.now))
             self.old self.new answers.old.items answers.new.items) }
     {
@@ -342,7 +322,7 @@ impl ScriptCard {
         name: &[u8],
         rest: &[u8],
         answers: &mut Vec<u8>,
-    ) -> Result<(), AllocError>
+    ) -> Added
         ensures { OnOk result (Moves (λ before. CommandLine before (name.now ∷ words_of rest.now))
             self.old self.new answers.old.items answers.new.items) }
     {
@@ -354,12 +334,7 @@ impl ScriptCard {
 
     /// Answers a line that isn't a cell line of the common form. A line without words and a comment get no answer.
     #[inline(never)]
-    fn answer_words(
-        &mut self,
-        alloc: Global,
-        line: &[u8],
-        answers: &mut Vec<u8>,
-    ) -> Result<(), AllocError>
+    fn answer_words(&mut self, alloc: Global, line: &[u8], answers: &mut Vec<u8>) -> Added
         ensures { OnOk result (Moves (AnswersLine line.now) self.old self.new answers.old.items answers.new.items) }
     {
         match asking_word(line) {
@@ -370,12 +345,7 @@ impl ScriptCard {
 
     /// Answers a line. A cell line in the common form is read at once, without a search for its words.
     #[inline(always)]
-    pub fn answer(
-        &mut self,
-        alloc: Global,
-        line: &[u8],
-        answers: &mut Vec<u8>,
-    ) -> Result<(), AllocError>
+    pub fn answer(&mut self, alloc: Global, line: &[u8], answers: &mut Vec<u8>) -> Added
         ensures { OnOk result (Moves (AnswersLine line.now) self.old self.new answers.old.items answers.new.items) }
     {
         match read_common_cell(line) {

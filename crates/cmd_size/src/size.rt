@@ -11,15 +11,12 @@ use crate::size_text::{add_size_fault, add_sizes};
 use crate::size_words::figures;
 use crate::sizing::sized;
 use std::alloc::{AllocError, Global};
-use text_io::{Done, Input, Machine, Output, RunFault, Turn, answer_lines};
+use text_io::{Added, Answered, Done, Ending, Input, Machine, Output, Turn, answer_lines};
 use text_script::asking_word;
 use text_words::add_too_long;
 
 /// Answers a contract, or a line that isn't one.
-fn answer_figures(
-    answers: &mut Vec<u8>,
-    found: Result<Figures, SizeFault>,
-) -> Result<(), AllocError>
+fn answer_figures(answers: &mut Vec<u8>, found: Result<Figures, SizeFault>) -> Added
     ensures { OnOk result (answers.new.items ≡ answers.old.items ++ figures_text found) }
 {
     let figures = match found {
@@ -33,7 +30,7 @@ fn answer_figures(
 }
 
 /// Answers a line.
-fn answer_line(answers: &mut Vec<u8>, line: &[u8]) -> Result<(), AllocError>
+fn answer_line(answers: &mut Vec<u8>, line: &[u8]) -> Added
     ensures { OnOk result (answers.new.items ≡ answers.old.items ++ size_answer (words_of line.now)) }
 {
     match asking_word(line) {
@@ -62,11 +59,11 @@ impl Machine for Sizing {
         Ok(Turn::GoesOn)
     }
 
-    fn close(&self, _answers: &mut Vec<u8>) -> Result<Done, AllocError> {
+    fn close(&self, _answers: &mut Vec<u8>) -> Answered {
         Ok(Done::Whole)
     }
 
-    fn refuse(&self, answers: &mut Vec<u8>) -> Result<(), AllocError> {
+    fn refuse(&self, answers: &mut Vec<u8>) -> Added {
         add_too_long(answers)
     }
 
@@ -78,12 +75,8 @@ impl Machine for Sizing {
 ///
 /// # Errors
 ///
-/// See [`RunFault`].
-pub fn size_contracts<I: Input, O: Output>(
-    alloc: Global,
-    input: &mut I,
-    output: &mut O,
-) -> Result<Done, RunFault>
+/// See [`text_io::RunFault`].
+pub fn size_contracts<I: Input, O: Output>(alloc: Global, input: &mut I, output: &mut O) -> Ending
     ensures { IsServed IsSizesText I.Input input.old input.new O.Output output.old output.new result }
 {
     let mut sizing = Sizing;

@@ -8,12 +8,12 @@ use crate::advice::{better_tick, is_above};
 use crate::fault::{SizeFault, name_of};
 use crate::figures::{Figures, Sustained, VbrKind};
 use crate::sizing::{SizedRate, Sizes};
-use std::alloc::AllocError;
+use text_io::Added;
 use text_words::{add_number, add_text};
 
 /// Appends the answer to a line with a fault.
 #[tactic(auto, using(std::proofs::lemmas::List::append_assoc))]
-pub fn add_size_fault(answers: &mut Vec<u8>, fault: SizeFault) -> Result<(), AllocError>
+pub fn add_size_fault(answers: &mut Vec<u8>, fault: SizeFault) -> Added
     ensures { OnOk result (answers.new.items ≡ answers.old.items ++ size_fault fault) }
 {
     add_text(answers, b"fault size ")?;
@@ -37,7 +37,7 @@ fn kind_of(sustained: Option<Sustained>) -> &'static [u8]
 
 /// Appends a bucket.
 #[tactic(auto, using(std::proofs::lemmas::List::append_assoc))]
-fn add_bucket(answers: &mut Vec<u8>, rate: SizedRate) -> Result<(), AllocError>
+fn add_bucket(answers: &mut Vec<u8>, rate: SizedRate) -> Added
     ensures { OnOk result (answers.new.items ≡ answers.old.items ++ bucket_text rate) }
 {
     add_number(answers, rate.increment)?;
@@ -47,7 +47,7 @@ fn add_bucket(answers: &mut Vec<u8>, rate: SizedRate) -> Result<(), AllocError>
 
 /// Appends the bucket of the sustained rate.
 #[tactic(auto, using(std::proofs::lemmas::List::append_assoc))]
-fn add_second_bucket(answers: &mut Vec<u8>, sustained: Option<SizedRate>) -> Result<(), AllocError>
+fn add_second_bucket(answers: &mut Vec<u8>, sustained: Option<SizedRate>) -> Added
     ensures { OnOk result (answers.new.items ≡ answers.old.items ++ second_bucket_text sustained) }
 {
     let Some(rate) = sustained else {
@@ -59,7 +59,7 @@ fn add_second_bucket(answers: &mut Vec<u8>, sustained: Option<SizedRate>) -> Res
 
 /// Appends the contract as `setup` takes it.
 #[tactic(auto, using(std::proofs::lemmas::List::append_assoc))]
-fn add_contract(answers: &mut Vec<u8>, figures: Figures, sizes: Sizes) -> Result<(), AllocError>
+fn add_contract(answers: &mut Vec<u8>, figures: Figures, sizes: Sizes) -> Added
     ensures { OnOk result (answers.new.items ≡ answers.old.items ++ contract_text figures sizes) }
 {
     add_text(answers, kind_of(figures.sustained))?;
@@ -69,7 +69,7 @@ fn add_contract(answers: &mut Vec<u8>, figures: Figures, sizes: Sizes) -> Result
 
 /// Appends hundredths of a percent, with two decimals.
 #[tactic(auto, using(std::proofs::lemmas::List::append_assoc))]
-fn add_percent(answers: &mut Vec<u8>, hundredths: u64) -> Result<(), AllocError>
+fn add_percent(answers: &mut Vec<u8>, hundredths: u64) -> Added
     ensures { OnOk result (answers.new.items ≡ answers.old.items ++ percent_text hundredths) }
 {
     add_number(answers, hundredths / 100)?;
@@ -81,7 +81,7 @@ fn add_percent(answers: &mut Vec<u8>, hundredths: u64) -> Result<(), AllocError>
 
 /// Appends the rate that a bucket polices, and by how much it is above the one asked for.
 #[tactic(auto, using(std::proofs::lemmas::List::append_assoc))]
-fn add_rate(answers: &mut Vec<u8>, rate: SizedRate) -> Result<(), AllocError>
+fn add_rate(answers: &mut Vec<u8>, rate: SizedRate) -> Added
     ensures { OnOk result (answers.new.items ≡ answers.old.items ++ rate_text rate) }
 {
     add_number(answers, rate.policed)?;
@@ -91,7 +91,7 @@ fn add_rate(answers: &mut Vec<u8>, rate: SizedRate) -> Result<(), AllocError>
 
 /// Appends the rate that the bucket of the sustained rate polices, and by how much it is above the one asked for.
 #[tactic(auto, using(std::proofs::lemmas::List::append_assoc))]
-fn add_second_rate(answers: &mut Vec<u8>, sustained: Option<SizedRate>) -> Result<(), AllocError>
+fn add_second_rate(answers: &mut Vec<u8>, sustained: Option<SizedRate>) -> Added
     ensures { OnOk result (answers.new.items ≡ answers.old.items ++ second_rate_text sustained) }
 {
     let Some(rate) = sustained else {
@@ -103,7 +103,7 @@ fn add_second_rate(answers: &mut Vec<u8>, sustained: Option<SizedRate>) -> Resul
 
 /// Appends the rates that the buckets police.
 #[tactic(auto, using(std::proofs::lemmas::List::append_assoc))]
-fn add_rates(answers: &mut Vec<u8>, sizes: Sizes) -> Result<(), AllocError>
+fn add_rates(answers: &mut Vec<u8>, sizes: Sizes) -> Added
     ensures { OnOk result (answers.new.items ≡ answers.old.items ++ rates_text sizes) }
 {
     add_text(answers, b" pcr ")?;
@@ -113,7 +113,7 @@ fn add_rates(answers: &mut Vec<u8>, sizes: Sizes) -> Result<(), AllocError>
 
 /// Appends a number and its unit.
 #[tactic(auto, using(std::proofs::lemmas::List::append_assoc))]
-fn add_units(answers: &mut Vec<u8>, count: u64, unit: &[u8]) -> Result<(), AllocError>
+fn add_units(answers: &mut Vec<u8>, count: u64, unit: &[u8]) -> Added
     ensures { OnOk result (answers.new.items ≡ answers.old.items ++ (decimal count ++ unit.now)) }
 {
     add_number(answers, count)?;
@@ -121,7 +121,7 @@ fn add_units(answers: &mut Vec<u8>, count: u64, unit: &[u8]) -> Result<(), Alloc
 }
 
 /// Appends a tick.
-fn add_tick(answers: &mut Vec<u8>, tick: u64) -> Result<(), AllocError>
+fn add_tick(answers: &mut Vec<u8>, tick: u64) -> Added
     ensures { OnOk result (answers.new.items ≡ answers.old.items ++ tick_in_units tick) }
 {
     if tick >= 1000000000 {
@@ -137,7 +137,7 @@ fn add_tick(answers: &mut Vec<u8>, tick: u64) -> Result<(), AllocError>
 }
 
 /// Appends the tick that is advised.
-fn add_advised(answers: &mut Vec<u8>, tick: Option<u64>) -> Result<(), AllocError>
+fn add_advised(answers: &mut Vec<u8>, tick: Option<u64>) -> Added
     ensures { OnOk result (answers.new.items ≡ answers.old.items ++ advised_text tick) }
 {
     match tick {
@@ -148,7 +148,7 @@ fn add_advised(answers: &mut Vec<u8>, tick: Option<u64>) -> Result<(), AllocErro
 
 /// Appends a tick if a rate is coarse.
 #[tactic(auto, using(std::proofs::lemmas::List::append_assoc))]
-fn add_advice(answers: &mut Vec<u8>, figures: Figures, sizes: Sizes) -> Result<(), AllocError>
+fn add_advice(answers: &mut Vec<u8>, figures: Figures, sizes: Sizes) -> Added
     ensures { OnOk result (answers.new.items ≡ answers.old.items ++ advice_text figures sizes) }
 {
     if !is_above(sizes) {
@@ -160,7 +160,7 @@ fn add_advice(answers: &mut Vec<u8>, figures: Figures, sizes: Sizes) -> Result<(
 
 /// Appends the answer to a contract that has these buckets.
 #[tactic(auto, using(std::proofs::lemmas::List::append_assoc))]
-pub fn add_sizes(answers: &mut Vec<u8>, figures: Figures, sizes: Sizes) -> Result<(), AllocError>
+pub fn add_sizes(answers: &mut Vec<u8>, figures: Figures, sizes: Sizes) -> Added
     ensures { OnOk result (answers.new.items ≡ answers.old.items ++ sizes_text figures (Ok sizes)) }
 {
     add_contract(answers, figures, sizes)?;

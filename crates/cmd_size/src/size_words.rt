@@ -121,8 +121,7 @@ fn rate_after<'a>(name: &[u8], line: &'a [u8]) -> Result<(CellRate, &'a [u8]), S
     ensures fault { IfErr result (λ fault. named_value cell_rate_of name.now (words_of line.now) ≡ Err fault) }
 {
     let (word, rest) = word_after(name, line)?;
-    let rate = cell_rate(word).ok_or(SizeFault::BadNumber)?;
-    Ok((rate, rest))
+    Ok((cell_rate(word).ok_or(SizeFault::BadNumber)?, rest))
 }
 
 /// Returns the time after this name, in nanoseconds, and the rest of the line.
@@ -131,18 +130,7 @@ fn time_after<'a>(name: &[u8], line: &'a [u8]) -> Result<(u64, &'a [u8]), SizeFa
     ensures fault { IfErr result (λ fault. named_value duration_of name.now (words_of line.now) ≡ Err fault) }
 {
     let (word, rest) = word_after(name, line)?;
-    let time = duration(word).ok_or(SizeFault::BadNumber)?;
-    Ok((time, rest))
-}
-
-/// Returns the number after this name, and the rest of the line.
-fn number_after<'a>(name: &[u8], line: &'a [u8]) -> Result<(u64, &'a [u8]), SizeFault>
-    ensures number { IfOk result (λ found. named_value number_of_digits name.now (words_of line.now) ≡ Ok (found.0, words_of found.1.now)) }
-    ensures fault { IfErr result (λ fault. named_value number_of_digits name.now (words_of line.now) ≡ Err fault) }
-{
-    let (word, rest) = word_after(name, line)?;
-    let count = number(word).ok_or(SizeFault::BadNumber)?;
-    Ok((count, rest))
+    Ok((duration(word).ok_or(SizeFault::BadNumber)?, rest))
 }
 
 /// Reads `cdvt TIME tick TIME`, to the end of the line.
@@ -176,7 +164,8 @@ fn vbr(kind: VbrKind, line: &[u8]) -> Result<Figures, SizeFault>
 {
     let (pcr, rest) = rate_after(b"pcr", line)?;
     let (scr, rest) = rate_after(b"scr", rest)?;
-    let (mbs, rest) = number_after(b"mbs", rest)?;
+    let (word, rest) = word_after(b"mbs", rest)?;
+    let mbs = number(word).ok_or(SizeFault::BadNumber)?;
     ending(pcr, Some(Sustained { kind, scr, mbs }), rest)
 }
 

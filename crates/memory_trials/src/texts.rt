@@ -8,7 +8,7 @@ use cmd_run::run_script;
 use std::alloc::Global;
 use std::sync::Wait;
 use std::thread::Threads;
-use text_io::{Done, ReaderInput, RunFault, WriterOutput};
+use text_io::{Done, Ending, ReaderInput, RunFault, WriterOutput};
 
 /// A program and two cells, and the output of `eval`.
 const INPUT: &[u8; 83] =
@@ -84,7 +84,7 @@ impl Call for Talking {
 }
 
 /// The outcome of a subcommand that ended in this way and wrote this, compared with its full output.
-fn outcome_of(ended: Result<Done, RunFault>, written: &[u8], ample: &[u8]) -> Attempt {
+fn outcome_of(ended: Ending, written: &[u8], ample: &[u8]) -> Attempt {
     match ended {
         Ok(Done::Whole) => ample_if(written == ample),
         Err(RunFault::NoMemory) => refused_if(ample.starts_with(written)),

@@ -7,24 +7,25 @@ ghost use Rattle.text_card.specs.AddsSome.{AddsSome};
 use card_core::{CardFault, DeskFault};
 use leaky::GcraFault;
 use std::alloc::AllocError;
+use text_io::Added;
 use text_words::add_text;
 
 /// Adds the answer to a script that opens no card.
-pub fn add_no_card(answers: &mut Vec<u8>) -> Result<(), AllocError>
+pub fn add_no_card(answers: &mut Vec<u8>) -> Added
     ensures { OnOk result (answers.new.items ≡ answers.old.items ++ no_card) }
 {
     add_text(answers, b"fault script 2 NoCard\n")
 }
 
 /// Adds the answer to a command with a name that no program was given: `NoProgram`, as of the desk.
-pub fn add_no_such_program(answers: &mut Vec<u8>) -> Result<(), AllocError>
+pub fn add_no_such_program(answers: &mut Vec<u8>) -> Added
     ensures { OnOk result (answers.new.items ≡ answers.old.items ++ no_such_program) }
 {
     add_desk_fault(answers, DeskFault::NoProgram)
 }
 
 /// Adds the answer to two numbers that are no rate.
-pub fn add_gcra_fault(answers: &mut Vec<u8>, fault: GcraFault) -> Result<(), AllocError>
+pub fn add_gcra_fault(answers: &mut Vec<u8>, fault: GcraFault) -> Added
     ensures { OnOk result (answers.new.items ≡ answers.old.items ++ gcra_fault fault) }
 {
     match fault {
@@ -38,7 +39,7 @@ pub fn add_gcra_fault(answers: &mut Vec<u8>, fault: GcraFault) -> Result<(), All
 /// # Errors
 ///
 /// `AllocError` if an allocation failed, here or for the card.
-pub fn add_shape_fault(answers: &mut Vec<u8>, fault: CardFault) -> Result<(), AllocError>
+pub fn add_shape_fault(answers: &mut Vec<u8>, fault: CardFault) -> Added
     ensures of_shape { OnOk result (fault ≢ CardFault.NoMemory) }
     ensures text { OnOk result (answers.new.items ≡ answers.old.items ++ shape_fault_line fault) }
 {
@@ -56,7 +57,7 @@ pub fn add_shape_fault(answers: &mut Vec<u8>, fault: CardFault) -> Result<(), Al
 /// # Errors
 ///
 /// `AllocError` if an allocation failed, here or at the desk.
-pub fn add_desk_fault(answers: &mut Vec<u8>, fault: DeskFault) -> Result<(), AllocError>
+pub fn add_desk_fault(answers: &mut Vec<u8>, fault: DeskFault) -> Added
     ensures { OnOk result (AddsSome (desk_fault fault) answers.old.items answers.new.items) }
 {
     match fault {

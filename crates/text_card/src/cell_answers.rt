@@ -11,6 +11,7 @@ ghost use Rattle.text_card.specs.AddsSome.{AddsSome};
 use card_core::{Answer, Judgement, Unjudged};
 use leaky::Verdict;
 use std::alloc::AllocError;
+use text_io::Added;
 use text_script::add_verdict;
 use text_words::{TextFromEnd, add_text};
 use upc_cell::{Cell, Side, Vc};
@@ -20,7 +21,7 @@ const MOMENT_ROOM: usize = 47;
 
 /// Adds the answer to a cell with a moment before that of its connection's last judged cell.
 #[tactic(auto, using(std::proofs::lemmas::List::append_assoc))]
-fn add_moment_back(answers: &mut Vec<u8>, last: u64) -> Result<(), AllocError>
+fn add_moment_back(answers: &mut Vec<u8>, last: u64) -> Added
     ensures { OnOk result
         (answers.new.items ≡ answers.old.items ++ arrive_fault (codes "4 MomentBack " ++ decimal last)) }
 {
@@ -42,7 +43,7 @@ fn add_judged_line(
     number: u64,
     value: u32,
     cell: &Cell,
-) -> Result<(), AllocError>
+) -> Added
     ensures { OnOk result (answers.new.items ≡ answers.old.items
         ++ verdict_text verdict (judging_text side vc number value) (cell_after verdict cell.now)) }
 {
@@ -72,7 +73,7 @@ pub fn add_judged(
     vc: Vc,
     cell: &Cell,
     judged: &Judgement,
-) -> Result<(), AllocError>
+) -> Added
     ensures { OnOk result (AddsSome (numbered_answer_text side number vc (answer_to cell.now (Ok judged.now)))
         answers.old.items answers.new.items) }
 {
@@ -94,12 +95,7 @@ pub fn add_judged(
 ///
 /// `AllocError` if an allocation failed, here or for the cell.
 #[inline(never)]
-pub fn add_unjudged(
-    answers: &mut Vec<u8>,
-    side: Side,
-    vc: Vc,
-    reason: Unjudged,
-) -> Result<(), AllocError>
+pub fn add_unjudged(answers: &mut Vec<u8>, side: Side, vc: Vc, reason: Unjudged) -> Added
     ensures { OnOk result
         (AddsSome (numbered_answer_text side 0 vc (unjudged_answer reason)) answers.old.items answers.new.items) }
 {
@@ -113,13 +109,7 @@ pub fn add_unjudged(
 ///
 /// `AllocError` if an allocation failed, here or for the cell.
 #[inline(never)]
-pub fn add_answer(
-    answers: &mut Vec<u8>,
-    side: Side,
-    number: u64,
-    vc: Vc,
-    answer: &Answer,
-) -> Result<(), AllocError>
+pub fn add_answer(answers: &mut Vec<u8>, side: Side, number: u64, vc: Vc, answer: &Answer) -> Added
     ensures { OnOk result
         (AddsSome (numbered_answer_text side number vc answer.now) answers.old.items answers.new.items) }
 {

@@ -3,11 +3,11 @@
 ghost use Rattle.std.specs.Prelude.{◌≡◌};
 ghost use Rattle.text_command_line.specs.ExitStatus.{status_of};
 
-use text_io::{Done, RunFault};
+use text_io::{Done, Ending};
 
 /// The exit status for the result of a run: 0 if the whole input was answered, 1 if a fault line ended the run early,
 /// 3 if it failed.
-pub fn status(ended: &Result<Done, RunFault>) -> u8
+pub fn status(ended: &Ending) -> u8
     ensures { result ≡ status_of ended.now }
 {
     match ended {

@@ -2,3 +2,4 @@
 pub mod Waiting
 pub mod Progress
 pub mod Alike
+pub mod FirstFeed

@@ -5,7 +5,7 @@ ghost use Rattle.text_io.specs.Devices.{one_more, IsPart, WritesPrefix};
 ghost use Rattle.text_io.specs.Failures.{write_failures};
 
 use crate::device::{Failed, Output};
-use crate::ending::{Done, RunFault};
+use crate::ending::{Done, Ending, RunFault};
 
 /// Collected answers are written as soon as they have this many octets.
 const ENOUGH: usize = 65536;
@@ -70,11 +70,7 @@ pub fn give_if_enough<O: Output>(output: &mut O, answers: &mut Vec<u8>) -> Resul
 /// # Errors
 ///
 /// `WriteFailed` at the first call that fails; a prefix of the octets may have been written.
-pub fn give_last<O: Output>(
-    output: &mut O,
-    answers: &mut Vec<u8>,
-    done: Done,
-) -> Result<Done, RunFault>
+pub fn give_last<O: Output>(output: &mut O, answers: &mut Vec<u8>, done: Done) -> Ending
     ensures done { IfOk result (λ value. value ≡ done) }
     ensures given { O.is_known → OnOk result
         (O.held output.new ≡ O.held output.old ++ answers.old.items) }

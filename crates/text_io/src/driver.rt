@@ -12,7 +12,7 @@ ghost use Rattle.text_io.specs.declared.ending.Done.{Done as TheDone};
 
 use crate::delivery::{give_if_enough, give_last};
 use crate::device::{Input, Output};
-use crate::ending::{Done, RunFault};
+use crate::ending::{Answered, Done, Ending, RunFault};
 use crate::line_ends::{before_return, first_feed};
 use crate::machine::{Machine, Turn};
 use crate::refilling::refill;
@@ -61,7 +61,7 @@ fn answer_end<M: Machine>(
     met: u32,
     octets: &[u8],
     answers: &mut Vec<u8>,
-) -> Result<Done, AllocError>
+) -> Answered
     requires { (k : ℕ) → k < length octets.now → slice_index octets.now k ≢ 10 }
     ensures { IfOk result (λ done. (here : List ℕ) × (answers.new.items ≡ answers.old.items ++ here)
         × OfEach M.rules (M.shows machine.old)
@@ -82,11 +82,7 @@ fn answer_end<M: Machine>(
 }
 
 /// Ends a run at a line over the limits.
-fn end_too_long<O: Output, M: Machine>(
-    output: &mut O,
-    machine: &M,
-    answers: &mut Vec<u8>,
-) -> Result<Done, RunFault>
+fn end_too_long<O: Output, M: Machine>(output: &mut O, machine: &M, answers: &mut Vec<u8>) -> Ending
     ensures done { IfOk result (λ done. done ≡ Done.Ended) }
     ensures given { O.is_known → OnOk result
         (O.held output.new ≡ O.held output.old ++ (answers.old.items ++ M.rules.too_long)) }
@@ -108,7 +104,7 @@ fn finish<O: Output, M: Machine>(
     met: u32,
     octets: &[u8],
     answers: &mut Vec<u8>,
-) -> Result<Done, RunFault>
+) -> Ending
     requires { (k : ℕ) → k < length octets.now → slice_index octets.now k ≢ 10 }
     ensures given { IfOk result (λ done. (here : List ℕ)
         × (O.is_known → O.held output.new ≡ O.held output.old ++ (answers.old.items ++ here))
@@ -138,7 +134,7 @@ pub fn answer_lines<I: Input, O: Output, M: Machine>(
     input: &mut I,
     output: &mut O,
     machine: &mut M,
-) -> Result<Done, RunFault>
+) -> Ending
     // The output is an answer to the lines of the whole input, or a prefix of one.
     ensures text { I.is_known → O.is_known → IfOk result (λ done.
         OfEach M.rules (M.shows machine.old) (λ start.

@@ -1,5 +1,6 @@
 //! How a run ends.
 
+use std::alloc::AllocError;
 use thiserror::Error;
 
 /// Whether all input was answered.
@@ -24,3 +25,12 @@ pub enum RunFault {
     #[error("out of memory")]
     NoMemory,
 }
+
+/// How a run ended, or why it failed.
+pub type Ending = Result<Done, RunFault>;
+
+/// Whether the input was answered whole, by a function that appends to the answers. The error is that memory is short.
+pub type Answered = Result<Done, AllocError>;
+
+/// Whether a function could append its text to the answers. The error is that memory is short.
+pub type Added = Result<(), AllocError>;

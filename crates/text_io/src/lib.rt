@@ -28,7 +28,7 @@ mod words;
 pub use delivery::{give_all, give_answers, give_if_enough, give_last};
 pub use device::{Failed, Input, Output};
 pub use driver::answer_lines;
-pub use ending::{Done, RunFault};
+pub use ending::{Added, Answered, Done, Ending, RunFault};
 pub use faulty_input::FaultyInput;
 pub use faulty_output::FaultyOutput;
 pub use gathering::gather;

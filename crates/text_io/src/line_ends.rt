@@ -4,6 +4,7 @@ ghost use Rattle.std.specs.Prelude.{◌≡◌, ◌≢◌, ℕ, ◌+◌, ◌<◌,
 ghost use Rattle.std.specs.List.{prefix_len};
 ghost use Rattle.std.specs.Simd.Lanes.{chunk};
 ghost use Rattle.text_io.specs.Lines.{without_return};
+ghost use Rattle.text_io.specs.inner.FirstFeed.{IsFirstFeed};
 
 use memchr::memchr;
 use std::simd::prelude::*;
@@ -46,10 +47,7 @@ fn feedless(octets: &[u8], from: usize) -> usize
 fn far_feed(octets: &[u8], looked: usize) -> Option<usize>
     requires within { looked ≤ length octets.now }
     requires no_feed { (k : ℕ) → k < looked → slice_index octets.now k ≢ 10 }
-    ensures place { IfSome result (λ place. place < length octets.now) }
-    ensures feed { IfSome result (λ place. slice_index octets.now place ≡ 10) }
-    ensures before { IfSome result (λ place. (k : ℕ) → k < place → slice_index octets.now k ≢ 10) }
-    ensures none { IfNone result ((k : ℕ) → k < length octets.now → slice_index octets.now k ≢ 10) }
+    ensures { IsFirstFeed octets.now result }
 {
     let (_, rest) = octets.split_at(looked);
     match memchr(b'\n', rest) {

@@ -4,7 +4,7 @@ ghost use Rattle.std.specs.Prelude.{◌≡◌, ◌++◌, IfOk, OnOk};
 ghost use Rattle.text_io.specs.Printing.{Rules, IsTotal};
 ghost use Rattle.text_io.specs.Answering.{Answers, AnswersEnd};
 
-use crate::ending::Done;
+use crate::ending::{Added, Answered};
 use std::alloc::AllocError;
 
 /// Whether the run continues after a line.
@@ -33,12 +33,12 @@ pub trait Machine {
             Answers rules (shows self.old) line.now turn (shows self.new) answers.old.items answers.new.items) };
 
     /// Answers the end of the input: appends to `answers`.
-    fn close(&self, answers: &mut Vec<u8>) -> Result<Done, AllocError>
+    fn close(&self, answers: &mut Vec<u8>) -> Answered
         ensures { IfOk result (λ done.
             AnswersEnd rules (shows self.now) done answers.old.items answers.new.items) };
 
     /// Answers a line over the limits: appends to `answers`.
-    fn refuse(&self, answers: &mut Vec<u8>) -> Result<(), AllocError>
+    fn refuse(&self, answers: &mut Vec<u8>) -> Added
         ensures { OnOk result (answers.new.items ≡ answers.old.items ++ rules.too_long) };
 
     ghost is_total: { IsTotal rules };

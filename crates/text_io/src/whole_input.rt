@@ -1,6 +1,6 @@
 //! Programs that answer a whole input at once.
 
-ghost use Rattle.std.specs.Prelude.{◌≡◌, ◌++◌, List, ℕ, IfOk, OnOk, option_map};
+ghost use Rattle.std.specs.Prelude.{List, ℕ, IfOk, option_map};
 ghost use Rattle.text_io.specs.Devices.{Adds};
 ghost use Rattle.text_io.specs.Gathered.{AnswersGathered, gathered};
 ghost use Rattle.text_io.specs.Serving.{IsServed};
@@ -8,9 +8,9 @@ ghost use Rattle.text_io.specs.declared.ending.Done.{Done as TheDone};
 
 use crate::delivery::give_last;
 use crate::device::{Input, Output};
-use crate::ending::{Done, RunFault};
+use crate::ending::{Answered, Done, Ending, RunFault};
 use crate::gathering::gather;
-use std::alloc::{AllocError, Global};
+use std::alloc::Global;
 
 /// A program that gets a whole input at once and answers it.
 ///
@@ -21,48 +21,38 @@ pub trait Answerer {
 
     ghost allows: { Self → List ℕ → List ℕ → TheDone → Type 0 };
 
-    ghost too_long: { List ℕ };
-
     /// Appends the answer to an input within the limit to the answers.
-    fn answer(
-        &self,
-        alloc: Global,
-        octets: &[u8],
-        answers: &mut Vec<u8>,
-    ) -> Result<Done, AllocError>
+    fn answer(&self, alloc: Global, octets: &[u8], answers: &mut Vec<u8>) -> Answered
         ensures { IfOk result (λ done.
             Adds (λ text. prints self.now octets.now text done) answers.old.items answers.new.items) };
-
-    /// Appends the answer to an input over the limit to the answers.
-    fn refuse(&self, answers: &mut Vec<u8>) -> Result<(), AllocError>
-        ensures { OnOk result (answers.new.items ≡ answers.old.items ++ too_long) };
 
     ghost is_wider: { (me : Self) (octets text : List ℕ) (done : TheDone) → prints me octets text done → allows me octets text done };
 
     ghost is_total: { (me : Self) (octets : List ℕ) → (text : List ℕ) × (done : TheDone) × allows me octets text done };
 }
 
-/// Answers what was gathered, or an input over the limit.
+/// Answers what was gathered, or an input over the limit by this text.
 fn answer_found<A: Answerer>(
     alloc: Global,
     answerer: &A,
     found: Option<Vec<u8>>,
+    too_long: &[u8],
     answers: &mut Vec<u8>,
-) -> Result<Done, AllocError>
+) -> Answered
     ensures { IfOk result (λ done.
-        Adds (λ text. AnswersGathered A.too_long (A.prints answerer.now) (option_map (λ octets. octets.items) found) text done)
+        Adds (λ text. AnswersGathered too_long.now (A.prints answerer.now) (option_map (λ octets. octets.items) found) text done)
         answers.old.items answers.new.items) }
 {
     match found {
         Some(octets) => answerer.answer(alloc, &octets, answers),
         None => {
-            answerer.refuse(answers)?;
+            answers.extend_from_slice(too_long)?;
             Ok(Done::Ended)
         }
     }
 }
 
-/// Answers a whole input of at most `most` octets by one text. Of a longer one `most` + 1 octets are read.
+/// Answers a whole input of at most `most` octets by one text. Of a longer one `most` + 1 octets are read, and the answer is `too_long`.
 ///
 /// # Errors
 ///
@@ -72,12 +62,13 @@ pub fn answer_whole<I: Input, O: Output, A: Answerer>(
     input: &mut I,
     output: &mut O,
     most: u32,
+    too_long: &[u8],
     answerer: &A,
-) -> Result<Done, RunFault>
-    ensures served { IsServed (λ octets. AnswersGathered A.too_long (A.allows answerer.now) (gathered most octets))
+) -> Ending
+    ensures served { IsServed (λ octets. AnswersGathered too_long.now (A.allows answerer.now) (gathered most octets))
         I.Input input.old input.new O.Output output.old output.new result }
     ensures printed { I.is_known → O.is_known → IfOk result (λ done.
-        Adds (λ text. AnswersGathered A.too_long (A.prints answerer.now) (gathered most (I.rest input.old)) text done)
+        Adds (λ text. AnswersGathered too_long.now (A.prints answerer.now) (gathered most (I.rest input.old)) text done)
         (O.held output.old) (O.held output.new)) }
 {
     let found = match gather(alloc, input, most) {
@@ -85,7 +76,7 @@ pub fn answer_whole<I: Input, O: Output, A: Answerer>(
         Err(fault) => return Err(fault),
     };
     let mut answers = Vec::new(alloc);
-    match answer_found(alloc, answerer, found, &mut answers) {
+    match answer_found(alloc, answerer, found, too_long, &mut answers) {
         Err(_) => Err(RunFault::NoMemory),
         Ok(done) => give_last(output, &mut answers, done),
     }

@@ -7,13 +7,13 @@ ghost use Rattle.text_script.specs.ReplyTexts.{channel_name, connection_name, he
 
 use leaky::Verdict;
 use line_record::{Piece, Tally};
-use std::alloc::AllocError;
+use text_io::Added;
 use text_words::{TextFromEnd, add_number, add_text};
 use upc_cell::{Cell, Side, Vc};
 
 /// Adds the name of the program of this number.
 #[tactic(auto, using(std::proofs::lemmas::List::append_assoc))]
-fn add_program_name(answers: &mut Vec<u8>, number: u64) -> Result<(), AllocError>
+fn add_program_name(answers: &mut Vec<u8>, number: u64) -> Added
     ensures { OnOk result (answers.new.items ≡ answers.old.items ++ program_name number) }
 {
     answers.push(b'p')?;
@@ -21,7 +21,7 @@ fn add_program_name(answers: &mut Vec<u8>, number: u64) -> Result<(), AllocError
 }
 
 /// Adds the answer to the line that opened a card.
-pub fn add_ready(answers: &mut Vec<u8>) -> Result<(), AllocError>
+pub fn add_ready(answers: &mut Vec<u8>) -> Added
     ensures { OnOk result (answers.new.items ≡ answers.old.items ++ codes "ready\n") }
 {
     add_text(answers, b"ready\n")
@@ -79,33 +79,36 @@ fn put_count(text: &mut TextFromEnd<REPLY_ROOM>, count: u64)
     text.put(b" ");
 }
 
-/// Adds the answer to a program that was loaded, whose name has this number, from 1.
+/// Adds the answer about a program: a word, and the name with this number.
 #[tactic(auto, using(std::proofs::lemmas::List::append_assoc))]
-pub fn add_loaded(answers: &mut Vec<u8>, number: u64) -> Result<(), AllocError>
-    ensures { OnOk result
-        (answers.new.items ≡ answers.old.items ++ line (codes "loaded " ++ program_name number)) }
+fn add_about_program(answers: &mut Vec<u8>, word: &[u8], number: u64) -> Added
+    ensures { OnOk result (answers.new.items ≡ answers.old.items ++ line (word.now ++ program_name number)) }
 {
-    answers.extend_from_slice(b"loaded ")?;
+    answers.extend_from_slice(word)?;
     add_program_name(answers, number)?;
     answers.push(b'\n')?;
     Ok(())
 }
 
+/// Adds the answer to a program that was loaded, whose name has this number, from 1.
+pub fn add_loaded(answers: &mut Vec<u8>, number: u64) -> Added
+    ensures { OnOk result
+        (answers.new.items ≡ answers.old.items ++ line (codes "loaded " ++ program_name number)) }
+{
+    add_about_program(answers, b"loaded ", number)
+}
+
 /// Adds the answer to a program that was retired, whose name has this number.
-#[tactic(auto, using(std::proofs::lemmas::List::append_assoc))]
-pub fn add_retired(answers: &mut Vec<u8>, number: u64) -> Result<(), AllocError>
+pub fn add_retired(answers: &mut Vec<u8>, number: u64) -> Added
     ensures { OnOk result
         (answers.new.items ≡ answers.old.items ++ line (codes "retired " ++ program_name number)) }
 {
-    answers.extend_from_slice(b"retired ")?;
-    add_program_name(answers, number)?;
-    answers.push(b'\n')?;
-    Ok(())
+    add_about_program(answers, b"retired ", number)
 }
 
 /// Adds the answer to a connection that was set up.
 #[tactic(auto, using(std::proofs::lemmas::List::append_assoc))]
-pub fn add_set(answers: &mut Vec<u8>, side: Side, vc: Vc) -> Result<(), AllocError>
+pub fn add_set(answers: &mut Vec<u8>, side: Side, vc: Vc) -> Added
     ensures { OnOk result
         (answers.new.items ≡ answers.old.items ++ line (codes "set " ++ connection_name side vc)) }
 {
@@ -118,12 +121,7 @@ pub fn add_set(answers: &mut Vec<u8>, side: Side, vc: Vc) -> Result<(), AllocErr
 
 /// Adds the answer to a connection that was given the program whose name has this number.
 #[tactic(auto, using(std::proofs::lemmas::List::append_assoc))]
-pub fn add_reloaded(
-    answers: &mut Vec<u8>,
-    side: Side,
-    vc: Vc,
-    number: u64,
-) -> Result<(), AllocError>
+pub fn add_reloaded(answers: &mut Vec<u8>, side: Side, vc: Vc, number: u64) -> Added
     ensures { OnOk result (answers.new.items ≡ answers.old.items
         ++ line (codes "reloaded " ++ connection_name side vc ++ codes " " ++ program_name number)) }
 {
@@ -138,7 +136,7 @@ pub fn add_reloaded(
 
 /// Adds a space and a number.
 #[tactic(auto, using(std::proofs::lemmas::List::append_assoc))]
-fn add_count(answers: &mut Vec<u8>, count: u64) -> Result<(), AllocError>
+fn add_count(answers: &mut Vec<u8>, count: u64) -> Added
     ensures { OnOk result (answers.new.items ≡ answers.old.items ++ (codes " " ++ decimal count)) }
 {
     answers.push(b' ')?;
@@ -147,7 +145,7 @@ fn add_count(answers: &mut Vec<u8>, count: u64) -> Result<(), AllocError>
 
 /// Adds the counts of each verdict, each after a space.
 #[tactic(auto, using(std::proofs::lemmas::List::append_assoc))]
-pub fn add_tally(answers: &mut Vec<u8>, tally: Tally) -> Result<(), AllocError>
+pub fn add_tally(answers: &mut Vec<u8>, tally: Tally) -> Added
     ensures { OnOk result (answers.new.items ≡ answers.old.items ++ tally_text tally) }
 {
     add_count(answers, tally.passed)?;
@@ -187,37 +185,35 @@ fn put_piece(text: &mut TextFromEnd<REPLY_ROOM>, piece: &Piece)
     put_count(text, piece.entries().len() as u64);
 }
 
-/// Adds the answer to a connection that was released, whose last journal is this piece.
+/// Adds the answer about a connection's journal, which was returned as this piece: a word, the connection and the piece.
 #[tactic(auto, using(std::proofs::lemmas::List::append_assoc))]
-pub fn add_released(
-    answers: &mut Vec<u8>,
-    side: Side,
-    vc: Vc,
-    piece: &Piece,
-) -> Result<(), AllocError>
+fn add_piece(answers: &mut Vec<u8>, word: &[u8], side: Side, vc: Vc, piece: &Piece) -> Added
+    requires { length word.now ≤ 9 }
     ensures { OnOk result (answers.new.items ≡ answers.old.items
-        ++ line (codes "released " ++ connection_name side vc ++ piece_text piece.now)) }
+        ++ line (word.now ++ connection_name side vc ++ piece_text piece.now)) }
 {
     let mut text = TextFromEnd::<REPLY_ROOM>::new();
     text.put(b"\n");
     put_piece(&mut text, piece);
     put_connection(&mut text, side, vc);
-    text.put(b"released ");
+    text.put(word);
     answers.extend_from_slice(text.as_slice())
 }
 
+/// Adds the answer to a connection that was released, whose last journal is this piece.
+pub fn add_released(answers: &mut Vec<u8>, side: Side, vc: Vc, piece: &Piece) -> Added
+    ensures { OnOk result (answers.new.items ≡ answers.old.items
+        ++ line (codes "released " ++ connection_name side vc ++ piece_text piece.now)) }
+{
+    add_piece(answers, b"released ", side, vc, piece)
+}
+
 /// Adds the answer to a connection whose journal was returned as this piece.
-#[tactic(auto, using(std::proofs::lemmas::List::append_assoc))]
-pub fn add_cut(answers: &mut Vec<u8>, side: Side, vc: Vc, piece: &Piece) -> Result<(), AllocError>
+pub fn add_cut(answers: &mut Vec<u8>, side: Side, vc: Vc, piece: &Piece) -> Added
     ensures { OnOk result (answers.new.items ≡ answers.old.items
         ++ line (codes "cut " ++ connection_name side vc ++ piece_text piece.now)) }
 {
-    let mut text = TextFromEnd::<REPLY_ROOM>::new();
-    text.put(b"\n");
-    put_piece(&mut text, piece);
-    put_connection(&mut text, side, vc);
-    text.put(b"cut ");
-    answers.extend_from_slice(text.as_slice())
+    add_piece(answers, b"cut ", side, vc, piece)
 }
 
 /// The space for the answer to a cell: a verdict of at most eight octets, three numbers of at most ten digits and one
@@ -265,7 +261,7 @@ fn add_leaving(
     number: u64,
     value: u32,
     cell: &Cell,
-) -> Result<(), AllocError>
+) -> Added
     requires { length verdict.now ≤ 8 }
     ensures { OnOk result (answers.new.items ≡ answers.old.items
         ++ line (verdict.now ++ judging_text side vc number value ++ header_text cell.now)) }
@@ -288,7 +284,7 @@ fn add_without_header(
     vc: Vc,
     number: u64,
     value: u32,
-) -> Result<(), AllocError>
+) -> Added
     requires { length verdict.now ≤ 8 }
     ensures { OnOk result (answers.new.items ≡ answers.old.items
         ++ line (verdict.now ++ judging_text side vc number value)) }
@@ -310,7 +306,7 @@ pub fn add_verdict(
     number: u64,
     value: u32,
     leaving: &Cell,
-) -> Result<(), AllocError>
+) -> Added
     ensures { OnOk result (answers.new.items ≡ answers.old.items
         ++ verdict_text verdict (judging_text side vc number value) leaving.now) }
 {

@@ -8,7 +8,8 @@ mod hexadecimal;
 mod text_from_end;
 
 pub use answer_texts::{
-    add_bad_hex, add_bad_line, add_number, add_numbered, add_text, add_too_long, add_wrong_length,
+    TOO_LONG, add_bad_hex, add_bad_line, add_number, add_numbered, add_text, add_too_long,
+    add_two_numbers, add_wrong_length,
 };
 pub use digits::{CELL_DIGITS, HEADER_DIGITS, cell_of_digits};
 pub use hexadecimal::{CellWord, cell_of_word, octets_of_word};

@@ -8,56 +8,45 @@ ghost use Rattle.text_command_line.specs.ExitStatus.{status_of};
 ghost use Rattle.text_command_line.specs.Invocation.{CarriesOut, IsStatusFor};
 ghost use Rattle.text_command_line.specs.Messages.{Reports};
 
-use crate::subcommand::run_alone;
+use crate::subcommand::run_on_one_thread;
 use cmd_ports::run_ports;
 use std::alloc::Global;
 use std::sync::Wait;
 use std::thread::Threads;
 use text_command_line::{Choice, Stop, status, write_message};
-use text_io::{Done, Input, Output, RunFault, give_all};
-
-/// The message for a failure.
-fn line_of(fault: RunFault) -> &'static [u8]
-    ensures { result.now ≡ failure_line fault }
-{
-    match fault {
-        RunFault::ReadFailed => b"upc: reading failed\n",
-        RunFault::WriteFailed => b"upc: writing failed\n",
-        RunFault::NoMemory => b"upc: out of memory\n",
-    }
-}
+use text_io::{Ending, Input, Output, RunFault, give_all};
 
 /// Writes the message for a failed run, and returns the exit status of any run.
-fn report<E: Output>(errors: &mut E, ended: Result<Done, RunFault>) -> u8
+fn report<E: Output>(errors: &mut E, ended: Ending) -> u8
     ensures status { result ≡ status_of ended }
     ensures reported { E.is_known → Reports failure_line E.Output errors.old errors.new ended }
 {
     match ended {
-        Ok(_) => status(&ended),
-        Err(fault) => {
-            write_message(errors, line_of(fault));
-            status(&ended)
-        }
+        Ok(_) => {}
+        Err(RunFault::ReadFailed) => write_message(errors, b"upc: reading failed\n"),
+        Err(RunFault::WriteFailed) => write_message(errors, b"upc: writing failed\n"),
+        Err(RunFault::NoMemory) => write_message(errors, b"upc: out of memory\n"),
     }
+    status(&ended)
 }
 
 /// Does what the words ask for, except `ports`, and returns the exit status. It runs the subcommand, writes the help,
 /// or writes a message about the words; a failure also gets a message. It uses one thread and always terminates.
-pub fn carry_out_alone<I: Input, O: Output, E: Output>(
+pub fn carry_out_on_one_thread<I: Input, O: Output, E: Output>(
     alloc: Global,
     chosen: Result<Choice, Stop>,
     input: &mut I,
     output: &mut O,
     errors: &mut E,
 ) -> u8
-    requires alone { chosen ≢ TheOk Ports }
+    requires no_ports { chosen ≢ TheOk Ports }
     ensures carried { I.is_known → O.is_known → E.is_known → CarriesOut failure_line IsTextOf chosen I.Input input.old input.new
         O.Output output.old output.new E.Output errors.old errors.new result }
     ensures status { IsStatusFor chosen result }
 {
     match chosen {
         Ok(choice) => {
-            let ended = run_alone(alloc, choice, input, output);
+            let ended = run_on_one_thread(alloc, choice, input, output);
             report(errors, ended)
         }
         Err(Stop::Help(text)) => match give_all(output, text.as_bytes()) {
@@ -73,7 +62,7 @@ pub fn carry_out_alone<I: Input, O: Output, E: Output>(
 }
 
 /// Does what the words ask for, and returns the exit status. Only `ports` starts threads and waits for them. For all
-/// else it calls [`carry_out_alone`].
+/// else it calls [`carry_out_on_one_thread`].
 pub fn carry_out<R: Threads + Wait + Sync, I: Input, O: Output, E: Output>(
     rt: &R,
     alloc: Global,
@@ -91,6 +80,6 @@ pub fn carry_out<R: Threads + Wait + Sync, I: Input, O: Output, E: Output>(
             let ended = run_ports(rt, alloc, input, output);
             report(errors, ended)
         }
-        others => carry_out_alone(alloc, others, input, output, errors),
+        others => carry_out_on_one_thread(alloc, others, input, output, errors),
     }
 }

@@ -10,7 +10,7 @@ pub fn an_input_has_a_text()
     ensures { (choice : TheChoice) (octets : List ℕ) → (text : List ℕ) × (done : TheDone) × IsTextOf choice octets text done }
 {}
 
-/// Each subcommand but `ports` has at most one text for an input, with one end. So `run_alone` fixes the octets that
+/// Each subcommand but `ports` has at most one text for an input, with one end. So `run_on_one_thread` fixes the octets that
 /// are written.
 pub fn an_input_has_one_text()
     ensures { (choice : TheChoice) (octets : List ℕ) (one other : List ℕ) (ends other_ends : TheDone)

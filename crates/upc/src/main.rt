@@ -8,7 +8,7 @@ mod subcommand;
 pub use cmd_ports::{run_ports, run_ports_with};
 pub use cmd_programs::{check_source, eval_bytes};
 pub use cmd_run::run_script;
-use invocation::{carry_out, carry_out_alone};
+use invocation::{carry_out, carry_out_on_one_thread};
 use std::io::IsTerminal;
 use std::process::ExitCode;
 pub use text_command_line::{Choice, Stop, choose, status};

@@ -9,19 +9,19 @@ use cmd_programs::{check_source, eval_bytes};
 use cmd_run::run_script;
 use std::alloc::Global;
 use text_command_line::Choice;
-use text_io::{Done, Input, Output, RunFault};
+use text_io::{Ending, Input, Output};
 
 /// Runs a subcommand other than `ports` over the whole input. It uses one thread and always terminates.
 ///
 /// # Errors
 ///
-/// See [`RunFault`].
-pub fn run_alone<I: Input, O: Output>(
+/// See [`text_io::RunFault`].
+pub fn run_on_one_thread<I: Input, O: Output>(
     alloc: Global,
     choice: Choice,
     input: &mut I,
     output: &mut O,
-) -> Result<Done, RunFault>
+) -> Ending
     requires { choice ≢ Ports }
     ensures { IsServed (IsTextOf choice) I.Input input.old input.new O.Output output.old output.new result }
 {

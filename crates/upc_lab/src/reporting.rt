@@ -10,7 +10,7 @@ ghost use Rattle.upc_lab.specs.LabMessages.{message_over, shell_status_of};
 use crate::reason::Reasoned;
 use cmd_differ::{Finding, ended_by};
 use text_command_line::{status, write_message};
-use text_io::{Done, Output, RunFault};
+use text_io::{Ending, Output, RunFault};
 
 /// The message for a failure of a run over these devices.
 fn line_of<'a, I: Reasoned, O: Reasoned>(fault: RunFault, input: &'a I, output: &'a O) -> &'a [u8]
@@ -31,7 +31,7 @@ fn line_of<'a, I: Reasoned, O: Reasoned>(fault: RunFault, input: &'a I, output: 
 
 /// Writes the message for a failed run, and returns the exit status of any run.
 pub(crate) fn report<I: Reasoned, O: Reasoned, E: Output>(
-    ended: Result<Done, RunFault>,
+    ended: Ending,
     input: &I,
     output: &O,
     errors: &mut E,
@@ -85,7 +85,7 @@ pub(crate) fn report_finding<I: Reasoned, O: Reasoned, E: Output>(
 
 /// Writes what is reported of a run, or the message for a failed one, and returns the exit status.
 pub(crate) fn report_run<I: Reasoned, O: Reasoned, E: Output>(
-    ended: Result<Done, RunFault>,
+    ended: Ending,
     said: &[u8],
     input: &I,
     output: &O,

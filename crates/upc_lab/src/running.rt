@@ -18,7 +18,7 @@ use cmd_options::{CellsOptions, FitOptions, PoliceOptions, Programs};
 use cmd_police::{PoliceChoice, PoliceScope, police_as_agreed};
 use std::alloc::Global;
 use std::thread::Threads;
-use text_io::{Done, Output, RunFault};
+use text_io::{Ending, Output};
 
 /// How many threads may work at once where no option says so.
 const THREADS: usize = 2;
@@ -73,7 +73,7 @@ pub(crate) fn run_cells<R: Threads, I: Ahead + Send, O: Output>(
     options: &CellsOptions,
     input: &mut I,
     output: &mut O,
-) -> Result<Done, RunFault>
+) -> Ending
     ensures { IsServed (IsCellsText options.now.tick.nanoseconds options.now.link options.now.timing options.now.numbered)
         I.Input input.old input.new O.Output output.old output.new result }
 {
@@ -98,7 +98,7 @@ pub(crate) fn run_fit<R: Threads, I: Ahead + Send, O: Output>(
     files: &NamedFiles,
     input: &mut I,
     output: &mut O,
-) -> Result<Done, RunFault>
+) -> Ending
     ensures { IsServed (IsFitAsked options.now.choice (rules_asked options.now files.now.other_text.items))
         I.Input input.old input.new O.Output output.old output.new result }
 {
@@ -121,7 +121,7 @@ pub(crate) fn run_police<R: Threads, I: Ahead + Send, O: Output>(
     files: &NamedFiles,
     input: &mut I,
     output: &mut O,
-) -> Result<Done, RunFault>
+) -> Ending
     ensures served { IsServed (MayPoliceAsked files.now options.now) I.Input input.old input.new O.Output output.old output.new result }
     ensures policed { I.is_known → O.is_known → IfOk result (λ done.
         Adds (λ text. PolicesAsked files.now options.now (I.rest input.old) text done) (O.held output.old) (O.held output.new)) }

@@ -13,15 +13,15 @@ use Rattle.cmd_ports.specs.declared.answered.Ruling.{Ruling}
 use Rattle.cmd_ports.specs.declared.answered.AnsweredCell.{AnsweredCell}
 
 -- The ruling on a judged cell, or the reason why the cell isn't judged.
-abbrev pub ruled : Answer → Result Ruling Unjudged
-ruled (Judged line number moment value program verdict leaving) = Ok (record { program = program; value = value; verdict = verdict })
-ruled NoConnection = Err unjudged.NoConnection
-ruled Released = Err unjudged.Released
-ruled Stale = Err unjudged.Stale
-ruled MomentTooLate = Err (unjudged.LineFault TooLate)
-ruled (MomentBack last) = Err (unjudged.LineFault (Back last))
-ruled JournalFull = Err (unjudged.LineFault Full)
-ruled NoMemory = Err (unjudged.LineFault LineNoMemory)
+abbrev pub decision_kept : Answer → Result Ruling Unjudged
+decision_kept (Judged line number moment value program verdict leaving) = Ok (record { program = program; value = value; verdict = verdict })
+decision_kept NoConnection = Err unjudged.NoConnection
+decision_kept Released = Err unjudged.Released
+decision_kept Stale = Err unjudged.Stale
+decision_kept MomentTooLate = Err (unjudged.LineFault TooLate)
+decision_kept (MomentBack last) = Err (unjudged.LineFault (Back last))
+decision_kept JournalFull = Err (unjudged.LineFault Full)
+decision_kept NoMemory = Err (unjudged.LineFault LineNoMemory)
 
 -- Octets 0 to 3 of a cell.
 abbrev pub header_of : List ℕ → List ℕ
@@ -29,7 +29,7 @@ header_of cell = slice_index cell 0 ∷ slice_index cell 1 ∷ slice_index cell 
 
 -- The stored part of a cell and its answer.
 abbrev pub answered_cell : List ℕ → Answer → AnsweredCell
-answered_cell cell answer = record { header = header_of cell; decision = ruled answer }
+answered_cell cell answer = record { header = header_of cell; decision = decision_kept answer }
 
 -- A cell with this header and a payload of zeros. No answer shows a payload.
 abbrev pub shown_cell : List ℕ → List ℕ

@@ -6,12 +6,16 @@ use Rattle.std.specs.Option.{MatchOption}
 use Rattle.bpf_code.specs.declared.instr.Instr.{Instr}
 use Rattle.bpf_interp.proofs.Public.{Value-some}
 use Rattle.bpf_verify.specs.Accepted.{IsAccepted}
-use Rattle.cmd_programs.specs.AfterProgram.{AnswersAlways}
+use Rattle.cmd_programs.specs.AfterProgram.{AnswersAlways, LaterLine}
 use Rattle.cmd_programs.specs.CellLines.{CellLine, EachCellHasText, OctetsLine, cell_texts}
 use Rattle.cmd_programs.specs.Eval.{PrintsValue}
 use Rattle.text_io.specs.declared.machine.Turn.TheVariants.{GoesOn}
 use Rattle.text_words.specs.FaultLines.{line, bad_line, bad_hex, wrong_length}
 use Rattle.text_words.specs.Hexadecimal.{octets_of_digits, cell_of_octets}
+
+-- The text answers a line with this content after the program line, and the run goes on.
+abbrev pub AnswersCellLine : (List Instr → List ℕ → List ℕ → Type 0) → List Instr → List ℕ → List ℕ → Type 0
+AnswersCellLine Prints code content text = LaterLine (cell_texts Prints) code content text GoesOn
 
 module _ (Prints : List ℕ → List ℕ → Type 0) (each : EachCellHasText Prints) where
   octets-line : (octets : List ℕ) (whole : Bool) → (text : List ℕ) × MatchBool whole (Prints octets text) (text ≡ wrong_length (length octets))

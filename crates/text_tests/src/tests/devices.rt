@@ -5,7 +5,7 @@ use std::alloc::Global;
 use std::process::Abort;
 use std::test::Fail;
 use text_command_line::{InMemory, status, words_after_name};
-use text_io::{Done, FaultyInput, FaultyOutput, RunFault};
+use text_io::{Done, Ending, FaultyInput, FaultyOutput, RunFault};
 
 #[test]
 fn each_word_after_the_name_is_shown_in_order(rt: HostRuntime) -> Result<(), Fail> {
@@ -60,7 +60,7 @@ fn expect_over_devices<R: Abort>(
     rt: &R,
     alloc: Global,
     (takes, gives): (usize, usize),
-    (wanted, written): (Result<Done, RunFault>, &[u8]),
+    (wanted, written): (Ending, &[u8]),
 ) {
     let mut input = FaultyInput::new(b"otherwise -> 7\n", takes);
     let mut output = FaultyOutput::new(alloc, gives);

@@ -7,18 +7,13 @@ use std::alloc::Global;
 use std::process::Abort;
 use std::test::Fail;
 use text_io::{
-    Done, FaultyInput, FaultyOutput, Input, LineWords, ReaderInput, RunFault, WriterOutput,
+    Done, Ending, FaultyInput, FaultyOutput, Input, LineWords, ReaderInput, RunFault, WriterOutput,
     answer_lines, first_word, gather, give_all, line_words,
 };
 
 /// Runs the machine over devices that fail after a number of successful calls. Returns how it ends, the output, and
 /// the number of octets left.
-fn run(
-    alloc: Global,
-    octets: &[u8],
-    takes: usize,
-    gives: usize,
-) -> (Result<Done, RunFault>, Vec<u8>, usize) {
+fn run(alloc: Global, octets: &[u8], takes: usize, gives: usize) -> (Ending, Vec<u8>, usize) {
     let mut input = FaultyInput::new(octets, takes);
     let mut output = FaultyOutput::new(alloc, gives);
     let mut machine = Parity { even: true };

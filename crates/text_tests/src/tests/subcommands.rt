@@ -11,7 +11,7 @@ use std::sync::Wait;
 use std::test::Fail;
 use std::thread::Threads;
 use text_io::{
-    Done, FaultyInput, FaultyOutput, Input, Output, ReaderInput, RunFault, WriterOutput,
+    Done, Ending, FaultyInput, FaultyOutput, Input, Output, ReaderInput, RunFault, WriterOutput,
 };
 
 /// A subcommand.
@@ -87,7 +87,7 @@ fn run_it<R: Threads + Wait + Sync, I: Input, O: Output>(
     subcommand: Subcommand,
     input: &mut I,
     output: &mut O,
-) -> Result<Done, RunFault> {
+) -> Ending {
     match subcommand {
         Subcommand::Check => check_source(alloc, input, output),
         Subcommand::Eval => eval_bytes(alloc, input, output),
@@ -125,7 +125,7 @@ fn run_over<R: Threads + Wait + Sync>(
     subcommand: Subcommand,
     octets: &[u8],
     (takes, gives): (usize, usize),
-) -> (Result<Done, RunFault>, Vec<u8>) {
+) -> (Ending, Vec<u8>) {
     let mut input = FaultyInput::new(octets, takes);
     let mut output = FaultyOutput::new(alloc, gives);
     let ended = run_it(rt, alloc, subcommand, &mut input, &mut output);
@@ -138,7 +138,7 @@ fn expect<R: Threads + Wait + Sync + Abort>(
     alloc: Global,
     talk: Talk,
     (takes, gives): (usize, usize),
-    ended: Result<Done, RunFault>,
+    ended: Ending,
     text: &[u8],
 ) {
     let (found, written) = run_over(rt, alloc, talk.subcommand, talk.input, (takes, gives));
@@ -278,7 +278,7 @@ fn expect_end<R: Threads + Wait + Sync + Abort>(
     alloc: Global,
     subcommand: Subcommand,
     (octets, takes): (&[u8], usize),
-    wanted: Result<Done, RunFault>,
+    wanted: Ending,
 ) {
     let (ended, _) = run_over(rt, alloc, subcommand, octets, (takes, 100));
     assert_eq!(rt; ended, wanted, "{takes}");

@@ -3,14 +3,18 @@ use Rattle.std.proofs.Common.{ap, ◌∙◌}
 use Rattle.card_core.specs.declared.shape.Shape.{Shape}
 use Rattle.port_card.specs.Closing.{lines_total}
 use Rattle.cmd_ports.proofs.CardTexts.{card-answered, uneven-within}
+use Rattle.cmd_ports.proofs.FirstLemmas.{script-answered}
 use Rattle.cmd_ports.proofs.ports.answer_script.Goals as goal
 
-pub returns-in-Ok-clause-answers : goal.returns-in-Ok-clause-answers
-returns-in-Ok-clause-answers g c =
-    card-answered c.args.script.now.shape _ c.args.script.now.lines.items _ c.args.answers.now.items _ _ (lines_total c.in-Ok.closing.lines.items) _
-    c.in_ok-card.ensures.shape c.deref.ensures.value c.in_ok-add_ready.ensures c.in_ok-seats.ensures c.in-Ok.ensures.sums
-
-pub returns-in-Ok-clause-within : goal.returns-in-Ok-clause-within
-returns-in-Ok-clause-within g c =
-    uneven-within c.in-Ok.closing.lines.items _ c.in-Ok.closing.uneven c.args.script.now.shape.lines
-    (c.in-Ok.ensures.lines ∙ ap (λ (shape : Shape). shape.lines) c.in_ok-card.ensures.shape) c.in-Ok.ensures.uneven
+pub returns-in-Ok : goal.returns-in-Ok
+returns-in-Ok g c =
+    let shape = c.args.script.now.shape in
+    let lines = c.in-Ok.closing.lines.items in
+    let all = c.in-Ok.ensures.lines ∙ ap (λ (shape : Shape). shape.lines) c.in_ok-card.ensures.shape in
+    record {
+      answers = card-answered shape _ c.args.script.now.lines.items _ c.args.answers.now.items _ _ (lines_total lines) _
+          c.in_ok-card.ensures.shape c.deref.ensures.value c.in_ok-add_ready.ensures
+          (script-answered _ _ _ _ _ _ _ _ _ c.in_ok-card.ensures.unnamed c.in_ok-later.ensures c.in_ok-seats.ensures) c.in-Ok.ensures.sums;
+      all = all;
+      within = uneven-within lines _ c.in-Ok.closing.uneven shape.lines all c.in-Ok.ensures.uneven;
+    }

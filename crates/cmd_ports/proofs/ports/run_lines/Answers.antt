@@ -26,7 +26,7 @@ returns-clause-text g c =
     let octets = c.args.script.now.lines.items in
     let counts = lines_total c.in-Ok.closing.lines.items in
     let more = ok-of c.add_closing.result (sym c.is_err.ensures.value ∙ c.if-is_err.false) c.add_closing.ensures in
-    last-given g.O.Output.is_known shape octets _ _ c.new-answers.result.items c.answer_alone.new.answers.items c.add_closing.new.answers.items counts c.in-Ok.closing.uneven
+    last-given g.O.Output.is_known shape octets _ _ c.new-answers.result.items c.answer_with_own_ledgers.new.answers.items c.add_closing.new.answers.items counts c.in-Ok.closing.uneven
     c.done_after.result c.give_last.result c.in-Ok.ensures.answers c.new-answers.ensures.items c.in-Ok.ensures.within more c.give_last.ensures.given c.give_last.ensures.done c.done_after.ensures
 
 pub returns-clause-front : goal.returns-clause-front
@@ -35,5 +35,5 @@ returns-clause-front g c = λ known.
     let octets = c.args.script.now.lines.items in
     let counts = lines_total c.in-Ok.closing.lines.items in
     let more = ok-of c.add_closing.result (sym c.is_err.ensures.value ∙ c.if-is_err.false) c.add_closing.ensures in
-    last-front shape octets _ _ c.new-answers.result.items c.answer_alone.new.answers.items c.add_closing.new.answers.items counts c.in-Ok.closing.uneven
+    last-front shape octets _ _ c.new-answers.result.items c.answer_with_own_ledgers.new.answers.items c.add_closing.new.answers.items counts c.in-Ok.closing.uneven
     c.give_last.result c.in-Ok.ensures.answers c.new-answers.ensures.items c.in-Ok.ensures.within more (c.give_last.ensures.front known)

@@ -18,8 +18,8 @@ returns-in-Err-clause-served g c =
     let found = gathered c.args.most (g.I.Input.rest c.args.input.now) in
     record {
       text = search rules;
-      front = λ _ _. nothing-begins (AnswersGathered a.too_long (a.allows me) found) (g.O.Output.held c.args.output.now)
-          (some-gathered a.too_long (a.allows me) (g.met.A.Answerer.is_total me) found);
+      front = λ _ _. nothing-begins (AnswersGathered c.args.too_long.now (a.allows me) found) (g.O.Output.held c.args.output.now)
+          (some-gathered c.args.too_long.now (a.allows me) (g.met.A.Answerer.is_total me) found);
       left = search rules;
       whole = search rules;
       reading = search rules;
@@ -33,8 +33,8 @@ returns-in-Err-answer_found-clause-served g c =
     let found = gathered c.args.most (g.I.Input.rest c.args.input.now) in
     record {
       text = search rules;
-      front = λ _ _. nothing-begins (AnswersGathered a.too_long (a.allows me) found) (g.O.Output.held c.args.output.now)
-          (some-gathered a.too_long (a.allows me) (g.met.A.Answerer.is_total me) found);
+      front = λ _ _. nothing-begins (AnswersGathered c.args.too_long.now (a.allows me) found) (g.O.Output.held c.args.output.now)
+          (some-gathered c.args.too_long.now (a.allows me) (g.met.A.Answerer.is_total me) found);
       left = search rules;
       whole = search rules;
       reading = search rules;
@@ -45,13 +45,13 @@ pub returns-clause-served : goal.returns-clause-served
 returns-clause-served g c =
     let a = g.A.Answerer in
     let me = c.args.answerer.now in
-    let wider = wider-gathered a.too_long (a.prints me) (a.allows me) (g.met.A.Answerer.is_wider me) in
+    let wider = wider-gathered c.args.too_long.now (a.prints me) (a.allows me) (g.met.A.Answerer.is_wider me) in
     let octets = g.I.Input.rest c.args.input.now in
     let left = g.I.Input.rest c.gather.new.input in
     let before = g.O.Output.held c.args.output.now in
     let after = g.O.Output.held c.give_last.new.output in
-    let One : List ℕ → Done → Type 0 = AnswersGathered a.too_long (a.prints me) (gathered c.args.most octets) in
-    let Other : List ℕ → Done → Type 0 = AnswersGathered a.too_long (a.allows me) (gathered c.args.most octets) in
+    let One : List ℕ → Done → Type 0 = AnswersGathered c.args.too_long.now (a.prints me) (gathered c.args.most octets) in
+    let Other : List ℕ → Done → Type 0 = AnswersGathered c.args.too_long.now (a.allows me) (gathered c.args.most octets) in
     let answered = c.in-Ok-answer_found.ensures in
     let text : g.I.Input.is_known → g.O.Output.is_known → IfOk c.give_last.result (λ done. Adds (λ text. One text done) before after) = search rules in
     let front : g.I.Input.is_known → g.O.Output.is_known → OnErr c.give_last.result (Adds (IsFront One) before after) = search rules in
@@ -62,10 +62,10 @@ returns-clause-served g c =
       left = λ known.
           let found = option_map (λ octets. octets.items) c.in-Ok.found in
           let done = c.in-Ok-answer_found.done in
-          let taken : TakesEnough (λ needed. (text : List ℕ) × AnswersGathered a.too_long (a.allows me) (gathered c.args.most needed) text done) most_ahead octets left =
-          enough-gathered a.too_long (a.allows me) c.args.most octets left found answered.0 done
+          let taken : TakesEnough (λ needed. (text : List ℕ) × AnswersGathered c.args.too_long.now (a.allows me) (gathered c.args.most needed) text done) most_ahead octets left =
+          enough-gathered c.args.too_long.now (a.allows me) c.args.most octets left found answered.0 done
           (c.in-Ok.ensures.whole known) (c.in-Ok.ensures.left known) (wider found answered.0 done answered.2) in
-          let P : Done → Type 0 = λ done. TakesEnough (λ needed. (text : List ℕ) × AnswersGathered a.too_long (a.allows me) (gathered c.args.most needed) text done) most_ahead octets left in
+          let P : Done → Type 0 = λ done. TakesEnough (λ needed. (text : List ℕ) × AnswersGathered c.args.too_long.now (a.allows me) (gathered c.args.most needed) text done) most_ahead octets left in
           IfOk-weaker c.give_last.result _ _ (λ done same. subst P (sym same) taken) c.give_last.ensures.done;
       whole = search rules;
       reading = search rules;
