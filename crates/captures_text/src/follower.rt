@@ -9,7 +9,7 @@ use crate::captured_cell::CapturedCell;
 use crate::reading_summary::ReadingSummary;
 use captures::Fault;
 use std::alloc::AllocError;
-use text_io::Turn;
+use text_io::{Added, Turn};
 
 /// Whether the run goes on after a cell, or after several. The error is that memory is short.
 pub type Followed = Result<Turn, AllocError>;
@@ -31,12 +31,7 @@ pub trait CellFollower {
             FollowsCell rules (shows self.old) captured.now turn (shows self.new) answers.old.items answers.new.items) };
 
     /// Appends the answer to the end of the capture, or to its fault, to the answers. The summary says what was passed over.
-    fn close(
-        &self,
-        summary: &ReadingSummary,
-        end: Option<Fault>,
-        answers: &mut Vec<u8>,
-    ) -> Result<(), AllocError>
+    fn close(&self, summary: &ReadingSummary, end: Option<Fault>, answers: &mut Vec<u8>) -> Added
         ensures { OnOk result (ClosesCells rules (shows self.now) summary.now end answers.old.items answers.new.items) };
 
     ghost is_total: { AnswersEachCell rules };

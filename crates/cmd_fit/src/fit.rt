@@ -20,9 +20,9 @@ use captures_text::{
     CapturedCell, CellFollower, FitChoice, Followed, ReadingSummary, add_closing, follow_cells,
     write_faults,
 };
-use std::alloc::{AllocError, Global};
+use std::alloc::Global;
 use std::thread::Threads;
-use text_io::{Ending, Input, Output, RunFault, Turn};
+use text_io::{Added, Ending, Input, Output, RunFault, Turn};
 use upc_cell::{Cell, Side};
 
 /// Returns the cell loss priority of a cell.
@@ -132,12 +132,7 @@ impl CellFollower for FitRun {
         }
     }
 
-    fn close(
-        &self,
-        summary: &ReadingSummary,
-        end: Option<Fault>,
-        answers: &mut Vec<u8>,
-    ) -> Result<(), AllocError> {
+    fn close(&self, summary: &ReadingSummary, end: Option<Fault>, answers: &mut Vec<u8>) -> Added {
         let valued = self.is_valued();
         add_heading(answers, valued)?;
         self.flows

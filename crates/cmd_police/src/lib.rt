@@ -39,7 +39,7 @@ pub use explained_setup::{explain_setup, hints_of_setup};
 pub use file_names::add_escaped_name;
 pub use not_judged::NotJudged;
 pub use police::{PoliceChoice, police_capture};
-pub use policed_card::{OpenedCard, PolicedCard, open_card, open_setup};
+pub use policed_card::{Opened, OpenedCard, PolicedCard, open_card, open_setup};
 pub use program_rules::{LoadedRules, ProgramRules};
 pub use scope::PoliceScope;
 pub use setup_tick::{TicksDiffer, add_ticks_differ, agreed_tick, take_tick};

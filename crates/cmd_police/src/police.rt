@@ -40,7 +40,7 @@ use leaky::{Excess, Levels, Verdict, excess_at};
 use line_record::Line;
 use std::alloc::{AllocError, Global};
 use std::thread::Threads;
-use text_io::{Ending, Input, Output, RunFault, Turn};
+use text_io::{Added, Ending, Input, Output, RunFault, Turn};
 use upc_cell::{Cell, Side, Vc};
 
 /// Returns the item with this number, counted from 1, if there is one.
@@ -139,7 +139,7 @@ fn add_cell(
 }
 
 /// Appends an empty line if there are lines before it.
-pub(crate) fn add_gap(answers: &mut Vec<u8>, begun: bool) -> Result<(), AllocError>
+pub(crate) fn add_gap(answers: &mut Vec<u8>, begun: bool) -> Added
     ensures { OnOk result (answers.new.items ≡ answers.old.items ++ police_gap begun) }
 {
     if !begun {
@@ -220,12 +220,7 @@ impl CellFollower for PoliceRun {
         Ok(Turn::GoesOn)
     }
 
-    fn close(
-        &self,
-        summary: &ReadingSummary,
-        end: Option<Fault>,
-        answers: &mut Vec<u8>,
-    ) -> Result<(), AllocError> {
+    fn close(&self, summary: &ReadingSummary, end: Option<Fault>, answers: &mut Vec<u8>) -> Added {
         self.spans.add_present(answers)?;
         add_gap(
             answers,
