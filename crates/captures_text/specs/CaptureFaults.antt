@@ -9,13 +9,13 @@ use Rattle.text_words.specs.FaultLines.{line}
 
 -- The answer to a file that isn't read.
 abbrev pub file_fault_line : FileFault → List ℕ
-file_fault_line file.Gzip = codes "fault file 1 Gzip\n"
+file_fault_line file.Gzip = line (codes "fault file 1 Gzip")
 file_fault_line (file.OtherLink link) = line (codes "fault file 2 OtherLink " ++ decimal link)
-file_fault_line file.Text = codes "fault file 3 Text\n"
-file_fault_line file.Xz = codes "fault file 4 Xz\n"
-file_fault_line file.Bzip2 = codes "fault file 5 Bzip2\n"
-file_fault_line file.Zstd = codes "fault file 6 Zstd\n"
-file_fault_line file.Empty = codes "fault file 7 Empty\n"
+file_fault_line file.Text = line (codes "fault file 3 Text")
+file_fault_line file.Xz = line (codes "fault file 4 Xz")
+file_fault_line file.Bzip2 = line (codes "fault file 5 Bzip2")
+file_fault_line file.Zstd = line (codes "fault file 6 Zstd")
+file_fault_line file.Empty = line (codes "fault file 7 Empty")
 
 -- A fault: its number and name, and its own number if it has one.
 abbrev pub record_fault_text : RecordFault → List ℕ

@@ -11,7 +11,7 @@ ghost use Rattle.text_io.specs.Failures.{write_failures};
 ghost use Rattle.text_io.specs.Serving.{IsServed};
 
 use crate::driver::follow_on;
-use crate::fault_lines::add_file_fault;
+use crate::fault_lines::{add_file_fault, write_faults};
 use crate::filter::CellFilter;
 use crate::follower::{CellFollower, answers_each_cell};
 use crate::reading_ahead::{ReadingAhead, WINDOW_ROOM};
@@ -22,7 +22,7 @@ use captures::{
 };
 use std::alloc::Global;
 use std::thread::Threads;
-use text_io::{Done, Ending, Failed, Input, Output, RunFault, Window, give_last};
+use text_io::{Done, Ending, Failed, Input, Output, RunFault, Window};
 
 /// Reads the first octets of a file, until they say what it is or the file ends, and returns what it is.
 pub fn find_opening<I: Input>(
@@ -72,7 +72,7 @@ fn refuse<O: Output>(alloc: Global, output: &mut O, fault: FileFault) -> Ending
     let mut answers = Vec::new(alloc);
     match add_file_fault(&mut answers, fault) {
         Err(_) => Err(RunFault::NoMemory),
-        Ok(()) => give_last(output, &mut answers, Done::Ended),
+        Ok(()) => write_faults(output, answers),
     }
 }
 
@@ -96,7 +96,7 @@ fn close_short<O: Output, F: CellFollower>(
     let mut answers = Vec::new(alloc);
     match follower.close(summary, Some(fault), &mut answers) {
         Err(_) => Err(RunFault::NoMemory),
-        Ok(()) => give_last(output, &mut answers, Done::Ended),
+        Ok(()) => write_faults(output, answers),
     }
 }
 

@@ -1,21 +1,19 @@
 //! The cells of a capture as lines of a script: `upc-lab cells`.
 
 ghost use Rattle.std.specs.Prelude.{◌≡◌, ◌++◌, OnOk};
-ghost use Rattle.hex.specs.Hex.{encode_lower};
 ghost use Rattle.captures_text.specs.CellsText.{IsCellsText, cell_line, cells_start, captured_line, record_comment};
 ghost use Rattle.text_io.specs.Serving.{IsServed};
 
 use crate::capture::follow_cells;
 use crate::captured_cell::CapturedCell;
-use crate::follower::CellFollower;
+use crate::follower::{CellFollower, Followed};
 use crate::reading_summary::ReadingSummary;
 use crate::run_lines::add_closing;
 use captures::{Fault, Link, Tick, TimeSource};
-use std::alloc::{AllocError, Global};
+use std::alloc::Global;
 use std::thread::Threads;
-use text_io::{Ending, Input, Output, Turn};
-use text_words::{add_number, add_text};
-use upc_cell::{CELL_OCTETS, Cell};
+use text_io::{Added, Ending, Input, Output, Turn};
+use text_words::{add_cell_octets, add_number, add_text};
 
 /// A run of `cells`.
 #[derive(Clone, Copy, Drop, Debug)]
@@ -24,33 +22,22 @@ pub(crate) struct Cells {
     pub numbered: bool,
 }
 
-/// Appends the octets of a cell in hexadecimal digits.
-fn add_octets(answers: &mut Vec<u8>, cell: &Cell) -> Result<(), AllocError>
-    ensures { OnOk result (answers.new.items ≡ answers.old.items ++ encode_lower cell.now) }
-{
-    let mut digits = [0; 104];
-    if hex::encode_to_slice(&cell.bytes()[..CELL_OCTETS], &mut digits).is_err() {
-        unreachable!();
-    }
-    add_text(answers, &digits)
-}
-
 /// Appends the line of a cell.
 #[tactic(auto, using(std::proofs::lemmas::List::append_assoc))]
-fn add_cell(answers: &mut Vec<u8>, captured: &CapturedCell) -> Result<(), AllocError>
+fn add_cell(answers: &mut Vec<u8>, captured: &CapturedCell) -> Added
     ensures { OnOk result (answers.new.items ≡ answers.old.items ++ cell_line captured.now.moment captured.now.cell) }
 {
     add_text(answers, b"cell ")?;
     add_number(answers, captured.moment)?;
     add_text(answers, b" ")?;
-    add_octets(answers, &captured.cell)?;
+    add_cell_octets(answers, &captured.cell)?;
     answers.push(b'\n')?;
     Ok(())
 }
 
 /// Appends the comment with the number of a record.
 #[tactic(auto, using(std::proofs::lemmas::List::append_assoc))]
-fn add_record_comment(answers: &mut Vec<u8>, number: u64) -> Result<(), AllocError>
+fn add_record_comment(answers: &mut Vec<u8>, number: u64) -> Added
     ensures { OnOk result (answers.new.items ≡ answers.old.items ++ record_comment number) }
 {
     add_text(answers, b"# record ")?;
@@ -61,11 +48,7 @@ fn add_record_comment(answers: &mut Vec<u8>, number: u64) -> Result<(), AllocErr
 
 /// Appends the line of a cell that counts, after the number of its record if that is asked for.
 #[tactic(auto, using(std::proofs::lemmas::List::append_assoc))]
-fn add_captured(
-    answers: &mut Vec<u8>,
-    numbered: bool,
-    captured: &CapturedCell,
-) -> Result<(), AllocError>
+fn add_captured(answers: &mut Vec<u8>, numbered: bool, captured: &CapturedCell) -> Added
     ensures { OnOk result (answers.new.items ≡ answers.old.items ++ captured_line numbered captured.now) }
 {
     if numbered {
@@ -84,22 +67,13 @@ impl CellFollower for Cells {
 
     ghost rules = { cells_rules };
 
-    fn follow_cell(
-        &mut self,
-        captured: &CapturedCell,
-        answers: &mut Vec<u8>,
-    ) -> Result<Turn, AllocError> {
+    fn follow_cell(&mut self, captured: &CapturedCell, answers: &mut Vec<u8>) -> Followed {
         add_captured(answers, self.numbered, captured)?;
         Ok(Turn::GoesOn)
     }
 
-    fn close(
-        &self,
-        summary: &ReadingSummary,
-        ending: Option<Fault>,
-        answers: &mut Vec<u8>,
-    ) -> Result<(), AllocError> {
-        add_closing(answers, summary, ending)
+    fn close(&self, summary: &ReadingSummary, end: Option<Fault>, answers: &mut Vec<u8>) -> Added {
+        add_closing(answers, summary, end)
     }
 
     ghost is_total = { fixed_total cells_steps cells_closes };

@@ -1,14 +1,16 @@
 //! The fault lines of captures. Each function appends to the answers.
 
-ghost use Rattle.std.specs.Prelude.{◌≡◌, ◌++◌, decimal, OnOk};
+ghost use Rattle.std.specs.Prelude.{◌≡◌, ◌≢◌, ◌++◌, decimal, Err, IfOk, OnErr, OnOk};
 ghost use Rattle.captures_text.specs.CaptureFaults.{capture_fault_line, file_fault_line, record_fault_text};
+ghost use Rattle.text_io.specs.Devices.{IsPart};
+ghost use Rattle.text_io.specs.Failures.{write_failures};
 
 use captures::{Fault, FileFault, RecordFault};
-use std::alloc::AllocError;
+use text_io::{Added, Done, Ending, Output, give_last};
 use text_words::{add_number, add_numbered, add_text};
 
 /// Appends the answer to a file that isn't read.
-pub fn add_file_fault(answers: &mut Vec<u8>, fault: FileFault) -> Result<(), AllocError>
+pub fn add_file_fault(answers: &mut Vec<u8>, fault: FileFault) -> Added
     ensures { OnOk result (answers.new.items ≡ answers.old.items ++ file_fault_line fault) }
 {
     match fault {
@@ -26,11 +28,7 @@ pub fn add_file_fault(answers: &mut Vec<u8>, fault: FileFault) -> Result<(), All
 
 /// Appends a text and a number. `add_numbered` adds a line feed too.
 #[tactic(auto, using(std::proofs::lemmas::List::append_assoc))]
-pub(crate) fn add_with_number(
-    answers: &mut Vec<u8>,
-    text: &[u8],
-    number: u32,
-) -> Result<(), AllocError>
+pub(crate) fn add_with_number(answers: &mut Vec<u8>, text: &[u8], number: u32) -> Added
     ensures { OnOk result (answers.new.items ≡ answers.old.items ++ (text.now ++ decimal number)) }
 {
     add_text(answers, text)?;
@@ -38,7 +36,7 @@ pub(crate) fn add_with_number(
 }
 
 /// Appends the number and name of a fault.
-fn add_record_fault(answers: &mut Vec<u8>, fault: RecordFault) -> Result<(), AllocError>
+fn add_record_fault(answers: &mut Vec<u8>, fault: RecordFault) -> Added
     ensures { OnOk result (answers.new.items ≡ answers.old.items ++ record_fault_text fault) }
 {
     match fault {
@@ -67,7 +65,7 @@ fn add_record_fault(answers: &mut Vec<u8>, fault: RecordFault) -> Result<(), All
 
 /// Appends the answer to a place at which a file is no capture.
 #[tactic(auto, using(std::proofs::lemmas::List::append_assoc))]
-pub(crate) fn add_capture_fault(answers: &mut Vec<u8>, fault: Fault) -> Result<(), AllocError>
+pub(crate) fn add_capture_fault(answers: &mut Vec<u8>, fault: Fault) -> Added
     ensures { OnOk result (answers.new.items ≡ answers.old.items ++ capture_fault_line fault) }
 {
     add_text(answers, b"fault capture ")?;
@@ -76,4 +74,19 @@ pub(crate) fn add_capture_fault(answers: &mut Vec<u8>, fault: Fault) -> Result<(
     add_number(answers, fault.at)?;
     answers.push(b'\n')?;
     Ok(())
+}
+
+/// Writes a text about faults in place of the answer to a capture.
+///
+/// # Errors
+///
+/// `WriteFailed` if the device failed. The output is then a prefix of the text.
+pub fn write_faults<O: Output>(output: &mut O, mut text: Vec<u8>) -> Ending
+    ensures done { IfOk result (λ done. done ≡ Done.Ended) }
+    ensures given { O.is_known → OnOk result (O.held output.new ≡ O.held output.old ++ text.items) }
+    ensures front { O.is_known → OnErr result (IsPart (O.held output.old) (O.held output.new) text.items) }
+    ensures fault { result ≢ Err RunFault.ReadFailed }
+    ensures writing { O.failures output.new ≡ write_failures result (O.failures output.old) }
+{
+    give_last(output, &mut text, Done::Ended)
 }

@@ -9,7 +9,10 @@ use crate::captured_cell::CapturedCell;
 use crate::reading_summary::ReadingSummary;
 use captures::Fault;
 use std::alloc::AllocError;
-use text_io::Turn;
+use text_io::{Added, Turn};
+
+/// Whether the run goes on after a cell, or after several. The error is that memory is short.
+pub type Followed = Result<Turn, AllocError>;
 
 /// A follower gets the cells of a capture that count, one after another, and answers each.
 ///
@@ -23,22 +26,13 @@ pub trait CellFollower {
     ghost rules: { CellRules World };
 
     /// Appends the answer to a cell to the answers.
-    fn follow_cell(
-        &mut self,
-        captured: &CapturedCell,
-        answers: &mut Vec<u8>,
-    ) -> Result<Turn, AllocError>
+    fn follow_cell(&mut self, captured: &CapturedCell, answers: &mut Vec<u8>) -> Followed
         ensures { IfOk result (λ turn.
             FollowsCell rules (shows self.old) captured.now turn (shows self.new) answers.old.items answers.new.items) };
 
     /// Appends the answer to the end of the capture, or to its fault, to the answers. The summary says what was passed over.
-    fn close(
-        &self,
-        summary: &ReadingSummary,
-        ending: Option<Fault>,
-        answers: &mut Vec<u8>,
-    ) -> Result<(), AllocError>
-        ensures { OnOk result (ClosesCells rules (shows self.now) summary.now ending answers.old.items answers.new.items) };
+    fn close(&self, summary: &ReadingSummary, end: Option<Fault>, answers: &mut Vec<u8>) -> Added
+        ensures { OnOk result (ClosesCells rules (shows self.now) summary.now end answers.old.items answers.new.items) };
 
     ghost is_total: { AnswersEachCell rules };
 }
@@ -53,7 +47,7 @@ pub(crate) fn answer_cells<F: CellFollower>(
     follower: &mut F,
     cells: &[CapturedCell],
     answers: &mut Vec<u8>,
-) -> Result<Turn, AllocError>
+) -> Followed
     ensures { IfOk result (λ turn.
         AnswersCells F.rules (F.shows follower.old) cells.now turn (F.shows follower.new) answers.old.items answers.new.items) }
 {

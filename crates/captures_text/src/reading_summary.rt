@@ -7,7 +7,7 @@ use crate::blocks::{BlockTallies, add_blocks};
 use crate::marked::{MarkTallies, add_marks};
 use crate::tally::{CountAndFirst, add_count, add_first, add_tally};
 use captures::{Marks, NoCell, SkippedBlock};
-use std::alloc::AllocError;
+use text_io::Added;
 use text_words::{add_number, add_text};
 
 /// The number of types of records.
@@ -88,11 +88,7 @@ impl ReadingSummary {
 
 /// Appends a comment about records of this type, if they were passed over.
 #[tactic(auto, using(std::proofs::lemmas::List::append_assoc))]
-fn add_other_type(
-    answers: &mut Vec<u8>,
-    tally: CountAndFirst,
-    kind: usize,
-) -> Result<(), AllocError>
+fn add_other_type(answers: &mut Vec<u8>, tally: CountAndFirst, kind: usize) -> Added
     ensures { OnOk result (answers.new.items ≡ answers.old.items ++ other_type_line kind tally) }
 {
     if tally.count == 0 {
@@ -106,7 +102,7 @@ fn add_other_type(
 }
 
 /// Appends a comment for each type of records that were passed over, in order.
-fn add_other_types(answers: &mut Vec<u8>, tallies: &[CountAndFirst]) -> Result<(), AllocError>
+fn add_other_types(answers: &mut Vec<u8>, tallies: &[CountAndFirst]) -> Added
     ensures { OnOk result (answers.new.items ≡ answers.old.items ++ other_type_lines 0 tallies.now) }
 {
     for (kind, tally) in tallies.iter().enumerate() {
@@ -117,7 +113,7 @@ fn add_other_types(answers: &mut Vec<u8>, tallies: &[CountAndFirst]) -> Result<(
 
 /// Appends a comment for each reason why records were passed over.
 #[tactic(auto, using(std::proofs::lemmas::List::append_assoc))]
-fn add_reasons(answers: &mut Vec<u8>, summary: &ReadingSummary) -> Result<(), AllocError>
+fn add_reasons(answers: &mut Vec<u8>, summary: &ReadingSummary) -> Added
     ensures { OnOk result (answers.new.items ≡ answers.old.items ++ reason_lines summary.now) }
 {
     add_other_types(answers, &summary.other_types)?;
@@ -137,7 +133,7 @@ fn add_reasons(answers: &mut Vec<u8>, summary: &ReadingSummary) -> Result<(), Al
 
 /// Appends the comments.
 #[tactic(auto, using(std::proofs::lemmas::List::append_assoc))]
-pub(crate) fn add_summary(answers: &mut Vec<u8>, summary: &ReadingSummary) -> Result<(), AllocError>
+pub(crate) fn add_summary(answers: &mut Vec<u8>, summary: &ReadingSummary) -> Added
     ensures { OnOk result (answers.new.items ≡ answers.old.items ++ summary_lines summary.now) }
 {
     add_reasons(answers, summary)?;

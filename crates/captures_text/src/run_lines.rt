@@ -7,12 +7,12 @@ use crate::fault_lines::add_capture_fault;
 use crate::link_words::add_link;
 use crate::reading_summary::{ReadingSummary, add_summary};
 use captures::{Fault, Link};
-use std::alloc::AllocError;
+use text_io::Added;
 use text_words::add_text;
 
 /// Appends the line about a cell of a second link, which ends the run.
 #[tactic(auto, using(std::proofs::lemmas::List::append_assoc))]
-pub fn add_several(answers: &mut Vec<u8>, one: Link, other: Link) -> Result<(), AllocError>
+pub fn add_several(answers: &mut Vec<u8>, one: Link, other: Link) -> Added
     ensures { OnOk result (answers.new.items ≡ answers.old.items ++ several_line one other) }
 {
     add_text(answers, b"fault link 1 Several ")?;
@@ -24,7 +24,7 @@ pub fn add_several(answers: &mut Vec<u8>, one: Link, other: Link) -> Result<(), 
 }
 
 /// Appends the fault at which the reading ended, if there is one.
-fn add_ending(answers: &mut Vec<u8>, ending: Option<Fault>) -> Result<(), AllocError>
+fn add_ending(answers: &mut Vec<u8>, ending: Option<Fault>) -> Added
     ensures { OnOk result (answers.new.items ≡ answers.old.items ++ ending_line ending) }
 {
     match ending {
@@ -35,11 +35,7 @@ fn add_ending(answers: &mut Vec<u8>, ending: Option<Fault>) -> Result<(), AllocE
 
 /// Appends the comments of the summary, and the fault at which the reading ended.
 #[tactic(auto, using(std::proofs::lemmas::List::append_assoc))]
-pub fn add_closing(
-    answers: &mut Vec<u8>,
-    summary: &ReadingSummary,
-    ending: Option<Fault>,
-) -> Result<(), AllocError>
+pub fn add_closing(answers: &mut Vec<u8>, summary: &ReadingSummary, ending: Option<Fault>) -> Added
     ensures { OnOk result (answers.new.items ≡ answers.old.items ++ closing_lines summary.now ending) }
 {
     add_summary(answers, summary)?;

@@ -3,7 +3,7 @@
 ghost use Rattle.std.specs.Prelude.{◌≡◌, ◌++◌, OnOk};
 ghost use Rattle.captures_text.specs.Tallies.{first_record_text, no_tally, one_more_if, one_more_record, skipped_count, tally_line};
 
-use std::alloc::AllocError;
+use text_io::Added;
 use text_words::{add_number, add_numbered, add_text};
 
 /// How many records, or other things in a capture, and the first of them.
@@ -43,7 +43,7 @@ impl CountAndFirst {
 
 /// Appends how many records were passed over.
 #[tactic(auto, using(std::proofs::lemmas::List::append_assoc))]
-pub(crate) fn add_count(answers: &mut Vec<u8>, tally: CountAndFirst) -> Result<(), AllocError>
+pub(crate) fn add_count(answers: &mut Vec<u8>, tally: CountAndFirst) -> Added
     ensures { OnOk result (answers.new.items ≡ answers.old.items ++ skipped_count tally) }
 {
     add_text(answers, b"# ")?;
@@ -52,7 +52,7 @@ pub(crate) fn add_count(answers: &mut Vec<u8>, tally: CountAndFirst) -> Result<(
 }
 
 /// Appends which record is the first of those that were passed over.
-pub(crate) fn add_first(answers: &mut Vec<u8>, tally: CountAndFirst) -> Result<(), AllocError>
+pub(crate) fn add_first(answers: &mut Vec<u8>, tally: CountAndFirst) -> Added
     ensures { OnOk result (answers.new.items ≡ answers.old.items ++ first_record_text tally) }
 {
     add_numbered(answers, b"; first record ", tally.first as usize)
@@ -60,11 +60,7 @@ pub(crate) fn add_first(answers: &mut Vec<u8>, tally: CountAndFirst) -> Result<(
 
 /// Appends a comment about records that were passed over, if there are any.
 #[tactic(auto, using(std::proofs::lemmas::List::append_assoc))]
-pub(crate) fn add_tally(
-    answers: &mut Vec<u8>,
-    tally: CountAndFirst,
-    why: &[u8],
-) -> Result<(), AllocError>
+pub(crate) fn add_tally(answers: &mut Vec<u8>, tally: CountAndFirst, why: &[u8]) -> Added
     ensures { OnOk result (answers.new.items ≡ answers.old.items ++ tally_line tally why.now) }
 {
     if tally.count == 0 {

@@ -13,8 +13,8 @@ use rules_cells::Decision;
 use rules_diagrams::Case;
 use rules_text::RulePlace;
 use std::alloc::AllocError;
-use text_words::{add_number, add_text};
-use upc_cell::{CELL_OCTETS, Cell, Side};
+use text_words::{add_cell_octets, add_number, add_text};
+use upc_cell::{Cell, Side};
 
 /// Where the line of rules that decides begins; line 0 for `otherwise`.
 fn source_begin(begins: &[RulePlace], line: Option<usize>) -> RulePlace
@@ -132,24 +132,13 @@ fn add_both(
     add_given(answers, new, case.new)
 }
 
-/// Appends the octets of a cell in hexadecimal digits.
-fn add_octets(answers: &mut Vec<u8>, cell: &Cell) -> Result<(), AllocError>
-    ensures { OnOk result (answers.new.items ≡ answers.old.items ++ encode_lower cell.now) }
-{
-    let mut digits = [0; 104];
-    if hex::encode_to_slice(&cell.bytes()[..CELL_OCTETS], &mut digits).is_err() {
-        unreachable!();
-    }
-    add_text(answers, &digits)
-}
-
 /// Appends the octets of a cell, and ends the line.
 #[tactic(auto, using(std::proofs::lemmas::List::append_assoc))]
 fn add_octets_line(answers: &mut Vec<u8>, cell: &Cell) -> Result<(), AllocError>
     ensures { OnOk result (answers.new.items ≡ answers.old.items ++ line (codes ": " ++ encode_lower cell.now)) }
 {
     add_text(answers, b": ")?;
-    add_octets(answers, cell)?;
+    add_cell_octets(answers, cell)?;
     answers.push(b'\n')?;
     Ok(())
 }

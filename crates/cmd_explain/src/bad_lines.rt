@@ -13,7 +13,7 @@ use crate::tokens::is_name;
 use bpf_asm::number;
 use cmd_explain_rules::digit;
 use cmd_explain_script::{FoundWord, add_perhaps, add_quoted, word_octets};
-use std::alloc::AllocError;
+use text_io::Added;
 use text_words::add_text;
 
 /// Returns the octets of a token, if there is one.
@@ -66,7 +66,7 @@ pub(crate) fn first_number(text: &[u8], tokens: &[FoundWord]) -> Option<FoundWor
 
 /// Appends the sentence about a word that is no number.
 #[tactic(auto, using(std::proofs::lemmas::List::append_assoc))]
-pub(crate) fn add_no_number(answers: &mut Vec<u8>, word: &[u8]) -> Result<(), AllocError>
+pub(crate) fn add_no_number(answers: &mut Vec<u8>, word: &[u8]) -> Added
     ensures { OnOk result (answers.new.items ≡ answers.old.items ++ no_number_sentence word.now) }
 {
     add_quoted(answers, word)?;
@@ -77,7 +77,7 @@ pub(crate) fn add_no_number(answers: &mut Vec<u8>, word: &[u8]) -> Result<(), Al
 }
 
 /// Appends the mnemonic that was perhaps meant by a word.
-fn add_meant(answers: &mut Vec<u8>, word: &[u8]) -> Result<(), AllocError>
+fn add_meant(answers: &mut Vec<u8>, word: &[u8]) -> Added
     ensures { OnOk result (answers.new.items ≡ answers.old.items ++ perhaps_text (near_among word.now known_mnemonics)) }
 {
     add_perhaps(answers, near(word))
@@ -85,7 +85,7 @@ fn add_meant(answers: &mut Vec<u8>, word: &[u8]) -> Result<(), AllocError>
 
 /// Appends the sentence about a word that isn't a mnemonic.
 #[tactic(auto, using(std::proofs::lemmas::List::append_assoc), unfolding(crate::specs::BadLines::no_mnemonic_sentence))]
-fn add_no_mnemonic(answers: &mut Vec<u8>, word: &[u8]) -> Result<(), AllocError>
+fn add_no_mnemonic(answers: &mut Vec<u8>, word: &[u8]) -> Added
     ensures { OnOk result (answers.new.items ≡ answers.old.items ++ no_mnemonic_sentence word.now) }
 {
     add_quoted(answers, word)?;
@@ -102,7 +102,7 @@ fn add_no_mnemonic(answers: &mut Vec<u8>, word: &[u8]) -> Result<(), AllocError>
 
 /// Appends the sentence about the operands of a mnemonic.
 #[tactic(auto, using(std::proofs::lemmas::List::append_assoc))]
-fn add_operands(answers: &mut Vec<u8>, mnemonic: &[u8], form: Form) -> Result<(), AllocError>
+fn add_operands(answers: &mut Vec<u8>, mnemonic: &[u8], form: Form) -> Added
     ensures { OnOk result (answers.new.items ≡ answers.old.items ++ operands_sentence mnemonic.now form) }
 {
     add_quoted(answers, mnemonic)?;
@@ -111,11 +111,7 @@ fn add_operands(answers: &mut Vec<u8>, mnemonic: &[u8], form: Form) -> Result<()
 }
 
 /// Appends the sentence about a line outside the grammar, by the tokens after its label.
-pub(crate) fn add_bad_line(
-    answers: &mut Vec<u8>,
-    text: &[u8],
-    tokens: &[FoundWord],
-) -> Result<(), AllocError>
+pub(crate) fn add_bad_line(answers: &mut Vec<u8>, text: &[u8], tokens: &[FoundWord]) -> Added
     ensures { OnOk result (answers.new.items ≡ answers.old.items ++ bad_line_sentence text.now tokens.now) }
 {
     match tokens {

@@ -15,6 +15,7 @@ use bpf_code::Instr;
 use bpf_verify::Fault;
 use cmd_explain_script::{FoundWord, add_place, column_of};
 use std::alloc::{AllocError, Global};
+use text_io::Added;
 use text_words::{add_number, add_text};
 
 /// Returns the place of the instruction that the fault is about, in a code of this many.
@@ -54,7 +55,7 @@ fn blamed_part(alloc: Global, fault: Fault, content: &[u8]) -> Result<Option<Fou
 
 /// Appends the name of a scratch word.
 #[tactic(auto, using(std::proofs::lemmas::List::append_assoc))]
-fn add_scratch_name(answers: &mut Vec<u8>, word: u32) -> Result<(), AllocError>
+fn add_scratch_name(answers: &mut Vec<u8>, word: u32) -> Added
     ensures { OnOk result (answers.new.items ≡ answers.old.items ++ scratch_name word) }
 {
     add_text(answers, b"M[")?;
@@ -64,7 +65,7 @@ fn add_scratch_name(answers: &mut Vec<u8>, word: u32) -> Result<(), AllocError>
 
 /// Appends that a path, which follows, does not store a scratch word.
 #[tactic(auto, using(std::proofs::lemmas::List::append_assoc))]
-fn add_unwritten(answers: &mut Vec<u8>, word: u32) -> Result<(), AllocError>
+fn add_unwritten(answers: &mut Vec<u8>, word: u32) -> Added
     ensures { OnOk result (answers.new.items ≡ answers.old.items ++ unwritten_sentence word) }
 {
     add_scratch_name(answers, word)?;
@@ -75,7 +76,7 @@ fn add_unwritten(answers: &mut Vec<u8>, word: u32) -> Result<(), AllocError>
 }
 
 /// Appends the sentence about a fault.
-pub(crate) fn add_code_sentence(answers: &mut Vec<u8>, fault: Fault) -> Result<(), AllocError>
+pub(crate) fn add_code_sentence(answers: &mut Vec<u8>, fault: Fault) -> Added
     ensures { OnOk result (answers.new.items ≡ answers.old.items ++ code_sentence fault) }
 {
     match fault {
@@ -112,7 +113,7 @@ fn add_code_place(
     source: &[u8],
     number: usize,
     fault: Fault,
-) -> Result<(), AllocError>
+) -> Added
     ensures { OnOk result (answers.new.items ≡ answers.old.items ++ code_place (source_lines source.now) number fault) }
 {
     let blamed = blamed_part(alloc, fault, line_numbered(source, number))?;
@@ -137,7 +138,7 @@ fn add_code_start(
     size: usize,
     fault: Fault,
     numbers: &[usize],
-) -> Result<(), AllocError>
+) -> Added
     requires { numbers.now ≡ instruction_lines 1 (source_lines source.now) }
     ensures { OnOk result (answers.new.items ≡ answers.old.items ++ code_start (source_lines source.now) size fault) }
 {
@@ -152,7 +153,7 @@ fn add_code_start(
 
 /// Appends the number of the line of a place, after a blank.
 #[tactic(auto, using(std::proofs::lemmas::List::append_assoc))]
-fn add_line_of(answers: &mut Vec<u8>, numbers: &[usize], place: usize) -> Result<(), AllocError>
+fn add_line_of(answers: &mut Vec<u8>, numbers: &[usize], place: usize) -> Added
     ensures { OnOk result (answers.new.items ≡ answers.old.items ++ (codes " " ++ decimal (slice_index numbers.now place))) }
 {
     add_text(answers, b" ")?;
@@ -160,11 +161,7 @@ fn add_line_of(answers: &mut Vec<u8>, numbers: &[usize], place: usize) -> Result
 }
 
 /// Appends the numbers of the lines of these places, each after a blank.
-fn add_lines_of(
-    answers: &mut Vec<u8>,
-    numbers: &[usize],
-    places: &[usize],
-) -> Result<(), AllocError>
+fn add_lines_of(answers: &mut Vec<u8>, numbers: &[usize], places: &[usize]) -> Added
     ensures { OnOk result (answers.new.items ≡ answers.old.items ++ numbers_text numbers.now places.now) }
 {
     let mut left = places;
@@ -183,7 +180,7 @@ fn add_path(
     numbers: &[usize],
     at: usize,
     word: u32,
-) -> Result<(), AllocError>
+) -> Added
     requires { FailsFirst code.now (Fault.Unwritten at word) }
     ensures { OnOk result (Adds (IsRest code.now numbers.now (Fault.Unwritten at word)) answers.old.items answers.new.items) }
 {
@@ -201,7 +198,7 @@ fn add_rest(
     code: &[Instr],
     numbers: &[usize],
     fault: Fault,
-) -> Result<(), AllocError>
+) -> Added
     requires { FailsFirst code.now fault }
     ensures { OnOk result (Adds (IsRest code.now numbers.now fault) answers.old.items answers.new.items) }
 {
@@ -218,7 +215,7 @@ pub(crate) fn add_code_explanation(
     source: &[u8],
     code: &[Instr],
     fault: Fault,
-) -> Result<(), AllocError>
+) -> Added
     requires { FailsFirst code.now fault }
     ensures { OnOk result (Adds (IsCodeExplanation (source_lines source.now) code.now fault) answers.old.items answers.new.items) }
 {

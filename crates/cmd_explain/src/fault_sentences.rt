@@ -10,7 +10,7 @@ ghost use Rattle.cmd_explain_script.specs.Tables.{value_among};
 
 use bpf_asm::next_line;
 use std::alloc::{AllocError, Global};
-use text_io::{Answered, Answerer, Done, Ending, Input, Output, answer_whole, first_word};
+use text_io::{Added, Answered, Answerer, Done, Ending, Input, Output, answer_whole, first_word};
 use text_words::{TOO_LONG, add_text};
 
 /// The maximum number of octets of fault lines.
@@ -173,12 +173,7 @@ fn sentence_of(key: &[u8]) -> Option<&'static [u8]>
 }
 
 /// Appends a sentence with these numbers in place of its marks.
-fn add_filled(
-    answers: &mut Vec<u8>,
-    sentence: &[u8],
-    first: &[u8],
-    second: &[u8],
-) -> Result<(), AllocError>
+fn add_filled(answers: &mut Vec<u8>, sentence: &[u8], first: &[u8], second: &[u8]) -> Added
     ensures { OnOk result (answers.new.items ≡ answers.old.items ++ with_numbers first.now second.now sentence.now) }
 {
     let mut left = sentence;
@@ -199,7 +194,7 @@ fn add_sentence(
     sentence: Option<&[u8]>,
     first: &[u8],
     second: &[u8],
-) -> Result<(), AllocError>
+) -> Added
     ensures { OnOk result (answers.new.items ≡ answers.old.items
         ++ sentence_text (option_map (λ sentence. sentence.now) sentence.entry) first.now second.now) }
 {
@@ -244,11 +239,7 @@ fn word_or_none(text: &[u8]) -> (&[u8], &[u8])
 
 /// Appends the answer to a line: a fault line and its sentence. Another line has none.
 #[tactic(auto, unfolding(crate::specs::FaultSentences::explained_line), using(std::proofs::lemmas::List::append_assoc))]
-fn add_explained_line(
-    alloc: Global,
-    answers: &mut Vec<u8>,
-    content: &[u8],
-) -> Result<(), AllocError>
+fn add_explained_line(alloc: Global, answers: &mut Vec<u8>, content: &[u8]) -> Added
     ensures { OnOk result (answers.new.items ≡ answers.old.items ++ explained_line content.now) }
 {
     let Some((word, rest)) = first_word(content) else {
@@ -277,7 +268,7 @@ fn add_explained_line(
 }
 
 /// Appends the answer to a text of fault lines.
-fn add_explained_lines(alloc: Global, answers: &mut Vec<u8>, text: &[u8]) -> Result<(), AllocError>
+fn add_explained_lines(alloc: Global, answers: &mut Vec<u8>, text: &[u8]) -> Added
     ensures { OnOk result (answers.new.items ≡ answers.old.items ++ faults_text text.now) }
 {
     let mut left = text;

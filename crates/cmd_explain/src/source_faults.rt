@@ -15,6 +15,7 @@ use crate::tokens::{after_label, before_comment, tokens_of};
 use bpf_asm::{AsmFault, AsmKind};
 use cmd_explain_script::{FoundWord, add_place, add_quoted, column_of, word_octets};
 use std::alloc::{AllocError, Global};
+use text_io::Added;
 use text_words::{add_number, add_text};
 
 /// Returns whether a label operand has the fault, by the line that has its label.
@@ -109,11 +110,7 @@ fn blamed_token(
 
 /// Appends the line that has a label, in words.
 #[tactic(auto, using(std::proofs::lemmas::List::append_assoc))]
-fn add_label_place(
-    answers: &mut Vec<u8>,
-    label: &[u8],
-    found: Option<usize>,
-) -> Result<(), AllocError>
+fn add_label_place(answers: &mut Vec<u8>, label: &[u8], found: Option<usize>) -> Added
     ensures { OnOk result (answers.new.items ≡ answers.old.items ++ label_words label.now found) }
 {
     add_text(answers, b"the label ")?;
@@ -124,7 +121,7 @@ fn add_label_place(
 
 /// Appends that no line has a label, in words.
 #[tactic(auto, using(std::proofs::lemmas::List::append_assoc))]
-fn add_missing_label(answers: &mut Vec<u8>, label: &[u8]) -> Result<(), AllocError>
+fn add_missing_label(answers: &mut Vec<u8>, label: &[u8]) -> Added
     ensures { OnOk result (answers.new.items ≡ answers.old.items ++ missing_label label.now) }
 {
     add_text(answers, b"no line has the label ")?;
@@ -138,7 +135,7 @@ pub(crate) fn add_label_sentence(
     kind: AsmKind,
     label: &[u8],
     found: Option<usize>,
-) -> Result<(), AllocError>
+) -> Added
     ensures { OnOk result (answers.new.items ≡ answers.old.items ++ label_sentence kind label.now found) }
 {
     match kind {
@@ -177,7 +174,7 @@ fn add_sentence(
     kind: AsmKind,
     content: &[u8],
     blamed: &[u8],
-) -> Result<(), AllocError>
+) -> Added
     ensures { OnOk result (answers.new.items ≡ answers.old.items ++ source_sentence (source_lines source.now) kind content.now blamed.now) }
 {
     match kind {
@@ -198,7 +195,7 @@ pub(crate) fn add_source_explanation(
     answers: &mut Vec<u8>,
     source: &[u8],
     fault: AsmFault,
-) -> Result<(), AllocError>
+) -> Added
     ensures { OnOk result (answers.new.items ≡ answers.old.items ++ source_explanation (source_lines source.now) fault) }
 {
     let content = line_numbered(source, fault.line);

@@ -10,6 +10,7 @@ ghost use Rattle.cmd_explain.specs.LinesFound.{is_same_label};
 use cmd_explain_rules::{digit, word_octet};
 use cmd_explain_script::{FoundWord, word_octets};
 use std::alloc::{AllocError, Global};
+use text_io::Added;
 
 /// Returns how many octets of a word a text begins with.
 fn run_size(text: &[u8]) -> usize
@@ -71,12 +72,7 @@ fn token_size(text: &[u8]) -> usize
 }
 
 /// Adds the token that begins with the first octet of a text, if one does.
-fn add_token(
-    tokens: &mut Vec<FoundWord>,
-    column: usize,
-    inside: bool,
-    text: &[u8],
-) -> Result<(), AllocError>
+fn add_token(tokens: &mut Vec<FoundWord>, column: usize, inside: bool, text: &[u8]) -> Added
     ensures { OnOk result (tokens.new.items ≡ tokens.old.items ++ token_here column inside text.now) }
 {
     match text {

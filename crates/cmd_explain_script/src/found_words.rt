@@ -5,6 +5,7 @@ ghost use Rattle.text_io.specs.Words.{is_blank};
 ghost use Rattle.cmd_explain_script.specs.FoundWords.{begins_word, column_of, found_words, word_here, word_octets, word_size};
 
 use std::alloc::{AllocError, Global};
+use text_io::Added;
 
 /// A word of a line, or a token.
 #[derive(Clone, Copy)]
@@ -39,12 +40,7 @@ fn word_size(text: &[u8]) -> usize
 }
 
 /// Adds the word that begins with the first octet of a text, if one does.
-fn add_word(
-    words: &mut Vec<FoundWord>,
-    column: usize,
-    inside: bool,
-    text: &[u8],
-) -> Result<(), AllocError>
+fn add_word(words: &mut Vec<FoundWord>, column: usize, inside: bool, text: &[u8]) -> Added
     ensures { OnOk result (words.new.items ≡ words.old.items ++ word_here column inside text.now) }
 {
     match text {

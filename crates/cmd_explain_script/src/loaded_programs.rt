@@ -14,6 +14,7 @@ use crate::contract_numbers::{NamesNone, names_none};
 use crate::found_words::front;
 use bpf_code::{DecodeFault, decode};
 use std::alloc::{AllocError, Global};
+use text_io::Added;
 use text_script::{Command, read_command};
 use text_words::octets_of_word;
 use upc_cell::Side;
@@ -82,11 +83,7 @@ fn program_of_digits(alloc: Global, digits: &[u8]) -> Result<Option<NamesNone>, 
 }
 
 /// Adds the program of these digits, if they spell one.
-fn add_program(
-    alloc: Global,
-    programs: &mut Vec<NamesNone>,
-    digits: &[u8],
-) -> Result<(), AllocError>
+fn add_program(alloc: Global, programs: &mut Vec<NamesNone>, digits: &[u8]) -> Added
     ensures { OnOk result (ProgramsAfter (Some digits.now) programs.old.items programs.new.items) }
 {
     match program_of_digits(alloc, digits)? {
@@ -105,7 +102,7 @@ pub(crate) fn add_loaded(
     side: Option<Side>,
     line: &[u8],
     answer: &[u8],
-) -> Result<(), AllocError>
+) -> Added
     ensures { OnOk result (ProgramsAfter (loaded_digits side line.now answer.now) programs.old.items programs.new.items) }
 {
     match loaded_digits(side, line, answer) {

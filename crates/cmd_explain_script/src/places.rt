@@ -3,7 +3,7 @@
 ghost use Rattle.std.specs.Prelude.{◌≡◌, ◌++◌, OnOk};
 ghost use Rattle.cmd_explain_script.specs.Places.{place_words, quoted};
 
-use std::alloc::AllocError;
+use text_io::Added;
 use text_words::{add_number, add_text};
 
 /// Appends octets between grave accents.
@@ -12,7 +12,7 @@ use text_words::{add_number, add_text};
 ///
 /// `AllocError` if an allocation failed.
 #[tactic(auto, using(std::proofs::lemmas::List::append_assoc))]
-pub fn add_quoted(answers: &mut Vec<u8>, octets: &[u8]) -> Result<(), AllocError>
+pub fn add_quoted(answers: &mut Vec<u8>, octets: &[u8]) -> Added
     ensures { OnOk result (answers.new.items ≡ answers.old.items ++ quoted octets.now) }
 {
     add_text(answers, b"`")?;
@@ -26,11 +26,7 @@ pub fn add_quoted(answers: &mut Vec<u8>, octets: &[u8]) -> Result<(), AllocError
 ///
 /// `AllocError` if an allocation failed.
 #[tactic(auto, using(std::proofs::lemmas::List::append_assoc))]
-pub fn add_place(
-    answers: &mut Vec<u8>,
-    number: usize,
-    column: Option<usize>,
-) -> Result<(), AllocError>
+pub fn add_place(answers: &mut Vec<u8>, number: usize, column: Option<usize>) -> Added
     ensures { OnOk result (answers.new.items ≡ answers.old.items ++ place_words number column) }
 {
     add_text(answers, b"line ")?;

@@ -12,7 +12,8 @@ use crate::places::add_place;
 use crate::script_faults::{ScriptFault, explained_fault};
 use crate::wrong_words::{add_wrong, word_at, wrong_word};
 use arrayvec::ArrayVec;
-use std::alloc::{AllocError, Global};
+use std::alloc::Global;
+use text_io::Added;
 use text_script::{Rate, Wanted, contract, contracts_of};
 use text_words::add_text;
 use upc_cell::Side;
@@ -205,7 +206,7 @@ pub(crate) fn cell_fault_text(fault: ScriptFault) -> &'static [u8]
 
 /// Appends the sentence about a fault by itself.
 #[tactic(auto, using(std::proofs::lemmas::List::append_assoc))]
-fn add_fault_text(answers: &mut Vec<u8>, fault: ScriptFault) -> Result<(), AllocError>
+fn add_fault_text(answers: &mut Vec<u8>, fault: ScriptFault) -> Added
     ensures { OnOk result (answers.new.items ≡ answers.old.items ++ script_fault_text fault) }
 {
     add_text(answers, word_fault_text(fault))?;
@@ -264,12 +265,7 @@ fn contract_at(line: &[u8], word: Option<FoundWord>) -> Option<Wanted>
 
 /// Appends the sentence about a fault by itself, on a line with these words.
 #[tactic(auto, using(std::proofs::lemmas::List::append_assoc))]
-fn add_own(
-    answers: &mut Vec<u8>,
-    fault: ScriptFault,
-    line: &[u8],
-    words: &[FoundWord],
-) -> Result<(), AllocError>
+fn add_own(answers: &mut Vec<u8>, fault: ScriptFault, line: &[u8], words: &[FoundWord]) -> Added
     ensures { OnOk result (answers.new.items ≡ answers.old.items ++ own_sentence fault line.now words.now) }
 {
     if is_of_bucket(fault) {
@@ -316,7 +312,7 @@ fn add_sentence(
     line: &[u8],
     words: &[FoundWord],
     found: Option<ScriptFault>,
-) -> Result<(), AllocError>
+) -> Added
     ensures { OnOk result (answers.new.items ≡ answers.old.items ++ fault_sentence side line.now words.now found) }
 {
     match found {
@@ -368,7 +364,7 @@ fn add_fault_explanation(
     line: &[u8],
     words: &[FoundWord],
     found: Option<ScriptFault>,
-) -> Result<(), AllocError>
+) -> Added
     ensures { OnOk result (answers.new.items ≡ answers.old.items ++ fault_explanation faulty side number line.now words.now found) }
 {
     add_place(
@@ -391,7 +387,7 @@ pub(crate) fn add_script_explanation(
     number: usize,
     line: &[u8],
     answer: &[u8],
-) -> Result<(), AllocError>
+) -> Added
     ensures { OnOk result (answers.new.items ≡ answers.old.items ++ script_explanation faulty side number line.now answer.now) }
 {
     let words = words_of(alloc, line)?;

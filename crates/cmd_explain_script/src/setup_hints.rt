@@ -10,14 +10,14 @@ use crate::contract_numbers::{NamesNone, names_none_of};
 use crate::found_words::{FoundWord, word_octets, words_of};
 use crate::places::add_place;
 use crate::wrong_words::word_at;
-use std::alloc::{AllocError, Global};
-use text_io::first_word;
+use std::alloc::Global;
+use text_io::{Added, first_word};
 use text_script::program;
 use text_words::{add_number, add_text};
 
 /// Appends the numbers of several contracts, in words.
 #[tactic(auto, using(std::proofs::lemmas::List::append_assoc))]
-fn add_range(answers: &mut Vec<u8>, count: usize) -> Result<(), AllocError>
+fn add_range(answers: &mut Vec<u8>, count: usize) -> Added
     ensures { OnOk result (answers.new.items ≡ answers.old.items ++ range_in_words count) }
 {
     add_text(answers, b"1 to ")?;
@@ -26,7 +26,7 @@ fn add_range(answers: &mut Vec<u8>, count: usize) -> Result<(), AllocError>
 }
 
 /// Appends the numbers of one contract or several, in words.
-fn add_numbers(answers: &mut Vec<u8>, count: usize) -> Result<(), AllocError>
+fn add_numbers(answers: &mut Vec<u8>, count: usize) -> Added
     ensures { OnOk result (answers.new.items ≡ answers.old.items ++ numbers_in_words count) }
 {
     if count == 1 {
@@ -38,7 +38,7 @@ fn add_numbers(answers: &mut Vec<u8>, count: usize) -> Result<(), AllocError>
 
 /// Appends the sentence about a program that names none of this many contracts.
 #[tactic(auto, using(std::proofs::lemmas::List::append_assoc))]
-fn add_unnamed_sentence(answers: &mut Vec<u8>, count: usize) -> Result<(), AllocError>
+fn add_unnamed_sentence(answers: &mut Vec<u8>, count: usize) -> Added
     ensures { OnOk result (answers.new.items ≡ answers.old.items ++ unnamed_sentence count) }
 {
     add_text(answers, b"this program never returns ")?;
@@ -48,12 +48,7 @@ fn add_unnamed_sentence(answers: &mut Vec<u8>, count: usize) -> Result<(), Alloc
 
 /// Appends the hint about the name of such a program, in this line and column.
 #[tactic(auto, using(std::proofs::lemmas::List::append_assoc))]
-fn add_unnamed(
-    answers: &mut Vec<u8>,
-    number: usize,
-    column: usize,
-    count: usize,
-) -> Result<(), AllocError>
+fn add_unnamed(answers: &mut Vec<u8>, number: usize, column: usize, count: usize) -> Added
     ensures { OnOk result (answers.new.items ≡ answers.old.items ++ unnamed_hint number column count) }
 {
     add_text(answers, b"hint ")?;
@@ -70,7 +65,7 @@ fn add_program_hint(
     column: usize,
     count: usize,
     found: Option<NamesNone>,
-) -> Result<(), AllocError>
+) -> Added
     ensures { OnOk result (answers.new.items ≡ answers.old.items ++ program_hint number column count found) }
 {
     match found {
@@ -109,7 +104,7 @@ fn add_word_hint(
     line: &[u8],
     count: usize,
     word: Option<FoundWord>,
-) -> Result<(), AllocError>
+) -> Added
     ensures { OnOk result (answers.new.items ≡ answers.old.items ++ word_hint programs.now number line.now count word) }
 {
     match word {
@@ -128,7 +123,7 @@ fn add_words_hint(
     number: usize,
     line: &[u8],
     words: &[FoundWord],
-) -> Result<(), AllocError>
+) -> Added
     ensures { OnOk result (answers.new.items ≡ answers.old.items ++ words_hint programs.now number line.now words.now) }
 {
     let count = words.len().saturating_sub(4);
@@ -152,7 +147,7 @@ pub(crate) fn add_setup_hint(
     programs: &[NamesNone],
     number: usize,
     line: &[u8],
-) -> Result<(), AllocError>
+) -> Added
     ensures { OnOk result (answers.new.items ≡ answers.old.items ++ setup_hint programs.now number line.now) }
 {
     if is_setup(line) {

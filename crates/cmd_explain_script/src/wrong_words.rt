@@ -12,7 +12,7 @@ use crate::found_words::{FoundWord, front, word_octets};
 use crate::meant::add_perhaps;
 use crate::places::add_quoted;
 use crate::tables::near_among;
-use std::alloc::AllocError;
+use text_io::Added;
 use text_script::number;
 use text_words::add_text;
 use upc_cell::Side;
@@ -90,7 +90,7 @@ fn no_channel_text(side: Side, word: &[u8]) -> &'static [u8]
 
 /// Appends what is wrong with a word that names no program.
 #[tactic(auto, using(std::proofs::lemmas::List::append_assoc))]
-fn add_program(answers: &mut Vec<u8>, word: &[u8]) -> Result<(), AllocError>
+fn add_program(answers: &mut Vec<u8>, word: &[u8]) -> Added
     ensures { OnOk result (answers.new.items ≡ answers.old.items ++ no_program_text word.now) }
 {
     if number(word).is_some() {
@@ -111,7 +111,7 @@ pub(crate) fn add_slot_text(
     side: Side,
     slot: ScriptSlot,
     word: &[u8],
-) -> Result<(), AllocError>
+) -> Added
     ensures { OnOk result (answers.new.items ≡ answers.old.items ++ slot_text side slot word.now) }
 {
     match slot {
@@ -159,12 +159,7 @@ pub(crate) fn takes_text(form: ScriptForm, paths: bool) -> &'static [u8]
 
 /// Appends the sentence about the words that a command takes.
 #[tactic(auto, using(std::proofs::lemmas::List::append_assoc))]
-fn add_takes(
-    answers: &mut Vec<u8>,
-    side: Side,
-    name: &[u8],
-    form: ScriptForm,
-) -> Result<(), AllocError>
+fn add_takes(answers: &mut Vec<u8>, side: Side, name: &[u8], form: ScriptForm) -> Added
     ensures { OnOk result (answers.new.items ≡ answers.old.items ++ takes_sentence side name.now form) }
 {
     add_quoted(answers, name)?;
@@ -191,7 +186,7 @@ fn add_slot(
     form: ScriptForm,
     slot: Option<ScriptSlot>,
     word: &[u8],
-) -> Result<(), AllocError>
+) -> Added
     ensures { OnOk result (answers.new.items ≡ answers.old.items ++ slot_sentence side name.now form slot word.now) }
 {
     match slot {
@@ -211,7 +206,7 @@ fn add_operand(
     form: ScriptForm,
     slot: Option<ScriptSlot>,
     word: Option<&[u8]>,
-) -> Result<(), AllocError>
+) -> Added
     ensures { OnOk result (answers.new.items ≡ answers.old.items
         ++ operand_sentence side name.now form slot (option_map (λ word. word.now) word.entry)) }
 {
@@ -231,7 +226,7 @@ fn add_operand(
 }
 
 /// Appends the command that was perhaps meant, or this text.
-fn add_meant(answers: &mut Vec<u8>, meant: Option<&[u8]>, text: &[u8]) -> Result<(), AllocError>
+fn add_meant(answers: &mut Vec<u8>, meant: Option<&[u8]>, text: &[u8]) -> Added
     ensures { OnOk result (answers.new.items ≡ answers.old.items ++ meant_or (option_map (λ meant. meant.now) meant.entry) text.now) }
 {
     match meant {
@@ -241,7 +236,7 @@ fn add_meant(answers: &mut Vec<u8>, meant: Option<&[u8]>, text: &[u8]) -> Result
 }
 
 /// Appends the command that a script was perhaps to begin with, or what it begins with.
-fn add_meant_opening(answers: &mut Vec<u8>, word: &[u8]) -> Result<(), AllocError>
+fn add_meant_opening(answers: &mut Vec<u8>, word: &[u8]) -> Added
     ensures { OnOk result (answers.new.items ≡ answers.old.items ++ meant_opening word.now) }
 {
     add_meant(
@@ -252,7 +247,7 @@ fn add_meant_opening(answers: &mut Vec<u8>, word: &[u8]) -> Result<(), AllocErro
 }
 
 /// Appends the command that was perhaps meant, or all commands.
-fn add_meant_command(answers: &mut Vec<u8>, word: &[u8]) -> Result<(), AllocError>
+fn add_meant_command(answers: &mut Vec<u8>, word: &[u8]) -> Added
     ensures { OnOk result (answers.new.items ≡ answers.old.items ++ meant_command word.now) }
 {
     add_meant(
@@ -292,7 +287,7 @@ fn setup_word_text(word: &[u8]) -> Option<&'static [u8]>
 
 /// Appends the line of a setup that a word begins, or what was perhaps meant by a word that opens no card.
 #[tactic(auto, unfolding(crate::specs::WrongWords::unopened_text))]
-fn add_unopened_text(answers: &mut Vec<u8>, word: &[u8]) -> Result<(), AllocError>
+fn add_unopened_text(answers: &mut Vec<u8>, word: &[u8]) -> Added
     ensures { OnOk result (answers.new.items ≡ answers.old.items ++ unopened_text word.now) }
 {
     match tick_text(word) {
@@ -303,7 +298,7 @@ fn add_unopened_text(answers: &mut Vec<u8>, word: &[u8]) -> Result<(), AllocErro
 
 /// Appends the line of a setup that a word begins, or what was perhaps meant by a word that is no command.
 #[tactic(auto, unfolding(crate::specs::WrongWords::uncommanded_text))]
-fn add_uncommanded_text(answers: &mut Vec<u8>, word: &[u8]) -> Result<(), AllocError>
+fn add_uncommanded_text(answers: &mut Vec<u8>, word: &[u8]) -> Added
     ensures { OnOk result (answers.new.items ≡ answers.old.items ++ uncommanded_text word.now) }
 {
     match setup_word_text(word) {
@@ -313,7 +308,7 @@ fn add_uncommanded_text(answers: &mut Vec<u8>, word: &[u8]) -> Result<(), AllocE
 }
 
 /// Appends the sentence about the first word of a script, which opens no card.
-fn add_unopened(answers: &mut Vec<u8>, word: &[u8]) -> Result<(), AllocError>
+fn add_unopened(answers: &mut Vec<u8>, word: &[u8]) -> Added
     ensures { OnOk result (answers.new.items ≡ answers.old.items ++ unopened_sentence word.now) }
 {
     add_quoted(answers, word)?;
@@ -322,7 +317,7 @@ fn add_unopened(answers: &mut Vec<u8>, word: &[u8]) -> Result<(), AllocError>
 }
 
 /// Appends the sentence about a word that is no command of an open card.
-fn add_uncommanded(answers: &mut Vec<u8>, word: &[u8]) -> Result<(), AllocError>
+fn add_uncommanded(answers: &mut Vec<u8>, word: &[u8]) -> Added
     ensures { OnOk result (answers.new.items ≡ answers.old.items ++ uncommanded_sentence word.now) }
 {
     add_quoted(answers, word)?;
@@ -331,7 +326,7 @@ fn add_uncommanded(answers: &mut Vec<u8>, word: &[u8]) -> Result<(), AllocError>
 }
 
 /// Appends the sentence about a word that names no command.
-fn add_unknown(answers: &mut Vec<u8>, side: Option<Side>, word: &[u8]) -> Result<(), AllocError>
+fn add_unknown(answers: &mut Vec<u8>, side: Option<Side>, word: &[u8]) -> Added
     ensures { OnOk result (answers.new.items ≡ answers.old.items ++ unknown_sentence side word.now) }
 {
     match side {
@@ -364,7 +359,7 @@ fn add_words(
     name: &[u8],
     form: ScriptForm,
     words: &[FoundWord],
-) -> Result<(), AllocError>
+) -> Added
     ensures { OnOk result (answers.new.items ≡ answers.old.items ++ command_sentence side line.now name.now words.now (Some form)) }
 {
     let slots = slots_after(form);
@@ -380,7 +375,7 @@ pub(crate) fn add_wrong(
     side: Option<Side>,
     line: &[u8],
     words: &[FoundWord],
-) -> Result<(), AllocError>
+) -> Added
     ensures { OnOk result (answers.new.items ≡ answers.old.items ++ wrong_sentence side line.now words.now) }
 {
     match words {

@@ -9,7 +9,7 @@ use Rattle.cmd_fit.specs.FitAsked.{IsFitAsked, IsFitBy, scope_of}
 use Rattle.cmd_fit.specs.FitLaws.{CapturesHaveOneFitText}
 use Rattle.cmd_fit.specs.FitText.{fit_closes, fit_rules, fit_start, fit_steps}
 use Rattle.cmd_fit.specs.RulesGiven.{rules_given}
-use Rattle.cmd_fit.specs.declared.fit_choice.FitChoice.{FitChoice}
+use Rattle.captures_text.specs.declared.fit_choice.FitChoice.{FitChoice}
 
 some_by : (choice : FitChoice) (read : Result (Option RulesRead) (List ℕ)) (octets : List ℕ) → (text : List ℕ) × (done : Done) × IsFitBy choice read octets text done
 some_by choice (Ok rules) octets =

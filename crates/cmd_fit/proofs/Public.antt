@@ -2,7 +2,7 @@
 use Rattle.std.proofs.Common.{ℕ, List, Option}
 use Rattle.cmd_fit.specs.FitAsked.{IsFitAsked}
 use Rattle.cmd_fit.specs.LinksText.{IsLinksText}
-use Rattle.cmd_fit.specs.declared.fit_choice.FitChoice.{FitChoice}
+use Rattle.captures_text.specs.declared.fit_choice.FitChoice.{FitChoice}
 use Rattle.cmd_fit.proofs.AskedTexts as asked
 use Rattle.cmd_fit.proofs.LinksOfOctets as links
 use Rattle.text_io.specs.declared.ending.Done.{Done}

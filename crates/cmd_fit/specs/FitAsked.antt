@@ -5,7 +5,7 @@ use Rattle.text_io.specs.declared.ending.Done.{Done}
 use Rattle.text_io.specs.declared.ending.Done.TheVariants.{Ended}
 use Rattle.cmd_fit.specs.FitText.{FitScope, IsFitText}
 use Rattle.cmd_fit.specs.RulesGiven.{rules_given}
-use Rattle.cmd_fit.specs.declared.fit_choice.FitChoice.{FitChoice}
+use Rattle.captures_text.specs.declared.fit_choice.FitChoice.{FitChoice}
 
 -- What a run with these rules, if any, is about.
 abbrev pub scope_of : FitChoice → Option RulesRead → FitScope

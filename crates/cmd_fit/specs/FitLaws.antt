@@ -20,7 +20,7 @@ use Rattle.cmd_fit.specs.Fits.{fit_in, is_of_class}
 use Rattle.cmd_fit.specs.FitText.{FitScope, FitWorld, fit_rules, fit_start, flow_key, put_in_order}
 use Rattle.cmd_fit.specs.Flows.{flow_of, is_same_flow}
 use Rattle.cmd_fit.specs.declared.connection_fit.ConnectionFit.{ConnectionFit}
-use Rattle.cmd_fit.specs.declared.fit_choice.FitChoice.{FitChoice}
+use Rattle.captures_text.specs.declared.fit_choice.FitChoice.{FitChoice}
 use Rattle.cmd_fit.specs.declared.flow.Flow.{Flow}
 
 -- The cells of the class that is asked for.

@@ -1,8 +1,6 @@
 //! The least limits of the connections of a capture.
 
-ghost use Rattle.std.specs.Prelude.{◌≡◌, ◌≢◌, ◌++◌, Err, IfOk, OnErr, OnOk, is_some, option_map};
-ghost use Rattle.text_io.specs.Devices.{IsPart};
-ghost use Rattle.text_io.specs.Failures.{write_failures};
+ghost use Rattle.std.specs.Prelude.{◌≡◌, is_some, option_map};
 ghost use Rattle.text_io.specs.Serving.{IsServed};
 ghost use Rattle.upc_cell.specs.Header.{clp_of};
 ghost use Rattle.cmd_fit.specs.FitAsked.{IsFitAsked, scope_of};
@@ -13,16 +11,18 @@ ghost use Rattle.cmd_fit.specs.inner.FitShown.{fit_world};
 ghost use Rattle.cmd_fit.specs.inner.RulesHeld.{rules_held};
 
 use crate::cell_values::CellValues;
-use crate::fit_choice::FitChoice;
 use crate::fit_lines::{add_fit_fault, add_heading};
 use crate::flow::Flow;
 use crate::flows::Flows;
 use crate::given_rules::{GivenRules, read_given};
 use captures::Fault;
-use captures_text::{CapturedCell, CellFollower, ReadingSummary, add_closing, follow_cells};
-use std::alloc::{AllocError, Global};
+use captures_text::{
+    CapturedCell, CellFollower, FitChoice, Followed, ReadingSummary, add_closing, follow_cells,
+    write_faults,
+};
+use std::alloc::Global;
 use std::thread::Threads;
-use text_io::{Done, Ending, Input, Output, RunFault, Turn, give_last};
+use text_io::{Added, Ending, Input, Output, RunFault, Turn};
 use upc_cell::{Cell, Side};
 
 /// Returns the cell loss priority of a cell.
@@ -115,11 +115,7 @@ impl CellFollower for FitRun {
 
     ghost rules = { fit_rules };
 
-    fn follow_cell(
-        &mut self,
-        captured: &CapturedCell,
-        answers: &mut Vec<u8>,
-    ) -> Result<Turn, AllocError> {
+    fn follow_cell(&mut self, captured: &CapturedCell, answers: &mut Vec<u8>) -> Followed {
         if !is_of_class(&captured.cell, self.clp) {
             return Ok(Turn::GoesOn);
         }
@@ -136,17 +132,12 @@ impl CellFollower for FitRun {
         }
     }
 
-    fn close(
-        &self,
-        summary: &ReadingSummary,
-        ending: Option<Fault>,
-        answers: &mut Vec<u8>,
-    ) -> Result<(), AllocError> {
+    fn close(&self, summary: &ReadingSummary, end: Option<Fault>, answers: &mut Vec<u8>) -> Added {
         let valued = self.is_valued();
         add_heading(answers, valued)?;
         self.flows
             .add_lines(self.alloc, answers, self.side, valued)?;
-        add_closing(answers, summary, ending)
+        add_closing(answers, summary, end)
     }
 
     ghost is_total = { fixed_total fit_steps fit_closes };
@@ -177,17 +168,6 @@ fn fit_cells<R: Threads, I: Input + Send, O: Output>(
         output,
         &mut run,
     )
-}
-
-/// Writes the answer to a text of rules with a fault, in place of the limits.
-fn give_answer<O: Output>(output: &mut O, mut answer: Vec<u8>) -> Ending
-    ensures done { IfOk result (λ done. done ≡ Done.Ended) }
-    ensures given { O.is_known → OnOk result (O.held output.new ≡ O.held output.old ++ answer.items) }
-    ensures front { O.is_known → OnErr result (IsPart (O.held output.old) (O.held output.new) answer.items) }
-    ensures fault { result ≢ Err RunFault.ReadFailed }
-    ensures writing { O.failures output.new ≡ write_failures result (O.failures output.old) }
-{
-    give_last(output, &mut answer, Done::Ended)
 }
 
 /// Answers a capture by the least limit of each of its connections, in ticks, under which all its cells conform to one
@@ -226,7 +206,7 @@ pub fn fit_capture<R: Threads, I: Input + Send, O: Output>(
 {
     match read_given(alloc, rules) {
         Err(_) => Err(RunFault::NoMemory),
-        Ok(GivenRules::Faulty(answer)) => give_answer(output, answer),
+        Ok(GivenRules::Faulty(answer)) => write_faults(output, answer),
         Ok(GivenRules::Held(values)) => {
             fit_cells(rt, threads, alloc, choice, values, input, output)
         }

@@ -12,6 +12,9 @@ use std::collections::BTreeMap;
 use std::marker::Model;
 use upc_cell::Side;
 
+/// Why a cell ends the run, if it does. The error is that memory is short.
+type Taken = Result<Option<FitFault>, AllocError>;
+
 /// The highest number of flows.
 const MOST_FLOWS: usize = 65535;
 
@@ -61,13 +64,7 @@ impl Flows {
     }
 
     /// Takes a cell of this flow at this moment, whose record has this number. Returns why it ends the run, if it does.
-    pub(crate) fn take(
-        &mut self,
-        increment: u64,
-        flow: Flow,
-        moment: u64,
-        number: u64,
-    ) -> Result<Option<FitFault>, AllocError>
+    pub(crate) fn take(&mut self, increment: u64, flow: Flow, moment: u64, number: u64) -> Taken
         ensures { IfOk result (λ fault. fits_after increment self.old flow moment number ≡ taken_as fault self.new) }
     {
         match place_in(&self.places, flow) {
@@ -77,13 +74,7 @@ impl Flows {
     }
 
     /// Takes the first cell of a flow.
-    fn begin(
-        &mut self,
-        increment: u64,
-        flow: Flow,
-        moment: u64,
-        number: u64,
-    ) -> Result<Option<FitFault>, AllocError>
+    fn begin(&mut self, increment: u64, flow: Flow, moment: u64, number: u64) -> Taken
         requires { fit_in flow self.old ≡ None }
         ensures { IfOk result (λ fault. fits_after increment self.old flow moment number ≡ taken_as fault self.new) }
     {

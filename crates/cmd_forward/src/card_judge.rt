@@ -10,6 +10,7 @@ use captures_text::{CapturedCell, ReadingSummary};
 use cmd_police::PolicedCard;
 use leaky::Verdict;
 use std::alloc::AllocError;
+use text_io::Added;
 
 /// Returns how a cell with this verdict goes on.
 fn onward_by(verdict: Option<Verdict>) -> Onward
@@ -38,13 +39,8 @@ impl CellJudge for PolicedCard {
         Ok(onward_by(verdict))
     }
 
-    fn close(
-        &self,
-        summary: &ReadingSummary,
-        ending: Option<Fault>,
-        report: &mut Vec<u8>,
-    ) -> Result<(), AllocError> {
-        self.add_report(report, summary, ending)
+    fn close(&self, summary: &ReadingSummary, end: Option<Fault>, report: &mut Vec<u8>) -> Added {
+        self.add_report(report, summary, end)
     }
 
     ghost is_total = { forward-total };

@@ -7,6 +7,7 @@ use crate::onward::Onward;
 use captures::Fault;
 use captures_text::{CapturedCell, ReadingSummary};
 use std::alloc::AllocError;
+use text_io::Added;
 
 /// A program that gets one cell that counts after another and says of each how it goes on.
 ///
@@ -24,13 +25,8 @@ pub trait CellJudge {
         ensures { IfOk result (λ onward. JudgesCell rules (shows self.old) captured.now onward (shows self.new)) };
 
     /// Appends the report about the run at the end of the capture, or at its fault. These records were passed over.
-    fn close(
-        &self,
-        summary: &ReadingSummary,
-        ending: Option<Fault>,
-        report: &mut Vec<u8>,
-    ) -> Result<(), AllocError>
-        ensures { OnOk result (ClosesReport rules (shows self.now) summary.now ending report.old.items report.new.items) };
+    fn close(&self, summary: &ReadingSummary, end: Option<Fault>, report: &mut Vec<u8>) -> Added
+        ensures { OnOk result (ClosesReport rules (shows self.now) summary.now end report.old.items report.new.items) };
 
     ghost is_total: { JudgesEachCell rules };
 }

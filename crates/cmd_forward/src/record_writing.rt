@@ -11,7 +11,7 @@ use crate::onward::Onward;
 use crate::others::Others;
 use byteorder::{BigEndian, ByteOrder};
 use captures::cell_place;
-use std::alloc::AllocError;
+use text_io::Added;
 use upc_cell::{CELL_OCTETS, Cell};
 
 /// Returns the length in the header of a record.
@@ -24,7 +24,7 @@ fn length_of(octets: &[u8]) -> usize
 }
 
 /// Appends this many zeros.
-fn add_zeros(written: &mut Vec<u8>, count: usize) -> Result<(), AllocError>
+fn add_zeros(written: &mut Vec<u8>, count: usize) -> Added
     ensures { OnOk result (written.new.items ≡ written.old.items ++ replicate count 0) }
 {
     for _ in 0..count {
@@ -34,7 +34,7 @@ fn add_zeros(written: &mut Vec<u8>, count: usize) -> Result<(), AllocError>
 }
 
 /// Appends the octets that a record lacks.
-fn add_lacking(written: &mut Vec<u8>, octets: &[u8]) -> Result<(), AllocError>
+fn add_lacking(written: &mut Vec<u8>, octets: &[u8]) -> Added
     requires { 16 ≤ length octets.now }
     ensures { OnOk result (written.new.items ≡ written.old.items ++ octets_lacking octets.now) }
 {
@@ -43,7 +43,7 @@ fn add_lacking(written: &mut Vec<u8>, octets: &[u8]) -> Result<(), AllocError>
 
 /// Appends a whole record.
 #[tactic(auto, using(std::proofs::lemmas::List::append_assoc))]
-fn add_whole(written: &mut Vec<u8>, octets: &[u8]) -> Result<(), AllocError>
+fn add_whole(written: &mut Vec<u8>, octets: &[u8]) -> Added
     requires { 16 ≤ length octets.now }
     ensures { OnOk result (written.new.items ≡ written.old.items ++ whole_record octets.now) }
 {
@@ -52,7 +52,7 @@ fn add_whole(written: &mut Vec<u8>, octets: &[u8]) -> Result<(), AllocError>
 }
 
 /// Appends the tagged form of the cell at this place.
-fn add_tagged_cell(written: &mut Vec<u8>, octets: &[u8], place: usize) -> Result<(), AllocError>
+fn add_tagged_cell(written: &mut Vec<u8>, octets: &[u8], place: usize) -> Added
     requires { place + 52 ≤ length octets.now }
     ensures { OnOk result (written.new.items ≡ written.old.items ++ tagged_form (take 52 (drop place octets.now))) }
 {
@@ -65,7 +65,7 @@ fn add_tagged_cell(written: &mut Vec<u8>, octets: &[u8], place: usize) -> Result
 
 /// Appends a whole record with its cell, which begins at this place, tagged.
 #[tactic(auto, using(std::proofs::lemmas::List::append_assoc))]
-fn add_tagged(written: &mut Vec<u8>, octets: &[u8], place: usize) -> Result<(), AllocError>
+fn add_tagged(written: &mut Vec<u8>, octets: &[u8], place: usize) -> Added
     requires headed { 16 ≤ length octets.now }
     requires within { place + 52 ≤ length octets.now }
     ensures { OnOk result (written.new.items ≡ written.old.items ++ tagged_record octets.now place) }
@@ -77,11 +77,7 @@ fn add_tagged(written: &mut Vec<u8>, octets: &[u8], place: usize) -> Result<(), 
 }
 
 /// Appends what is written of a record whose cell counts.
-pub(crate) fn add_cell_record(
-    written: &mut Vec<u8>,
-    onward: Onward,
-    octets: &[u8],
-) -> Result<(), AllocError>
+pub(crate) fn add_cell_record(written: &mut Vec<u8>, onward: Onward, octets: &[u8]) -> Added
     requires headed { 16 ≤ length octets.now }
     requires cell { (cell : List ℕ) × IsContent octets.now (Ok cell) }
     ensures { OnOk result (Adds (IsCellWritten onward octets.now) written.old.items written.new.items) }
@@ -97,11 +93,7 @@ pub(crate) fn add_cell_record(
 }
 
 /// Appends what is written of another record.
-pub(crate) fn add_other_record(
-    written: &mut Vec<u8>,
-    others: Others,
-    octets: &[u8],
-) -> Result<(), AllocError>
+pub(crate) fn add_other_record(written: &mut Vec<u8>, others: Others, octets: &[u8]) -> Added
     requires { 16 ≤ length octets.now }
     ensures { OnOk result (written.new.items ≡ written.old.items ++ other_written others octets.now) }
 {

@@ -10,6 +10,7 @@ use Rattle.text_command_line.specs.Subcommands.{IsEnd, NamesIn, NamesRow, app_wi
 use Rattle.text_command_line.specs.declared.stop.Stop.{Stop}
 use Rattle.text_command_line.specs.declared.stop.Stop.TheVariants.{NoMemory}
 use Rattle.cmd_options.specs.LabWords.{AsksLab, IsLabStop, IsStopOf, NamesLab, begun_by, lab_app, lab_faults_in, lab_subcommands, lab_table, own_subcommands, with_options_named}
+use Rattle.cmd_options.specs.inner.LabAnswers.{LabAnswers}
 use Rattle.cmd_options.specs.declared.choice.Asked.{Asked}
 use Rattle.cmd_options.specs.declared.choice.Asked.TheVariants.{Plain, Why, Cells, Fit, Police, Differ, Forward, Explain}
 use Rattle.cmd_options.specs.declared.choice.Subcommand.{Subcommand}
@@ -115,13 +116,6 @@ row_of words subcommand h =
     (h.0, h.1, h.2, joined lab_subcommands own_rows h.0 ∙ ap (λ found. or_other (option_map Some found) (meaning_in own_rows h.0)) h.3, h.4)
 
 -- ---- the contract of `choose_plain`
-
-pub record LabAnswers (words : List Text) (answer : Result Subcommand Stop) : Type 0 where
-  pub asked : IfOk answer (NamesLab words)
-  pub faultless : IfOk answer (λ _. lab_faults_in words ≡ [])
-  pub stopped : IfErr answer (StopsAt (lab_faults_in words))
-  pub taken : lab_faults_in words ≡ [] → IfErr answer (λ stop. stop ≡ NoMemory)
-  pub granted : (subcommand : Subcommand) → NamesLab words subcommand → IfErr answer (λ stop. stop ≡ NoMemory)
 
 pub answers : (words : List Text) (row : Result (Option (Option Subcommand)) Stop) (answer : Result Subcommand Stop) → begun_by words ≡ None → IfOk row (λ _. lab_faults_in words ≡ []) → IfOk row (NamesIn lab_table words)
     → IfErr row (StopsAt (lab_faults_in words)) → (lab_faults_in words ≡ [] → IfErr row (λ stop. stop ≡ NoMemory))

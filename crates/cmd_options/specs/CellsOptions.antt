@@ -6,8 +6,6 @@ use Rattle.clap.specs.Simple.{App}
 use Rattle.clap.specs.Walk.{Rule, Text}
 use Rattle.text_command_line.specs.Arguments.{app_with_rules, argument_rule, flag_rule}
 use Rattle.text_command_line.specs.CommandLines.{argument_value}
-use Rattle.text_command_line.specs.declared.stop.Stop.{Stop}
-use Rattle.cmd_options.specs.OptionAnswers.{Asks, IsOptionStop}
 use Rattle.cmd_options.specs.LinkOption.{link_of}
 use Rattle.cmd_options.specs.OptionValues.{is_given, tick_of, timing_of}
 use Rattle.cmd_options.specs.declared.cells.CellsOptions.{CellsOptions}
@@ -24,13 +22,9 @@ link_rule = argument_rule (codes "link") true None false
 abbrev pub time_rule : Rule
 time_rule = argument_rule (codes "time") true (Some (codes "record")) false
 
--- The option `--record`.
-abbrev pub record_rule : Rule
-record_rule = flag_rule (codes "record")
-
--- The command `upc-lab cells`: these options, and that for help, which every command has.
+-- The command `upc-lab cells`: these options, the option `--record`, and that for help, which every command has.
 unfoldable pub cells_app : App
-cells_app = app_with_rules (codes "upc-lab cells") (tick_rule ∷ link_rule ∷ time_rule ∷ record_rule ∷ [])
+cells_app = app_with_rules (codes "upc-lab cells") (tick_rule ∷ link_rule ∷ time_rule ∷ flag_rule (codes "record") ∷ [])
 
 -- What is asked for: the nanoseconds of a tick, the link, if any, which time of a record counts, and whether each cell
 -- comes after the number of its record.
@@ -40,34 +34,21 @@ pub record CellsAsked : Type 0 where
   pub timing : TimeSource
   pub numbered : Bool
 
+-- These are asked for.
+abbrev pub cells_asking : ℕ → Option Link → TimeSource → Bool → CellsAsked
+cells_asking nanoseconds link timing numbered = record { nanoseconds = nanoseconds; link = link; timing = timing; numbered = numbered }
+
 -- What options of `cells` ask for.
 abbrev pub cells_asked_by : CellsOptions → CellsAsked
-cells_asked_by options = record {
-  nanoseconds = options.tick.nanoseconds;
-  link = options.link;
-  timing = options.timing;
-  numbered = options.numbered;
-}
+cells_asked_by options = cells_asking options.tick.nanoseconds options.link options.timing options.numbered
 
 -- What these values spell, if each spells something.
 abbrev pub cells_values : Option Text → Option Text → Option Text → Option Text → Option CellsAsked
 cells_values tick link timing numbered =
-    option_and_then (λ nanoseconds. option_and_then (λ asked. option_map (λ source. record {
-      nanoseconds = nanoseconds;
-      link = asked;
-      timing = source;
-      numbered = is_given numbered;
-    }) (timing_of timing)) (link_of link)) (tick_of tick)
+    option_and_then (λ nanoseconds. option_and_then (λ asked. option_map (λ source. cells_asking nanoseconds asked source (is_given numbered))
+    (timing_of timing)) (link_of link)) (tick_of tick)
 
 -- What the values of the options in the words spell.
 abbrev pub cells_asked : List Text → Option CellsAsked
 cells_asked words = cells_values (argument_value cells_app words (codes "tick")) (argument_value cells_app words (codes "link"))
     (argument_value cells_app words (codes "time")) (argument_value cells_app words (codes "record"))
-
--- The words have no error for clap, and ask for this.
-abbrev pub AsksCells : List Text → CellsAsked → Type 0
-AsksCells = Asks cells_app cells_asked
-
--- The Stops that words may give. NoMemory is always allowed.
-abbrev pub IsCellsStop : List Text → Stop → Type 0
-IsCellsStop = IsOptionStop cells_app cells_asked

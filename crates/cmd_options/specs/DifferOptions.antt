@@ -3,39 +3,24 @@ use Rattle.std.specs.Prelude.{Bool, List, [], ◌∷◌, Option, Some, None, cod
 use Rattle.std.specs.Str.{bytes_eq}
 use Rattle.std.specs.String.{string_bytes}
 use Rattle.clap.specs.Simple.{App}
-use Rattle.clap.specs.Walk.{Rule, Text}
+use Rattle.clap.specs.Walk.{Text}
 use Rattle.text_command_line.specs.Arguments.{app_with_rules, argument_rule}
 use Rattle.text_command_line.specs.CommandLines.{argument_value}
-use Rattle.text_command_line.specs.declared.stop.Stop.{Stop}
-use Rattle.cmd_options.specs.OptionAnswers.{Asks, IsOptionStop}
-use Rattle.cmd_options.specs.OptionValues.{pairs_of, file_name_of}
+use Rattle.cmd_options.specs.OptionValues.{pairs_of, file_name_of, one_of_two}
 use Rattle.cmd_options.specs.declared.differ.DifferOptions.{DifferOptions}
 use Rattle.cmd_options.specs.declared.programs.Programs.{Programs}
 use Rattle.cmd_options.specs.declared.programs.Programs.TheVariants as which
 
--- The argument OLD, which must be given.
-abbrev pub old_rule : Rule
-old_rule = argument_rule (codes "OLD") false None true
-
--- The option `--lines LINES`, whose value is changed if it isn't given.
-abbrev pub pairs_rule : Rule
-pairs_rule = argument_rule (codes "lines") true (Some (codes "changed")) false
-
--- The option `--program WHICH`.
-abbrev pub program_rule : Rule
-program_rule = argument_rule (codes "program") true None false
-
--- The command `upc-lab differ`: this argument and these options, and that for help, which every command has.
+-- The command `upc-lab differ`: the argument OLD, which must be given, the options `--lines LINES`, whose value is changed if it isn't given,
+-- and `--program WHICH`, and that for help, which every command has.
 unfoldable pub differ_app : App
-differ_app = app_with_rules (codes "upc-lab differ") (old_rule ∷ pairs_rule ∷ program_rule ∷ [])
+differ_app = app_with_rules (codes "upc-lab differ") (argument_rule (codes "OLD") false None true
+    ∷ argument_rule (codes "lines") true (Some (codes "changed")) false ∷ argument_rule (codes "program") true None false ∷ [])
 
 -- Which texts a word says to be programs.
 abbrev pub programs_named : Text → Option Programs
 programs_named word =
-    if bytes_eq word (codes "old") then Some which.Old
-    else if bytes_eq word (codes "new") then Some which.New
-    else if bytes_eq word (codes "both") then Some which.Both
-    else None
+    if bytes_eq word (codes "old") then Some which.Old else one_of_two (codes "new") which.New (codes "both") which.Both word
 
 -- Which texts are said to be programs. Without a word both are rules.
 abbrev pub programs_of : Option Text → Option Programs
@@ -56,21 +41,10 @@ differ_asked_by options = record { old = string_bytes options.old; all = options
 -- What these values spell, if each spells something.
 abbrev pub differ_values : Option Text → Option Text → Option Text → Option DifferAsked
 differ_values old pairs program =
-    option_and_then (λ name. option_and_then (λ all. option_map (λ programs. record {
-      old = name;
-      all = all;
-      programs = programs;
-    }) (programs_of program)) (pairs_of pairs)) (file_name_of old)
+    option_and_then (λ name. option_and_then (λ all. option_map (λ programs. record { old = name; all = all; programs = programs })
+    (programs_of program)) (pairs_of pairs)) (file_name_of old)
 
 -- What the values of the argument and the options in the words spell.
 abbrev pub differ_asked : List Text → Option DifferAsked
 differ_asked words = differ_values (argument_value differ_app words (codes "OLD")) (argument_value differ_app words (codes "lines"))
     (argument_value differ_app words (codes "program"))
-
--- The words have no error for clap, and ask for this.
-abbrev pub AsksDiffer : List Text → DifferAsked → Type 0
-AsksDiffer = Asks differ_app differ_asked
-
--- The Stops that words may give. NoMemory is always allowed.
-abbrev pub IsDifferStop : List Text → Stop → Type 0
-IsDifferStop = IsOptionStop differ_app differ_asked

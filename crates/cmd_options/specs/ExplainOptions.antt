@@ -2,21 +2,15 @@
 use Rattle.std.specs.Prelude.{List, [], ◌∷◌, Option, None, codes, false, option_map, true}
 use Rattle.std.specs.String.{string_bytes}
 use Rattle.clap.specs.Simple.{App}
-use Rattle.clap.specs.Walk.{Rule, Text}
+use Rattle.clap.specs.Walk.{Text}
 use Rattle.text_command_line.specs.Arguments.{app_with_rules, argument_rule}
 use Rattle.text_command_line.specs.CommandLines.{argument_value}
-use Rattle.text_command_line.specs.declared.stop.Stop.{Stop}
-use Rattle.cmd_options.specs.OptionAnswers.{Asks, IsOptionStop}
 use Rattle.cmd_options.specs.OptionValues.{asked_file_of}
 use Rattle.cmd_options.specs.declared.explain.ExplainOptions.{ExplainOptions}
 
--- The option `--setup SETUP`.
-abbrev pub explained_setup_rule : Rule
-explained_setup_rule = argument_rule (codes "setup") true None false
-
--- The command `upc-lab explain`: this option, and that for help, which every command has.
+-- The command `upc-lab explain`: the option `--setup SETUP`, and that for help, which every command has.
 unfoldable pub explain_app : App
-explain_app = app_with_rules (codes "upc-lab explain") (explained_setup_rule ∷ [])
+explain_app = app_with_rules (codes "upc-lab explain") (argument_rule (codes "setup") true None false ∷ [])
 
 -- What is asked for: the name of the file with a setup script, if any.
 pub record ExplainAsked : Type 0 where
@@ -33,11 +27,3 @@ explain_values setup = option_map (λ name. record { setup = name }) (asked_file
 -- What the value of the option in the words spells.
 abbrev pub explain_asked : List Text → Option ExplainAsked
 explain_asked words = explain_values (argument_value explain_app words (codes "setup"))
-
--- The words have no error for clap, and ask for this.
-abbrev pub AsksExplain : List Text → ExplainAsked → Type 0
-AsksExplain = Asks explain_app explain_asked
-
--- The Stops that words may give. NoMemory is always allowed.
-abbrev pub IsExplainStop : List Text → Stop → Type 0
-IsExplainStop = IsOptionStop explain_app explain_asked

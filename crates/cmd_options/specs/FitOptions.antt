@@ -4,40 +4,21 @@ use Rattle.captures.specs.declared.link.Link.{Link}
 use Rattle.captures.specs.declared.packet_time.TimeSource.{TimeSource}
 use Rattle.std.specs.String.{string_bytes}
 use Rattle.clap.specs.Simple.{App}
-use Rattle.clap.specs.Walk.{Rule, Text}
+use Rattle.clap.specs.Walk.{Text}
 use Rattle.text_command_line.specs.Arguments.{app_with_rules, argument_rule, flag_rule}
 use Rattle.text_command_line.specs.CommandLines.{argument_value}
-use Rattle.text_command_line.specs.declared.stop.Stop.{Stop}
 use Rattle.cmd_options.specs.CellsOptions.{link_rule, tick_rule, time_rule}
-use Rattle.cmd_options.specs.OptionAnswers.{Asks, IsOptionStop}
 use Rattle.cmd_options.specs.LinkOption.{link_of}
 use Rattle.cmd_options.specs.OptionValues.{asked_clp_of, asked_file_of, fit_increment_of, fit_side_of, tick_of, timing_of}
 use Rattle.cmd_options.specs.declared.fit.FitOptions.{FitOptions}
 use Rattle.upc_cell.specs.declared.side.Side.{Side}
 
--- The option `--increment T`, which must be given.
-abbrev pub increment_rule : Rule
-increment_rule = argument_rule (codes "increment") true None true
-
--- The option `--side SIDE`, whose value is uni if it isn't given.
-abbrev pub side_rule : Rule
-side_rule = argument_rule (codes "side") true (Some (codes "uni")) false
-
--- The option `--paths`.
-abbrev pub paths_rule : Rule
-paths_rule = flag_rule (codes "paths")
-
--- The option `--clp CLP`.
-abbrev pub clp_rule : Rule
-clp_rule = argument_rule (codes "clp") true None false
-
--- The option `--rules FILE`.
-abbrev pub rules_rule : Rule
-rules_rule = argument_rule (codes "rules") true None false
-
--- The command `upc-lab fit`: these options, those of `cells`, and that for help, which every command has.
+-- The command `upc-lab fit`: the option `--increment T`, which must be given, those of `cells` but `--record`, the options `--side SIDE`,
+-- whose value is uni if it isn't given, `--paths`, `--clp CLP` and `--rules FILE`, and that for help, which every command has.
 unfoldable pub fit_app : App
-fit_app = app_with_rules (codes "upc-lab fit") (increment_rule ∷ tick_rule ∷ link_rule ∷ time_rule ∷ side_rule ∷ paths_rule ∷ clp_rule ∷ rules_rule ∷ [])
+fit_app = app_with_rules (codes "upc-lab fit") (argument_rule (codes "increment") true None true ∷ tick_rule ∷ link_rule ∷ time_rule
+    ∷ argument_rule (codes "side") true (Some (codes "uni")) false ∷ flag_rule (codes "paths") ∷ argument_rule (codes "clp") true None false
+    ∷ argument_rule (codes "rules") true None false ∷ [])
 
 -- What is asked for: the increment in ticks, the nanoseconds of a tick, the link, if any, which time of a record
 -- counts, the side, the cell loss priority, if any, and the name of the file with rules, if any.
@@ -50,41 +31,25 @@ pub record FitAsked : Type 0 where
   pub clp : Option ℕ
   pub rules : Option Text
 
+-- These are asked for.
+abbrev pub fit_asking : ℕ → ℕ → Option Link → TimeSource → Side → Option ℕ → Option Text → FitAsked
+fit_asking increment nanoseconds link timing side clp rules =
+    record { increment = increment; nanoseconds = nanoseconds; link = link; timing = timing; side = side; clp = clp; rules = rules }
+
 -- What options of `fit` ask for.
 abbrev pub asked_by : FitOptions → FitAsked
-asked_by options = record {
-  increment = options.increment;
-  nanoseconds = options.tick.nanoseconds;
-  link = options.link;
-  timing = options.timing;
-  side = options.side;
-  clp = options.clp;
-  rules = option_map string_bytes options.rules;
-}
+asked_by options = fit_asking options.choice.increment options.choice.tick.nanoseconds options.choice.link options.choice.timing
+    options.choice.side options.choice.clp (option_map string_bytes options.rules)
 
 -- What these values spell, if each spells something.
 abbrev pub fit_values : Option Text → Option Text → Option Text → Option Text → Option Text → Option Text → Option Text → Option Text → Option FitAsked
 fit_values increment tick link timing side paths clp rules =
-    option_and_then (λ ticks. option_and_then (λ nanoseconds. option_and_then (λ asked. option_and_then (λ source. option_and_then (λ at. option_and_then (λ priority. option_map (λ name. record {
-      increment = ticks;
-      nanoseconds = nanoseconds;
-      link = asked;
-      timing = source;
-      side = at;
-      clp = priority;
-      rules = name;
-    }) (asked_file_of rules)) (asked_clp_of clp)) (fit_side_of side paths)) (timing_of timing)) (link_of link)) (tick_of tick)) (fit_increment_of increment)
+    option_and_then (λ ticks. option_and_then (λ nanoseconds. option_and_then (λ asked. option_and_then (λ source. option_and_then (λ at. option_and_then (λ priority.
+    option_map (λ name. fit_asking ticks nanoseconds asked source at priority name)
+    (asked_file_of rules)) (asked_clp_of clp)) (fit_side_of side paths)) (timing_of timing)) (link_of link)) (tick_of tick)) (fit_increment_of increment)
 
 -- What the values of the options in the words spell.
 abbrev pub fit_asked : List Text → Option FitAsked
 fit_asked words = fit_values (argument_value fit_app words (codes "increment")) (argument_value fit_app words (codes "tick"))
     (argument_value fit_app words (codes "link")) (argument_value fit_app words (codes "time")) (argument_value fit_app words (codes "side")) (argument_value fit_app words (codes "paths"))
     (argument_value fit_app words (codes "clp")) (argument_value fit_app words (codes "rules"))
-
--- The words have no error for clap, and ask for this.
-abbrev pub AsksFit : List Text → FitAsked → Type 0
-AsksFit = Asks fit_app fit_asked
-
--- The Stops that words may give. NoMemory is always allowed.
-abbrev pub IsFitStop : List Text → Stop → Type 0
-IsFitStop = IsOptionStop fit_app fit_asked

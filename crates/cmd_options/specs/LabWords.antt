@@ -8,13 +8,14 @@ use Rattle.text_command_line.specs.CommandLines.{kinds_in}
 use Rattle.text_command_line.specs.Stopping.{StopsAt}
 use Rattle.text_command_line.specs.Subcommands.{NamesRow, app_with, meaning_in, row_names}
 use Rattle.text_command_line.specs.declared.stop.Stop.{Stop}
-use Rattle.cmd_options.specs.CellsOptions.{AsksCells, IsCellsStop, cells_asked_by}
-use Rattle.cmd_options.specs.DifferOptions.{AsksDiffer, IsDifferStop, differ_asked_by}
-use Rattle.cmd_options.specs.ExplainOptions.{AsksExplain, IsExplainStop, explain_asked_by}
-use Rattle.cmd_options.specs.FitOptions.{AsksFit, IsFitStop, asked_by}
-use Rattle.cmd_options.specs.ForwardOptions.{AsksForward, IsForwardStop, forward_asked_by}
-use Rattle.cmd_options.specs.PoliceOptions.{AsksPolice, IsPoliceStop, police_asked_by}
-use Rattle.cmd_options.specs.WhyOptions.{AsksWhy, IsWhyStop, why_asked_by}
+use Rattle.cmd_options.specs.CellsOptions.{cells_app, cells_asked, cells_asked_by}
+use Rattle.cmd_options.specs.DifferOptions.{differ_app, differ_asked, differ_asked_by}
+use Rattle.cmd_options.specs.ExplainOptions.{explain_app, explain_asked, explain_asked_by}
+use Rattle.cmd_options.specs.FitOptions.{asked_by, fit_app, fit_asked}
+use Rattle.cmd_options.specs.ForwardOptions.{forward_app, forward_asked, forward_asked_by}
+use Rattle.cmd_options.specs.OptionAnswers.{Asks, IsOptionStop}
+use Rattle.cmd_options.specs.PoliceOptions.{police_app, police_asked, police_asked_by}
+use Rattle.cmd_options.specs.WhyOptions.{why_app, why_asked, why_asked_by}
 use Rattle.cmd_options.specs.declared.choice.Asked.{Asked}
 use Rattle.cmd_options.specs.declared.choice.Asked.TheVariants.{Plain, Why, Cells, Fit, Police, Differ, Forward, Explain}
 use Rattle.cmd_options.specs.declared.choice.Subcommand.{Subcommand}
@@ -66,24 +67,24 @@ begun_by (word ∷ words) = with_options_named word
 -- options.
 abbrev pub AsksLab : List Text → Asked → Type 0
 AsksLab words (Plain subcommand) = (begun_by words ≡ None) × NamesLab words subcommand
-AsksLab words (Why options) = (begun_by words ≡ Some own.Why) × AsksWhy (drop 1 words) (why_asked_by options)
-AsksLab words (Cells options) = (begun_by words ≡ Some own.Cells) × AsksCells (drop 1 words) (cells_asked_by options)
-AsksLab words (Fit options) = (begun_by words ≡ Some own.Fit) × AsksFit (drop 1 words) (asked_by options)
-AsksLab words (Police options) = (begun_by words ≡ Some own.Police) × AsksPolice (drop 1 words) (police_asked_by options)
-AsksLab words (Forward options) = (begun_by words ≡ Some own.Forward) × AsksForward (drop 1 words) (forward_asked_by options)
-AsksLab words (Differ options) = (begun_by words ≡ Some own.Differ) × AsksDiffer (drop 1 words) (differ_asked_by options)
-AsksLab words (Explain options) = (begun_by words ≡ Some own.Explain) × AsksExplain (drop 1 words) (explain_asked_by options)
+AsksLab words (Why options) = (begun_by words ≡ Some own.Why) × Asks why_app why_asked (drop 1 words) (why_asked_by options)
+AsksLab words (Cells options) = (begun_by words ≡ Some own.Cells) × Asks cells_app cells_asked (drop 1 words) (cells_asked_by options)
+AsksLab words (Fit options) = (begun_by words ≡ Some own.Fit) × Asks fit_app fit_asked (drop 1 words) (asked_by options)
+AsksLab words (Police options) = (begun_by words ≡ Some own.Police) × Asks police_app police_asked (drop 1 words) (police_asked_by options)
+AsksLab words (Forward options) = (begun_by words ≡ Some own.Forward) × Asks forward_app forward_asked (drop 1 words) (forward_asked_by options)
+AsksLab words (Differ options) = (begun_by words ≡ Some own.Differ) × Asks differ_app differ_asked (drop 1 words) (differ_asked_by options)
+AsksLab words (Explain options) = (begun_by words ≡ Some own.Explain) × Asks explain_app explain_asked (drop 1 words) (explain_asked_by options)
 
 -- The Stops that the words of such a subcommand may give, or those of any other words.
 abbrev pub IsStopOf : Option WithOptions → List Text → Stop → Type 0
 IsStopOf None words stop = StopsAt (lab_faults_in words) stop
-IsStopOf (Some own.Why) words stop = IsWhyStop (drop 1 words) stop
-IsStopOf (Some own.Cells) words stop = IsCellsStop (drop 1 words) stop
-IsStopOf (Some own.Fit) words stop = IsFitStop (drop 1 words) stop
-IsStopOf (Some own.Police) words stop = IsPoliceStop (drop 1 words) stop
-IsStopOf (Some own.Forward) words stop = IsForwardStop (drop 1 words) stop
-IsStopOf (Some own.Differ) words stop = IsDifferStop (drop 1 words) stop
-IsStopOf (Some own.Explain) words stop = IsExplainStop (drop 1 words) stop
+IsStopOf (Some own.Why) words stop = IsOptionStop why_app why_asked (drop 1 words) stop
+IsStopOf (Some own.Cells) words stop = IsOptionStop cells_app cells_asked (drop 1 words) stop
+IsStopOf (Some own.Fit) words stop = IsOptionStop fit_app fit_asked (drop 1 words) stop
+IsStopOf (Some own.Police) words stop = IsOptionStop police_app police_asked (drop 1 words) stop
+IsStopOf (Some own.Forward) words stop = IsOptionStop forward_app forward_asked (drop 1 words) stop
+IsStopOf (Some own.Differ) words stop = IsOptionStop differ_app differ_asked (drop 1 words) stop
+IsStopOf (Some own.Explain) words stop = IsOptionStop explain_app explain_asked (drop 1 words) stop
 
 -- The Stops that words may give. NoMemory is always allowed.
 abbrev pub IsLabStop : List Text → Stop → Type 0

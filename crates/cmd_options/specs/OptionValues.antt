@@ -11,6 +11,10 @@ use Rattle.upc_cell.specs.declared.side.Side.{Side}
 use Rattle.upc_cell.specs.declared.side.Side.TheVariants.{Uni, Nni, UniPaths, NniPaths}
 use Rattle.text_script.specs.ScriptWords.{number_up_to}
 
+-- What a word names that is one of two, each here before what it names.
+abbrev pub one_of_two : {Named : Type 0} → Text → Named → Text → Named → Text → Option Named
+one_of_two first named second other word = if bytes_eq word first then Some named else if bytes_eq word second then Some other else None
+
 -- A number above 0.
 abbrev pub positive : ℕ → Option ℕ
 positive number = if number == 0 then None else Some number
@@ -35,10 +39,7 @@ fit_increment_of text = option_and_then (λ word. option_and_then positive (numb
 
 -- The side that a word names. `paths` says whether connections are virtual paths.
 abbrev pub side_named : Bool → Text → Option Side
-side_named paths word =
-    if bytes_eq word (codes "uni") then Some (if paths then UniPaths else Uni)
-    else if bytes_eq word (codes "nni") then Some (if paths then NniPaths else Nni)
-    else None
+side_named paths = one_of_two (codes "uni") (if paths then UniPaths else Uni) (codes "nni") (if paths then NniPaths else Nni)
 
 -- Whether an option without a value is given. clap's text of it is `true` then.
 abbrev pub is_given : Option Text → Bool
@@ -51,10 +52,7 @@ fit_side_of text paths = option_and_then (side_named (is_given paths)) text
 
 -- The cell loss priority (CLP) that a word names.
 abbrev pub clp_named : Text → Option ℕ
-clp_named word =
-    if bytes_eq word (codes "0") then Some 0
-    else if bytes_eq word (codes "1") then Some 1
-    else None
+clp_named = one_of_two (codes "0") 0 (codes "1") 1
 
 -- The cell loss priority that is asked for, if one is.
 abbrev pub asked_clp_of : Option Text → Option (Option ℕ)
@@ -86,39 +84,18 @@ line_choice_named word =
 abbrev pub line_choice_of : Option Text → Option LineChoice
 line_choice_of text = option_and_then line_choice_named text
 
--- Whether a word asks for all pairs of lines.
-abbrev pub pairs_named : Text → Option Bool
-pairs_named word =
-    if bytes_eq word (codes "changed") then Some false
-    else if bytes_eq word (codes "all") then Some true
-    else None
-
 -- Whether all pairs of lines are asked for.
 abbrev pub pairs_of : Option Text → Option Bool
-pairs_of text = option_and_then pairs_named text
+pairs_of text = option_and_then (one_of_two (codes "changed") false (codes "all") true) text
 
 -- The number of threads: 1 or 2.
 abbrev pub threads_of : Option Text → Option ℕ
 threads_of text = option_and_then (λ word. option_and_then positive (number_up_to 2 word)) text
 
--- Which time of a record a word names.
-abbrev pub timing_named : Text → Option TimeSource
-timing_named word =
-    if bytes_eq word (codes "record") then Some source.Record
-    else if bytes_eq word (codes "packet") then Some source.Packet
-    else None
-
 -- Which time of a record counts.
 abbrev pub timing_of : Option Text → Option TimeSource
-timing_of text = option_and_then timing_named text
+timing_of text = option_and_then (one_of_two (codes "record") source.Record (codes "packet") source.Packet) text
 
--- Whether a word says that records without a judged cell go on.
-abbrev pub others_named : Text → Option Bool
-others_named word =
-    if bytes_eq word (codes "pass") then Some true
-    else if bytes_eq word (codes "drop") then Some false
-    else None
-
--- The same of the option.
+-- Whether records without a judged cell go on.
 abbrev pub others_of : Option Text → Option Bool
-others_of text = option_and_then others_named text
+others_of text = option_and_then (one_of_two (codes "pass") true (codes "drop") false) text

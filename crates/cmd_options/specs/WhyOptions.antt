@@ -1,21 +1,15 @@
 -- The option of `upc-lab why`.
 use Rattle.std.specs.Prelude.{Bool, List, [], ◌∷◌, Option, Some, codes}
 use Rattle.clap.specs.Simple.{App}
-use Rattle.clap.specs.Walk.{Rule, Text}
+use Rattle.clap.specs.Walk.{Text}
 use Rattle.text_command_line.specs.Arguments.{app_with_rules, flag_rule}
 use Rattle.text_command_line.specs.CommandLines.{argument_value}
-use Rattle.text_command_line.specs.declared.stop.Stop.{Stop}
-use Rattle.cmd_options.specs.OptionAnswers.{Asks, IsOptionStop}
 use Rattle.cmd_options.specs.OptionValues.{is_given}
 use Rattle.cmd_options.specs.declared.why.WhyOptions.{WhyOptions}
 
--- The option `--count`.
-abbrev pub count_rule : Rule
-count_rule = flag_rule (codes "count")
-
--- The command `upc-lab why`: this option, and that for help, which every command has.
+-- The command `upc-lab why`: the option `--count`, and that for help, which every command has.
 unfoldable pub why_app : App
-why_app = app_with_rules (codes "upc-lab why") (count_rule ∷ [])
+why_app = app_with_rules (codes "upc-lab why") (flag_rule (codes "count") ∷ [])
 
 -- What is asked for: whether cells are counted.
 pub record WhyAsked : Type 0 where
@@ -32,11 +26,3 @@ why_values count = Some (record { count = is_given count })
 -- What the value of the option in the words asks for.
 abbrev pub why_asked : List Text → Option WhyAsked
 why_asked words = why_values (argument_value why_app words (codes "count"))
-
--- The words have no error for clap, and ask for this.
-abbrev pub AsksWhy : List Text → WhyAsked → Type 0
-AsksWhy = Asks why_app why_asked
-
--- The Stops that words may give. NoMemory is always allowed.
-abbrev pub IsWhyStop : List Text → Stop → Type 0
-IsWhyStop = IsOptionStop why_app why_asked

@@ -1,2 +1,3 @@
 -- Definitions that only private functions and proofs use.
 pub mod Answered
+pub mod LabAnswers

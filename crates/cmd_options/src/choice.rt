@@ -2,8 +2,8 @@
 
 ghost use Rattle.std.specs.Prelude.{◌≡◌, [], Err, IfErr, IfOk, IsOkAnd, IsSome, IsSomeAnd, None, Some, drop, map};
 ghost use Rattle.std.specs.String.{string_bytes};
-ghost use Rattle.text_command_line.specs.Stopping.{StopsAt};
-ghost use Rattle.cmd_options.specs.LabWords.{AsksLab, IsLabStop, NamesLab, begun_by, lab_faults_in};
+ghost use Rattle.cmd_options.specs.LabWords.{AsksLab, IsLabStop, begun_by, lab_faults_in};
+ghost use Rattle.cmd_options.specs.inner.LabAnswers.{LabAnswers};
 ghost use Rattle.cmd_options.specs.declared.choice.Asked.{Asked as TheAsked};
 
 use crate::cells::{CellsOptions, cells_options};
@@ -219,13 +219,7 @@ fn without_first(mut words: Vec<String>) -> Vec<String>
 /// Reads words that begin with no name of a subcommand with options: the name of one without.
 fn choose_plain(alloc: Global, words: Vec<String>) -> Result<Subcommand, Stop>
     requires { begun_by (map string_bytes words.items) ≡ None }
-    ensures asked { IfOk result (NamesLab (map string_bytes words.items)) }
-    ensures faultless { IfOk result (λ _. lab_faults_in (map string_bytes words.items) ≡ []) }
-    ensures stopped { IfErr result (StopsAt (lab_faults_in (map string_bytes words.items))) }
-    ensures taken { lab_faults_in (map string_bytes words.items) ≡ []
-        → IfErr result (λ stop. stop ≡ Stop.NoMemory) }
-    ensures granted { (subcommand : Subcommand) → NamesLab (map string_bytes words.items) subcommand
-        → IfErr result (λ stop. stop ≡ Stop.NoMemory) }
+    ensures { LabAnswers (map string_bytes words.items) result }
 {
     subcommand_of(row_of_words(alloc, &LAB, &SUBCOMMANDS, words))
 }

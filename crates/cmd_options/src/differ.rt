@@ -8,7 +8,7 @@ ghost use Rattle.cmd_options.specs.OptionAnswers.{AnswersWords};
 ghost use Rattle.cmd_options.specs.inner.Answered.{AnswersValues, differ_spelled};
 
 use crate::programs::{Programs, programs_of};
-use crate::values::{old_name_of, pairs_of, spelled};
+use crate::values::{WRONG_OLD, WRONG_PAIRS, WRONG_PROGRAM, old_name_of, pairs_of, spelled};
 use std::alloc::Global;
 use text_command_line::{Argument, Form, Options, Stop, Value, values_of_words};
 
@@ -68,21 +68,9 @@ pub fn differ_options(alloc: Global, words: Vec<String>) -> Result<DifferOptions
 fn read(alloc: Global, values: &[Value]) -> Result<DifferOptions, Stop>
     ensures { AnswersValues differ_asked_by (differ_spelled (texts_of values.now)) result }
 {
-    let old = spelled(
-        alloc,
-        old_name_of(values),
-        "error: OLD is the name of a file\n",
-    )?;
-    let all = spelled(
-        alloc,
-        pairs_of(values),
-        "error: the value of '--lines' is changed or all\n",
-    )?;
-    let programs = spelled(
-        alloc,
-        programs_of(values),
-        "error: the value of '--program' is old, new or both\n",
-    )?;
+    let old = spelled(alloc, old_name_of(values), WRONG_OLD)?;
+    let all = spelled(alloc, pairs_of(values), WRONG_PAIRS)?;
+    let programs = spelled(alloc, programs_of(values), WRONG_PROGRAM)?;
     let Ok(old) = String::from_str(alloc, old) else {
         return Err(Stop::NoMemory);
     };

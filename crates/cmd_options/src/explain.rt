@@ -7,7 +7,7 @@ ghost use Rattle.cmd_options.specs.ExplainOptions.{explain_app, explain_asked, e
 ghost use Rattle.cmd_options.specs.OptionAnswers.{AnswersWords};
 ghost use Rattle.cmd_options.specs.inner.Answered.{AnswersValues, explain_spelled};
 
-use crate::values::{explained_name_of, owned, spelled};
+use crate::values::{WRONG_EXPLAINED, explained_name_of, owned, spelled};
 use std::alloc::Global;
 use text_command_line::{Argument, Form, Options, Stop, Value, values_of_words};
 
@@ -46,11 +46,7 @@ pub fn explain_options(alloc: Global, words: Vec<String>) -> Result<ExplainOptio
 fn read(alloc: Global, values: &[Value]) -> Result<ExplainOptions, Stop>
     ensures { AnswersValues explain_asked_by (explain_spelled (texts_of values.now)) result }
 {
-    let setup = spelled(
-        alloc,
-        explained_name_of(values),
-        "error: the value of '--setup' is the name of a file\n",
-    )?;
+    let setup = spelled(alloc, explained_name_of(values), WRONG_EXPLAINED)?;
     let Ok(setup) = owned(alloc, setup) else {
         return Err(Stop::NoMemory);
     };

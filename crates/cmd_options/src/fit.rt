@@ -9,29 +9,19 @@ ghost use Rattle.cmd_options.specs.inner.Answered.{AnswersValues, fit_spelled};
 
 use crate::link::link_of;
 use crate::values::{
-    LINK, TICK, TIME, WRONG_LINK, WRONG_TICK, WRONG_TIME, asked_clp_of, fit_increment_of,
-    fit_side_of, owned, rules_name_of, spelled, tick_of, timing_of,
+    LINK, TICK, TIME, WRONG_CLP, WRONG_INCREMENT, WRONG_LINK, WRONG_RULES, WRONG_SIDE, WRONG_TICK,
+    WRONG_TIME, asked_clp_of, fit_increment_of, fit_side_of, owned, rules_name_of, spelled,
+    tick_of, timing_of,
 };
-use captures::{Link, Tick, TimeSource};
+use captures_text::FitChoice;
 use std::alloc::Global;
 use text_command_line::{Argument, Form, Options, Stop, Value, values_of_words};
-use upc_cell::Side;
 
 /// What `upc-lab fit` should do.
 #[derive(Debug, PartialEq, Eq, Drop)]
 pub struct FitOptions {
-    /// The increment of the bucket, in ticks: 1 to 2^48.
-    pub increment: u64,
-    /// How long a tick is.
-    pub tick: Tick,
-    /// The link whose cells are read. Without one the cells of a capture may be of one link only.
-    pub link: Option<Link>,
-    /// Which time of a record counts.
-    pub timing: TimeSource,
-    /// The side at which headers are read, and whether connections are virtual paths.
-    pub side: Side,
-    /// The cell loss priority (CLP) of the cells that are read, 0 or 1. Without one all cells are read.
-    pub clp: Option<u8>,
+    /// What is asked for beside rules.
+    pub choice: FitChoice,
     /// The name of the file with the rules by whose values lines are told apart, if one is given.
     pub rules: Option<String>,
 }
@@ -98,39 +88,23 @@ pub fn fit_options(alloc: Global, words: Vec<String>) -> Result<FitOptions, Stop
 fn read(alloc: Global, values: &[Value]) -> Result<FitOptions, Stop>
     ensures { AnswersValues asked_by (fit_spelled (texts_of values.now)) result }
 {
-    let increment = spelled(
-        alloc,
-        fit_increment_of(values),
-        "error: the value of '--increment' is a number of ticks from 1 to 281474976710656\n",
-    )?;
+    let increment = spelled(alloc, fit_increment_of(values), WRONG_INCREMENT)?;
     let tick = spelled(alloc, tick_of(values), WRONG_TICK)?;
     let link = spelled(alloc, link_of(values), WRONG_LINK)?;
     let timing = spelled(alloc, timing_of(values), WRONG_TIME)?;
-    let side = spelled(
-        alloc,
-        fit_side_of(values),
-        "error: the value of '--side' is uni or nni\n",
-    )?;
-    let clp = spelled(
-        alloc,
-        asked_clp_of(values),
-        "error: the value of '--clp' is 0 or 1\n",
-    )?;
-    let rules = spelled(
-        alloc,
-        rules_name_of(values),
-        "error: the value of '--rules' is the name of a file\n",
-    )?;
+    let side = spelled(alloc, fit_side_of(values), WRONG_SIDE)?;
+    let clp = spelled(alloc, asked_clp_of(values), WRONG_CLP)?;
+    let rules = spelled(alloc, rules_name_of(values), WRONG_RULES)?;
     let Ok(rules) = owned(alloc, rules) else {
         return Err(Stop::NoMemory);
     };
-    Ok(FitOptions {
+    let choice = FitChoice {
         increment,
         tick,
         link,
         timing,
         side,
         clp,
-        rules,
-    })
+    };
+    Ok(FitOptions { choice, rules })
 }

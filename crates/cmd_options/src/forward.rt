@@ -9,8 +9,8 @@ ghost use Rattle.cmd_options.specs.inner.Answered.{AnswersValues, forward_spelle
 
 use crate::link::link_of;
 use crate::values::{
-    ASKED_TICK, LINK, SETUP, WRONG_LINK, WRONG_TICK, asked_tick_of, others_of, setup_name_of,
-    spelled,
+    ASKED_TICK, LINK, SETUP, WRONG_LINK, WRONG_OTHERS, WRONG_SETUP, WRONG_TICK, asked_tick_of,
+    others_of, setup_name_of, spelled,
 };
 use captures::{Link, Tick};
 use std::alloc::Global;
@@ -58,18 +58,10 @@ pub fn forward_options(alloc: Global, words: Vec<String>) -> Result<ForwardOptio
 fn read(alloc: Global, values: &[Value]) -> Result<ForwardOptions, Stop>
     ensures { AnswersValues forward_asked_by (forward_spelled (texts_of values.now)) result }
 {
-    let setup = spelled(
-        alloc,
-        setup_name_of(values),
-        "error: SETUP is the name of a file\n",
-    )?;
+    let setup = spelled(alloc, setup_name_of(values), WRONG_SETUP)?;
     let tick = spelled(alloc, asked_tick_of(values), WRONG_TICK)?;
     let link = spelled(alloc, link_of(values), WRONG_LINK)?;
-    let others = spelled(
-        alloc,
-        others_of(values),
-        "error: the value of '--others' is pass or drop\n",
-    )?;
+    let others = spelled(alloc, others_of(values), WRONG_OTHERS)?;
     let Ok(setup) = String::from_str(alloc, setup) else {
         return Err(Stop::NoMemory);
     };

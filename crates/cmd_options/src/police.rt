@@ -9,8 +9,9 @@ ghost use Rattle.cmd_options.specs.inner.Answered.{AnswersValues, police_spelled
 
 use crate::link::link_of;
 use crate::values::{
-    ASKED_TICK, LINK, SETUP, TIME, WRONG_LINK, WRONG_TICK, WRONG_TIME, asked_tick_of, every_of,
-    is_why_given, line_choice_of, setup_name_of, spelled, threads_of, timing_of,
+    ASKED_TICK, LINK, SETUP, TIME, WRONG_EVERY, WRONG_LINES, WRONG_LINK, WRONG_SETUP,
+    WRONG_THREADS, WRONG_TICK, WRONG_TIME, asked_tick_of, every_of, is_why_given, line_choice_of,
+    setup_name_of, spelled, threads_of, timing_of,
 };
 use captures::{Link, Tick, TimeSource};
 use captures_text::LineChoice;
@@ -92,29 +93,13 @@ pub fn police_options(alloc: Global, words: Vec<String>) -> Result<PoliceOptions
 fn read(alloc: Global, values: &[Value]) -> Result<PoliceOptions, Stop>
     ensures { AnswersValues police_asked_by (police_spelled (texts_of values.now)) result }
 {
-    let setup = spelled(
-        alloc,
-        setup_name_of(values),
-        "error: SETUP is the name of a file\n",
-    )?;
+    let setup = spelled(alloc, setup_name_of(values), WRONG_SETUP)?;
     let tick = spelled(alloc, asked_tick_of(values), WRONG_TICK)?;
     let link = spelled(alloc, link_of(values), WRONG_LINK)?;
     let timing = spelled(alloc, timing_of(values), WRONG_TIME)?;
-    let lines = spelled(
-        alloc,
-        line_choice_of(values),
-        "error: the value of '--lines' is all, refused or none\n",
-    )?;
-    let every = spelled(
-        alloc,
-        every_of(values),
-        "error: the value of '--every' is a number above 0 with ns, us, ms or s, as 1s\n",
-    )?;
-    let threads = spelled(
-        alloc,
-        threads_of(values),
-        "error: the value of '--threads' is 1 or 2\n",
-    )?;
+    let lines = spelled(alloc, line_choice_of(values), WRONG_LINES)?;
+    let every = spelled(alloc, every_of(values), WRONG_EVERY)?;
+    let threads = spelled(alloc, threads_of(values), WRONG_THREADS)?;
     let Ok(setup) = String::from_str(alloc, setup) else {
         return Err(Stop::NoMemory);
     };

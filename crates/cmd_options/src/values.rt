@@ -59,6 +59,9 @@ pub(crate) const TIME: Argument = Argument {
     help: "Which time of a record counts: its own (record), or that of its packet in a pcap or pcapng file (packet)",
 };
 
+/// The message about an empty name of the setup file.
+pub(crate) const WRONG_SETUP: &str = "error: SETUP is the name of a file\n";
+
 /// The message about a wrong value of `--time`.
 pub(crate) const WRONG_TIME: &str = "error: the value of '--time' is record or packet\n";
 
@@ -69,6 +72,44 @@ pub(crate) const WRONG_TICK: &str =
 /// The message about a wrong value of `--link`.
 pub(crate) const WRONG_LINK: &str =
     "error: the value of '--link' is an interface from 0 to 7, with /PORT/CONNECTION after it for MC_ATM, and with N: before it in a pcapng file, as 0, 0/2/5, 1:0 or 1:0/2/5\n";
+
+/// The message about a wrong value of `--increment`.
+pub(crate) const WRONG_INCREMENT: &str =
+    "error: the value of '--increment' is a number of ticks from 1 to 281474976710656\n";
+
+/// The message about a wrong value of `--side`.
+pub(crate) const WRONG_SIDE: &str = "error: the value of '--side' is uni or nni\n";
+
+/// The message about a wrong value of `--clp`.
+pub(crate) const WRONG_CLP: &str = "error: the value of '--clp' is 0 or 1\n";
+
+/// The message about an empty value of `--rules`.
+pub(crate) const WRONG_RULES: &str = "error: the value of '--rules' is the name of a file\n";
+
+/// The message about a wrong value of `--lines` of `police`.
+pub(crate) const WRONG_LINES: &str = "error: the value of '--lines' is all, refused or none\n";
+
+/// The message about a wrong value of `--every`.
+pub(crate) const WRONG_EVERY: &str =
+    "error: the value of '--every' is a number above 0 with ns, us, ms or s, as 1s\n";
+
+/// The message about a wrong value of `--threads`.
+pub(crate) const WRONG_THREADS: &str = "error: the value of '--threads' is 1 or 2\n";
+
+/// The message about a wrong value of `--others`.
+pub(crate) const WRONG_OTHERS: &str = "error: the value of '--others' is pass or drop\n";
+
+/// The message about an empty name of the file with the old text.
+pub(crate) const WRONG_OLD: &str = "error: OLD is the name of a file\n";
+
+/// The message about a wrong value of `--lines` of `differ`.
+pub(crate) const WRONG_PAIRS: &str = "error: the value of '--lines' is changed or all\n";
+
+/// The message about a wrong value of `--program`.
+pub(crate) const WRONG_PROGRAM: &str = "error: the value of '--program' is old, new or both\n";
+
+/// The message about an empty value of `--setup`.
+pub(crate) const WRONG_EXPLAINED: &str = "error: the value of '--setup' is the name of a file\n";
 
 /// Returns the tick that the value of `--tick` spells, if it has one.
 pub(crate) fn tick_of(values: &[Value]) -> Option<Tick>

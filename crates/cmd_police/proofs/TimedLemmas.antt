@@ -1,65 +1,9 @@
--- The times of a script's lines.
-use Rattle.std.proofs.Common.{◌≡◌, ℕ, suc, ◌+◌, Bool, true, false, if◌then◌else◌, List, [], ◌∷◌, ◌++◌, Option, Some, None, append-nil, append_assoc, refl, sym, ap, ◌∙◌, arith, length, take}
+-- The lines of a script before the first time.
+use Rattle.std.proofs.Common.{◌≡◌, ℕ, ◌+◌, List, [], ◌∷◌, ◌++◌, Option, None, append_assoc, refl, sym, ap, ◌∙◌, arith, length, take}
 use Rattle.std.proofs.lemmas.List.{length-append, length-take}
-use Rattle.text_io.specs.Lines.{Line, lines_of, line_content}
-use Rattle.cmd_rules.specs.AsmText.{whole_line}
-use Rattle.cmd_police.specs.TimedLines.{falling_line, falls_after, falls_below, later_time, lines_without_times, octets_before_times, own_time, times_after, without_time}
+use Rattle.text_io.specs.Lines.{Line, lines_of}
+use Rattle.cmd_police.specs.TimedLines.{octets_before_times}
 use Rattle.cmd_police.specs.inner.ScriptLine.{BeginsWithLine}
-use Rattle.cmd_police.specs.inner.TimedScripts.{HasTimes, TakesOn}
-
--- At first nothing was taken.
-pub takes_start : (setup : List ℕ) → TakesOn setup 0 None (lines_of setup) [] []
-takes_start setup = record { falls = refl; plain = refl; all = refl }
-
--- One more line is taken.
-pub takes_line : (setup left content whole rest script plain : List ℕ) (times : List (Option ℕ)) (size met : ℕ) (before own after : Option ℕ)
-    → TakesOn setup met before (lines_of left) script times → BeginsWithLine left content size whole rest → own ≡ own_time content
-    → falls_below own before ≡ false → plain ≡ script ++ without_time own whole → after ≡ later_time own before
-    → TakesOn setup (met + 1) after (lines_of rest) plain (times ++ after ∷ [])
-takes_line setup left content whole rest script plain times size met before own after takes begins is rises grew later =
-    let line = begins.line in
-    let own_is : own ≡ own_time (line_content line) = is ∙ ap own_time begins.says in
-    let after_is : later_time (own_time (line_content line)) before ≡ after = ap (λ (time : Option ℕ). later_time time before) (sym own_is) ∙ sym later in
-    let whole_is : without_time (own_time (line_content line)) (whole_line line) ≡ without_time own whole =
-    ap (λ (time : Option ℕ). without_time time (whole_line line)) (sym own_is) ∙ ap (without_time own) (sym begins.octets) in
-    let next : met + 1 ≡ suc met = omega arith in
-    record {
-      falls = ap (λ n. falls_after n after (lines_of rest)) next
-          ∙ ap (λ (time : Option ℕ). falls_after (suc met) time (lines_of rest)) (sym after_is)
-          ∙ ap (λ (b : Bool). if b then Some (suc met) else falls_after (suc met) (later_time (own_time (line_content line)) before) (lines_of rest))
-          (sym (ap (λ (time : Option ℕ). falls_below time before) (sym own_is) ∙ rises))
-          ∙ ap (falls_after met before) (sym begins.lines) ∙ takes.falls;
-      plain = ap (λ xs. xs ++ lines_without_times (lines_of rest)) grew ∙ append_assoc script (without_time own whole) (lines_without_times (lines_of rest))
-          ∙ ap (λ xs. script ++ (xs ++ lines_without_times (lines_of rest))) (sym whole_is)
-          ∙ ap (λ (lines : List Line). script ++ lines_without_times lines) (sym begins.lines) ∙ takes.plain;
-      all = append_assoc times (after ∷ []) (times_after after (lines_of rest))
-          ∙ ap (λ (time : Option ℕ). times ++ (time ∷ times_after time (lines_of rest))) (sym after_is)
-          ∙ ap (λ (lines : List Line). times ++ times_after before lines) (sym begins.lines) ∙ takes.all;
-    }
-
--- The time of a line falls.
-pub takes_fall : (setup left content whole rest script : List ℕ) (times : List (Option ℕ)) (size met : ℕ) (before own : Option ℕ)
-    → TakesOn setup met before (lines_of left) script times → BeginsWithLine left content size whole rest → own ≡ own_time content
-    → falls_below own before ≡ true → falling_line setup ≡ Some (met + 1)
-takes_fall setup left content whole rest script times size met before own takes begins is falls =
-    let line = begins.line in
-    let own_is : own ≡ own_time (line_content line) = is ∙ ap own_time begins.says in
-    let next : suc met ≡ met + 1 = omega arith in
-    sym takes.falls ∙ ap (falls_after met before) begins.lines
-    ∙ ap (λ (b : Bool). if b then Some (suc met) else falls_after (suc met) (later_time (own_time (line_content line)) before) (lines_of rest))
-    (ap (λ (time : Option ℕ). falls_below time before) (sym own_is) ∙ falls)
-    ∙ ap Some next
-
--- No line is left.
-pub takes_end : (setup left script : List ℕ) (times : List (Option ℕ)) (met : ℕ) (before : Option ℕ) → TakesOn setup met before (lines_of left) script times
-    → lines_of left ≡ [] → HasTimes setup script times
-takes_end setup left script times met before takes none = record {
-  rises = sym takes.falls ∙ ap (falls_after met before) none;
-  plain = sym (append-nil script) ∙ ap (λ (lines : List Line). script ++ lines_without_times lines) (sym none) ∙ takes.plain;
-  all = sym (append-nil times) ∙ ap (λ (lines : List Line). times ++ times_after before lines) (sym none) ∙ takes.all;
-}
-
--- ---- the lines before the first time
 
 take_length : {X : Type 0} (xs ys : List X) → take (length xs) (xs ++ ys) ≡ xs
 take_length [] ys = refl

@@ -11,13 +11,13 @@ use crate::rule_column::end_heading;
 use captures_text::LineChoice;
 use card_core::{Judgement, Unjudged};
 use leaky::Verdict;
-use std::alloc::AllocError;
+use text_io::Added;
 use text_words::{add_number, add_text};
 use upc_cell::Side;
 
 /// Appends the heading, where lines show these rules.
 #[tactic(auto, using(std::proofs::lemmas::List::append_assoc))]
-fn add_verdict_heading(answers: &mut Vec<u8>, rules: &Option<LoadedRules>) -> Result<(), AllocError>
+fn add_verdict_heading(answers: &mut Vec<u8>, rules: &Option<LoadedRules>) -> Added
     ensures { OnOk result (answers.new.items ≡ answers.old.items ++ verdict_heading (shown_stored rules.now)) }
 {
     add_text(
@@ -32,7 +32,7 @@ pub(crate) fn add_heading_once(
     answers: &mut Vec<u8>,
     begun: bool,
     rules: &Option<LoadedRules>,
-) -> Result<(), AllocError>
+) -> Added
     ensures { OnOk result (answers.new.items ≡ answers.old.items ++ (if begun then [] else verdict_heading (shown_stored rules.now))) }
 {
     if begun {
@@ -43,7 +43,7 @@ pub(crate) fn add_heading_once(
 
 /// Appends a number and a tab.
 #[tactic(auto, using(std::proofs::lemmas::List::append_assoc))]
-pub(crate) fn add_number_column(answers: &mut Vec<u8>, number: u64) -> Result<(), AllocError>
+pub(crate) fn add_number_column(answers: &mut Vec<u8>, number: u64) -> Added
     ensures { OnOk result (answers.new.items ≡ answers.old.items ++ in_column (decimal number)) }
 {
     add_number(answers, number)?;
@@ -53,7 +53,7 @@ pub(crate) fn add_number_column(answers: &mut Vec<u8>, number: u64) -> Result<()
 
 /// Appends a word and a tab.
 #[tactic(auto, using(std::proofs::lemmas::List::append_assoc))]
-fn add_word_column(answers: &mut Vec<u8>, word: &[u8]) -> Result<(), AllocError>
+fn add_word_column(answers: &mut Vec<u8>, word: &[u8]) -> Added
     ensures { OnOk result (answers.new.items ≡ answers.old.items ++ in_column word.now) }
 {
     add_text(answers, word)?;
@@ -62,11 +62,7 @@ fn add_word_column(answers: &mut Vec<u8>, word: &[u8]) -> Result<(), AllocError>
 }
 
 /// Appends the channel of a connection, or `*` where connections are virtual paths, and a tab.
-pub(crate) fn add_channel_column(
-    answers: &mut Vec<u8>,
-    side: Side,
-    vci: u16,
-) -> Result<(), AllocError>
+pub(crate) fn add_channel_column(answers: &mut Vec<u8>, side: Side, vci: u16) -> Added
     ensures { OnOk result (answers.new.items ≡ answers.old.items ++ in_column (channel_name side vci)) }
 {
     if side.has_paths() {

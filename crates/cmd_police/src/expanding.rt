@@ -11,6 +11,7 @@ use crate::script_lines::next_line;
 use crate::shared_text::SharedText;
 use cmd_explain_script::{add_place, add_quoted};
 use std::alloc::{AllocError, Global};
+use text_io::Added;
 use text_words::add_text;
 
 /// What a setup script leads to.
@@ -46,12 +47,7 @@ pub(crate) fn later_texts(texts: &[SharedText]) -> &[SharedText]
 
 /// Appends the line that says which line of the script names the rules, and what is wrong in them.
 #[tactic(auto, using(std::proofs::lemmas::List::append_assoc))]
-fn add_rules_place(
-    answers: &mut Vec<u8>,
-    number: usize,
-    name: &[u8],
-    reason: &[u8],
-) -> Result<(), AllocError>
+fn add_rules_place(answers: &mut Vec<u8>, number: usize, name: &[u8], reason: &[u8]) -> Added
     ensures { OnOk result (answers.new.items ≡ answers.old.items ++ rules_place number name.now reason.now) }
 {
     add_place(answers, number, None)?;

@@ -7,7 +7,7 @@ ghost use Rattle.cmd_police.specs.NotJudgedCells.{all_judged, not_judged_after, 
 use captures_text::CountAndFirst;
 use card_core::{Judgement, Unjudged};
 use line_record::LineFault;
-use std::alloc::AllocError;
+use text_io::Added;
 use text_words::{add_number, add_text};
 
 /// The cells that were not judged, by reason.
@@ -62,11 +62,7 @@ impl NotJudged {
 
 /// Appends a comment about cells that were not judged, if there are any.
 #[tactic(auto, using(std::proofs::lemmas::List::append_assoc))]
-fn add_not_judged_line(
-    answers: &mut Vec<u8>,
-    tally: CountAndFirst,
-    why: &[u8],
-) -> Result<(), AllocError>
+fn add_not_judged_line(answers: &mut Vec<u8>, tally: CountAndFirst, why: &[u8]) -> Added
     ensures { OnOk result (answers.new.items ≡ answers.old.items ++ not_judged_line tally why.now) }
 {
     if tally.count == 0 {
@@ -84,7 +80,7 @@ fn add_not_judged_line(
 
 /// Appends a comment for each reason why cells were not judged.
 #[tactic(auto, using(std::proofs::lemmas::List::append_assoc))]
-pub(crate) fn add_not_judged(answers: &mut Vec<u8>, cells: &NotJudged) -> Result<(), AllocError>
+pub(crate) fn add_not_judged(answers: &mut Vec<u8>, cells: &NotJudged) -> Added
     ensures { OnOk result (answers.new.items ≡ answers.old.items ++ not_judged_lines cells.now) }
 {
     add_not_judged_line(answers, cells.no_connection, b"no connection")?;

@@ -1,13 +1,11 @@
 //! The cells of a capture, policed.
 
-ghost use Rattle.std.specs.Prelude.{◌≡◌, ◌≢◌, ◌≤◌, ◌++◌, ◌||◌, List, ℕ, Err, IfOk, OnErr, OnOk, option_map};
+ghost use Rattle.std.specs.Prelude.{◌≡◌, ◌≤◌, ◌++◌, ◌||◌, List, ℕ, IfOk, OnOk, option_map};
 ghost use Rattle.card_core.specs.Sections.{answer_to};
 ghost use Rattle.text_io.specs.Lines.{lines_of};
 ghost use Rattle.card_core.specs.Agreement.{CoreAgrees};
 ghost use Rattle.card_core.specs.World.{Connection, World};
 ghost use Rattle.line_record.specs.History.{numbered};
-ghost use Rattle.text_io.specs.Devices.{IsPart};
-ghost use Rattle.text_io.specs.Failures.{write_failures};
 ghost use Rattle.text_io.specs.Serving.{IsServed};
 ghost use Rattle.upc_cell.specs.Connection.{vc_of};
 ghost use Rattle.cmd_police.specs.PoliceLines.{excess_of_answer};
@@ -33,7 +31,8 @@ use crate::stored_commands::add_waiting;
 use crate::timed_card::TimedCard;
 use captures::{Fault, Tick};
 use captures_text::{
-    CapturedCell, CellFollower, LineChoice, ReadingSummary, add_closing, follow_cells,
+    CapturedCell, CellFollower, Followed, LineChoice, ReadingSummary, add_closing, follow_cells,
+    write_faults,
 };
 use card_core::{Core, Judgement, Unjudged};
 use cmd_run::ScriptCard;
@@ -41,7 +40,7 @@ use leaky::{Excess, Levels, Verdict, excess_at};
 use line_record::Line;
 use std::alloc::{AllocError, Global};
 use std::thread::Threads;
-use text_io::{Done, Ending, Input, Output, RunFault, Turn, give_last};
+use text_io::{Added, Ending, Input, Output, RunFault, Turn};
 use upc_cell::{Cell, Side, Vc};
 
 /// Returns the item with this number, counted from 1, if there is one.
@@ -140,7 +139,7 @@ fn add_cell(
 }
 
 /// Appends an empty line if there are lines before it.
-pub(crate) fn add_gap(answers: &mut Vec<u8>, begun: bool) -> Result<(), AllocError>
+pub(crate) fn add_gap(answers: &mut Vec<u8>, begun: bool) -> Added
     ensures { OnOk result (answers.new.items ≡ answers.old.items ++ police_gap begun) }
 {
     if !begun {
@@ -196,11 +195,7 @@ impl CellFollower for PoliceRun {
     ghost rules = { police_rules };
 
     #[inline(always)]
-    fn follow_cell(
-        &mut self,
-        captured: &CapturedCell,
-        answers: &mut Vec<u8>,
-    ) -> Result<Turn, AllocError> {
+    fn follow_cell(&mut self, captured: &CapturedCell, answers: &mut Vec<u8>) -> Followed {
         let cell = &captured.cell;
         let moment = captured.moment;
         let carried = self.timed.carry_out(moment, answers)?;
@@ -225,12 +220,7 @@ impl CellFollower for PoliceRun {
         Ok(Turn::GoesOn)
     }
 
-    fn close(
-        &self,
-        summary: &ReadingSummary,
-        ending: Option<Fault>,
-        answers: &mut Vec<u8>,
-    ) -> Result<(), AllocError> {
+    fn close(&self, summary: &ReadingSummary, end: Option<Fault>, answers: &mut Vec<u8>) -> Added {
         self.spans.add_present(answers)?;
         add_gap(
             answers,
@@ -240,7 +230,7 @@ impl CellFollower for PoliceRun {
         add_not_judged(answers, &self.not_judged)?;
         add_waiting(answers, &self.timed.commands)?;
         add_run_comments(answers, self.tick, summary)?;
-        add_closing(answers, summary, ending)
+        add_closing(answers, summary, end)
     }
 
     ghost is_total = { police-total };
@@ -255,21 +245,6 @@ fn spans_of(alloc: Global, side: Side, scope: PoliceScope, tick: Tick) -> Spans
         None => None,
     };
     Spans::new(alloc, side, length)
-}
-
-/// Writes a text about faults in place of a policed capture.
-///
-/// # Errors
-///
-/// `WriteFailed` if the device failed. The output is then a prefix of the text.
-pub fn write_faults<O: Output>(output: &mut O, mut text: Vec<u8>) -> Ending
-    ensures done { IfOk result (λ done. done ≡ Done.Ended) }
-    ensures given { O.is_known → OnOk result (O.held output.new ≡ O.held output.old ++ text.items) }
-    ensures front { O.is_known → OnErr result (IsPart (O.held output.old) (O.held output.new) text.items) }
-    ensures fault { result ≢ Err RunFault.ReadFailed }
-    ensures writing { O.failures output.new ≡ write_failures result (O.failures output.old) }
-{
-    give_last(output, &mut text, Done::Ended)
 }
 
 /// Polices the cells of a capture by a card that a setup script opens, whose lines have these times, one for each. Lines with a time are

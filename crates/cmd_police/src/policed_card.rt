@@ -42,6 +42,9 @@ pub enum OpenedCard {
     Ready(PolicedCard),
 }
 
+/// The card that a setup script opens, or the explanation of its fault. The error is that memory is short.
+pub type Opened = Result<OpenedCard, AllocError>;
+
 /// Returns whether a text has octets.
 fn is_filled(text: &[u8]) -> bool
     ensures { result ≡ is_filled text.now }
@@ -99,12 +102,7 @@ impl PolicedCard {
 /// # Errors
 ///
 /// An allocation failed.
-pub fn open_card(
-    alloc: Global,
-    script: &[u8],
-    times: &[Option<u64>],
-    tick: Tick,
-) -> Result<OpenedCard, AllocError>
+pub fn open_card(alloc: Global, script: &[u8], times: &[Option<u64>], tick: Tick) -> Opened
     ensures { IfOk result (OpensPolicedCard tick.nanoseconds script.now times.now) }
 {
     match set_up(alloc, script, times, tick)? {
@@ -125,12 +123,7 @@ pub fn open_card(
 /// # Errors
 ///
 /// An allocation failed.
-pub fn open_setup(
-    alloc: Global,
-    setup: &[u8],
-    texts: &[SharedText],
-    tick: Tick,
-) -> Result<OpenedCard, AllocError>
+pub fn open_setup(alloc: Global, setup: &[u8], texts: &[SharedText], tick: Tick) -> Opened
     ensures { IfOk result (OpensSetup tick.nanoseconds setup.now (octets_of_texts texts.now)) }
 {
     match prepare_setup(alloc, setup, texts)? {

@@ -11,15 +11,12 @@ use card_core::{Judgement, Unjudged};
 use cmd_rules::{add_begin, begin_at};
 use cmd_run::ScriptCard;
 use rules_text::RulePlace;
-use std::alloc::AllocError;
+use text_io::Added;
 use text_words::add_text;
 use upc_cell::Cell;
 
 /// Ends the heading.
-pub(crate) fn end_heading(
-    answers: &mut Vec<u8>,
-    rules: &Option<LoadedRules>,
-) -> Result<(), AllocError>
+pub(crate) fn end_heading(answers: &mut Vec<u8>, rules: &Option<LoadedRules>) -> Added
     ensures { OnOk result (answers.new.items ≡ answers.old.items ++ heading_end (shown_stored rules.now)) }
 {
     match rules {
@@ -42,11 +39,7 @@ fn rules_numbered(loaded: &LoadedRules, number: usize) -> Option<&ProgramRules>
 }
 
 /// Appends where the line of rules at a place begins, or `otherwise`.
-fn add_rule_begin(
-    answers: &mut Vec<u8>,
-    begins: &[RulePlace],
-    line: Option<usize>,
-) -> Result<(), AllocError>
+fn add_rule_begin(answers: &mut Vec<u8>, begins: &[RulePlace], line: Option<usize>) -> Added
     ensures { OnOk result (answers.new.items ≡ answers.old.items ++ rule_begin begins.now line) }
 {
     match line {
@@ -57,11 +50,7 @@ fn add_rule_begin(
 
 /// Appends the rule of these that decides a cell.
 #[tactic(auto, using(std::proofs::lemmas::List::append_assoc))]
-fn add_deciding_rule(
-    answers: &mut Vec<u8>,
-    rules: &ProgramRules,
-    cell: &Cell,
-) -> Result<(), AllocError>
+fn add_deciding_rule(answers: &mut Vec<u8>, rules: &ProgramRules, cell: &Cell) -> Added
     ensures { OnOk result (answers.new.items ≡ answers.old.items ++ deciding_rule (rules_stored rules.now) cell.now) }
 {
     let decision = rules.decider.decide(cell);
@@ -71,11 +60,7 @@ fn add_deciding_rule(
 }
 
 /// Appends the rule of these that decides a cell, or a minus sign if there are no rules.
-fn add_rule_shown(
-    answers: &mut Vec<u8>,
-    rules: Option<&ProgramRules>,
-    cell: &Cell,
-) -> Result<(), AllocError>
+fn add_rule_shown(answers: &mut Vec<u8>, rules: Option<&ProgramRules>, cell: &Cell) -> Added
     ensures { OnOk result (answers.new.items ≡ answers.old.items ++ rule_shown (option_map (λ it. rules_stored it.now) rules.entry) cell.now) }
 {
     match rules {
@@ -96,12 +81,7 @@ fn number_of_judging(card: &ScriptCard, decision: &Result<Judgement, Unjudged>) 
 
 /// Ends the line of a cell with the rule that gave it its value, if rules are shown.
 #[tactic(auto, using(std::proofs::lemmas::List::append_assoc))]
-fn end_with_rule(
-    answers: &mut Vec<u8>,
-    loaded: &LoadedRules,
-    number: usize,
-    cell: &Cell,
-) -> Result<(), AllocError>
+fn end_with_rule(answers: &mut Vec<u8>, loaded: &LoadedRules, number: usize, cell: &Cell) -> Added
     ensures { OnOk result (answers.new.items ≡ answers.old.items ++ line_end (Some (all_rules_stored loaded.now)) number cell.now) }
 {
     answers.push(b'\t')?;
@@ -117,7 +97,7 @@ pub(crate) fn end_line(
     card: &ScriptCard,
     decision: &Result<Judgement, Unjudged>,
     cell: &Cell,
-) -> Result<(), AllocError>
+) -> Added
     ensures { OnOk result (answers.new.items ≡ answers.old.items
         ++ line_end (shown_stored rules.now) (number_of_judging card.now.names (answer_to cell.now decision.now)) cell.now) }
 {

@@ -6,12 +6,13 @@ ghost use Rattle.text_io.specs.Serving.{IsServed};
 ghost use Rattle.cmd_police.specs.RulesFiles.{octets_of_texts};
 ghost use Rattle.cmd_police.specs.SetupText.{IsPolicedAsAgreed, IsSetupPoliced, MayBePolicedAsAgreed, MayBeSetupPoliced};
 
-use crate::police::{PoliceChoice, police_capture, write_faults};
+use crate::police::{PoliceChoice, police_capture};
 use crate::preparing::{Prepared, prepare_setup};
 use crate::program_rules::shown_rules;
 use crate::setup_tick::{add_ticks_differ, agreed_tick};
 use crate::shared_text::SharedText;
 use captures::Tick;
+use captures_text::write_faults;
 use std::alloc::Global;
 use std::thread::Threads;
 use text_io::{Ending, Input, Output, RunFault};

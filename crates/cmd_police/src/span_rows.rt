@@ -9,8 +9,8 @@ use crate::cell_lines::add_number_column;
 use crate::connection_counts::{add_counts_line, order_number};
 use leaky::Verdict;
 use line_record::Tally;
-use std::alloc::AllocError;
 use std::collections::BTreeMap;
+use text_io::Added;
 use text_words::add_text;
 use upc_cell::{Side, Vc};
 
@@ -42,7 +42,7 @@ fn with_judged(counts: Tally, verdict: Verdict) -> Tally
 }
 
 /// Counts one more cell of this connection, with this verdict.
-pub(crate) fn count_row(rows: &mut SpanRows, vc: Vc, verdict: Verdict) -> Result<(), AllocError>
+pub(crate) fn count_row(rows: &mut SpanRows, vc: Vc, verdict: Verdict) -> Added
     ensures { OnOk result (rows.new.entries ≡ with_judged_row rows.old.entries (judged_cell vc verdict)) }
 {
     let number = order_number(vc);
@@ -55,7 +55,7 @@ pub(crate) fn count_row(rows: &mut SpanRows, vc: Vc, verdict: Verdict) -> Result
 }
 
 /// Appends the heading.
-fn add_span_heading(answers: &mut Vec<u8>) -> Result<(), AllocError>
+fn add_span_heading(answers: &mut Vec<u8>) -> Added
     ensures { OnOk result (answers.new.items ≡ answers.old.items ++ span_heading) }
 {
     add_text(
@@ -66,12 +66,7 @@ fn add_span_heading(answers: &mut Vec<u8>) -> Result<(), AllocError>
 
 /// Appends the line of a connection in a span that begins at this moment.
 #[tactic(auto, using(std::proofs::lemmas::List::append_assoc))]
-fn add_span_line(
-    answers: &mut Vec<u8>,
-    side: Side,
-    begin: u64,
-    row: &(Vc, Tally),
-) -> Result<(), AllocError>
+fn add_span_line(answers: &mut Vec<u8>, side: Side, begin: u64, row: &(Vc, Tally)) -> Added
     ensures { OnOk result (answers.new.items ≡ answers.old.items ++ span_line side begin row.now) }
 {
     add_text(answers, b"span\t")?;
@@ -80,12 +75,7 @@ fn add_span_line(
 }
 
 /// Appends the lines of all these connections.
-fn add_lines(
-    answers: &mut Vec<u8>,
-    side: Side,
-    begin: u64,
-    rows: &SpanRows,
-) -> Result<(), AllocError>
+fn add_lines(answers: &mut Vec<u8>, side: Side, begin: u64, rows: &SpanRows) -> Added
     ensures { OnOk result (answers.new.items ≡ answers.old.items ++ flat_map (span_line side begin) (values_of rows.now.entries)) }
 {
     for row in rows.values() {
@@ -102,7 +92,7 @@ pub(crate) fn add_rows(
     begun: bool,
     begin: u64,
     rows: &SpanRows,
-) -> Result<(), AllocError>
+) -> Added
     ensures { OnOk result (answers.new.items ≡ answers.old.items ++ rows_text side begun begin rows.now.entries) }
 {
     if rows.is_empty() {

@@ -1,14 +1,17 @@
 //! Hexadecimal words as octets and as cells.
 
-ghost use Rattle.std.specs.Prelude.{◌≡◌, ◌⊎◌, length, IfOk};
+ghost use Rattle.std.specs.Prelude.{◌≡◌, ◌⊎◌, ◌++◌, length, IfOk, OnOk};
 ghost use Rattle.std.specs.Option.{option_map};
+ghost use Rattle.hex.specs.Hex.{encode_lower};
 ghost use Rattle.text_words.specs.Hexadecimal.{octets_of_digits};
 ghost use Rattle.text_words.specs.CellWord.{IsCellWord};
 
+use crate::answer_texts::add_text;
 use crate::digits::{CELL_DIGITS, HEADER_DIGITS, cell_of_digits};
 use hex::FromHexError;
 use std::alloc::{AllocError, Global};
-use upc_cell::Cell;
+use text_io::Added;
+use upc_cell::{CELL_OCTETS, Cell};
 
 /// A word of a cell line.
 pub enum CellWord {
@@ -29,6 +32,17 @@ pub fn octets_of_word(alloc: Global, word: &[u8]) -> Result<Option<Vec<u8>>, All
         Err(FromHexError::OutOfMemory) => Err(AllocError),
         Err(_) => Ok(None),
     }
+}
+
+/// Appends the octets of a cell in hexadecimal digits.
+pub fn add_cell_octets(answers: &mut Vec<u8>, cell: &Cell) -> Added
+    ensures { OnOk result (answers.new.items ≡ answers.old.items ++ encode_lower cell.now) }
+{
+    let mut digits = [0; CELL_DIGITS];
+    if hex::encode_to_slice(&cell.bytes()[..CELL_OCTETS], &mut digits).is_err() {
+        unreachable!();
+    }
+    add_text(answers, &digits)
 }
 
 /// Reads a word of a cell line. Allocates only if the word has neither 104 nor eight characters.

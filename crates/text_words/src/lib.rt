@@ -12,5 +12,5 @@ pub use answer_texts::{
     add_two_numbers, add_wrong_length,
 };
 pub use digits::{CELL_DIGITS, HEADER_DIGITS, cell_of_digits};
-pub use hexadecimal::{CellWord, cell_of_word, octets_of_word};
+pub use hexadecimal::{CellWord, add_cell_octets, cell_of_word, octets_of_word};
 pub use text_from_end::TextFromEnd;

@@ -10,7 +10,7 @@ use Rattle.cmd_list.proofs.Public.{some-list_text, some-trace_text}
 use Rattle.cmd_rules.proofs.Public.{some-asm_text, some-rules_text, some-why_text}
 use Rattle.cmd_police.proofs.Public.{some_agreed_text}
 use Rattle.cmd_size.proofs.Public.{some-sizes_text}
-use Rattle.upc_lab.specs.LabText.{IsAskedText, IsLabText, fit_choice, kinds_asked, others_asked, rules_asked, scope_asked}
+use Rattle.upc_lab.specs.LabText.{IsAskedText, IsLabText, kinds_asked, others_asked, rules_asked, scope_asked}
 use Rattle.cmd_options.specs.declared.choice.Asked.{Asked}
 use Rattle.cmd_options.specs.declared.choice.Asked.TheVariants.{Plain, Why, Cells, Fit, Police, Differ, Forward, Explain}
 use Rattle.cmd_options.specs.declared.choice.Subcommand.{Subcommand}
@@ -32,7 +32,7 @@ some-asked_text (Why options) setup tick rules other octets = some-why_text opti
 some-asked_text (Cells options) setup tick rules other octets = some_cells_text options.tick.nanoseconds options.link options.timing options.numbered octets
 some-asked_text (Police options) setup tick rules other octets =
     some_agreed_text (scope_asked options) tick (option_map (λ it. it.nanoseconds) options.tick) setup rules octets
-some-asked_text (Fit options) setup tick rules other octets = some_fit_text (fit_choice options) (rules_asked options other) octets
+some-asked_text (Fit options) setup tick rules other octets = some_fit_text options.choice (rules_asked options other) octets
 some-asked_text (Forward options) setup tick rules other octets =
     some_agreed_records (others_asked options.others) tick (option_map (λ it. it.nanoseconds) options.tick) options.link setup rules octets
 some-asked_text (Differ options) setup tick rules other octets = some-differ_text (kinds_asked options.programs) options.all other octets

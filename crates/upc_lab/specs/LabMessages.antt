@@ -24,29 +24,24 @@ message_over I input O output = lab_failure_line (I.message input) (O.message ou
 abbrev pub shell_status_of : ℕ → Bool → ℕ
 shell_status_of status closed = if closed && (status == 3) then 141 else status
 
+-- The name of a subcommand, and what it reads.
+abbrev pub lab_name_and_input : Subcommand → List ℕ × List ℕ
+lab_name_and_input lab.Rules = (codes "rules", codes "rules")
+lab_name_and_input lab.Asm = (codes "asm", codes "rules")
+lab_name_and_input lab.Unused = (codes "unused", codes "rules")
+lab_name_and_input lab.List = (codes "list", codes "a program")
+lab_name_and_input lab.Trace = (codes "trace", codes "a program and cells")
+lab_name_and_input lab.Size = (codes "size", codes "contracts")
+lab_name_and_input lab.Links = (codes "links", codes "a capture")
+
 -- The name of a subcommand.
 abbrev pub lab_name_of : Subcommand → List ℕ
-lab_name_of lab.Rules = codes "rules"
-lab_name_of lab.Asm = codes "asm"
-lab_name_of lab.Unused = codes "unused"
-lab_name_of lab.List = codes "list"
-lab_name_of lab.Trace = codes "trace"
-lab_name_of lab.Size = codes "size"
-lab_name_of lab.Links = codes "links"
-
--- What a subcommand waits for.
-abbrev pub lab_input_of : Subcommand → List ℕ
-lab_input_of lab.Rules = codes "reading rules from the terminal, to its end"
-lab_input_of lab.Asm = codes "reading rules from the terminal, to its end"
-lab_input_of lab.Unused = codes "reading rules from the terminal, to its end"
-lab_input_of lab.List = codes "reading a program from the terminal, to its end"
-lab_input_of lab.Trace = codes "reading a program and cells from the terminal, to its end"
-lab_input_of lab.Size = codes "reading contracts from the terminal, to its end"
-lab_input_of lab.Links = codes "reading a capture from the terminal, to its end"
+lab_name_of subcommand = (lab_name_and_input subcommand).0
 
 -- The name of the subcommand, and what it waits for.
 abbrev pub lab_notice : Subcommand → List ℕ
-lab_notice subcommand = codes "upc-lab " ++ lab_name_of subcommand ++ codes ": " ++ lab_input_of subcommand
+lab_notice subcommand =
+    codes "upc-lab " ++ lab_name_of subcommand ++ codes ": reading " ++ (lab_name_and_input subcommand).1 ++ codes " from the terminal, to its end"
 
 -- The notice for what was asked, unless it is that a setup script is explained, for which nothing is read.
 abbrev pub asked_notice : Asked → List ℕ

@@ -6,7 +6,6 @@ use Rattle.cmd_differ.specs.declared.kinds.TextKind.TheVariants.{Rules, Program}
 use Rattle.cmd_differ.specs.declared.kinds.TextKinds.{TextKinds}
 use Rattle.cmd_differ.specs.UnusedText.{IsUnusedAnswer}
 use Rattle.cmd_fit.specs.FitAsked.{IsFitAsked}
-use Rattle.cmd_fit.specs.declared.fit_choice.FitChoice.{FitChoice}
 use Rattle.cmd_explain.specs.Explained.{IsExplainText}
 use Rattle.cmd_forward.specs.AgreedForward.{MayBeForwardedAsAgreed}
 use Rattle.cmd_forward.specs.Reporting.{HasReportedText}
@@ -49,17 +48,6 @@ others_asked others = if others then Pass else Drop
 abbrev pub scope_asked : PoliceOptions → PoliceScope
 scope_asked options = record { link = options.link; timing = options.timing; lines = options.lines; every = options.every; why = options.why }
 
--- What options of `fit` ask for, beside rules.
-abbrev pub fit_choice : FitOptions → FitChoice
-fit_choice options = record {
-  increment = options.increment;
-  tick = options.tick;
-  link = options.link;
-  timing = options.timing;
-  side = options.side;
-  clp = options.clp;
-}
-
 -- The octets of a file of rules, which are these, if there is such a file.
 abbrev pub octets_if_named : {Name : Type 0} → Option Name → List ℕ → Option (List ℕ)
 octets_if_named None read = None
@@ -85,7 +73,7 @@ IsAskedText setup tick rules other (Plain subcommand) = IsLabText subcommand
 IsAskedText setup tick rules other (Why options) = MayBeWhyText options.count
 IsAskedText setup tick rules other (Cells options) = IsCellsText options.tick.nanoseconds options.link options.timing options.numbered
 IsAskedText setup tick rules other (Police options) = MayBePolicedAsAgreed (scope_asked options) tick (option_map (λ asked. asked.nanoseconds) options.tick) setup rules
-IsAskedText setup tick rules other (Fit options) = IsFitAsked (fit_choice options) (rules_asked options other)
+IsAskedText setup tick rules other (Fit options) = IsFitAsked options.choice (rules_asked options other)
 IsAskedText setup tick rules other (Forward options) = HasReportedText (MayBeForwardedAsAgreed (others_asked options.others) tick
     (option_map (λ asked. asked.nanoseconds) options.tick) options.link setup rules)
 IsAskedText setup tick rules other (Differ options) = IsDifferAnswer (kinds_asked options.programs) options.all other

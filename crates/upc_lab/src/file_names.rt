@@ -15,6 +15,7 @@ use std::alloc::{AllocError, Global};
 use std::env::FillError;
 use std::str;
 use text_command_line::{CommandLine, InMemory, words_after_name};
+use text_io::Added;
 
 /// The length limit of a name, in octets, above that of any name that the system takes.
 const ROOM: usize = 4096;
@@ -99,11 +100,7 @@ fn is_terminal_text(name: &[u8]) -> bool
 }
 
 /// Appends a name as messages show it: as it is, or escaped if it isn't a text for a terminal.
-pub(crate) fn add_shown_name(
-    alloc: Global,
-    text: &mut Vec<u8>,
-    name: &[u8],
-) -> Result<(), AllocError>
+pub(crate) fn add_shown_name(alloc: Global, text: &mut Vec<u8>, name: &[u8]) -> Added
     ensures { OnOk result (text.new.items ≡ text.old.items ++ shown_name name.now) }
 {
     if is_terminal_text(name) {

@@ -12,10 +12,10 @@ mod reporting;
 mod running;
 mod setup_hints;
 
-pub use captures_text::cells_of_capture;
+pub use captures_text::{FitChoice, cells_of_capture};
 pub use cmd_differ::{Finding, TextKind, TextKinds, compare_texts, unused_in_text};
 pub use cmd_explain::{LookedAt, explain_faults};
-pub use cmd_fit::{FitChoice, fit_capture, links_of_capture};
+pub use cmd_fit::{fit_capture, links_of_capture};
 pub use cmd_list::{list_program, trace_cells};
 pub use cmd_options::{
     Asked, CellsOptions, DifferOptions, ExplainOptions, FitOptions, ForwardOptions, PoliceOptions,

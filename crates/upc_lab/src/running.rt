@@ -6,13 +6,13 @@ ghost use Rattle.text_io.specs.Serving.{IsServed};
 ghost use Rattle.captures_text.specs.CellsText.{IsCellsText};
 ghost use Rattle.cmd_fit.specs.FitAsked.{IsFitAsked};
 ghost use Rattle.upc_lab.specs.LabEffects.{MayPoliceAsked, PolicesAsked};
-ghost use Rattle.upc_lab.specs.LabText.{fit_choice, kinds_asked, others_asked, rules_asked, scope_asked};
+ghost use Rattle.upc_lab.specs.LabText.{kinds_asked, others_asked, rules_asked, scope_asked};
 
 use crate::named_files::NamedFiles;
 use captures_text::cells_of_capture;
 use cmd_differ::{TextKind, TextKinds};
 use cmd_explain::Ahead;
-use cmd_fit::{FitChoice, fit_capture};
+use cmd_fit::fit_capture;
 use cmd_forward::Others;
 use cmd_options::{CellsOptions, FitOptions, PoliceOptions, Programs};
 use cmd_police::{PoliceChoice, PoliceScope, police_as_agreed};
@@ -40,20 +40,6 @@ pub(crate) fn scope_asked(options: &PoliceOptions) -> PoliceScope
         lines: options.lines,
         every: options.every,
         why: options.why,
-    }
-}
-
-/// Returns what options of `fit` ask for, beside rules.
-pub(crate) fn fit_choice(options: &FitOptions) -> FitChoice
-    ensures { result ≡ fit_choice options.now }
-{
-    FitChoice {
-        increment: options.increment,
-        tick: options.tick,
-        link: options.link,
-        timing: options.timing,
-        side: options.side,
-        clp: options.clp,
     }
 }
 
@@ -113,14 +99,14 @@ pub(crate) fn run_fit<R: Threads, I: Ahead + Send, O: Output>(
     input: &mut I,
     output: &mut O,
 ) -> Ending
-    ensures { IsServed (IsFitAsked (fit_choice options.now) (rules_asked options.now files.now.other_text.items))
+    ensures { IsServed (IsFitAsked options.now.choice (rules_asked options.now files.now.other_text.items))
         I.Input input.old input.new O.Output output.old output.new result }
 {
     fit_capture(
         rt,
         THREADS,
         alloc,
-        fit_choice(options),
+        options.choice,
         rules_asked(options, files.other_text.as_slice()),
         input,
         output,

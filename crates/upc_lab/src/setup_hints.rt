@@ -16,6 +16,10 @@ use cmd_explain_rules::{Comments, add_hints_about};
 use cmd_police::{SharedText, files_read, hints_of_setup};
 use std::alloc::{AllocError, Global};
 use std::collections::BTreeSet;
+use text_io::Added;
+
+/// Hints, or what comes before one. The error is that memory is short.
+type Hints = Result<Vec<u8>, AllocError>;
 
 /// The names of the files that were met.
 #[derive(Drop)]
@@ -45,7 +49,7 @@ impl<'a> NamesMet<'a> {
 
 /// Returns what comes before a hint about the file of rules with this name.
 #[tactic(auto, using(std::proofs::lemmas::List::append_assoc))]
-fn file_front(alloc: Global, name: &[u8]) -> Result<Vec<u8>, AllocError>
+fn file_front(alloc: Global, name: &[u8]) -> Hints
     ensures { IfOk result (λ front. front.items ≡ file_front name.now) }
 {
     let mut front = Vec::new(alloc);
@@ -56,12 +60,7 @@ fn file_front(alloc: Global, name: &[u8]) -> Result<Vec<u8>, AllocError>
 }
 
 /// Appends the hints about the file of rules with this name.
-fn add_hints_after_name(
-    alloc: Global,
-    hints: &mut Vec<u8>,
-    name: &[u8],
-    text: &[u8],
-) -> Result<(), AllocError>
+fn add_hints_after_name(alloc: Global, hints: &mut Vec<u8>, name: &[u8], text: &[u8]) -> Added
     ensures { OnOk result (Adds (AreHintsAbout (file_front name.now) text.now) hints.old.items hints.new.items) }
 {
     let front = file_front(alloc, name)?;
@@ -75,7 +74,7 @@ fn add_file_hints<'a>(
     met: &mut NamesMet<'a>,
     file: &'a Option<Vec<u8>>,
     text: &[u8],
-) -> Result<(), AllocError>
+) -> Added
     ensures hinted { (before : List (List ℕ)) → HasNames met.old before
         → OnOk result (Adds (AreFileHints before (octets_of_name file.now) text.now) hints.old.items hints.new.items) }
     ensures met { (before : List (List ℕ)) → HasNames met.old before → OnOk result (HasNames met.new (names_with_file (octets_of_name file.now) before)) }
@@ -90,11 +89,7 @@ fn add_file_hints<'a>(
 }
 
 /// Returns the hints about these files of rules with these texts.
-fn files_hints(
-    alloc: Global,
-    files: &[Option<Vec<u8>>],
-    texts: &[SharedText],
-) -> Result<Vec<u8>, AllocError>
+fn files_hints(alloc: Global, files: &[Option<Vec<u8>>], texts: &[SharedText]) -> Hints
     ensures { IfOk result (λ hints. AreFilesHints [] (octets_of_names files.now) (octets_of_texts texts.now) hints.items) }
 {
     let mut hints = Vec::new(alloc);
@@ -113,12 +108,7 @@ fn files_hints(
 }
 
 /// Returns the hints about the script itself, if they are wanted.
-fn own_hints(
-    alloc: Global,
-    wanted: bool,
-    script: &[u8],
-    texts: &[SharedText],
-) -> Result<Vec<u8>, AllocError>
+fn own_hints(alloc: Global, wanted: bool, script: &[u8], texts: &[SharedText]) -> Hints
     ensures { IfOk result (λ hints. AreOwnHints wanted script.now (octets_of_texts texts.now) hints.items) }
 {
     if wanted {
@@ -129,12 +119,7 @@ fn own_hints(
 }
 
 /// Returns the hints about the files of rules that a setup script names, and then those about the script itself, if they are wanted.
-fn setup_hints(
-    alloc: Global,
-    own: bool,
-    script: &[u8],
-    texts: &[SharedText],
-) -> Result<Vec<u8>, AllocError>
+fn setup_hints(alloc: Global, own: bool, script: &[u8], texts: &[SharedText]) -> Hints
     ensures { IfOk result (λ hints. AreSetupHints own script.now (octets_of_texts texts.now) hints.items) }
 {
     let files = files_read(alloc, script)?;

@@ -41,15 +41,15 @@ returns-in-Ok-Faulty g c =
     subst (λ (r : Read). IsFitBy c.args.choice r octets line Ended) read (refl, refl) in
     record {
       text = λ ki ko.
-          if_given c.give_answer.result Ended _ _ c.give_answer.ensures.done (c.give_answer.ensures.given ko) (λ gives. (line, gives, printed all));
+          if_given c.write_faults.result Ended _ _ c.write_faults.ensures.done (c.write_faults.ensures.given ko) (λ gives. (line, gives, printed all));
       front = λ ki ko.
-          on_fault c.give_answer.result _ _ (c.give_answer.ensures.front ko)
-          (λ part. a_front (IsText all) (g.O.Output.held c.args.output.now) (g.O.Output.held c.give_answer.new.output) line Ended (printed all) part);
-      left = λ ki. if_done c.give_answer.result Ended _ c.give_answer.ensures.done (all_needed IsText all [] all line Ended refl (printed []));
+          on_fault c.write_faults.result _ _ (c.write_faults.ensures.front ko)
+          (λ part. a_front (IsText all) (g.O.Output.held c.args.output.now) (g.O.Output.held c.write_faults.new.output) line Ended (printed all) part);
+      left = λ ki. if_done c.write_faults.result Ended _ c.write_faults.ensures.done (all_needed IsText all [] all line Ended refl (printed []));
       whole = λ ki same.
-          let bad : Whole ≡ Ended = at-result c.give_answer.result (λ done. done ≡ Ended) Whole same c.give_answer.ensures.done in cc;
-      reading = not_read c.give_answer.result _ _ c.give_answer.ensures.fault refl;
-      writing = c.give_answer.ensures.writing;
+          let bad : Whole ≡ Ended = at-result c.write_faults.result (λ done. done ≡ Ended) Whole same c.write_faults.ensures.done in cc;
+      reading = not_read c.write_faults.result _ _ c.write_faults.ensures.fault refl;
+      writing = c.write_faults.ensures.writing;
     }
 
 pub returns-in-Ok-Held : goal.returns-in-Ok-Held

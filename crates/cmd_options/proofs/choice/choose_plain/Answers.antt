@@ -19,12 +19,5 @@ pub returns : goal.returns
 unfolding lab_app
 returns c =
     let row = c.row_of_words.ensures in
-    let all = answers (map string_bytes c.args.words.items) c.row_of_words.result c.subcommand_of.result c.requires
-    row.faultless row.asked row.stopped row.taken row.granted c.subcommand_of.ensures.named c.subcommand_of.ensures.stopped in
-    record {
-      asked = all.asked;
-      faultless = all.faultless;
-      stopped = all.stopped;
-      taken = all.taken;
-      granted = all.granted;
-    }
+    answers (map string_bytes c.args.words.items) c.row_of_words.result c.subcommand_of.result c.requires
+    row.faultless row.asked row.stopped row.taken row.granted c.subcommand_of.ensures.named c.subcommand_of.ensures.stopped

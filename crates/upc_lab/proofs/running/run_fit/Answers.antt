@@ -4,7 +4,6 @@ use Rattle.upc_lab.proofs.running.run_fit.Goals as goal
 pub returns : goal.returns
 returns g c =
     let served = c.fit_capture.ensures in
-    let chosen = rw c.fit_choice.ensures at served in
-    let ruled = rw c.rules_asked.ensures at chosen in
+    let ruled = rw c.rules_asked.ensures at served in
     let here = rw c.as_slice.ensures.value at ruled in
     here

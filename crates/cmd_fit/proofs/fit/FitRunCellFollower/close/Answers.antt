@@ -17,8 +17,8 @@ returns c =
     let two = c.add_lines.new.answers.items in
     on_done c.add_closing.result _ _ c.add_closing.ensures
     (λ grew world sound is.
-    closing-grows old (heading valued) (fit_lines run.side valued run.flows) (closing_lines summary c.args.ending)
+    closing-grows old (heading valued) (fit_lines run.side valued run.flows) (closing_lines summary c.args.end)
     one two c.add_closing.new.answers.items
     (c.in_ok-add_heading.ensures ∙ ap (λ (v : Bool). old ++ heading v) c.is_valued-valued.ensures)
     (c.in_ok-add_lines.ensures ∙ ap (λ (v : Bool). one ++ fit_lines run.side v run.flows) c.is_valued-valued.ensures) grew
-    ∙ ap (λ (w : FitWorld). old ++ fit_closes w summary c.args.ending) (sym is))
+    ∙ ap (λ (w : FitWorld). old ++ fit_closes w summary c.args.end) (sym is))

@@ -2,7 +2,7 @@ use Rattle.std.proofs.Common.{◌++◌, ◌∙◌, sym, ap}
 use Rattle.hex.specs.Hex.{encode_lower}
 use Rattle.text_io.proofs.Public.{at-ok}
 use Rattle.std.proofs.lemmas.Result.{on_ok_weaker}
-use Rattle.cmd_differ.proofs.change_lines.add_octets.Goals as goal
+use Rattle.text_words.proofs.hexadecimal.add_cell_octets.Goals as goal
 
 pub returns : goal.returns
 returns c =
