@@ -1,9 +1,18 @@
 //! The text of each fault of captures, of records that hold no cell, and of least limits. No one input shows all their numbers.
 
-use super::expecting::expect_printed;
 use captures::{Fault, FileFault, NoCell, RecordFault};
 use cmd_fit::FitFault;
+use std::fmt::Display;
 use std::test::Fail;
+
+/// Expects that each value is printed as the text beside it.
+fn expect_printed<T: Copy + Display>(rt: &HostRuntime, rows: &[(T, &str)]) -> Result<(), Fail> {
+    for (value, wanted) in rows {
+        let text = format!(in rt.alloc(); "{value}")?;
+        assert_eq!(rt; text.as_str(), *wanted);
+    }
+    Ok(())
+}
 
 /// Why octets are no record.
 const REASONS: [(RecordFault, &str); 14] = [
@@ -53,13 +62,13 @@ fn faults_of_captures_as_text(rt: HostRuntime) -> Result<(), Fail> {
         at: 136,
         reason: RecordFault::ShortLength(15),
     };
-    expect_printed(&rt, rt.alloc(), &[(fault, "136 2 ShortLength 15")])?;
-    expect_printed(&rt, rt.alloc(), &REASONS)?;
-    expect_printed(&rt, rt.alloc(), &FILE_FAULTS)?;
-    expect_printed(&rt, rt.alloc(), &NO_CELLS)
+    expect_printed(&rt, &[(fault, "136 2 ShortLength 15")])?;
+    expect_printed(&rt, &REASONS)?;
+    expect_printed(&rt, &FILE_FAULTS)?;
+    expect_printed(&rt, &NO_CELLS)
 }
 
 #[test]
 fn faults_of_least_limits_as_text(rt: HostRuntime) -> Result<(), Fail> {
-    expect_printed(&rt, rt.alloc(), &FIT_FAULTS)
+    expect_printed(&rt, &FIT_FAULTS)
 }

@@ -3,19 +3,13 @@
 use super::expect;
 use card_core::{CardFault, DeskFault};
 use card_shelf::{NoRoom, ProgramFault, ShelfFault};
-use std::alloc::Global;
 use std::fmt::Display;
-use std::process::Abort;
 use std::test::Fail;
 
 /// Expects that each value is printed as the text beside it.
-fn expect_printed<T: Copy + Display>(
-    rt: &impl Abort,
-    alloc: Global,
-    rows: &[(T, &str)],
-) -> Result<(), Fail> {
+fn expect_printed<T: Copy + Display>(rt: &HostRuntime, rows: &[(T, &str)]) -> Result<(), Fail> {
     for (value, wanted) in rows {
-        let text = format!(in alloc; "{value}")?;
+        let text = format!(in rt.alloc(); "{value}")?;
         expect(rt, "printed", text.as_str(), *wanted);
     }
     Ok(())
@@ -25,7 +19,6 @@ fn expect_printed<T: Copy + Display>(
 fn each_fault_is_printed_as_its_number_and_name(rt: HostRuntime) -> Result<(), Fail> {
     expect_printed(
         &rt,
-        rt.alloc(),
         &[
             (ShelfFault::Card(CardFault::Programs), "1 Programs"),
             (ShelfFault::Card(CardFault::Lines), "2 Lines"),
@@ -38,7 +31,6 @@ fn each_fault_is_printed_as_its_number_and_name(rt: HostRuntime) -> Result<(), F
     let full = ProgramFault::Card(63, DeskFault::ProgramsFull);
     expect_printed(
         &rt,
-        rt.alloc(),
         &[
             (ProgramFault::NoMemory, "1 NoMemory"),
             (ProgramFault::Ids, "2 Ids"),
@@ -47,7 +39,6 @@ fn each_fault_is_printed_as_its_number_and_name(rt: HostRuntime) -> Result<(), F
     )?;
     expect_printed(
         &rt,
-        rt.alloc(),
         &[(NoRoom::Arrivals, "1 Arrivals"), (NoRoom::Cards, "2 Cards")],
     )
 }
