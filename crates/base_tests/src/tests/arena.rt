@@ -136,6 +136,7 @@ fn an_arena_of_no_slots_is_refused(rt: HostRuntime) -> Result<(), Fail> {
     expect(&rt, "no slots", (plain, used), (no_slots, no_slots));
     expect_printed(
         &rt,
+        rt.alloc(),
         &[
             (ArenaFault::NoSlots, "1 NoSlots"),
             (ArenaFault::NoMemory, "2 NoMemory"),

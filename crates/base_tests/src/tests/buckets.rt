@@ -201,8 +201,8 @@ fn defaults(rt: HostRuntime) -> Result<(), Fail> {
 
 #[test]
 fn faults_are_printed_by_number_and_name(rt: HostRuntime) -> Result<(), Fail> {
-    expect_printed(&rt, &[(GcraFault::TooLarge, "2 TooLarge")])?;
-    expect_printed(&rt, &[(BtFault::PeakSlower, "2 PeakSlower")])
+    expect_printed(&rt, rt.alloc(), &[(GcraFault::TooLarge, "2 TooLarge")])?;
+    expect_printed(&rt, rt.alloc(), &[(BtFault::PeakSlower, "2 PeakSlower")])
 }
 
 /// The number of the bucket of an excess, and its ticks.

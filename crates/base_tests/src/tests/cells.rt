@@ -60,7 +60,7 @@ fn octets_of_another_number_are_no_cell(rt: HostRuntime) -> Result<(), Fail> {
         expect(&rt, "octets", Cell::from_bytes(octets).err(), Some(fault));
     }
     let fault = CellFault::WrongLength(51);
-    expect_printed(&rt, &[(fault, "1 WrongLength 51")])
+    expect_printed(&rt, rt.alloc(), &[(fault, "1 WrongLength 51")])
 }
 
 #[test]
@@ -101,7 +101,7 @@ fn a_path_above_the_highest_of_its_side_is_refused(rt: HostRuntime) -> Result<()
     let nodes = Vc::new_at(Side::Nni, 4095, 65535)?;
     let found = [users.vpi, users.vci, nodes.vpi, nodes.vci];
     expect(&rt, "the highest", found, [255, 65535, 4095, 65535]);
-    expect_printed(&rt, &[(VcFault::VpiTooLarge, "1 VpiTooLarge")])
+    expect_printed(&rt, rt.alloc(), &[(VcFault::VpiTooLarge, "1 VpiTooLarge")])
 }
 
 #[test]

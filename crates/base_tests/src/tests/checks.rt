@@ -98,7 +98,7 @@ fn text_of_refusal(alloc: Global, fault: Fault) -> Result<String, AllocError> {
 
 #[test]
 fn each_fault_prints_its_number_and_name(rt: HostRuntime) -> Result<(), Fail> {
-    expect_printed(&rt, &FAULTS)?;
+    expect_printed(&rt, rt.alloc(), &FAULTS)?;
     for (fault, line) in FAULTS {
         let text = text_of_refusal(rt.alloc(), fault)?;
         expect(&rt, "a refusal", text.as_str(), line);

@@ -1,6 +1,7 @@
 //! What tests expect. A comparison in a test costs the prover more than a call, so the tests share those that are here.
 
 use gen_arena::Id;
+use std::alloc::Global;
 use std::fmt::{Debug, Display};
 use std::process::Abort;
 use std::test::Fail;
@@ -11,9 +12,13 @@ pub fn expect<T: Copy + PartialEq + Debug>(rt: &impl Abort, what: &str, found: T
 }
 
 /// Expects that each value is printed as the text beside it.
-pub fn expect_printed<T: Copy + Display>(rt: &HostRuntime, rows: &[(T, &str)]) -> Result<(), Fail> {
+pub fn expect_printed<T: Copy + Display>(
+    rt: &impl Abort,
+    alloc: Global,
+    rows: &[(T, &str)],
+) -> Result<(), Fail> {
     for (value, wanted) in rows {
-        let text = format!(in rt.alloc(); "{value}")?;
+        let text = format!(in alloc; "{value}")?;
         expect(rt, "printed", text.as_str(), *wanted);
     }
     Ok(())

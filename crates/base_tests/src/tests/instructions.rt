@@ -203,7 +203,7 @@ const FAULTS: [(DecodeFault, &str); 3] = [
 
 #[test]
 fn each_fault_prints_its_number_and_name(rt: HostRuntime) -> Result<(), Fail> {
-    expect_printed(&rt, &FAULTS)?;
+    expect_printed(&rt, rt.alloc(), &FAULTS)?;
     let full = (EncodeFault::NoMemory, "1 NoMemory");
-    expect_printed(&rt, &[full])
+    expect_printed(&rt, rt.alloc(), &[full])
 }

@@ -219,6 +219,7 @@ fn lines_and_directories_cross_threads() {
 fn faults_are_printed_by_number_and_name(rt: HostRuntime) -> Result<(), Fail> {
     expect_printed(
         &rt,
+        rt.alloc(),
         &[
             (LineFault::TooLate, "1 TooLate"),
             (LineFault::Back(5), "2 Back 5"),
@@ -228,6 +229,7 @@ fn faults_are_printed_by_number_and_name(rt: HostRuntime) -> Result<(), Fail> {
     )?;
     expect_printed(
         &rt,
+        rt.alloc(),
         &[
             (DirFault::NoLines, "1 NoLines"),
             (DirFault::BadFirst, "2 BadFirst"),

@@ -110,6 +110,7 @@ fn expect_too_large(rt: &impl Abort, table: &mut VcLines, vc: Vc) {
 fn faults_of_tables_are_printed_by_number_and_name(rt: HostRuntime) -> Result<(), Fail> {
     expect_printed(
         &rt,
+        rt.alloc(),
         &[
             (TableFault::LineTooLarge, "1 LineTooLarge"),
             (TableFault::Full, "2 Full"),

@@ -3,7 +3,6 @@
 mod at_once;
 mod beside;
 mod desk;
-mod faults;
 mod rooms;
 mod sizes;
 

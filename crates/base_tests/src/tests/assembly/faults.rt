@@ -50,15 +50,15 @@ const LIST_FAULTS: [(ListFault, &str); 3] = [
 
 #[test]
 fn each_kind_has_its_text(rt: HostRuntime) -> Result<(), Fail> {
-    expect_printed(&rt, &KINDS)
+    expect_printed(&rt, rt.alloc(), &KINDS)
 }
 
 #[test]
 fn a_fault_of_a_source_has_its_line(rt: HostRuntime) -> Result<(), Fail> {
-    expect_printed(&rt, &FAULTS)
+    expect_printed(&rt, rt.alloc(), &FAULTS)
 }
 
 #[test]
 fn each_fault_of_a_code_has_its_text(rt: HostRuntime) -> Result<(), Fail> {
-    expect_printed(&rt, &LIST_FAULTS)
+    expect_printed(&rt, rt.alloc(), &LIST_FAULTS)
 }

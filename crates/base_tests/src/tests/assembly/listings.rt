@@ -78,11 +78,11 @@ fn code_of(alloc: Global, digits: &str) -> Result<Vec<Instr>, Fail> {
 }
 
 /// Expects this listing of a code, or this error.
-fn expect_listing(rt: &HostRuntime, digits: &str, answer: &str) -> Result<(), Fail> {
-    let code = code_of(rt.alloc(), digits)?;
-    match listing(rt.alloc(), &code) {
+fn expect_listing(rt: &impl Abort, alloc: Global, digits: &str, answer: &str) -> Result<(), Fail> {
+    let code = code_of(alloc, digits)?;
+    match listing(alloc, &code) {
         Ok(text) => expect(rt, digits, text.as_slice(), answer.as_bytes()),
-        Err(fault) => expect_printed(rt, &[(fault, answer)])?,
+        Err(fault) => expect_printed(rt, alloc, &[(fault, answer)])?,
     }
     Ok(())
 }
@@ -98,13 +98,13 @@ fn expect_code(rt: &impl Abort, alloc: Global, source: &[u8], digits: &str) -> R
 #[test]
 fn a_listing_labels_each_line_by_its_place(rt: HostRuntime) -> Result<(), Fail> {
     expect_code(&rt, rt.alloc(), BY_PAYLOAD_TYPE, ITS_OCTETS)?;
-    expect_listing(&rt, ITS_OCTETS, ITS_LISTING)
+    expect_listing(&rt, rt.alloc(), ITS_OCTETS, ITS_LISTING)
 }
 
 #[test]
 fn a_code_has_its_listing_or_its_first_jump_outside(rt: HostRuntime) -> Result<(), Fail> {
     for (digits, answer) in LISTINGS {
-        expect_listing(&rt, digits, answer)?;
+        expect_listing(&rt, rt.alloc(), digits, answer)?;
     }
     Ok(())
 }
