@@ -10,49 +10,33 @@ ghost use Rattle.bpf_asm.specs.Meaning.{IsMeaning};
 ghost use Rattle.bpf_asm.specs.StatementSpelling.{load_name, op_name, operand, spelling_octets, test_name};
 
 use crate::fault::ListFault;
+use crate::mnemonic::{OPS, TESTS};
 use bpf_code::{By, Instr, Op, Size, Test};
 use itoa::Buffer;
 use std::alloc::{AllocError, Global};
+
+/// The mnemonics of packet loads into A, in the order of `Size`.
+const LOADS: [&[u8]; 3] = [b"ld", b"ldh", b"ldb"];
 
 /// The mnemonic of a packet load into A.
 fn load_text(size: Size) -> &'static [u8]
     ensures { result.now ≡ load_name size }
 {
-    match size {
-        Size::Word => b"ld",
-        Size::Half => b"ldh",
-        Size::Octet => b"ldb",
-    }
+    LOADS[size as usize]
 }
 
 /// The mnemonic of arithmetic.
 fn op_text(op: Op) -> &'static [u8]
     ensures { result.now ≡ op_name op }
 {
-    match op {
-        Op::Add => b"add",
-        Op::Sub => b"sub",
-        Op::Mul => b"mul",
-        Op::Div => b"div",
-        Op::Or => b"or",
-        Op::And => b"and",
-        Op::Lsh => b"lsh",
-        Op::Rsh => b"rsh",
-        Op::Mod => b"mod",
-        Op::Xor => b"xor",
-    }
+    OPS[op as usize].0
 }
 
 /// The mnemonic of a branch.
 fn test_text(test: Test) -> &'static [u8]
     ensures { result.now ≡ test_name test }
 {
-    match test {
-        Test::Eq => b"jeq",
-        Test::Gt => b"jgt",
-        Test::Ge => b"jge",
-        Test::Set => b"jset",
-    }
+    TESTS[test as usize].0
 }
 
 /// Writes a number between two texts.

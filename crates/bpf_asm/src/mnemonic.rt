@@ -13,8 +13,8 @@ use crate::statement::{
 };
 use bpf_code::{Instr, Op, Size, Test};
 
-/// The mnemonics of arithmetic.
-const OPS: [(&[u8], Op); 10] = [
+/// The mnemonics of arithmetic, in the order of `Op`.
+pub(crate) const OPS: [(&[u8], Op); 10] = [
     (b"add", Op::Add),
     (b"sub", Op::Sub),
     (b"mul", Op::Mul),
@@ -27,8 +27,8 @@ const OPS: [(&[u8], Op); 10] = [
     (b"xor", Op::Xor),
 ];
 
-/// The mnemonics of branches.
-const TESTS: [(&[u8], Test); 4] = [
+/// The mnemonics of branches, in the order of `Test`.
+pub(crate) const TESTS: [(&[u8], Test); 4] = [
     (b"jeq", Test::Eq),
     (b"jgt", Test::Gt),
     (b"jge", Test::Ge),

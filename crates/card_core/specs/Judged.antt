@@ -18,13 +18,6 @@ pub record JudgedView : Type 0 where
 
 -- The judged cell of an answer, if the answer is Judged.
 abbrev pub judged_in_answer : Answer → Option JudgedView
-judged_in_answer (Judged line number moment value program verdict cell) = Some (record {
-  line = line;
-  number = number;
-  moment = moment;
-  value = value;
-  program = program;
-  verdict = verdict;
-  cell = cell;
-})
+judged_in_answer (Judged line number moment value program verdict cell) =
+    Some (record { line = line; number = number; moment = moment; value = value; program = program; verdict = verdict; cell = cell })
 judged_in_answer _ = None

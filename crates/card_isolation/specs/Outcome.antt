@@ -20,12 +20,7 @@ pub record SeenEntry : Type 0 where
 
 -- The entry without the id of its program.
 abbrev pub seen : Entry → SeenEntry
-seen entry = record {
-  moment = entry.moment;
-  clp = entry.clp;
-  value = entry.value;
-  verdict = entry.verdict;
-}
+seen entry = record { moment = entry.moment; clp = entry.clp; value = entry.value; verdict = entry.verdict }
 
 -- The act was done; or it was done, and the earlier program had this code; or it returned a piece with these contracts
 -- and entries; or the cell, which arrived at this moment, was judged with this value from a program of this code, with

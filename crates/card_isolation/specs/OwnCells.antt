@@ -19,21 +19,12 @@ pub record OwnAnswer : Type 0 where
 
 -- The answer without these.
 abbrev pub own_answer : JudgedView → OwnAnswer
-own_answer judged = record {
-  moment = judged.moment;
-  value = judged.value;
-  verdict = judged.verdict;
-  cell = judged.cell;
-}
+own_answer judged = record { moment = judged.moment; value = judged.value; verdict = judged.verdict; cell = judged.cell }
 
 -- The judged cell of an outcome, if it has one.
 abbrev pub judged_outcome : Outcome → Option OwnAnswer
-judged_outcome (was_judged moment value code verdict cell) = Some (record {
-  moment = moment;
-  value = value;
-  verdict = verdict;
-  cell = cell;
-})
+judged_outcome (was_judged moment value code verdict cell) =
+    Some (record { moment = moment; value = value; verdict = verdict; cell = cell })
 judged_outcome _ = None
 
 -- The judged cells among these events.

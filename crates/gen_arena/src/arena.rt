@@ -69,7 +69,9 @@ impl<T> Arena<T> {
         if slots == 0 {
             return Err(ArenaFault::NoSlots);
         }
-        let places = PlaceRow::new(alloc, slots, used)?;
+        let Ok(places) = PlaceRow::new(alloc, slots, used) else {
+            return Err(ArenaFault::NoMemory);
+        };
         // Each fresh place counts as linked to the next one. If they have no generation left, the free list is empty.
         let (first, free) = if used < u32::MAX {
             (0, slots)

@@ -1,9 +1,5 @@
 //! Why an arena could not be made.
 
-ghost use Rattle.std.specs.Prelude.{◌≡◌};
-ghost use Rattle.gen_arena.specs.declared.fault.ArenaFault.TheVariants.{NoMemory};
-
-use std::alloc::AllocError;
 use thiserror::Error;
 
 /// Why an arena could not be made. `Display` prints the number and the name, as `1 NoSlots`.
@@ -15,12 +11,4 @@ pub enum ArenaFault {
     /// The allocation of the slots failed.
     #[error("2 NoMemory")]
     NoMemory,
-}
-
-impl From<AllocError> for ArenaFault {
-    ghost from_gives = { λ _ fault. fault ≡ NoMemory };
-
-    fn from(_error: AllocError) -> ArenaFault {
-        ArenaFault::NoMemory
-    }
 }

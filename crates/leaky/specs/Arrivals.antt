@@ -34,20 +34,19 @@ is_passed Refuse = false
 abbrev pub charges_second : Verdict → Contract → Bool → Bool
 charges_second verdict contract clp = meets_second contract clp && is_passed verdict
 
--- The moments of the cells that charge bucket 1.
-abbrev pub first_charges : Contract → Buckets → List Arrival → List ℕ
-first_charges contract buckets [] = []
-first_charges contract buckets (arrival ∷ later) =
+-- The moments of the cells that charge a bucket, if a cell with such a verdict and cell loss priority does.
+abbrev pub charging_moments : (Verdict → Bool → Bool) → Contract → Buckets → List Arrival → List ℕ
+charging_moments charges contract buckets [] = []
+charging_moments charges contract buckets (arrival ∷ later) =
     let verdict = verdict_of contract buckets arrival.clp arrival.moment in
     let after = buckets_after contract buckets arrival.clp arrival.moment in
-    let rest = first_charges contract after later in
-    if charges_first verdict then arrival.moment ∷ rest else rest
+    let rest = charging_moments charges contract after later in
+    if charges verdict arrival.clp then arrival.moment ∷ rest else rest
+
+-- The moments of the cells that charge bucket 1.
+abbrev pub first_charges : Contract → Buckets → List Arrival → List ℕ
+first_charges contract = charging_moments (λ verdict clp. charges_first verdict) contract
 
 -- The moments of the cells that charge bucket 2.
 abbrev pub second_charges : Contract → Buckets → List Arrival → List ℕ
-second_charges contract buckets [] = []
-second_charges contract buckets (arrival ∷ later) =
-    let verdict = verdict_of contract buckets arrival.clp arrival.moment in
-    let after = buckets_after contract buckets arrival.clp arrival.moment in
-    let rest = second_charges contract after later in
-    if charges_second verdict contract arrival.clp then arrival.moment ∷ rest else rest
+second_charges contract = charging_moments (λ verdict clp. charges_second verdict contract clp) contract

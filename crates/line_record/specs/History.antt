@@ -74,22 +74,12 @@ verdict_after contracts opening history cell =
 
 -- A cell with its verdict.
 abbrev pub entry_of : NamedCell → Verdict → Entry
-entry_of cell verdict = record {
-  moment = cell.moment;
-  clp = cell.clp;
-  value = cell.value;
-  program = cell.program;
-  verdict = verdict;
-}
+entry_of cell verdict =
+    record { moment = cell.moment; clp = cell.clp; value = cell.value; program = cell.program; verdict = verdict }
 
 -- An entry without its verdict.
 abbrev pub named_cell_of : Entry → NamedCell
-named_cell_of entry = record {
-  moment = entry.moment;
-  clp = entry.clp;
-  value = entry.value;
-  program = entry.program;
-}
+named_cell_of entry = record { moment = entry.moment; clp = entry.clp; value = entry.value; program = entry.program }
 
 -- Entries without their verdicts.
 abbrev pub named_cells_of : List Entry → List NamedCell

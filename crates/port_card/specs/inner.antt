@@ -1,4 +1,4 @@
 -- Definitions that only private functions and proofs use.
-pub mod Marks
+pub mod Shares
 pub mod Columns
 pub mod Given

@@ -6,7 +6,7 @@ use crate::ledgers::{
     DiscardedAtSeats, DiscardedOnLines, Ledgers, PassedAtSeats, PassedOnLines, RefusedAtSeats,
     RefusedOnLines, TaggedAtSeats, TaggedOnLines,
 };
-use crate::marks::{LineMarks, Marks, SeatMarks};
+use crate::shares::{LineShares, SeatShares, Shares};
 use leaky::Verdict;
 use line_record::MOST_CELLS;
 use std::marker::Model;
@@ -184,48 +184,36 @@ impl<S: Ledgers> Model for Books<S> {
 
 impl<S: Ledgers> Books<S> {
     ghost use Rattle.line_record.specs.Tally.{nothing, counted, count_of, HasRoom, IsPartTally};
-    ghost use Rattle.port_card.specs.inner.Marks.{unused_marks, counted_mark, IsBoundedCount};
+    ghost use Rattle.port_card.specs.inner.Shares.{unused_shares, counted_share, IsBoundedCount};
 
-    /// Opens books that have counted no cell, and returns all marks of lines and of seats.
-    pub(crate) fn open(blanks: Blanks) -> (Self, LineMarks<S>, SeatMarks<S>)
+    /// Opens books that have counted no cell, and returns all shares of lines and of seats.
+    pub(crate) fn open(blanks: Blanks) -> (Self, LineShares<S>, SeatShares<S>)
         requires { blanks ≡ S.names }
         ensures books { result.0 ≡ nothing }
-        ensures lines { result.1 ≡ unused_marks S.names.lines }
-        ensures seats { result.2 ≡ unused_marks S.names.ports }
+        ensures lines { result.1 ≡ unused_shares S.names.lines }
+        ensures seats { result.2 ≡ unused_shares S.names.ports }
     {
-        let (passed, passed_line, passed_seat) = Pair::open(
-            blanks.passed_on_lines,
-            blanks.passed_at_seats,
-        );
-        let (tagged, tagged_line, tagged_seat) = Pair::open(
-            blanks.tagged_on_lines,
-            blanks.tagged_at_seats,
-        );
-        let (discarded, discarded_line, discarded_seat) = Pair::open(
-            blanks.discarded_on_lines,
-            blanks.discarded_at_seats,
-        );
-        let (refused, refused_line, refused_seat) = Pair::open(
-            blanks.refused_on_lines,
-            blanks.refused_at_seats,
-        );
+        let passed = Pair::open(blanks.passed_on_lines, blanks.passed_at_seats);
+        let tagged = Pair::open(blanks.tagged_on_lines, blanks.tagged_at_seats);
+        let discarded = Pair::open(blanks.discarded_on_lines, blanks.discarded_at_seats);
+        let refused = Pair::open(blanks.refused_on_lines, blanks.refused_at_seats);
         let books = Books {
-            passed,
-            tagged,
-            discarded,
-            refused,
+            passed: passed.0,
+            tagged: tagged.0,
+            discarded: discarded.0,
+            refused: refused.0,
         };
-        let lines = Marks {
-            passed: passed_line,
-            tagged: tagged_line,
-            discarded: discarded_line,
-            refused: refused_line,
+        let lines = Shares {
+            passed: passed.1,
+            tagged: tagged.1,
+            discarded: discarded.1,
+            refused: refused.1,
         };
-        let seats = Marks {
-            passed: passed_seat,
-            tagged: tagged_seat,
-            discarded: discarded_seat,
-            refused: refused_seat,
+        let seats = Shares {
+            passed: passed.2,
+            tagged: tagged.2,
+            discarded: discarded.2,
+            refused: refused.2,
         };
         (books, lines, seats)
     }
@@ -245,16 +233,16 @@ impl<S: Ledgers> Books<S> {
     #[inline]
     pub(crate) fn count(
         &mut self,
-        line: &mut LineMarks<S>,
-        seat: &mut SeatMarks<S>,
+        line: &mut LineShares<S>,
+        seat: &mut SeatShares<S>,
         verdict: Verdict,
     )
         requires room { HasRoom self.old }
         requires line_part { 0 < line.old.parts }
         requires seat_part { 0 < seat.old.parts }
         ensures counted { self.new ≡ counted self.old verdict }
-        ensures line { line.new ≡ counted_mark line.old verdict }
-        ensures seat { seat.new ≡ counted_mark seat.old verdict }
+        ensures line { line.new ≡ counted_share line.old verdict }
+        ensures seat { seat.new ≡ counted_share seat.old verdict }
     {
         match verdict {
             Verdict::Pass => self.passed.count(&mut line.passed, &mut seat.passed),
@@ -269,7 +257,7 @@ impl<S: Ledgers> Books<S> {
     /// Changes nothing. Shows that one seat has counted at most as many cells as all seats together, for each
     /// verdict.
     #[inline]
-    pub(crate) fn bound(&mut self, seat: &mut SeatMarks<S>)
+    pub(crate) fn bound(&mut self, seat: &mut SeatShares<S>)
         ensures same { self.new ≡ self.old }
         ensures seat { seat.new ≡ seat.old }
         ensures part { IsPartTally seat.old.tally self.old }
@@ -282,8 +270,8 @@ impl<S: Ledgers> Books<S> {
     }
 
     /// Changes nothing. Shows that lines and seats have counted equally many cells for each verdict, if these are all
-    /// marks of both.
-    pub(crate) fn audit(&mut self, lines: &mut LineMarks<S>, seats: &mut SeatMarks<S>)
+    /// shares of both.
+    pub(crate) fn audit(&mut self, lines: &mut LineShares<S>, seats: &mut SeatShares<S>)
         requires all_lines { lines.old.parts ≡ S.names.lines }
         requires all_seats { seats.old.parts ≡ S.names.ports }
         ensures same { self.new ≡ self.old }

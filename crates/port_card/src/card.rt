@@ -5,9 +5,9 @@ use crate::counted_line::CountedLine;
 use crate::desk::Desk;
 use crate::gate::Gate;
 use crate::ledgers::Ledgers;
-use crate::marks::{LineMarks, SeatMarks};
 use crate::seat::PortSeat;
 use crate::seatings::{Found, Seatings};
+use crate::shares::{LineShares, SeatShares};
 use card_core::{Answer, CardFault, Shape, Store};
 use gen_arena::Arena;
 use line_record::{Line, MOST_ENTRIES};
@@ -201,19 +201,19 @@ ghost use Rattle.std.specs.Prelude.{◌≡◌, ◌≤◌, false, IfSome, length,
 ghost use Rattle.line_record.specs.Line.{free_line};
 ghost use Rattle.line_record.specs.Tally.{nothing};
 ghost use Rattle.port_card.specs.Seats.{AreNewSeats};
-ghost use Rattle.port_card.specs.inner.Marks.{unused_marks};
+ghost use Rattle.port_card.specs.inner.Shares.{unused_shares};
 
-/// Makes `lines` free lines, each with a journal of `journal` entries and its marks. Returns none if an allocation
+/// Makes `lines` free lines, each with a journal of `journal` entries and its shares. Returns none if an allocation
 /// fails.
 fn free_lines<S: Ledgers>(
     alloc: Global,
     lines: usize,
     journal: u32,
-    all: LineMarks<S>,
+    all: LineShares<S>,
 ) -> Option<Vec<CountedLine<S>>>
     requires some { 1 ≤ journal }
     requires most { journal ≤ MOST_ENTRIES }
-    requires marks { all ≡ unused_marks lines }
+    requires shares { all ≡ unused_shares lines }
     ensures count { IfSome result (λ made. length made.items ≡ lines) }
     ensures each { IfSome result (λ made.
         map (λ counted_line. counted_line.line) made.items ≡ replicate lines (free_line journal nothing false)) }
@@ -253,10 +253,10 @@ fn new_seats<S: Ledgers>(
     alloc: Global,
     ports: u8,
     lines: usize,
-    all: SeatMarks<S>,
+    all: SeatShares<S>,
 ) -> Option<Vec<PortSeat<S>>>
     requires lines { lines ≡ S.names.lines }
-    requires marks { all ≡ unused_marks ports }
+    requires shares { all ≡ unused_shares ports }
     ensures { IfSome result (λ seats. AreNewSeats seats.items ports lines) }
 {
     let mut rest = all;

@@ -3,8 +3,8 @@
 use crate::card::Card;
 use crate::counted_line::CountedLine;
 use crate::ledgers::Ledgers;
-use crate::marks::{LineMarks, SeatMarks};
 use crate::seat::{Column, PortSeat};
+use crate::shares::{LineShares, SeatShares};
 use card_core::MOST_LINES;
 use line_record::{Line, Tally};
 use std::alloc::Global;
@@ -97,8 +97,8 @@ impl<S: Ledgers> Card<S> {
         } = self;
         let mut counted_lines = counted_lines;
         let mut seats = seats;
-        let no_lines = marks_of_no_line(&mut counted_lines);
-        let no_seats = seats[0].no_marks();
+        let no_lines = shares_of_no_line(&mut counted_lines);
+        let no_seats = seats[0].no_shares();
         let (lines, mut on_lines) = gathered_lines(counted_lines, lines, no_lines);
         let (columns, mut at_seats) = gathered_columns(seats, columns, no_seats);
         books.into_inner().audit(&mut on_lines, &mut at_seats);
@@ -111,61 +111,61 @@ ghost use Rattle.std.specs.Prelude.{◌≡◌, ◌<◌, ◌≤◌, ◌↔◌, Is
 ghost use Rattle.line_record.specs.Tally.{FitsWords};
 ghost use Rattle.port_card.specs.Closing.{lines_total, IsFirstUneven};
 ghost use Rattle.port_card.specs.inner.Columns.{columns_total, columns_on};
-ghost use Rattle.port_card.specs.inner.Marks.{unused_marks};
+ghost use Rattle.port_card.specs.inner.Shares.{unused_shares};
 
 /// Returns empty shares, into which those of the lines are merged.
-fn marks_of_no_line<S: Ledgers>(counted_lines: &mut [Mutex<CountedLine<S>>]) -> LineMarks<S>
+fn shares_of_no_line<S: Ledgers>(counted_lines: &mut [Mutex<CountedLine<S>>]) -> LineShares<S>
     requires { 0 < length counted_lines.old }
-    ensures { result ≡ unused_marks 0 }
+    ensures { result ≡ unused_shares 0 }
 {
-    counted_lines[0].get_mut().no_marks()
+    counted_lines[0].get_mut().no_shares()
 }
 
-/// Takes the lines out of their locks into a list that has room for them, and merges their marks.
+/// Takes the lines out of their locks into a list that has room for them, and merges their shares.
 fn gathered_lines<S: Ledgers>(
     counted_lines: Vec<Mutex<CountedLine<S>>>,
     lines: Vec<Line>,
-    none: LineMarks<S>,
-) -> (Vec<Line>, LineMarks<S>)
+    none: LineShares<S>,
+) -> (Vec<Line>, LineShares<S>)
     requires empty { lines.items ≡ [] }
     requires room { vec_len counted_lines ≤ vec_capacity lines }
-    requires none { none ≡ unused_marks 0 }
+    requires none { none ≡ unused_shares 0 }
     ensures sized { length result.0.items ≡ vec_len counted_lines }
     ensures parts { result.1.parts ≡ vec_len counted_lines }
     ensures tally { result.1.tally ≡ lines_total result.0.items }
 {
     let mut lines = lines;
-    let mut marks = none;
+    let mut shares = none;
     for counted_line in counted_lines {
-        let CountedLine { line, marks: own } = counted_line.into_inner();
-        marks.merge(own);
+        let CountedLine { line, shares: own } = counted_line.into_inner();
+        shares.merge(own);
         lines.push_reserved(line);
     }
-    (lines, marks)
+    (lines, shares)
 }
 
-/// Takes the seats' tallies into a list that has room for them, and merges their marks.
+/// Takes the seats' tallies into a list that has room for them, and merges their shares.
 fn gathered_columns<S: Ledgers>(
     seats: Vec<PortSeat<S>>,
     columns: Vec<Column>,
-    none: SeatMarks<S>,
-) -> (Vec<Column>, SeatMarks<S>)
+    none: SeatShares<S>,
+) -> (Vec<Column>, SeatShares<S>)
     requires empty { columns.items ≡ [] }
     requires room { length seats.items ≤ vec_capacity columns }
-    requires none { none ≡ unused_marks 0 }
+    requires none { none ≡ unused_shares 0 }
     ensures columns { result.0.items ≡ map (λ seat. seat.tallies) seats.items }
     ensures parts { result.1.parts ≡ length seats.items }
     ensures most { result.1.parts ≤ S.names.ports }
     ensures tally { result.1.tally ≡ columns_total result.0.items }
 {
     let mut columns = columns;
-    let mut marks = none;
+    let mut shares = none;
     for seat in seats {
         let (column, own) = seat.into_column();
-        marks.merge(own);
+        shares.merge(own);
         columns.push_reserved(column);
     }
-    (columns, marks)
+    (columns, shares)
 }
 
 /// The number of the first line whose counts differ from the seats' tallies for it; none if there is no such line.

@@ -1,12 +1,12 @@
-//! A line of the running card, with the marks of its counts.
+//! A line of the running card, with the shares of its counts.
 
 ghost use Rattle.std.specs.Prelude.{◌≡◌};
 
 use crate::books::Books;
 use crate::ledgers::Ledgers;
-use crate::marks::LineMarks;
 use crate::seat::PortSeat;
 use crate::seatings::Seatings;
+use crate::shares::LineShares;
 use card_core::{Answer, Ask, DeskFault, Named, cut, judge_without_cell, release, setup};
 use leaky::Verdict;
 use line_record::{Line, Owner, Piece, Seating};
@@ -16,9 +16,9 @@ use upc_cell::Vc;
 #[derive(Drop)]
 pub(crate) struct CountedLine<S: Ledgers> {
     pub(crate) line: Line,
-    pub(crate) marks: LineMarks<S>,
-    ghost one: { marks.parts ≡ 1 },
-    ghost same: { marks.tally ≡ line.state.counts },
+    pub(crate) shares: LineShares<S>,
+    ghost one: { shares.parts ≡ 1 },
+    ghost same: { shares.tally ≡ line.state.counts },
 }
 
 impl<S: Ledgers> CountedLine<S> {
@@ -32,22 +32,22 @@ impl<S: Ledgers> CountedLine<S> {
     ghost use Rattle.card_core.specs.Steps.{cell_after};
     ghost use Rattle.port_card.specs.Seats.{counts_after, seat_after, tally_of_seat};
     ghost use Rattle.port_card.specs.Answers.{BlamesRightly, IsOfSetup, IsOfRelease, IsOfCut};
-    ghost use Rattle.port_card.specs.inner.Marks.{unused_marks};
+    ghost use Rattle.port_card.specs.inner.Shares.{unused_shares};
 
-    /// A line that has judged nothing, with its marks.
-    pub(crate) fn new(line: Line, marks: LineMarks<S>) -> Self
+    /// A line that has judged nothing, with its shares.
+    pub(crate) fn new(line: Line, shares: LineShares<S>) -> Self
         requires line { line.state.counts ≡ nothing }
-        requires marks { marks ≡ unused_marks 1 }
+        requires shares { shares ≡ unused_shares 1 }
         ensures { result.line ≡ line }
     {
-        CountedLine { line, marks }
+        CountedLine { line, shares }
     }
 
     /// Returns empty shares, into which those of the lines are merged.
-    pub(crate) fn no_marks(&mut self) -> LineMarks<S>
-        ensures { result ≡ unused_marks 0 }
+    pub(crate) fn no_shares(&mut self) -> LineShares<S>
+        ensures { result ≡ unused_shares 0 }
     {
-        self.marks.none()
+        self.shares.none()
     }
 
     /// Judges a cell on the line, and counts it if it was judged. Returns `JournalFull` if one of the card's sums is
@@ -92,7 +92,7 @@ impl<S: Ledgers> CountedLine<S> {
         }
         match judge_without_cell(&mut self.line, vc, seating, named, moment) {
             Ok(judged) => {
-                seat.count(books, &mut self.marks, judged.line, judged.verdict);
+                seat.count(books, &mut self.shares, judged.line, judged.verdict);
                 judged.answer(&named.cell())
             }
             Err(reason) => reason.answer(),

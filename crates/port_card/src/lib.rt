@@ -10,9 +10,9 @@ mod desk;
 mod gate;
 pub mod keeping;
 mod ledgers;
-mod marks;
 mod seat;
 mod seatings;
+mod shares;
 
 pub use books::Blanks;
 pub use card::Card;

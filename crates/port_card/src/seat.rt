@@ -5,7 +5,7 @@ ghost use Rattle.line_record.specs.Tally.{nothing};
 
 use crate::books::Books;
 use crate::ledgers::Ledgers;
-use crate::marks::{LineMarks, SeatMarks};
+use crate::shares::{LineShares, SeatShares};
 use leaky::Verdict;
 use line_record::Tally;
 use std::alloc::Global;
@@ -18,7 +18,7 @@ pub struct PortSeat<S: Ledgers> {
     port: u8,
     /// The tallies, by the number of the line.
     tallies: Vec<Tally>,
-    marks: SeatMarks<S>,
+    shares: SeatShares<S>,
 }
 
 impl<S: Ledgers> Model for PortSeat<S> {
@@ -30,8 +30,8 @@ impl<S: Ledgers> Model for PortSeat<S> {
 
     ghost view = { λ s. record { port = s.port; tallies = s.tallies.items } };
 
-    ghost invariant = { λ s. (s.marks.parts ≡ 1)
-        × (s.marks.tally ≡ total s.tallies.items)
+    ghost invariant = { λ s. (s.shares.parts ≡ 1)
+        × (s.shares.tally ≡ total s.tallies.items)
         × (length s.tallies.items ≡ S.names.lines) };
 }
 
@@ -39,12 +39,12 @@ impl<S: Ledgers> PortSeat<S> {
     ghost use Rattle.std.specs.Prelude.{◌≡◌, ◌<◌, length, slice_get, IfSome};
     ghost use Rattle.line_record.specs.Tally.{counted, total, HasRoom};
     ghost use Rattle.port_card.specs.Seats.{new_seat, counted_on, tally_of_seat};
-    ghost use Rattle.port_card.specs.inner.Marks.{unused_marks, counted_mark};
+    ghost use Rattle.port_card.specs.inner.Shares.{unused_shares, counted_share};
 
     /// A seat that has counted no cell. Returns none if an allocation fails.
-    pub(crate) fn new(alloc: Global, port: u8, lines: usize, marks: SeatMarks<S>) -> Option<Self>
+    pub(crate) fn new(alloc: Global, port: u8, lines: usize, shares: SeatShares<S>) -> Option<Self>
         requires lines { lines ≡ S.names.lines }
-        requires marks { marks ≡ unused_marks 1 }
+        requires shares { shares ≡ unused_shares 1 }
         ensures { IfSome result (λ seat. seat ≡ new_seat port lines) }
     {
         let Some(tallies) = no_tallies(alloc, lines) else {
@@ -53,7 +53,7 @@ impl<S: Ledgers> PortSeat<S> {
         Some(PortSeat {
             port,
             tallies,
-            marks,
+            shares,
         })
     }
 
@@ -75,15 +75,15 @@ impl<S: Ledgers> PortSeat<S> {
     }
 
     /// Returns empty shares, into which those of the seats are merged.
-    pub(crate) fn no_marks(&mut self) -> SeatMarks<S>
-        ensures none { result ≡ unused_marks 0 }
+    pub(crate) fn no_shares(&mut self) -> SeatShares<S>
+        ensures none { result ≡ unused_shares 0 }
         ensures same { self.new ≡ self.old }
     {
-        self.marks.none()
+        self.shares.none()
     }
 
-    /// Takes the seat apart: its tallies, and the marks, whose counts are the sum of the tallies.
-    pub(crate) fn into_column(self) -> (Column, SeatMarks<S>)
+    /// Takes the seat apart: its tallies, and the shares, whose counts are the sum of the tallies.
+    pub(crate) fn into_column(self) -> (Column, SeatShares<S>)
         ensures column { result.0 ≡ self.tallies }
         ensures parts { result.1.parts ≡ 1 }
         ensures tally { result.1.tally ≡ total self.tallies }
@@ -91,9 +91,9 @@ impl<S: Ledgers> PortSeat<S> {
         let PortSeat {
             port: _,
             tallies,
-            marks,
+            shares,
         } = self;
-        (Column { tallies }, marks)
+        (Column { tallies }, shares)
     }
 
     /// Counts a judged cell in the seat's tally, in the books, and in the shares of the line and the seat. The line itself has counted it
@@ -102,7 +102,7 @@ impl<S: Ledgers> PortSeat<S> {
     pub(crate) fn count(
         &mut self,
         books: &mut Books<S>,
-        on_line: &mut LineMarks<S>,
+        on_line: &mut LineShares<S>,
         line: u16,
         verdict: Verdict,
     )
@@ -112,12 +112,12 @@ impl<S: Ledgers> PortSeat<S> {
         ensures seat { self.new ≡ counted_on self.old line verdict }
         ensures total { tally_of_seat self.new ≡ counted (tally_of_seat self.old) verdict }
         ensures books { books.new ≡ counted books.old verdict }
-        ensures line { on_line.new ≡ counted_mark on_line.old verdict }
+        ensures line { on_line.new ≡ counted_share on_line.old verdict }
     {
         // Changes nothing: its contract says that the tally has room.
-        books.bound(&mut self.marks);
+        books.bound(&mut self.shares);
         self.tallies[usize::from(line)].count(verdict);
-        books.count(on_line, &mut self.marks, verdict);
+        books.count(on_line, &mut self.shares, verdict);
     }
 }
 

@@ -3,7 +3,6 @@
 mod choices;
 mod comparisons;
 mod devices;
-mod expecting;
 mod faults;
 mod lines;
 mod ports;

@@ -5,9 +5,10 @@ mod isolation;
 mod listing;
 mod tables;
 
+use super::{ask, cell_with, constant};
 use arrayvec::ArrayVec;
 use bpf_code::Instr;
-use bpf_verify::{Program, verify};
+use bpf_verify::Program;
 use card_core::*;
 use gen_arena::{Arena, Id};
 use leaky::{Contract, Gcra, Verdict};
@@ -15,7 +16,7 @@ use line_record::{Directory, Line, Piece, Tally};
 use std::alloc::Global;
 use std::process::Abort;
 use std::test::Fail;
-use tables::{Planned, Seen, empty_journal, expect, journal_of_one_cell, loaded, passed};
+use tables::{Planned, Seen, empty_journal, entered, expect, journal_of_one_cell, loaded, passed};
 use upc_cell::{Cell, Side, Vc};
 
 /// The header of a cell of 1/100 with cell loss priority 0.
@@ -31,31 +32,14 @@ fn shape(programs: u64, ports: u64, journal: u64) -> Shape {
     }
 }
 
-/// A program that returns this value for every cell.
-fn constant(alloc: Global, value: u32) -> Result<Program, Fail> {
-    let code = vec![in alloc; Instr::RetK(value)]?;
-    Ok(verify(code)?)
-}
-
 /// A cell of 1/100 with a payload of zeros.
 fn cell() -> Cell {
-    let mut octets = [0u8; 52];
-    octets[0] = HEADER[0];
-    octets[1] = HEADER[1];
-    octets[2] = HEADER[2];
-    octets[3] = HEADER[3];
-    Cell::from(octets)
+    cell_with(&HEADER)
 }
 
-/// A connection with one contract: a cell every ten ticks, without tolerance.
-fn ask(program: Id) -> Result<Ask, Fail> {
-    let mut contracts = ArrayVec::new();
-    contracts.push(Contract::Cbr1(Gcra::new(10, 0)?));
-    Ok(Ask {
-        vc: Vc::new(1, 100)?,
-        program,
-        contracts,
-    })
+/// The connection 1/100.
+fn ask_own(program: Id) -> Result<Ask, Fail> {
+    ask(Vc::new(1, 100)?, program)
 }
 
 /// Takes one step. It promises nothing, so the prover carries no contract of a step through a test: what a test says is tested.
@@ -114,108 +98,74 @@ fn judged(answer: Option<Answer>) -> Option<(Verdict, u64, Id)> {
 
 #[test]
 fn a_port_takes_its_steps_in_order(rt: HostRuntime) -> Result<(), Fail> {
-    expect(
-        &rt,
-        rt.alloc(),
-        shape(1, 1, 4),
-        &[
-            (Planned::Judge(0), Seen::NotNow),
-            (Planned::Enter { port: 1, moment: 0 }, Seen::NotNow),
-            (Planned::Enter { port: 0, moment: 0 }, Seen::Entered),
-            (Planned::Enter { port: 0, moment: 0 }, Seen::NotNow),
-            (Planned::Load(7), Seen::NotLoaded(DeskFault::Busy, 7)),
-            (Planned::Retire(0), Seen::Refused(DeskFault::Busy)),
-            (Planned::Pick(0), Seen::Answered(Answer::NoConnection)),
-            (Planned::Retire(0), Seen::Refused(DeskFault::NoProgram)),
-        ],
-    )
+    let plan = [
+        (Planned::Judge(0), Seen::NotNow),
+        (Planned::Enter { port: 1, moment: 0 }, Seen::NotNow),
+        entered(0, 0),
+        (Planned::Enter { port: 0, moment: 0 }, Seen::NotNow),
+        (Planned::Load(7), Seen::NotLoaded(DeskFault::Busy, 7)),
+        (Planned::Retire(0), Seen::Refused(DeskFault::Busy)),
+        (Planned::Pick(0), Seen::Answered(Answer::NoConnection)),
+        (Planned::Retire(0), Seen::Refused(DeskFault::NoProgram)),
+    ];
+    expect(&rt, rt.alloc(), shape(1, 1, 4), &plan)
 }
 
 #[test]
 fn cells_of_two_ports_meet_on_one_line(rt: HostRuntime) -> Result<(), Fail> {
-    expect(
-        &rt,
-        rt.alloc(),
-        shape(1, 2, 1),
-        &[
-            (Planned::Load(1), loaded(0, 1)),
-            (Planned::Setup(0), Seen::SetUp(1)),
-            (
-                Planned::Enter {
-                    port: 0,
-                    moment: 10,
-                },
-                Seen::Entered,
-            ),
-            (Planned::Pick(0), Seen::Picked),
-            (Planned::Enter { port: 1, moment: 5 }, Seen::Entered),
-            (Planned::Pick(1), Seen::Picked),
-            (Planned::Judge(0), passed(1, 10, 0)),
-            (
-                Planned::Judge(1),
-                Seen::Answered(Answer::MomentBack { last: 10 }),
-            ),
-            (
-                Planned::Enter {
-                    port: 1,
-                    moment: 10,
-                },
-                Seen::Entered,
-            ),
-            (Planned::Pick(1), Seen::Picked),
-            (Planned::Judge(1), Seen::Answered(Answer::JournalFull)),
-        ],
-    )
+    let plan = [
+        (Planned::Load(1), loaded(0, 1)),
+        (Planned::Setup(0), Seen::SetUp(1)),
+        entered(0, 10),
+        (Planned::Pick(0), Seen::Picked),
+        entered(1, 5),
+        (Planned::Pick(1), Seen::Picked),
+        (Planned::Judge(0), passed(1, 10, 0)),
+        (
+            Planned::Judge(1),
+            Seen::Answered(Answer::MomentBack { last: 10 }),
+        ),
+        entered(1, 10),
+        (Planned::Pick(1), Seen::Picked),
+        (Planned::Judge(1), Seen::Answered(Answer::JournalFull)),
+    ];
+    expect(&rt, rt.alloc(), shape(1, 2, 1), &plan)
 }
 
 #[test]
 fn a_reload_leaves_a_picked_cell_its_program(rt: HostRuntime) -> Result<(), Fail> {
-    expect(
-        &rt,
-        rt.alloc(),
-        shape(2, 1, 4),
-        &[
-            (Planned::Load(1), loaded(0, 1)),
-            (Planned::Load(1), loaded(1, 1)),
-            (Planned::Setup(0), Seen::SetUp(1)),
-            (Planned::Enter { port: 0, moment: 0 }, Seen::Entered),
-            (Planned::Pick(0), Seen::Picked),
-            (Planned::Load(1), Seen::NotLoaded(DeskFault::Busy, 1)),
-            (Planned::Reload(1), Seen::Reloaded(0)),
-            (Planned::Judge(0), passed(1, 0, 0)),
-            (Planned::Retire(0), Seen::Retired(1)),
-            (Planned::Load(1), loaded(0, 2)),
-            (Planned::Retire(0), Seen::Refused(DeskFault::NoProgram)),
-        ],
-    )
+    let plan = [
+        (Planned::Load(1), loaded(0, 1)),
+        (Planned::Load(1), loaded(1, 1)),
+        (Planned::Setup(0), Seen::SetUp(1)),
+        entered(0, 0),
+        (Planned::Pick(0), Seen::Picked),
+        (Planned::Load(1), Seen::NotLoaded(DeskFault::Busy, 1)),
+        (Planned::Reload(1), Seen::Reloaded(0)),
+        (Planned::Judge(0), passed(1, 0, 0)),
+        (Planned::Retire(0), Seen::Retired(1)),
+        (Planned::Load(1), loaded(0, 2)),
+        (Planned::Retire(0), Seen::Refused(DeskFault::NoProgram)),
+    ];
+    expect(&rt, rt.alloc(), shape(2, 1, 4), &plan)
 }
 
 #[test]
 fn a_connection_that_is_set_up_again_is_another(rt: HostRuntime) -> Result<(), Fail> {
-    expect(
-        &rt,
-        rt.alloc(),
-        shape(1, 1, 4),
-        &[
-            (Planned::Load(1), loaded(0, 1)),
-            (Planned::Setup(0), Seen::SetUp(1)),
-            (Planned::Enter { port: 0, moment: 0 }, Seen::Entered),
-            (Planned::Pick(0), Seen::Picked),
-            (Planned::Judge(0), passed(1, 0, 0)),
-            (
-                Planned::Enter {
-                    port: 0,
-                    moment: 20,
-                },
-                Seen::Entered,
-            ),
-            (Planned::Pick(0), Seen::Picked),
-            (Planned::Release, journal_of_one_cell(1)),
-            (Planned::Setup(0), Seen::SetUp(2)),
-            (Planned::Judge(0), Seen::Answered(Answer::Released)),
-            (Planned::Cut, empty_journal(2)),
-        ],
-    )
+    let plan = [
+        (Planned::Load(1), loaded(0, 1)),
+        (Planned::Setup(0), Seen::SetUp(1)),
+        entered(0, 0),
+        (Planned::Pick(0), Seen::Picked),
+        (Planned::Judge(0), passed(1, 0, 0)),
+        entered(0, 20),
+        (Planned::Pick(0), Seen::Picked),
+        (Planned::Release, journal_of_one_cell(1)),
+        (Planned::Setup(0), Seen::SetUp(2)),
+        (Planned::Judge(0), Seen::Answered(Answer::Released)),
+        (Planned::Cut, empty_journal(2)),
+    ];
+    expect(&rt, rt.alloc(), shape(1, 1, 4), &plan)
 }
 
 /// The last incarnation of a directory.
@@ -251,8 +201,8 @@ fn expect_one_incarnation(
     line: &mut Line,
     program: Id,
 ) -> Result<(), Fail> {
-    let first = incarnation_of(store, directory, line, ask(program)?);
-    let second = incarnation_of(store, directory, line, ask(program)?);
+    let first = incarnation_of(store, directory, line, ask_own(program)?);
+    let second = incarnation_of(store, directory, line, ask_own(program)?);
     assert!(rt; first == Ok(LAST) && second == Err(DeskFault::Taken));
     expect_none_left(rt, store, directory, line, program)
 }
@@ -267,7 +217,7 @@ fn expect_none_left(
 ) -> Result<(), Fail> {
     let is_other_there = pick(directory, Vc::new(1, 101)?).is_some();
     let is_released = is_released(directory, line, Vc::new(1, 100)?);
-    let third = incarnation_of(store, directory, line, ask(program)?);
+    let third = incarnation_of(store, directory, line, ask_own(program)?);
     assert!(rt; !is_other_there && is_released);
     assert!(rt; third == Err(DeskFault::Exhausted));
     Ok(())

@@ -2,14 +2,12 @@
 
 ghost use Rattle.std.specs.Prelude.{[], ⊤};
 
-use arrayvec::ArrayVec;
-use bpf_code::Instr;
-use bpf_verify::verify;
-use card_core::{Ask, Core, PortReply, Reply, Shape, Step, Unjudged};
+use super::{ask, constant};
+use card_core::{Core, PortReply, Reply, Shape, Step, Unjudged};
 use card_feeds::{Feeder, Lane, Queue, each_card};
 use card_shelf::{Arrival, Decision};
 use gen_arena::Id;
-use leaky::{Contract, Gcra, Verdict};
+use leaky::Verdict;
 use std::alloc::Global;
 use std::sync::atomic::{AtomicU64, Ordering};
 use std::test::Fail;
@@ -39,26 +37,15 @@ fn cell_of(channel: u16) -> Cell {
     Cell::from(octets)
 }
 
-/// A connection under one contract: a cell in ten ticks, and no tolerance.
-fn ask(channel: u16, program: Id) -> Result<Ask, Fail> {
-    let mut contracts = ArrayVec::new();
-    contracts.push(Contract::Cbr1(Gcra::new(10, 0)?));
-    Ok(Ask {
-        vc: Vc::new(1, channel)?,
-        program,
-        contracts,
-    })
-}
-
 /// A card with all connections, whose program gives 1 for every cell.
 fn card(alloc: Global) -> Result<Core, Fail> {
     let mut core = Core::new(alloc, shape())?;
-    let program = verify(vec![in alloc; Instr::RetK(1)]?)?;
-    let Reply::Loaded(id) = core.step(Step::Load(program)) else {
+    let Reply::Loaded(id) = core.step(Step::Load(constant(alloc, 1)?)) else {
         return Err(Fail::from("not loaded"));
     };
     for number in 0..CONNECTIONS {
-        let Reply::SetUp(_) = core.step(Step::Setup(ask(100u16.wrapping_add(number), id)?)) else {
+        let vc = Vc::new(1, 100u16.wrapping_add(number))?;
+        let Reply::SetUp(_) = core.step(Step::Setup(ask(vc, id)?)) else {
             return Err(Fail::from("not set up"));
         };
     }

@@ -3,23 +3,21 @@
 mod at_once;
 mod beside;
 mod desk;
-mod faults;
 mod rooms;
 mod sizes;
 
-use arrayvec::ArrayVec;
-use bpf_code::Instr;
-use bpf_verify::{Program, verify};
+use super::{ask, cell_with, constant};
+use bpf_verify::Program;
 use card_core::{Ask, Core, Reply, Shape, Step, Unjudged};
 use card_shelf::{Arrival, Decision, Shelf};
 use gen_arena::Id;
-use leaky::{Contract, Gcra, Verdict};
+use leaky::Verdict;
 use std::alloc::Global;
 use std::fmt::Debug;
 use std::process::Abort;
 use std::test::Fail;
 use std::thread::Threads;
-use upc_cell::{Cell, Side, Vc};
+use upc_cell::{Side, Vc};
 
 /// The headers of 1/100, 1/101, 1/102, 2/100 and 2/101.
 const HEADERS: [[u8; 4]; 5] = [
@@ -46,33 +44,6 @@ fn shape() -> Shape {
         journal: 16,
         side: Side::Uni,
     }
-}
-
-/// A cell of this header with a payload of zeros.
-fn cell(header: &[u8; 4]) -> Cell {
-    let mut octets = [0u8; 52];
-    octets[0] = header[0];
-    octets[1] = header[1];
-    octets[2] = header[2];
-    octets[3] = header[3];
-    Cell::from(octets)
-}
-
-/// A program that gives this value for every cell.
-fn constant(alloc: Global, value: u32) -> Result<Program, Fail> {
-    let code = vec![in alloc; Instr::RetK(value)]?;
-    Ok(verify(code)?)
-}
-
-/// A connection under one contract: a cell in ten ticks, and no tolerance.
-fn ask(vc: Vc, program: Id) -> Result<Ask, Fail> {
-    let mut contracts = ArrayVec::new();
-    contracts.push(Contract::Cbr1(Gcra::new(10, 0)?));
-    Ok(Ask {
-        vc,
-        program,
-        contracts,
-    })
 }
 
 fn id_of(reply: Reply) -> Result<Id, Fail> {
@@ -118,7 +89,7 @@ fn set_up(shelf: &mut Shelf, asked: Ask) -> Result<(), Fail> {
 /// Sets up the connections of all headers, each with a program of its own card.
 fn set_up_all(shelf: &mut Shelf, ids: &[Id]) -> Result<(), Fail> {
     for header in &HEADERS {
-        let vc = cell(header).vc();
+        let vc = cell_with(header).vc();
         let program = id_for(shelf, ids, vc)?;
         set_up(shelf, ask(vc, program)?)?;
     }
@@ -160,7 +131,7 @@ fn set_up_on_card(core: &mut Core, asked: Ask) -> Result<(), Fail> {
 /// Sets up the connections of all headers under one program.
 fn set_up_all_on_card(core: &mut Core, program: Id) -> Result<(), Fail> {
     for header in &HEADERS {
-        set_up_on_card(core, ask(cell(header).vc(), program)?)?;
+        set_up_on_card(core, ask(cell_with(header).vc(), program)?)?;
     }
     Ok(())
 }
@@ -187,12 +158,12 @@ fn arrivals(alloc: Global) -> Result<Vec<Arrival>, Fail> {
         for (place, header) in HEADERS.iter().enumerate() {
             let moment = start.wrapping_add(place as u64);
             all.push(Arrival {
-                cell: cell(header),
+                cell: cell_with(header),
                 moment,
             })?;
         }
         all.push(Arrival {
-            cell: cell(&UNKNOWN),
+            cell: cell_with(&UNKNOWN),
             moment: start,
         })?;
     }
@@ -214,7 +185,7 @@ fn seen(decision: &Decision) -> Result<(Verdict, u64, u64, u32), Unjudged> {
 
 /// The connection of the header at this place.
 fn vc_at(place: u8) -> Vc {
-    cell(HEADERS.get(usize::from(place)).unwrap_or(&UNKNOWN)).vc()
+    cell_with(HEADERS.get(usize::from(place)).unwrap_or(&UNKNOWN)).vc()
 }
 
 /// What is seen of a reply: how many entries a piece has that was handed out, or that the desk has done something else.

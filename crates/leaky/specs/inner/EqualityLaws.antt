@@ -12,6 +12,18 @@ use Rattle.leaky.specs.declared.contract.Contract.{Contract}
 use Rattle.leaky.specs.declared.contract.Contract.TheVariants.{Cbr1, Vbr1, Vbr2, Vbr3}
 use Rattle.leaky.specs.Equality.{gcra_eq, levels_eq, contract_eq}
 
+-- Whether two numbers are equal decides equality of what they determine.
+numbers-decide : {A : Type 0} (first second : A → ℕ) → ((a b : A) → first a ≡ first b → second a ≡ second b → a ≡ b)
+    → (a b : A) → Decides ((first a == first b) && (second a == second b)) (a ≡ b)
+numbers-decide first second same a b =
+    let both =
+    Decides-and (first a == first b) (second a == second b)
+    (unsigned_Decides (first a) (first b)) (unsigned_Decides (second a) (second b))
+    in (
+      λ e. let equal = both.0 e in same a b equal.0 equal.1,
+      λ e. both.1 (ap first e, ap second e),
+    )
+
 -- The rate with these numbers.
 abbrev gcra_of : (increment limit : ℕ) → 0 < increment → increment ≤ 2 ^ 48 → limit ≤ 2 ^ 48 → Gcra
 gcra_of increment limit x y z = record {
@@ -46,14 +58,7 @@ gcra_same a b increments limits =
 
 -- `==` decides equality of rates.
 pub gcra_eq_decides : (a b : Gcra) → Decides (gcra_eq a b) (a ≡ b)
-gcra_eq_decides a b =
-    let both =
-    Decides-and (a.increment == b.increment) (a.limit == b.limit)
-    (unsigned_Decides a.increment b.increment) (unsigned_Decides a.limit b.limit)
-    in (
-      λ e. let same = both.0 e in gcra_same a b same.0 same.1,
-      λ e. both.1 (ap (λ x. x.increment) e, ap (λ x. x.limit) e),
-    )
+gcra_eq_decides = numbers-decide (λ rate. rate.increment) (λ rate. rate.limit) gcra_same
 
 -- The levels with these theoretical arrival times.
 abbrev levels_of : (first second : ℕ) → first ≤ 2 ^ 62 + 2 ^ 49 → second ≤ 2 ^ 62 + 2 ^ 49 → Levels
@@ -86,14 +91,7 @@ levels_same a b firsts seconds =
 
 -- `==` decides equality of levels.
 pub levels_eq_decides : (a b : Levels) → Decides (levels_eq a b) (a ≡ b)
-levels_eq_decides a b =
-    let both =
-    Decides-and (a.first == b.first) (a.second == b.second)
-    (unsigned_Decides a.first b.first) (unsigned_Decides a.second b.second)
-    in (
-      λ e. let same = both.0 e in levels_same a b same.0 same.1,
-      λ e. both.1 (ap (λ x. x.first) e, ap (λ x. x.second) e),
-    )
+levels_eq_decides = numbers-decide (λ levels. levels.first) (λ levels. levels.second) levels_same
 
 -- Two pairs of rates.
 pairs-decide : (a b c d : Gcra) → Decides (gcra_eq a c && gcra_eq b d) ((a ≡ c) × (b ≡ d))

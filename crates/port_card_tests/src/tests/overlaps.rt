@@ -12,12 +12,8 @@ use std::thread::Threads;
 fn a_port_judges_while_another_is_at_its_gate(rt: HostRuntime) -> Result<(), Fail> {
     let shape = shape(2, 2, 2, 16);
     let blanks = Blanks::new(2, 2);
-    let (in_time, first, second) = overlapping::<Brand, HostRuntime>(
-        &rt,
-        rt.alloc(),
-        shape,
-        blanks,
-    )?;
+    let seen = overlapping::<Brand, HostRuntime>(&rt, rt.alloc(), shape, blanks)?;
+    let (in_time, first, second) = seen;
     let passed = Some((Verdict::Pass, 1));
     expect(&rt, "in time", in_time, true);
     expect(&rt, "the answers", (first, second), (passed, passed));

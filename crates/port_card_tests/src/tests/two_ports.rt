@@ -59,12 +59,8 @@ fn policed_at_both<S: Ledgers + Send + Sync, R: Threads + Wait + Sync>(
 fn two_ports_police_at_the_same_time(rt: HostRuntime) -> Result<(), Fail> {
     let shape = shape(1, 2, 2, 16);
     let blanks = Blanks::new(2, 2);
-    let ([one, other], closing) = policed_at_both::<Brand, HostRuntime>(
-        &rt,
-        rt.alloc(),
-        shape,
-        blanks,
-    )?;
+    let policed = policed_at_both::<Brand, HostRuntime>(&rt, rt.alloc(), shape, blanks)?;
+    let ([one, other], closing) = policed;
     let passed = Some((Verdict::Pass, 1));
     let answers = (judged(one), judged(other));
     expect(&rt, "the answers", answers, (passed, passed));

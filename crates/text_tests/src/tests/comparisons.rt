@@ -1,12 +1,17 @@
 //! Comparisons of texts of rules, and the least cell that shows a case. `upc-lab differ` compares sides, so no input of it shows these.
 
-use crate::tests::expecting::expect;
 use rules_cells::Rules;
 use rules_diagrams::{Case, compare, give_same};
 use rules_text::read_rules;
 use std::alloc::Global;
+use std::fmt::Debug;
 use std::process::Abort;
 use std::test::Fail;
+
+/// Expects this value of what is named. A comparison in a test costs the prover more than a call.
+fn expect<T: Copy + PartialEq + Debug>(rt: &impl Abort, what: &str, found: T, wanted: T) {
+    assert_eq!(rt; found, wanted, "{what}");
+}
 
 /// How many cases two texts have, and whether they give each cell the same value.
 fn compared(alloc: Global, old: &[u8], new: &[u8]) -> Result<(usize, bool), Fail> {

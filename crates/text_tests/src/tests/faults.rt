@@ -1,9 +1,27 @@
-//! The text of each fault of captures, of records that hold no cell, and of least limits. No one input shows all their numbers.
+//! The text of each fault of captures, of records that hold no cell, of least limits, and of cards and shelves. No one input shows all their
+//! numbers.
 
-use super::expecting::expect_printed;
 use captures::{Fault, FileFault, NoCell, RecordFault};
+use card_core::{CardFault, DeskFault};
+use card_shelf::{NoRoom, ProgramFault, ShelfFault};
 use cmd_fit::FitFault;
+use std::alloc::Global;
+use std::fmt::Display;
+use std::process::Abort;
 use std::test::Fail;
+
+/// Expects that each value is printed as the text beside it.
+fn expect_printed<T: Copy + Display>(
+    rt: &impl Abort,
+    alloc: Global,
+    rows: &[(T, &str)],
+) -> Result<(), Fail> {
+    for (value, wanted) in rows {
+        let text = format!(in alloc; "{value}")?;
+        assert_eq!(rt; text.as_str(), *wanted);
+    }
+    Ok(())
+}
 
 /// Why octets are no record.
 const REASONS: [(RecordFault, &str); 14] = [
@@ -62,4 +80,35 @@ fn faults_of_captures_as_text(rt: HostRuntime) -> Result<(), Fail> {
 #[test]
 fn faults_of_least_limits_as_text(rt: HostRuntime) -> Result<(), Fail> {
     expect_printed(&rt, rt.alloc(), &FIT_FAULTS)
+}
+
+#[test]
+fn faults_of_cards_and_shelves_as_text(rt: HostRuntime) -> Result<(), Fail> {
+    expect_printed(
+        &rt,
+        rt.alloc(),
+        &[
+            (ShelfFault::Card(CardFault::Programs), "1 Programs"),
+            (ShelfFault::Card(CardFault::Lines), "2 Lines"),
+            (ShelfFault::Card(CardFault::Ports), "3 Ports"),
+            (ShelfFault::Card(CardFault::Journal), "4 Journal"),
+            (ShelfFault::Card(CardFault::NoMemory), "5 NoMemory"),
+            (ShelfFault::Cards, "6 Cards"),
+        ],
+    )?;
+    let full = ProgramFault::Card(63, DeskFault::ProgramsFull);
+    expect_printed(
+        &rt,
+        rt.alloc(),
+        &[
+            (ProgramFault::NoMemory, "1 NoMemory"),
+            (ProgramFault::Ids, "2 Ids"),
+            (full, "3 Card 63: 6 ProgramsFull"),
+        ],
+    )?;
+    expect_printed(
+        &rt,
+        rt.alloc(),
+        &[(NoRoom::Arrivals, "1 Arrivals"), (NoRoom::Cards, "2 Cards")],
+    )
 }

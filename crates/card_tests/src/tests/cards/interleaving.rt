@@ -24,8 +24,8 @@ fn a_reload_and_a_release_between_picks_and_judgements(rt: HostRuntime) -> Resul
             (Planned::Load(1), loaded(0, 1)),
             (Planned::Load(2), loaded(1, 1)),
             (Planned::Setup(0), Seen::SetUp(1)),
-            (Planned::Enter { port: 0, moment: 0 }, Seen::Entered),
-            (Planned::Enter { port: 1, moment: 5 }, Seen::Entered),
+            entered(0, 0),
+            entered(1, 5),
             (Planned::Pick(0), Seen::Picked),
             (Planned::Pick(1), Seen::Picked),
             (Planned::Retire(0), Seen::Refused(DeskFault::Busy)),
@@ -82,7 +82,7 @@ fn replies_of_new(alloc: Global, journal: u64, moments: &[u64]) -> Result<(Id, V
 /// The same on this card.
 fn replies_in(core: &mut Core, alloc: Global, moments: &[u64]) -> Result<(Id, Vec<Reply>), Fail> {
     let program = load_in(core, alloc, 1)?;
-    let wanted = ask(program)?;
+    let wanted = ask_own(program)?;
     let replies = replies_to(core, alloc, wanted, moments)?;
     Ok((program, replies))
 }

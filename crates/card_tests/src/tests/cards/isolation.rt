@@ -2,21 +2,10 @@
 
 use super::*;
 
-/// A connection with path 1, this channel and one contract: a cell every ten ticks, without tolerance.
-fn ask_on(channel: u16, program: Id) -> Result<Ask, Fail> {
-    let mut contracts = ArrayVec::new();
-    contracts.push(Contract::Cbr1(Gcra::new(10, 0)?));
-    Ok(Ask {
-        vc: Vc::new(1, channel)?,
-        program,
-        contracts,
-    })
-}
-
 /// Sets up a connection with path 1, this channel and its own program, which returns this value.
 fn set_up(core: &mut Core, alloc: Global, channel: u16, value: u32) -> Result<(), Fail> {
     let program = load_in(core, alloc, value)?;
-    match take(core, Step::Setup(ask_on(channel, program)?)) {
+    match take(core, Step::Setup(ask(Vc::new(1, channel)?, program)?)) {
         Reply::SetUp(_) => Ok(()),
         _ => Err(Fail::from("not set up")),
     }
@@ -46,11 +35,9 @@ fn set_up_both(core: &mut Core, alloc: Global) -> Result<(), Fail> {
 
 /// A cell of path 1 and channel 101 arrives at port 1 and is looked up.
 fn pick_another(core: &mut Core, moment: u64) -> bool {
-    let mut octets = *cell().bytes();
-    octets[3] = 0x50;
     let enter = Step::Enter {
         port: 1,
-        cell: Cell::from(octets),
+        cell: cell_with(&[0x00, 0x10, 0x06, 0x50]),
         moment,
     };
     matches!(take(core, enter), Reply::Entered)

@@ -16,9 +16,7 @@ fn card_of_three(alloc: Global) -> Result<Core, Fail> {
 fn set_up_three(core: &mut Core, alloc: Global) -> Result<(), Fail> {
     let program = load_in(core, alloc, 1)?;
     for (vpi, vci) in [(1, 101), (1, 100), (0, 700)] {
-        let mut wanted = ask(program)?;
-        wanted.vc = Vc::new(vpi, vci)?;
-        take(core, Step::Setup(wanted));
+        take(core, Step::Setup(ask(Vc::new(vpi, vci)?, program)?));
     }
     Ok(())
 }

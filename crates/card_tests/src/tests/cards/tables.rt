@@ -60,6 +60,11 @@ pub enum Seen {
     OfAnother(Vc),
 }
 
+/// A cell arrives at this port at this moment.
+pub fn entered(port: u8, moment: u64) -> (Planned, Seen) {
+    (Planned::Enter { port, moment }, Seen::Entered)
+}
+
 /// A cell that passed under contract 1.
 pub fn passed(number: u64, moment: u64, program: usize) -> Seen {
     Seen::Judged {

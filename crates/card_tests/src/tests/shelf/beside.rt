@@ -1,8 +1,8 @@
 //! Random batches with calls of the desk between, on a shelf and on one card.
 
 use super::{
-    HEADERS, UNKNOWN, ask, cell, expect, id_for, load_all, open_all, open_on_card, outcome, shape,
-    take, vc_at,
+    HEADERS, UNKNOWN, ask, cell_with, expect, id_for, load_all, open_all, open_on_card, outcome,
+    shape, take, vc_at,
 };
 use card_core::{Core, Reply, Step, Unjudged};
 use card_shelf::{Arrival, Decision, Shelf};
@@ -58,7 +58,7 @@ fn next_number(state: u32) -> u32 {
 fn random_arrival(number: u32, moment: u64) -> Arrival {
     let header = HEADERS.get((number >> 16) as usize % 6).unwrap_or(&UNKNOWN);
     Arrival {
-        cell: cell(header),
+        cell: cell_with(header),
         moment: moment.saturating_sub(u64::from(number >> 24) % 3),
     }
 }

@@ -1,7 +1,8 @@
 //! Each call of the desk once: shelves, connections and programs come and go.
 
 use super::{
-    HEADERS, ask, cell, constant, expect, id_for, load, open_shelf, outcome, set_up, shape, vc_at,
+    HEADERS, ask, cell_with, constant, expect, id_for, load, open_shelf, outcome, set_up, shape,
+    vc_at,
 };
 use card_core::{CardFault, DeskFault, Reply, Unjudged};
 use card_shelf::{Arrival, Decision, ProgramFault, Shelf, ShelfFault};
@@ -64,7 +65,7 @@ fn expect_coming_and_going<R: Threads + Sync + Abort>(
     let second = load(shelf, card, constant(alloc, 1)?)?;
     expect_reloaded(rt, shelf, vc, second);
     let arrival = Arrival {
-        cell: cell(&HEADERS[0]),
+        cell: cell_with(&HEADERS[0]),
         moment: 7,
     };
     let _ = decision_about(rt, alloc, shelf, arrival, 0)?;

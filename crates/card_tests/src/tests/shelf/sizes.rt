@@ -2,7 +2,7 @@
 
 use super::beside::decides_all;
 use super::rooms::are_decided_so;
-use super::{HEADERS, cell, expect, id_of, set_up_all, set_up_all_on_card, shape, take};
+use super::{HEADERS, cell_with, expect, id_of, set_up_all, set_up_all_on_card, shape, take};
 use bpf_code::Instr;
 use bpf_verify::{Program, verify};
 use card_core::{Core, Shape, Step};
@@ -64,7 +64,7 @@ fn many_arrivals(alloc: Global, many: u32) -> Result<Vec<Arrival>, Fail> {
     for number in 0..many {
         let header = HEADERS.get(number as usize % 5).unwrap_or(&HEADERS[0]);
         all.push(Arrival {
-            cell: cell(header),
+            cell: cell_with(header),
             moment: u64::from(number) * 3,
         })?;
     }

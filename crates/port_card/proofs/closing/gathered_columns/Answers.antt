@@ -4,7 +4,7 @@ use Rattle.line_record.specs.declared.tally.Tally.{Tally}
 use Rattle.line_record.specs.Tally.{plus, total}
 use Rattle.port_card.specs.Seats.{SeatView}
 use Rattle.port_card.specs.inner.Columns.{columns_total}
-use Rattle.port_card.specs.inner.Marks.{MarksView}
+use Rattle.port_card.specs.inner.Shares.{SharesView}
 use Rattle.port_card.proofs.Gathering.{total-push}
 use Rattle.port_card.proofs.closing.gathered_columns.Goals as goal
 
@@ -25,10 +25,10 @@ loop-seat-preserved g c =
       room = omega (arith, c.loop-seat.invariant.room, c.push_reserved.ensures.capacity);
       columns = items ∙ ap (λ (cs : List (List Tally)). cs ++ column ∷ []) c.loop-seat.invariant.columns
           ∙ ap (λ (t : List Tally). map tallies yielded ++ t ∷ []) is.column ∙ sym (map-append tallies yielded (c.in-Some.seat ∷ []));
-      parts = ap (λ (m : MarksView). m.parts) both ∙ ap (λ n. n + own.parts) c.loop-seat.invariant.parts
+      parts = ap (λ (m : SharesView). m.parts) both ∙ ap (λ n. n + own.parts) c.loop-seat.invariant.parts
           ∙ ap (λ n. length yielded + n) is.parts ∙ sym more;
       most = c.merge.ensures.all;
-      tally = ap (λ (m : MarksView). m.tally) both ∙ ap (λ (t : Tally). plus t own.tally) c.loop-seat.invariant.tally
+      tally = ap (λ (m : SharesView). m.tally) both ∙ ap (λ (t : Tally). plus t own.tally) c.loop-seat.invariant.tally
           ∙ ap (plus (columns_total columns)) (is.tally ∙ ap total (sym is.column)) ∙ sym (total-push total columns column)
           ∙ sym (ap (λ (cs : List (List Tally)). columns_total cs) items);
     }

@@ -9,7 +9,7 @@ invariant-loop-seat g l = record {
   ends : (goal.iterator-loop-seat g).is_finite l.seat-iterator;
   room : length l.fn.seats.items ≤ vec_capacity l.columns;
   columns : l.columns.items ≡ map (λ (seat : SeatView). seat.tallies) l.yielded;
-  parts : l.marks.parts ≡ length l.yielded;
-  most : l.marks.parts ≤ g.S.Ledgers.names.ports;
-  tally : l.marks.tally ≡ columns_total l.columns.items;
+  parts : l.shares.parts ≡ length l.yielded;
+  most : l.shares.parts ≤ g.S.Ledgers.names.ports;
+  tally : l.shares.tally ≡ columns_total l.columns.items;
 }

@@ -8,6 +8,6 @@ invariant-loop-counted_line g l = record {
   ends : (goal.iterator-loop-counted_line g).is_finite l.counted_line-iterator;
   room : vec_len l.fn.counted_lines ≤ vec_capacity l.lines;
   one_each : length l.lines.items ≡ length l.yielded;
-  parts : l.marks.parts ≡ length l.yielded;
-  tally : l.marks.tally ≡ lines_total l.lines.items;
+  parts : l.shares.parts ≡ length l.yielded;
+  tally : l.shares.tally ≡ lines_total l.lines.items;
 }

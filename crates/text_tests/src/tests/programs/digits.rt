@@ -1,5 +1,7 @@
 //! Cell words compared with the library's reading.
 
+ghost use Rattle.std.specs.Prelude.{◌≤◌};
+
 use std::process::Abort;
 use text_words::cell_of_digits;
 use upc_cell::Cell;
@@ -15,32 +17,31 @@ fn expect_as(rt: &impl Abort, word: &[u8], read: bool, octets: [u8; 52]) {
     }
 }
 
-#[test]
-fn each_pair_of_octets_in_a_cell_is_read_as_by_the_library(rt: HostRuntime) {
+/// Expects that words of this digit for so many octets are read as the library reads them, whatever pair of octets stands at a place.
+fn expect_pairs(rt: &impl Abort, digit: u8, size: usize)
+    requires some { 1 ≤ size }
+    requires most { size ≤ 52 }
+{
     for high in 0..=255u8 {
         for low in 0..=255u8 {
-            let place = (usize::from(high) + 3 * usize::from(low)) % 52;
-            let mut word = [b'7'; 104];
-            word[2 * place] = high;
-            word[2 * place + 1] = low;
+            let place = (usize::from(high) + 3 * usize::from(low)) % size;
+            let mut digits = [digit; 104];
+            digits[2 * place] = high;
+            digits[2 * place + 1] = low;
+            let word = &digits[..2 * size];
             let mut octets = [0; 52];
-            let read = hex::decode_to_slice(word.as_slice(), &mut octets).is_ok();
-            expect_as(&rt, &word, read, octets);
+            let read = hex::decode_to_slice(word, &mut octets[..size]).is_ok();
+            expect_as(rt, word, read, octets);
         }
     }
 }
 
 #[test]
+fn each_pair_of_octets_in_a_cell_is_read_as_by_the_library(rt: HostRuntime) {
+    expect_pairs(&rt, b'7', 52);
+}
+
+#[test]
 fn each_pair_of_octets_in_a_header_is_read_as_by_the_library(rt: HostRuntime) {
-    for high in 0..=255u8 {
-        for low in 0..=255u8 {
-            let place = (usize::from(high) + 3 * usize::from(low)) % 4;
-            let mut word = [b'C'; 8];
-            word[2 * place] = high;
-            word[2 * place + 1] = low;
-            let mut octets = [0; 52];
-            let read = hex::decode_to_slice(word.as_slice(), &mut octets[..4]).is_ok();
-            expect_as(&rt, &word, read, octets);
-        }
-    }
+    expect_pairs(&rt, b'C', 4);
 }

@@ -11,9 +11,9 @@ use Rattle.port_card.proofs.card.Card.close.Goals as goal
 pub returns-clause-sums : goal.returns-clause-sums
 returns-clause-sums g c =
     let seats : List SeatView = c.args.seats.items in
-    let first = c.no_marks-no_seats.new.self in
+    let first = c.no_shares-no_seats.new.self in
     let tallies : SeatView → List Tally = λ seat. seat.tallies in
-    let same : tallies first ≡ _ = ap tallies (c.no_marks-no_seats.ensures.same ∙ c.index_mut.ensures.value) in
+    let same : tallies first ≡ _ = ap tallies (c.no_shares-no_seats.ensures.same ∙ c.index_mut.ensures.value) in
     let columns : c.gathered_columns-columns.result.0.items ≡ columns_of seats =
     c.gathered_columns-columns.ensures.columns ∙ map-set_same tallies seats 0 first c.index_mut.result.now same in
     sym c.gathered_lines-lines.ensures.tally ∙ c.audit.ensures.equal ∙ c.gathered_columns-columns.ensures.tally
@@ -23,9 +23,9 @@ pub returns-clause-uneven : goal.returns-clause-uneven
 returns-clause-uneven g c =
     let seats : List SeatView = c.args.seats.items in
     let lines : List LineView = c.gathered_lines-lines.result.0.items in
-    let first = c.no_marks-no_seats.new.self in
+    let first = c.no_shares-no_seats.new.self in
     let tallies : SeatView → List Tally = λ seat. seat.tallies in
-    let same : tallies first ≡ _ = ap tallies (c.no_marks-no_seats.ensures.same ∙ c.index_mut.ensures.value) in
+    let same : tallies first ≡ _ = ap tallies (c.no_shares-no_seats.ensures.same ∙ c.index_mut.ensures.value) in
     let columns : c.deref-2.result.now ≡ columns_of seats =
     c.deref-2.ensures.value ∙ c.gathered_columns-columns.ensures.columns ∙ map-set_same tallies seats 0 first c.index_mut.result.now same in
     let result = c.first_uneven-uneven.result in

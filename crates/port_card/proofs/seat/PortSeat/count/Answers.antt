@@ -6,7 +6,7 @@ use Rattle.line_record.specs.declared.tally.Tally.{Tally}
 use Rattle.line_record.specs.Tally.{counted, total, IsPartTally}
 use Rattle.line_record.proofs.Public.{totals_count}
 use Rattle.port_card.specs.Seats.{SeatView, counted_on, tally_of_seat}
-use Rattle.port_card.specs.inner.Marks.{MarksView}
+use Rattle.port_card.specs.inner.Shares.{SharesView}
 use Rattle.port_card.proofs.Counting.{room_on-line, counted-seat}
 use Rattle.port_card.proofs.seat.PortSeat.count.Goals as goal
 
@@ -33,11 +33,11 @@ invariant_of-self g c =
     let within : c.from.result < length items = rw c.from.ensures there in
     let at : slice_get items c.from.result ≡ Some here =
     slice_get_read items (length items) c.from.result here refl within c.index_mut.ensures.value in
-    let marks = c.count-2.ensures.seat in
+    let shares = c.count-2.ensures.seat in
     let before = c.bound.ensures.seat in (
-      ap (λ (m : MarksView). m.parts) marks ∙ ap (λ (m : MarksView). m.parts) before ∙ c.self.invariant.0,
-      ap (λ (m : MarksView). m.tally) marks
-          ∙ ap (λ (m : MarksView). counted m.tally verdict) before
+      ap (λ (m : SharesView). m.parts) shares ∙ ap (λ (m : SharesView). m.parts) before ∙ c.self.invariant.0,
+      ap (λ (m : SharesView). m.tally) shares
+          ∙ ap (λ (m : SharesView). counted m.tally verdict) before
           ∙ ap (λ (t : Tally). counted t verdict) c.self.invariant.1
           ∙ sym (totals_count items c.from.result here verdict at)
           ∙ ap (λ (t : Tally). total (slice_set items c.from.result t)) (sym c.count.ensures),

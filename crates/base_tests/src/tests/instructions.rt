@@ -126,8 +126,8 @@ const OCTETS: [u8; 40] = [
     0x00, 0x06, 0x00, 0x00, 0x00, 0x00, 0x00, 0x02,
 ];
 
-/// The instructions of these octets.
-const CODE: [Instr; 5] = [
+/// The instructions of these octets. The program gives 1 for user data and 2 for OAM cells.
+pub const SEPARATION: [Instr; 5] = [
     Instr::LoadAbs {
         size: Size::Octet,
         k: 3,
@@ -149,8 +149,8 @@ const CODE: [Instr; 5] = [
 #[test]
 fn a_program_is_read_and_written_in_order(rt: HostRuntime) -> Result<(), Fail> {
     let code = decode(rt.alloc(), &OCTETS)?;
-    expect(&rt, "read", code.as_slice(), CODE.as_slice());
-    let octets = encode(rt.alloc(), &CODE)?;
+    expect(&rt, "read", code.as_slice(), SEPARATION.as_slice());
+    let octets = encode(rt.alloc(), &SEPARATION)?;
     expect(&rt, "written", octets.as_slice(), OCTETS.as_slice());
     Ok(())
 }

@@ -1,6 +1,7 @@
 //! Values and steps of programs on cells.
 
 use crate::tests::expecting::expect;
+use crate::tests::instructions::SEPARATION;
 use bpf_code::{By, Instr, Op, Size, Test};
 use bpf_interp::{Outcome, run};
 use bpf_verify::{MOST_LAID_OUT, verify};
@@ -54,20 +55,8 @@ fn alu(op: Op, by: By) -> Instr {
 
 #[test]
 fn a_program_separates_user_data_from_oam(rt: HostRuntime) -> Result<(), Fail> {
-    let code = [
-        load(Size::Octet, 3),
-        alu(Op::And, By::Imm(0xe)),
-        Instr::Branch {
-            test: Test::Ge,
-            by: By::Imm(8),
-            jt: 1,
-            jf: 0,
-        },
-        Instr::RetK(1),
-        Instr::RetK(2),
-    ];
     for (header, wanted) in [(USER, (1, 4)), (OAM, (2, 4))] {
-        let found = outcome(rt.alloc(), &code, header)?;
+        let found = outcome(rt.alloc(), &SEPARATION, header)?;
         expect(&rt, "value and steps", found, wanted);
     }
     Ok(())

@@ -1,5 +1,5 @@
 use Rattle.line_record.specs.Line.{IsHeld}
-use Rattle.line_tests.proofs.tests.lines.fill.Given as goal
+use Rattle.base_tests.proofs.tests.lines.fill.Given as goal
 
 abbrev pub invariant-loop-moment : goal.invariant-loop-moment
 invariant-loop-moment l = IsHeld l.line

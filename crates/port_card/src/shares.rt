@@ -10,7 +10,7 @@ use std::sync::ledger::{Ledger, Share};
 /// A share of each of four ledgers, one for each verdict. A line or a seat has one part of each. They take no memory: only contracts read
 /// their counts.
 #[derive(Drop)]
-pub(crate) struct Marks<P: Ledger, T: Ledger, D: Ledger, R: Ledger> {
+pub(crate) struct Shares<P: Ledger, T: Ledger, D: Ledger, R: Ledger> {
     pub(crate) passed: Share<P>,
     pub(crate) tagged: Share<T>,
     pub(crate) discarded: Share<D>,
@@ -18,7 +18,7 @@ pub(crate) struct Marks<P: Ledger, T: Ledger, D: Ledger, R: Ledger> {
 }
 
 /// Shares of the four ledgers that count by line.
-pub(crate) type LineMarks<S> = Marks<
+pub(crate) type LineShares<S> = Shares<
     PassedOnLines<S>,
     TaggedOnLines<S>,
     DiscardedOnLines<S>,
@@ -26,18 +26,18 @@ pub(crate) type LineMarks<S> = Marks<
 >;
 
 /// Shares of the four ledgers that count by seat.
-pub(crate) type SeatMarks<S> = Marks<
+pub(crate) type SeatShares<S> = Shares<
     PassedAtSeats<S>,
     TaggedAtSeats<S>,
     DiscardedAtSeats<S>,
     RefusedAtSeats<S>,
 >;
 
-impl<P: Ledger, T: Ledger, D: Ledger, R: Ledger> Model for Marks<P, T, D, R> {
+impl<P: Ledger, T: Ledger, D: Ledger, R: Ledger> Model for Shares<P, T, D, R> {
     ghost use Rattle.std.specs.Prelude.{◌≡◌};
-    ghost use Rattle.port_card.specs.inner.Marks.{MarksView};
+    ghost use Rattle.port_card.specs.inner.Shares.{SharesView};
 
-    ghost Value = { MarksView };
+    ghost Value = { SharesView };
 
     ghost view = { λ m. record {
       parts = m.passed.parts;
@@ -52,17 +52,17 @@ impl<P: Ledger, T: Ledger, D: Ledger, R: Ledger> Model for Marks<P, T, D, R> {
     ghost invariant = { λ m. (m.tagged.parts ≡ m.passed.parts) × (m.discarded.parts ≡ m.passed.parts) × (m.refused.parts ≡ m.passed.parts) };
 }
 
-impl<P: Ledger, T: Ledger, D: Ledger, R: Ledger> Marks<P, T, D, R> {
+impl<P: Ledger, T: Ledger, D: Ledger, R: Ledger> Shares<P, T, D, R> {
     ghost use Rattle.std.specs.Prelude.{◌≡◌, ◌+◌, ◌≤◌};
     ghost use Rattle.line_record.specs.Tally.{nothing};
-    ghost use Rattle.port_card.specs.inner.Marks.{unused_marks, both_marks};
+    ghost use Rattle.port_card.specs.inner.Shares.{unused_shares, both_shares};
 
     /// Returns empty shares of the same ledgers, into which others are merged.
     pub(crate) fn none(&mut self) -> Self
-        ensures none { result ≡ unused_marks 0 }
+        ensures none { result ≡ unused_shares 0 }
         ensures same { self.new ≡ self.old }
     {
-        Marks {
+        Shares {
             passed: self.passed.empty(),
             tagged: self.tagged.empty(),
             discarded: self.discarded.empty(),
@@ -70,15 +70,15 @@ impl<P: Ledger, T: Ledger, D: Ledger, R: Ledger> Marks<P, T, D, R> {
         }
     }
 
-    /// Splits one part off marks that have counted nothing.
+    /// Splits one part off shares that have counted nothing.
     pub(crate) fn split_off(&mut self) -> Self
         requires some { 1 ≤ self.old.parts }
         requires unused { self.old.tally ≡ nothing }
-        ensures one { result ≡ unused_marks 1 }
+        ensures one { result ≡ unused_shares 1 }
         ensures rest { self.new.parts + 1 ≡ self.old.parts }
         ensures unused { self.new.tally ≡ nothing }
     {
-        Marks {
+        Shares {
             passed: self.passed.split_off(1, 0),
             tagged: self.tagged.split_off(1, 0),
             discarded: self.discarded.split_off(1, 0),
@@ -86,12 +86,12 @@ impl<P: Ledger, T: Ledger, D: Ledger, R: Ledger> Marks<P, T, D, R> {
         }
     }
 
-    /// Adds other marks to these. The sum has at most as many parts as the ledger was divided into.
+    /// Adds other shares to these. The sum has at most as many parts as the ledger was divided into.
     pub(crate) fn merge(&mut self, other: Self)
-        ensures both { self.new ≡ both_marks self.old other }
+        ensures both { self.new ≡ both_shares self.old other }
         ensures all { self.new.parts ≤ P.parts }
     {
-        let Marks {
+        let Shares {
             passed,
             tagged,
             discarded,
