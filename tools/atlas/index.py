@@ -50,6 +50,9 @@ PROOFS = re.compile(r"\b(laws?|lemmas?|theorems?|definitions?|defined|formal|for
 KIND = re.compile(rf"(which|what) ({CODE}|laws?|definitions?) ")
 OF_ANY = {"page": 1.4, "declaration": 1.2}
 OF_CODE = {"function": 1.8, "type": 1.8, "source": 2.5, "script": 2.5, "module": 1.5, "definition": 2.0}
+# A question that names code, as in "which function", or asks where something is done, is about code before pages.
+OF_NAMED_CODE = OF_CODE | {"page": 0.25, "declaration": 0.5}
+DONE = re.compile(rf"where (is|are|do|does) .* (built|checked|chosen|compared|computed|counted|decided|defined|done|found|implemented|judged|kept|made|parsed|printed|read|written)$|(code|{CODE}) that ")
 OF_PROOFS = {"page": 1.2, "definition": 2.5, "law": 1.5, "module": 2.5, "source": 1.2}
 # How much an answer counts for each better one of its section, or of its name.
 REPEATED = 0.8
@@ -92,6 +95,11 @@ class Answer:
     def is_code(self):
         """Returns whether programs are made of it. A law is a function without a body."""
         return self.kind in ("type", "function")
+
+    @property
+    def asked_as(self):
+        """Returns the kind that counts for the form of a question: nothing is done in an example."""
+        return "case" if self.path.startswith("examples/") else self.kind
 
     @property
     def kept(self):
@@ -245,7 +253,7 @@ class Index:
                     covered[place] = covered.get(place, 0) + min(rarity, fit)
         for place, fit in sums.items():
             answer = self.answers[place]
-            answer.score = fit * covered[place] / whole * answer.counts * kinds.get(answer.kind, 1)
+            answer.score = fit * covered[place] / whole * answer.counts * kinds.get(answer.asked_as, 1)
             answer.score *= 1 + TITLE * titled(answer.title, meanings) if answer.title else 1
             answer.score *= ASKED if answer.path in favoured else 1
             if answer.number not in best or best[answer.number].score < answer.score:
@@ -270,7 +278,7 @@ class Index:
 
     def search(self, words):
         """Returns the answers to a question, the best first: each by its sentence that fits best."""
-        asked = " ".join(words).lower()
+        asked = " ".join(words).lower().rstrip("?. ")
         favoured = favoured_by(asked)
         meanings = self.meanings(subject_of(words))
         best = self.scored(meanings, kinds_asked(asked), favoured)
@@ -327,6 +335,8 @@ def kinds_asked(asked):
     """Returns how much more each kind of answer counts for a question of this form."""
     if PROOFS.search(asked):
         return OF_PROOFS
+    if (KIND.match(asked) or DONE.match(asked)) and not HOW.match(asked):
+        return OF_NAMED_CODE
     return OF_CODE if WHERE.match(asked) and not HOW.match(asked) else OF_ANY if ASKS.match(asked) else {}
 
 
