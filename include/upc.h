@@ -483,7 +483,8 @@ uint32_t upc_card_arrive(upc_card *card, uint8_t *octets, size_t length, uint64_
 /* Judges `count` cells one after another, as that many calls of upc_card_arrive do. Cell k, from 0, has the 52 octets from
  * octets[k * stride] on, and arrived at moments[k]; its answer becomes answers[k]. A stride of UPC_CELL_OCTETS is that of cells
  * without a gap; if it is less, cells overlap, and each is judged as the one before it left the octets. Stops at the first cell
- * that is refused: that cell and the later ones change nothing. *done becomes the number of judged cells, also if the call
+ * that isn't judged, because upc_card_arrive would return a fault: that cell and the later ones change nothing. A cell with
+ * the verdict UPC_REFUSE is judged, and stops nothing. *done becomes the number of judged cells, also if the call
  * refuses, unless a pointer is null. It doesn't allocate.
  * Faults: UPC_NO_ROOM if there are fewer than `count` answers, and then no cell is judged; else those of upc_card_arrive for cell
  * *done. If some of its octets are beyond the end of the buffer, that is UPC_CELL_WRONG_LENGTH, with the number of octets that remain. */

@@ -23,8 +23,8 @@ impl Tick {
         Some(Tick { nanoseconds })
     }
 
-    /// Returns the number of ticks that is nearest to a time, in units of 2^-32 seconds. Cards round stamps down, and the nearest
-    /// number makes that good.
+    /// Returns the number of ticks that is nearest to a time, in units of 2^-32 seconds. Capture cards round their time stamps down; the
+    /// nearest tick makes up for that.
     #[inline(always)]
     pub fn nearest(self, time: u64) -> u64
         ensures { result ≡ nearest_tick time self.nanoseconds }

@@ -72,6 +72,7 @@ fn received_place(octets: &[u8], channel: usize) -> Result<usize, NoCell>
     ensures placed { IsPlaced (IsReceived octets.now channel) octets.now result }
     ensures after { IfOk result (λ place. ComesAfterHeaders octets.now channel place) }
 {
+    // Bits 4 and 5 of the flags: the cell was received, or stored, with an error.
     if octets[9] / 0x10 % 4 != 0 {
         return Err(NoCell::Errored);
     }

@@ -1,4 +1,5 @@
-//! How records follow one another in a file.
+//! How frames follow one another in a file. A frame is what the reader takes at once: a record of an ERF file, a packet of a pcap file
+//! with the record in it, or a block of a pcapng file, which may have a record.
 
 ghost use Rattle.std.specs.Prelude.{◌≡◌, ◌≤◌, ◌+◌, length, IfErr, IfOk, Ok, Err};
 ghost use Rattle.captures.specs.Frames.{pcap_time};

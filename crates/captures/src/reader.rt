@@ -185,6 +185,7 @@ impl Reader {
     #[inline(always)]
     pub fn is_usual(&self, octets: &[u8]) -> bool {
         match self.format {
+            // Octet 8 is the type, bits 3 to 5 of octet 9 are truncation and errors, and octets 12 and 13 count losses.
             Format::Erf => {
                 octets.len() >= HEADER_OCTETS
                     && octets[8] == ATM

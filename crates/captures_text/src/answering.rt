@@ -110,6 +110,7 @@ pub(crate) fn advance<F: CellFollower>(
     queue.take_next_cells();
     if leaves_cells(with_two_threads, reading, queue) {
         match stop {
+            // The driver reads more while these cells are answered (`give_and_go_ahead`), so it must not read more first.
             StopReason::Wants => return Ok(StepOutcome::On),
             _ => {}
         }

@@ -36,8 +36,8 @@ pub struct CellFilter {
     summary: ReadingSummary,
 }
 
-/// What of a filter usual records need, once its link is known. They change only the clock. The caller keeps that in a variable, so that it
-/// stays in registers.
+/// The part of a filter that usual records (`Reader::is_usual`) need, once the link is known. They change only the clock. The caller keeps
+/// the clock in a variable, so that it stays in registers. It is no `CellFollower`, which answers cells.
 #[derive(Clone, Copy)]
 pub(crate) struct Following {
     ticks: Ticks,
@@ -149,6 +149,7 @@ impl CellFilter {
                     return Filtered::SecondLink(link, record_read.link);
                 }
                 self.summary.other_link = self.summary.other_link.with(record_read.number);
+                // Moment 0 is that of the capture's first cell, whatever its link: so this cell starts the clock too.
                 self.clock = Some(clock);
                 return Filtered::Skipped;
             }

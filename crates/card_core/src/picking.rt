@@ -10,8 +10,8 @@ use upc_cell::{Cell, Vc};
 /// The programs of a card, by id.
 pub type Store = Arena<Program>;
 
-/// A cell, a program, and the number of a contract that the program gave for the cell. Only [`name`] makes
-/// one, so a number that no program gave is never judged.
+/// A cell, a program, and the value that the program gave for the cell: the number of a contract, counted from 1, or any other number,
+/// which names none. Only [`name`] makes one, so no cell is judged by a number that no program gave.
 #[derive(Clone, Copy, Debug)]
 pub struct Named {
     program: Id,

@@ -181,7 +181,7 @@ impl Core {
         PortReply::Entered
     }
 
-    /// Looks up the cell's connection, whose program names a contract: the step `Pick`.
+    /// Looks up the cell's connection and runs its program on the cell: the step `Pick`. The program's value names a contract.
     pub fn pick(&mut self, port: u8) -> PortReply
         ensures follows { Follows self.old (Pick port) (reply_of result) self.new }
         ensures unchanged { RefusalKeeps (reply_of result) (Pick port) self.old self.new }

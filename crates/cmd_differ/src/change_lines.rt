@@ -16,7 +16,7 @@ use std::alloc::AllocError;
 use text_words::{add_cell_octets, add_number, add_text};
 use upc_cell::{Cell, Side};
 
-/// Where the line of rules that decides begins; line 0 for `otherwise`.
+/// Where the line of rules with this index begins; source line 0 if none decides, which is `otherwise`.
 fn source_begin(begins: &[RulePlace], line: Option<usize>) -> RulePlace
     ensures { result ≡ source_begin begins.now line }
 {
@@ -194,7 +194,7 @@ fn is_one_line(old: &SideText, new: &SideText, was: Option<usize>, is: Option<us
     }
 }
 
-/// Whether a case has a line.
+/// Whether a case has a line: if its values differ, and with `lines` also if they agree and not one line of rules decides on both sides.
 fn is_listed(lines: bool, old: &SideText, new: &SideText, case: &Case) -> bool
     ensures { result ≡ is_listed lines (side_read old.now) (side_read new.now) case.now }
 {

@@ -5,7 +5,7 @@ ghost use Rattle.cmd_differ.specs.Findings.{ended_by, finding_done};
 
 use text_io::{Done, Ending, RunFault};
 
-/// What was found of one text of rules, or of two.
+/// What `unused` found of one text of rules, or `differ` of two texts, each of rules or with a program.
 #[derive(Clone, Copy, Debug, PartialEq, Eq)]
 pub enum Finding {
     /// Both texts give each cell the same value; each rule decides some cell.
@@ -14,7 +14,7 @@ pub enum Finding {
     Something,
     /// A text has a fault.
     Faulty,
-    /// There are too many cases to decide.
+    /// Nothing is decided: a limit of the comparison was met, or a program isn't followed at one of its instructions.
     Undecided,
 }
 

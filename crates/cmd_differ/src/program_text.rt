@@ -40,7 +40,7 @@ fn spoken_line(text: &[u8]) -> Option<(&[u8], &[u8])>
     None
 }
 
-/// The one word of the one line with words.
+/// The word of a text that has one line with words, and one word in it. `Silent` if no line has words; `Several` if there are more.
 fn only_word(text: &[u8]) -> LineWords<'_>
     ensures { IsOnlyWord (spoken_lines (source_lines text.now)) result }
 {

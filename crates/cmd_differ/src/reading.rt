@@ -26,7 +26,7 @@ pub(crate) enum Which {
     Only,
 }
 
-/// Appends which text a fault is of.
+/// Appends the mark before an answer about one of two texts: `old: ` or `new: `. The only text of `unused` has none.
 pub(crate) fn add_which(answers: &mut Vec<u8>, which: Which) -> Result<(), AllocError>
     ensures { OnOk result (answers.new.items ≡ answers.old.items ++ which_mark which) }
 {
@@ -138,6 +138,7 @@ fn add_too_long_side(
 ) -> Result<Option<SideText>, AllocError>
     ensures { IfOk result (ReadsSide kind which None answers.old.items answers.new.items) }
 {
+    // Both kinds have the same answer. The contract is defined by cases of the kind, so the proof needs the cases.
     match kind {
         TextKind::Program | TextKind::Rules => {
             add_too_long_of(answers, which)?;
@@ -162,7 +163,7 @@ pub(crate) fn read_old(
     }
 }
 
-/// Reads the new text, or appends its fault. None was found if it is over the limit.
+/// Reads the new text, or appends its fault. `found` is None if the text is over the limit.
 pub(crate) fn read_new(
     alloc: Global,
     kind: TextKind,

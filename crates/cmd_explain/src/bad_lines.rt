@@ -36,7 +36,7 @@ fn is_no_number(octets: &[u8]) -> bool
     }
 }
 
-/// Returns the first of these tokens that is no number.
+/// Returns the first of these tokens that begins with a digit and spells no number.
 pub(crate) fn first_no_number(text: &[u8], tokens: &[FoundWord]) -> Option<FoundWord>
     ensures { result ≡ first_no_number text.now tokens.now }
 {

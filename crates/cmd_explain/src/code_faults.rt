@@ -191,7 +191,7 @@ fn add_path(
     Ok(())
 }
 
-/// Appends the rest of an explanation.
+/// Appends the end of an explanation: the lines of the path to an unwritten scratch word, if the fault is about one, and a line feed.
 fn add_rest(
     alloc: Global,
     answers: &mut Vec<u8>,

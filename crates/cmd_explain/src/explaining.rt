@@ -80,9 +80,10 @@ fn explain_source<I: Input, O: Output>(alloc: Global, input: &mut I, output: &mu
     answer_whole(alloc, input, output, MOST_SOURCE_OCTETS, TOO_LONG, &Sources)
 }
 
-/// Answers the word `source` on the first line and a source of assembly after it by the fault that `upc check` finds, the word `rules`
-/// and a text of rules by the fault that `upc-lab rules` finds, and a script by the fault lines of `upc run`, each with its line, the
-/// column of the word that is wrong and a sentence. After the word `faults`, each fault line gets a sentence. docs/LAB.md has the format.
+/// Explains the faults of an input. The first line says what the input is: `source` (a source of assembly, with the fault that `upc check`
+/// finds), `rules` (a text of rules, with that of `upc-lab rules`) or `faults` (fault lines, each of which gets a sentence). Any other
+/// first line begins a script, with the fault lines of `upc run`. Each fault of a source, of rules or of a script is shown with its
+/// line, the column of the wrong word and a sentence. docs/LAB.md has the format.
 ///
 /// # Errors
 ///

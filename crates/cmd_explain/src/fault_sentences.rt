@@ -1,4 +1,4 @@
-//! Sentences about fault lines of captures, of links, of ticks and of sizes.
+//! Sentences about fault lines of files, captures, links, ticks, sizes and `fit`.
 
 ghost use Rattle.std.specs.Prelude.{◌≡◌, ◌++◌, map, option_map, flat_map, get_or, [], IfOk, OnOk};
 ghost use Rattle.bpf_asm.specs.SourceLines.{source_lines};

@@ -29,8 +29,8 @@ pub enum InputKind {
 
 /// An input that can be asked for its first line.
 pub trait Ahead: Input {
-    /// Reads the first line, if its only word is `source`, `rules` or `faults`, and returns what the input is.
-    /// Otherwise all octets are left, although the first line was read from the device.
+    /// Takes the first line, if its only word is `source`, `rules` or `faults`, and returns what the input is. Otherwise it returns
+    /// `Script`, and all octets are still there for `take`, although the first line was already read from the device.
     ///
     /// # Errors
     ///

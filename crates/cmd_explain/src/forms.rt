@@ -9,10 +9,10 @@ use crate::tokens::is_name;
 use bpf_asm::number;
 use cmd_explain_script::{FoundWord, near_among, value_among, word_octets};
 
-/// What a mnemonic takes.
+/// The operands that a mnemonic takes: any one of the shapes that `shapes_of` lists.
 #[derive(Clone, Copy)]
 pub enum Form {
-    /// What `ld` takes.
+    /// The operands of `ld`: a place of the packet, a constant, a scratch word or the length.
     Word,
     /// A place of the packet.
     Packet,
@@ -36,7 +36,7 @@ pub enum Form {
     Inverse,
 }
 
-/// A form of operands.
+/// One way to write operands: a list of slots (`slots_of`).
 #[derive(Clone, Copy)]
 pub enum Shape {
     /// `[number]`
@@ -73,7 +73,7 @@ pub enum Shape {
     XLabels,
 }
 
-/// A token of a form.
+/// What one token of a shape may be.
 #[derive(Clone, Copy)]
 pub enum Slot {
     /// This octet.

@@ -69,7 +69,8 @@ fn mark(code: &[Instr], word: u32, at: usize, marks: &mut [bool], place: usize)
     }
 }
 
-/// Marks the places from which a read is reached without a store of its word.
+/// Marks the places from which a read is reached without a store of its word. It goes from the read back to place 0: all jumps lead
+/// forward, so the successors of a place have their marks before it.
 fn marks_to(alloc: Global, code: &[Instr], word: u32, at: usize) -> Result<Vec<bool>, AllocError>
     requires sized { length code.now ≤ 4096 }
     requires within { at < length code.now }

@@ -18,7 +18,8 @@ use std::alloc::{AllocError, Global};
 use text_io::Added;
 use text_words::{add_number, add_text};
 
-/// Returns whether a label operand has the fault, by the line that has its label.
+/// Returns whether a label operand on line `at` has the fault. `found` is the line that defines its label, if one does, and `numbers` has
+/// the numbers of the lines with an instruction: 255 of these may come between.
 fn label_fails(kind: AsmKind, at: usize, numbers: &[usize], found: Option<usize>) -> bool
     ensures { result ≡ label_fails kind at numbers.now found }
 {
@@ -37,7 +38,8 @@ fn takes_label(form: Option<Form>) -> bool
     matches!(form, Some(Form::Jump))
 }
 
-/// Returns the first label operand of these tokens that has the fault.
+/// Returns the first label operand of these tokens that has the fault. A token is one if it follows a comma; the first token is one if
+/// `begins` is true. `numbers` has the numbers of the lines with an instruction.
 fn failing_operand(
     alloc: Global,
     source: &[u8],

@@ -14,7 +14,7 @@ pub struct ConnectionFit {
     pub cells: u64,
     /// The level of its bucket after the last cell, in ticks, if every cell conforms.
     pub level: u64,
-    /// The moment of the last cell, in ticks, or 0.
+    /// The moment of the last cell, in ticks: the last conformance time of I.371, which `Bucket` of `leaky` also calls `charged`.
     pub charged: u64,
     /// The highest level that a cell found in the bucket, in ticks. It is the least limit under which all cells conform.
     pub limit: u64,

@@ -16,7 +16,7 @@ use captures_text::{READING_OCTETS, done_at};
 use std::alloc::Global;
 use text_io::{Done, Ending, Input, Output, RunFault, give_if_enough, give_last, refill};
 
-/// ReportsText the end of the input, where the octets that wait are no whole frame, and writes the last records.
+/// Appends the report about the end of the input, and writes the last records. The octets still in the window are no whole frame.
 fn finish<O: Output, J: CellJudge>(
     others: Others,
     output: &mut O,

@@ -25,9 +25,9 @@ fn report_faults(report: &mut Vec<u8>, text: &[u8]) -> Ending
     }
 }
 
-/// Forwards the cells of a capture by a card that a setup script opens, whose lines have these times, one for each: it
-/// writes the records whose cells pass or are tagged, as records of an ERF file, each as the capture has it, but with
-/// cell loss priority 1 if its cell is tagged. Cells count, and have their moments, as in `upc-lab cells`. Records
+/// Forwards the cells of a capture by a card that a setup script opens. `times` has for each line of the script its time in nanoseconds
+/// from moment 0 on, or None. It writes the records whose cells pass or are tagged, as records of an ERF file, each as the capture has
+/// it, but with cell loss priority 1 if its cell is tagged. Cells count, and have their moments, as in `upc-lab cells`. Records
 /// without a cell that counts go on as `others` says. What is said at the end is appended to the report: what `police`
 /// prints after its lines about cells, and before it the lines of commands. A script with a fault is explained in the
 /// report, and nothing is written. docs/LAB.md has the format.

@@ -1,4 +1,4 @@
-//! Programs that say which cells go on.
+//! Judges: types that say which cells go on.
 
 ghost use Rattle.std.specs.Prelude.{IfOk, OnOk};
 ghost use Rattle.cmd_forward.specs.JudgeRules.{ClosesReport, JudgeRules, JudgesCell, JudgesEachCell};
@@ -9,10 +9,10 @@ use captures_text::{CapturedCell, ReadingSummary};
 use std::alloc::AllocError;
 use text_io::Added;
 
-/// A program that gets one cell that counts after another and says of each how it goes on.
+/// A judge gets the cells of a capture that count, one after another, and says of each whether and how it goes on.
 ///
-/// Its rules say which answers are allowed, as steps from world to world. It doesn't have to store its world: it shows
-/// worlds, and its answer must be allowed from each of them.
+/// Its rules say which answers are allowed, as steps from world to world. A world is a state in the specification. A judge may store
+/// less: it `shows` the worlds that its fields stand for, and its answer must be allowed from each of them.
 pub trait CellJudge {
     ghost World: { Type 0 };
 

@@ -1,9 +1,9 @@
 //! How a cell goes on.
 
-/// How a cell goes on.
+/// Whether a cell goes on to the output, and in which form.
 #[derive(Clone, Copy, PartialEq, Eq, Debug)]
 pub enum Onward {
-    /// It doesn't.
+    /// It doesn't go on: its record isn't written.
     Stays,
     /// As it came.
     Unchanged,

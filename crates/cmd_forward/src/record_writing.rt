@@ -1,4 +1,4 @@
-//! What is written of a record. Each function appends it to the octets that wait.
+//! What is written of a record. Each function appends it to `written`, the octets that are not written to the output yet.
 
 ghost use Rattle.std.specs.Prelude.{◌≡◌, ◌≤◌, ◌+◌, ◌-◌, ◌++◌, length, take, drop, replicate, List, ℕ, Ok, OnOk};
 ghost use Rattle.captures.specs.Record.{record_length};
@@ -33,7 +33,7 @@ fn add_zeros(written: &mut Vec<u8>, count: usize) -> Added
     Ok(())
 }
 
-/// Appends the octets that a record lacks.
+/// Appends zeros in place of the octets that a record lacks, because its packet was cut short of the length in the record's header.
 fn add_lacking(written: &mut Vec<u8>, octets: &[u8]) -> Added
     requires { 16 ≤ length octets.now }
     ensures { OnOk result (written.new.items ≡ written.old.items ++ octets_lacking octets.now) }

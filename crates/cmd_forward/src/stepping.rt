@@ -14,12 +14,12 @@ use captures_text::{CapturedCell, CellFilter, Filtered, WINDOW_ROOM, add_several
 use std::alloc::AllocError;
 use text_io::{Turn, Window};
 
-/// How a run goes on.
+/// What a run does after a step.
 #[derive(Clone, Copy, PartialEq, Eq, Debug)]
 pub(crate) enum StepOutcome {
-    /// Some octets that wait may be read.
+    /// It takes the next step: the window may have another whole frame.
     On,
-    /// More octets are wanted.
+    /// It reads more octets first: the window has no whole frame.
     Wants,
     /// The run ended.
     Ended,
@@ -28,7 +28,7 @@ pub(crate) enum StepOutcome {
 /// What reads the records of a capture.
 #[derive(Drop)]
 pub(crate) struct ForwardReading {
-    /// The octets that wait.
+    /// The octets that were read from the input and are not used yet.
     pub(crate) window: Window<WINDOW_ROOM>,
     pub(crate) reader: Reader,
     pub(crate) filter: CellFilter,
@@ -71,7 +71,8 @@ fn forward_record<J: CellJudge>(
     }
 }
 
-/// Reports a fault of the capture. It is apart from the step for a record, which has no room for what was passed over.
+/// Reports a fault of the capture. It is a function of its own, not inlined, so that the step for a record keeps no stack space for the
+/// summary of what was passed over.
 #[inline(never)]
 fn close_at<J: CellJudge>(
     judge: &J,

@@ -51,7 +51,7 @@ pub enum Asked {
     Police(PoliceOptions),
     /// Print for which cells two texts of rules, or programs, differ.
     Differ(DifferOptions),
-    /// Write the records of a capture whose cells pass.
+    /// Write the records of a capture whose cells pass or are tagged.
     Forward(ForwardOptions),
     /// Print the faults of a script, a setup, a source or rules, each with its line and column and a sentence.
     Explain(ExplainOptions),

@@ -25,7 +25,7 @@ pub struct ForwardOptions {
     pub tick: Option<Tick>,
     /// The link whose cells are read. Without one the cells of a capture may be of one link only.
     pub link: Option<Link>,
-    /// Whether records without a judged cell go on.
+    /// Whether records without a cell that counts go on. A record whose cell counts and isn't judged never goes on.
     pub others: bool,
 }
 

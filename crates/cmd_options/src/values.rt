@@ -226,7 +226,7 @@ pub(crate) fn setup_name_of(values: &[Value]) -> Option<&str>
     file_named(text_of(values, "SETUP")?)
 }
 
-/// Returns the name of the file with the old rules, unless it is empty.
+/// Returns the name of the file with the old text, unless it is empty.
 pub(crate) fn old_name_of(values: &[Value]) -> Option<&str>
     ensures { option_map (λ name. name.now) result ≡ file_name_of (text_named (texts_of values.now) (codes "OLD")) }
 {

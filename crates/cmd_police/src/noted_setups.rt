@@ -1,4 +1,4 @@
-//! A script, carried out line by line, with what the lines of its card had counted when their connections were set up.
+//! A setup script, carried out command by command, with the counts that each line of the card had when its connection was set up.
 
 ghost use Rattle.std.specs.Prelude.{◌≡◌, OnOk};
 ghost use Rattle.card_core.specs.Agreement.{CoreAgrees};

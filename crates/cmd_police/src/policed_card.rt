@@ -97,7 +97,8 @@ impl PolicedCard {
     }
 }
 
-/// Carries out a setup script whose lines have these times, one for each, up to the first time. It opens a card. The report names the tick.
+/// Carries out a setup script up to its first line with a time, and returns the card that it opens. `times` has for each line its time in
+/// nanoseconds from moment 0 on, or None. The report names the tick.
 ///
 /// # Errors
 ///

@@ -43,7 +43,7 @@ fn moment_of_time(tick: Tick, time: u64) -> u64
     }
 }
 
-/// Returns the time of the line after `met` others, or no time if there is none, if there is such a line.
+/// Returns the time of the line with the number `met`, from 0: `Some(None)` if it has no time, and None if there is no such line.
 fn time_of(times: &[Option<u64>], met: usize) -> Option<Option<u64>>
     ensures { IsTimeOf times.now met result }
 {

@@ -120,7 +120,8 @@ fn add_connection(answers: &mut Vec<u8>, side: Side, vc: Vc) -> Result<(), Alloc
     add_channel(answers, side, vc.vci)
 }
 
-/// Appends the answer to a command that ends a journal: these counts, or what was given.
+/// Appends the answer to a command that ends a journal: a line with the connection's counts since its setup, or, if there is no such
+/// connection, `given`, the fault line of `upc run`.
 #[tactic(auto, using(std::proofs::lemmas::List::append_assoc))]
 fn add_counted(
     answers: &mut Vec<u8>,

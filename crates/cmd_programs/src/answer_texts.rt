@@ -1,5 +1,5 @@
-//! Lines of answers about programs, which `eval`, `check` and two subcommands of `upc-lab` print. Each function appends to
-//! the answers.
+//! Lines of answers about programs, which `eval`, `check` and, of `upc-lab`, `rules`, `list`, `trace`, `differ` and `explain` print. Each
+//! function appends to the answers.
 
 ghost use Rattle.std.specs.Prelude.{◌≡◌, ◌++◌, codes, decimal, OnOk};
 ghost use Rattle.hex.specs.Hex.{encode_lower};

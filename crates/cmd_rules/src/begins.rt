@@ -8,7 +8,8 @@ use rules_text::RulePlace;
 use std::alloc::AllocError;
 use text_words::{add_number, add_text};
 
-/// Returns where the line of rules at a place begins, by the places of all lines of a text; line 0 if there is none.
+/// Returns where the line of rules with index `place` begins. `begins` has this for each line of rules of the text. If there is no such
+/// line, the answer is source line 0.
 pub fn begin_at(begins: &[RulePlace], place: usize) -> RulePlace
     ensures { result ≡ begin_at begins.now place }
 {
@@ -48,7 +49,7 @@ pub fn add_begin(answers: &mut Vec<u8>, begin: RulePlace) -> Result<(), AllocErr
     add_column(answers, begin.column)
 }
 
-/// Appends the line of the rule that decides, or `otherwise`.
+/// Appends `line ` and where the rule that decides begins, or `otherwise`. `line` is the index of the rule among the lines of rules.
 ///
 /// # Errors
 ///

@@ -49,7 +49,8 @@ fn units(rate: CellRate) -> u64
     }
 }
 
-/// Returns one cell, in billionths of a unit of the rate.
+/// Returns the size of a cell in billionths of the rate's unit, which is a cell or a bit. Divided by the units a second, it gives the
+/// nanoseconds between two cells.
 fn cell(rate: CellRate) -> u64
     ensures cell { result ≡ one_cell rate }
     ensures bounded { result ≤ 424000000000 }
@@ -87,6 +88,8 @@ fn bucket(rate: CellRate, tick: u64, increment: u64, limit: u64) -> SizedRate
     requires fast { IsFastEnough rate tick increment }
     ensures { result ≡ sized_rate rate tick increment limit }
 {
+    // In the time of one increment, in nanoseconds, a sender at the rate asked for sends `sent` billionths of a unit: at most a cell,
+    // since the increment was rounded down.
     let time = increment * tick;
     let sent = time * units(rate);
     let above = cell(rate) - sent;

@@ -12,7 +12,8 @@ pub struct Fill {
 }
 
 /// The state of one contract: when the next cell of each bucket is due, in ticks, which is the standard's theoretical arrival time.
-/// [`Levels::fill_at`] computes from it how full a bucket is. It is at most 2^62 + 2^49, since moments are at most 2^62.
+/// In spite of its name it has no level: [`Levels::fill_at`] computes how full a bucket is. Each time is at most 2^62 + 2^49: moments are
+/// at most 2^62, limits and increments at most 2^48.
 #[derive(Clone, Copy, Debug)]
 pub struct Levels {
     /// The theoretical arrival time of bucket 1.
@@ -41,7 +42,7 @@ impl Levels {
         }
     }
 
-    /// Returns the levels of both buckets at `moment`, in ticks: what is left in them of the cells so far.
+    /// Returns how full both buckets are at `moment`, in ticks: what is left in them of the cells so far.
     pub fn fill_at(&self, moment: u64) -> Fill
         // For any buckets that the levels represent.
         ensures first { (buckets : Buckets) → Agrees self.now buckets → IsChargedBy buckets moment

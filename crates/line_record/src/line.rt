@@ -34,8 +34,11 @@ pub struct Line {
     journal: u32,
     /// Has capacity for the whole journal while the line serves a connection.
     entries: Vec<Entry>,
+    /// The state after the last judged cell.
     state: State,
+    /// Those of the connection. A free line has none.
     contracts: ArrayVec<Contract, 4>,
+    /// The state at the beginning of the journal. Its entries lead from here to `state`.
     start: State,
 }
 

@@ -3,12 +3,12 @@
 use rules_cells::Decision;
 use upc_cell::Cell;
 
-/// What old and new rules decide for a cell.
+/// What the old and the new side of a comparison decide for a cell. A side is rules or a program; a program decides by no line.
 #[derive(Clone, Copy, Debug)]
 pub struct Case {
-    /// What the old rules decide.
+    /// What the old side decides.
     pub old: Decision,
-    /// What the new rules decide.
+    /// What the new side decides.
     pub new: Decision,
     /// The least cell for which they decide so.
     pub cell: Cell,

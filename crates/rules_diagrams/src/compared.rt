@@ -23,7 +23,8 @@ pub enum Compared<'a> {
     Program(&'a [Instr]),
 }
 
-/// What is decided for a cell to which the diagram gives this number.
+/// What is decided for a cell to which the diagram gives this number. Of a program the number is the value. Of rules it stands only for
+/// the line and has no value, so `decide` goes through the rules once more for the cell.
 pub(crate) fn decision_with(compared: Compared<'_>, cell: &Cell, number: u32) -> Decision
     ensures { result ≡ decision_with compared.entry cell.now number }
 {

@@ -56,6 +56,7 @@ fn cases_of(
 pub fn compare(alloc: Global, old: &Rules, new: &Rules) -> Result<Vec<Case>, Undecided>
     ensures { IfOk result (λ cases. AreCases old.now new.now cases.items) }
 {
+    // A law of `rules_cells`. It does nothing at run time; its contract is a fact that this proof needs.
     laws::the_first_rule_decides();
     let mut one = Diagrams::new(alloc)?;
     let mut other = Diagrams::new(alloc)?;
@@ -68,7 +69,7 @@ pub fn compare(alloc: Global, old: &Rules, new: &Rules) -> Result<Vec<Case>, Und
     Ok(cases)
 }
 
-/// The diagram of what is old or new.
+/// The diagram of one side. If its program isn't followed, `is_old` says whether the fault is of the old side or of the new one.
 fn side_shown(
     alloc: Global,
     diagrams: &mut Diagrams,

@@ -9,7 +9,8 @@ pub(crate) enum Diagram {
     Inner(u32),
 }
 
-/// A node: a bit, and the diagrams of the cells in which it isn't set and in which it is.
+/// A node: a bit, and the diagrams of the cells in which it isn't set and in which it is. Both are made of older nodes, and ask only for
+/// later bits.
 #[derive(Clone, Copy, Debug, PartialEq, Eq)]
 pub(crate) struct Node {
     /// The bit. Bit 0 is the highest bit of the first octet, bit 415 the lowest bit of the last.

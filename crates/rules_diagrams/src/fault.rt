@@ -6,7 +6,7 @@ use thiserror::Error;
 /// Why no diagram was made, or diagrams weren't compared.
 #[derive(Clone, Copy, Debug, PartialEq, Eq, Error)]
 pub enum Undecided {
-    /// There are too many cases.
+    /// A limit was met: of nodes, of steps, of cases, of lines of rules, or of what is remembered of a program.
     #[error("TooLarge")]
     TooLarge,
     /// An allocation failed.

@@ -40,7 +40,7 @@ fn diagram_if(told: &Told, place: usize, contents: &Contents) -> Option<Diagram>
     }
 }
 
-/// The diagram that was told of a place with these contents. Those of the place begin with this one.
+/// The diagram that was told of a place with these contents. What was told of the place begins at index `first` of `told`, without gaps.
 fn find(told: &[Told], first: usize, place: usize, contents: &Contents) -> Option<Diagram>
     ensures { IfSome result (λ diagram. Contains told.now (record { place = place; contents = contents.now; diagram = diagram })) }
 {
@@ -72,7 +72,7 @@ impl Tellings {
         })
     }
 
-    /// Begins with a place.
+    /// Notes that all that is told from now on, until the next call, is of this place.
     fn begin(&mut self, place: usize)
         ensures { self.new.told.items ≡ self.old.told.items }
     {
@@ -91,6 +91,7 @@ impl Tellings {
             Some(first) => *first,
         };
         match find(&self.told, first, place, contents) {
+            // An accepted program has the diagram, since `reach` lists these contents. That isn't proved, so this is answered as undecided.
             None => Err(Unfollowed::Undecided(Undecided::TooLarge)),
             Some(diagram) => Ok(diagram),
         }

@@ -29,7 +29,8 @@ pub(crate) const NO_BIT: u16 = 416;
 pub(crate) struct Diagrams {
     /// The nodes, the oldest first.
     nodes: Vec<Node>,
-    /// Numbers of nodes, by what their nodes have. A number may be out of date: the node is compared.
+    /// A hash table of nodes: at the place of a node, the number of the last node that was made there, or 0. Another node may have that
+    /// number, so the node is compared.
     places: Vec<u32>,
     /// Choices that were made. Each place has the last one that belongs there.
     steps: Vec<Step>,
@@ -55,7 +56,7 @@ pub(crate) fn code_of(diagram: Diagram) -> u32 {
     }
 }
 
-/// The place in a table of three numbers.
+/// The place that three numbers have in a hash table of [`TABLE`] places. Nodes, choices and pairs of diagrams share this hash.
 pub(crate) fn place_of(first: u32, second: u32, third: u32) -> usize
     ensures { result < 65536 }
 {
@@ -114,7 +115,7 @@ fn steps(alloc: Global, step: Step, size: usize) -> Result<Vec<Step>, Undecided>
     Ok(vec![in alloc; step; size]?)
 }
 
-/// The choice with which the table begins: 0 or 0, by 0.
+/// What each place of the table of choices has at first: the choice between 0 and 0 by 0, which is 0. It is true, so no place is empty.
 fn first_step() -> Step
     ensures { IsAnswer [] result.asked result.answer }
 {

@@ -31,7 +31,7 @@ struct Walk {
     met: Vec<Meeting>,
     /// The numbers of the meetings so far.
     pairs: BTreeSet<(u32, u32)>,
-    /// Diagrams that were walked through. Each place has the last two that belong there.
+    /// Pairs of diagrams that were walked through, in a hash table. Each place has the last pair that belongs there, if there is one.
     seen: Vec<Option<Both>>,
     /// How many steps may follow.
     left: u32,
@@ -72,7 +72,7 @@ fn is_same_pair(one: Option<Both>, other: Both) -> bool
     }
 }
 
-/// The cell with a bit set, from which on none is set.
+/// The cell with this bit set too. In `cell` neither it nor a later bit is set.
 fn with_bit(cell: Cell, bit: u16) -> Cell
     requires bit { bit < 416 }
     requires clear { IsClearFrom bit cell }

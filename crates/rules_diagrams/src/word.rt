@@ -1,4 +1,4 @@
-//! Numbers whose bits are known or are bits of the cell.
+//! Numbers of which each bit is 0, 1 or a bit of the cell. A number is the list of its bits, the lowest first.
 
 ghost use Rattle.std.specs.Prelude.{◌≡◌, ◌<◌, ◌≤◌, ◌+◌, ◌*◌, ◌/◌, ◌%◌, ◌^◌, ℕ, ◌∷◌, List, length, IfOk, IfSome, IsTrue};
 ghost use Rattle.rules_diagrams.specs.inner.Spans.{bits_number};
@@ -47,7 +47,7 @@ pub(crate) fn constant(alloc: Global, k: u32, width: u32) -> Result<Vec<Bit>, Al
     before(bit, constant(alloc, k / 2, width - 1)?)
 }
 
-/// This many bits of the cell from one on, with this many bits that are 0 above them.
+/// The number that `many` bits of the cell spell, from bit `first` on, the first highest, with `above` bits that are 0 on top.
 pub(crate) fn spelled(
     alloc: Global,
     first: u16,

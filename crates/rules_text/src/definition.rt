@@ -162,6 +162,7 @@ pub(crate) fn definition(
     } else {
         Form::Test
     };
+    // Only a fault matters here: a name's tokens are read again wherever the name is used.
     let _read = statement_in(alloc, context, names, form, line, place.after)?;
     Ok(meaning(alloc, tokens)?)
 }

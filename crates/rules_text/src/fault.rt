@@ -15,7 +15,7 @@ pub enum RuleKind {
     /// A word begins with a digit but is no number of at most 4294967295.
     #[error("2 BadNumber")]
     BadNumber,
-    /// The field can't have the number, or the range is empty.
+    /// The field can't have the number or the mask, or the second number of a range is less than the first.
     #[error("3 TooLarge")]
     TooLarge,
     /// The octets aren't all in the cell.
@@ -30,7 +30,8 @@ pub enum RuleKind {
     /// Blocks and parentheses are nested more than 64 deep.
     #[error("7 TooDeep")]
     TooDeep,
-    /// The code has more than 4096 instructions, or a test has more than 4096 comparisons.
+    /// The code has more than 4096 instructions, a test more than 4096 comparisons, a definition more than 4096 tokens, the text more than
+    /// 4096 names, or names add more than 262,144 tokens.
     #[error("8 TooLong")]
     TooLong,
     /// An allocation failed.
@@ -75,7 +76,7 @@ impl<T: Drop> From<AllocFailed<T>> for RuleKind {
 #[derive(Clone, Copy, Debug, PartialEq, Eq, Error)]
 #[error("{kind} {line} {column}")]
 pub struct RuleFault {
-    /// The line, counted from 1; 0 if the fault has no place.
+    /// The source line, counted from 1; 0 if the fault has no place, or while only its column in its line of rules is known.
     pub line: usize,
     /// The column of its octet, counted from 1; 0 if the fault has no place.
     pub column: usize,

@@ -267,7 +267,8 @@ fn goes_on(octet: u8) -> bool
     octet != b'\n'
 }
 
-/// If the octet in a column belongs to no token: whether the next one is in a comment, where this one is or isn't.
+/// Whether the octet after a column is in a comment, if the octet in the column belongs to no token; None if a token begins there.
+/// `comment` says whether the octet in the column is in a comment.
 fn passed(line: &[u8], at: usize, comment: bool) -> Option<bool>
     requires { at < length line.now }
     ensures { MatchOption result ((comment ≡ false) × (separates (slice_index line.now at) (drop (at + 1) line.now) ≡ false) × ((slice_index line.now at == 35) ≡ false))

@@ -75,7 +75,8 @@ pub(crate) fn are_list(tokens: &[Token]) -> bool
     }
 }
 
-/// The tokens that a name means in place of which these are defined.
+/// The tokens that are read in place of a name with this definition: a list as it is, and a test in parentheses, so that `not` before
+/// the name denies all of it.
 pub(crate) fn meaning(alloc: Global, tokens: Vec<Token>) -> Result<Vec<Token>, AllocError>
     ensures { IfOk result (λ meant. map rule_token_seen meant.items ≡ defined_as (map rule_token_seen tokens.items)) }
 {

@@ -80,7 +80,8 @@ impl LineReader {
     }
 }
 
-/// The tokens that a token of a line means where names may add this many, none if it is no name that was given.
+/// The tokens that are read in place of a token, if it is a name that was given; otherwise none. `room` is how many tokens names may
+/// still add.
 pub(crate) fn meant_by<'a>(
     names: &'a NameTable,
     room: usize,

@@ -165,6 +165,7 @@ pub(crate) fn test_of_list(
 ) -> Result<Test, AllocError>
     ensures { IfOk result (λ test. test_read test ≡ list_test (list_seen of) (others.items ++ last ∷ [])) }
 {
+    // The order of the spans plays no part. The last range, which every list has, is the one that the type asks for.
     let relation = Relation::In {
         first: last,
         others,

@@ -3,12 +3,12 @@
 use std::alloc::AllocError;
 use thiserror::Error;
 
-/// Whether all input was answered.
+/// How an answer ended. The exit status is 0 after `Whole`, and 1 after `Ended` unless a subcommand says otherwise.
 #[derive(Clone, Copy, PartialEq, Eq, Debug)]
 pub enum Done {
     /// The whole input was answered.
     Whole,
-    /// A line ended the run early.
+    /// A line or a fault ended the run early, or the answer to the whole input is a fault or a finding.
     Ended,
 }
 

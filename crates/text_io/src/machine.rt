@@ -7,7 +7,7 @@ ghost use Rattle.text_io.specs.Answering.{Answers, AnswersEnd};
 use crate::ending::{Added, Answered};
 use std::alloc::AllocError;
 
-/// Whether the run continues after a line.
+/// Whether the run continues after a line, or after a cell of a capture.
 #[derive(Clone, Copy, PartialEq, Eq, Debug)]
 pub enum Turn {
     /// The next line is answered too.

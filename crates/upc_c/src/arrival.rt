@@ -73,6 +73,7 @@ fn arrive_at(core: &mut Core, cell: &Cell, moment: u64) -> Result<Judgement, Unj
 {
     match core.arrive(0, cell, moment) {
         Some(answered) => answered,
+        // Port 0 has no cell between two calls (`IsReachedCore`).
         None => unreachable!(),
     }
 }

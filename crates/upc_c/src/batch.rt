@@ -131,7 +131,8 @@ fn police_on(
 
 /// Judges a cell for each of the moments, one after another, as that many calls of `upc_card_arrive` do: a cell begins
 /// every `stride` octets, the first at the front of the buffer, and its answer has the place of its moment. Stops at the
-/// first cell that is refused. Writes the number of judged cells to `done`. Returns the result of the error, or 0.
+/// first cell that can't be judged; a cell with the verdict Refuse is judged. Writes the number of judged cells to `done`.
+/// Returns 256 times the kind of the error plus its number, or 0.
 #[unsafe(no_mangle)]
 pub extern "C" fn upc_card_arrive_many(
     alloc: Global,

@@ -15,8 +15,9 @@ pub struct UpcFault {
     pub kind: u32,
     /// The number of the error among those of its kind, from 1.
     pub number: u32,
-    /// The place of the instruction, from 0; or the line of the source or of the rules or the bucket of the contract, from
-    /// 1; or the number of octets that there are, or have to be.
+    /// By kind: the place of the instruction, from 0; the line of the source or of the rules, or the bucket of the contract, from 1; the
+    /// number of octets that there are; the octets, entries, meters or answers that are needed; or, of arrival error 4, the moment of
+    /// the connection's last judged cell, in ticks.
     pub place: usize,
     /// The index of a scratch word, 0 to 15.
     pub word: u32,
@@ -30,7 +31,7 @@ pub struct UpcFault {
 /// the levels are too late, the side is unknown, and so on.
 pub(crate) const OF_THE_CALL: u32 = 1;
 
-/// The errors of cells, codes, sources, checks, rates, burst tolerances, arrivals, shapes and the desk.
+/// The error of octets that are no cell. Each constant from here on is a kind, with the number that `enum upc_kind` of `include/upc.h` has.
 pub(crate) const OF_A_CELL: u32 = 2;
 
 pub(crate) const OF_DECODING: u32 = 3;

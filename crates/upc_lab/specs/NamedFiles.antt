@@ -72,7 +72,7 @@ unreadable_line name reason = codes "upc-lab: cannot read " ++ (shown_name name 
 
 -- The message without the name and a reason, for which no allocation was left.
 abbrev pub plain_unreadable_line : List ℕ
-plain_unreadable_line = codes "upc-lab: cannot read the files of the setup\n"
+plain_unreadable_line = codes "upc-lab: cannot read a file that it was given\n"
 
 -- The line is the message about the file with this name, or is empty because no allocation was left for it.
 abbrev pub IsUnreadable : List ℕ → Unreadable → Type 0

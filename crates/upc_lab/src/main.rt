@@ -38,9 +38,9 @@ use std::process::ExitCode;
 use text_command_line::{OfProcess, Stop, status, words_after_name};
 use text_io::{RunFault, WriterOutput};
 
-/// Standard input with a buffer, which has no room if no memory is left. `why` takes an octet at a time, so that it
-/// takes nothing after the line `cells`; the buffer saves it a call of the system for each. A larger piece is read past
-/// the buffer.
+/// Returns standard input with a buffer. `again` is a second handle of the same input, for a buffer without room if no memory is left.
+/// `why` and `explain` take the octets of some lines one at a time, so that they take nothing after these lines; the buffer saves a
+/// call of the system for each octet. A larger piece is read past the buffer.
 fn buffered<D: Read + Drop>(alloc: Global, device: D, again: D) -> Result<BufReader<D>, RunFault> {
     match BufReader::new(alloc, device) {
         Ok(reader) => Ok(reader),
@@ -73,6 +73,8 @@ fn main(rt: HostRuntime) -> ExitCode {
         Ok(reader) => reader,
         Err(fault) => return ExitCode::from(status(&Err(fault))),
     };
+    // The innermost device keeps the system's reason of a failure, the next one counts octets for the progress text, and the outermost
+    // lets `explain` look at the first line.
     let stdin = Knowing::new(rt.alloc(), Work::Reading, reader);
     let mut input = LookedAt::new(rt.alloc(), Counted::new(rt.alloc(), stdin, shown_on));
     let mut output = Knowing::new(rt.alloc(), Work::Writing, rt.stdout());

@@ -1,5 +1,5 @@
-//! The files that the words name: the setup script of `police` and the rules that it names, the old rules of `differ`,
-//! and the rules of `fit`.
+//! The files that the words name: the setup script of `police`, `forward` or `explain` and the rules that it names, the old text of
+//! `differ`, and the rules of `fit`.
 
 ghost use Rattle.std.specs.Prelude.{◌≡◌, ◌⊎◌, IfErr, IfOk, IfSome, IsOkAnd, None, []};
 ghost use Rattle.std.specs.Path.{path_with_file_name};
@@ -100,12 +100,12 @@ impl Unreadable {
         }
     }
 
-    /// Returns the message.
+    /// Returns the message. Without a reason it doesn't name the file.
     pub fn message(&self) -> &[u8]
         ensures { result.now ≡ unreadable_message self.now }
     {
         if self.line.is_empty() {
-            b"upc-lab: cannot read the files of the setup\n"
+            b"upc-lab: cannot read a file that it was given\n"
         } else {
             &self.line
         }
@@ -262,7 +262,7 @@ fn rules_once<'a, R: Files + AllocGlobal>(
     }
 }
 
-/// Returns the octets of the file of rules of a line. If it isn't read, they are these, of which there are none.
+/// Returns the octets of the file of rules of a line. For a file that need not be read (`file` is None) it returns `unread`, an empty text.
 fn rules_of_line<'a, R: Files + AllocGlobal>(
     rt: &R,
     setup: &str,

@@ -53,7 +53,7 @@ pub(crate) fn rules_asked<'a>(options: &FitOptions, read: &'a [u8]) -> Option<&'
     }
 }
 
-/// Returns what the texts are of which these are programs.
+/// Returns the kinds of the old and the new text. `programs` says which of them are programs; any other is rules.
 pub(crate) fn kinds_asked(programs: Programs) -> TextKinds
     ensures { result ≡ kinds_asked programs }
 {
