@@ -7,7 +7,7 @@ ghost use Rattle.captures_text.specs.declared.captured_cell.CapturedCell.{Captur
 ghost use Rattle.captures_text.specs.declared.reading_ahead.ReadingAhead.{ReadingAhead as Reading};
 
 use crate::captured_cell::CapturedCell;
-use crate::filter::{CellFilter, Filtered, Following};
+use crate::filter::{CellFilter, Filtered, UsualFilter};
 use byteorder::{BigEndian, ByteOrder};
 use captures::{Clock, Fault, Link, Next, Reader};
 use std::alloc::AllocError;
@@ -69,7 +69,7 @@ fn is_usual(reader: &Reader, octets: &[u8]) -> bool {
 /// room left. The reader and the clock are in variables: behind references, the compiler would load the header again after each change of
 /// them.
 fn read_usual_of(
-    following: Following,
+    following: UsualFilter,
     mut reader: Reader,
     octets: &[u8],
     cells: &mut Vec<CapturedCell>,

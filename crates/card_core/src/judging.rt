@@ -21,7 +21,7 @@ use upc_cell::{Vc, same_vc};
 /// `Released` if the line doesn't serve the picked connection; otherwise the error of [`Line::judge`]. Then nothing
 /// changes.
 #[inline(always)]
-pub fn judge_without_cell(
+pub fn judgement_at(
     line: &mut Line,
     vc: Vc,
     seating: &Seating,
@@ -74,7 +74,7 @@ pub fn judge_without_cell(
 }
 
 /// Judges a cell on the line of its connection, by the contract that its program named, and returns the answer with the
-/// leaving cell. Doesn't allocate. [`judge_without_cell`] judges the same, and copies no cell.
+/// leaving cell. Doesn't allocate. [`judgement_at`] judges the same, and copies no cell.
 #[inline]
 pub fn judge_at(line: &mut Line, vc: Vc, seating: &Seating, named: &Named, moment: u64) -> Answer
     // It is judged if and only if there is no reason to refuse it.
@@ -98,7 +98,7 @@ pub fn judge_at(line: &mut Line, vc: Vc, seating: &Seating, named: &Named, momen
     ensures program_live { result ≢ Answer.Stale }
     ensures connection { result ≢ Answer.NoConnection }
 {
-    match judge_without_cell(line, vc, seating, named, moment) {
+    match judgement_at(line, vc, seating, named, moment) {
         Ok(judgement) => judgement.answer(&named.cell()),
         Err(reason) => reason.answer(),
     }

@@ -24,7 +24,7 @@ pub use ask::Ask;
 pub use connection_state::ConnectionState;
 pub use desk::{admit, cut, load, release, reload, retire, setup};
 pub use fault::{CardFault, DeskFault};
-pub use judging::{judge_at, judge_without_cell};
+pub use judging::{judge_at, judgement_at};
 pub use picking::{Named, Store, name, pick};
 pub use reply::{PortReply, Reply};
 pub use serial::Core;

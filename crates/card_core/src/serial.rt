@@ -7,7 +7,7 @@ use crate::ask::Ask;
 use crate::desk;
 use crate::desk_lines::{cut_line, free_lines, release_line, setup_line};
 use crate::fault::{CardFault, DeskFault};
-use crate::judging::{drop_if_long, judge_without_cell};
+use crate::judging::{drop_if_long, judgement_at};
 use crate::picking::{Store, name, pick};
 use crate::port::{
     Came, Found, Port, are_outside, entered_at, is_idle_at, move_port, outside_ports, picked_at,
@@ -245,7 +245,7 @@ impl Core {
         let side = self.shape.side;
         let picked = look_up_and_run(&self.store, &self.directory, side, cell, moment);
         match picked {
-            Ok(found) => Some(judge_line_without_cell(&mut self.lines, &found)),
+            Ok(found) => Some(judgement_on_line(&mut self.lines, &found)),
             Err(reason) => Some(Err(reason)),
         }
     }
@@ -255,7 +255,7 @@ impl Core {
     /// returns is dropped. A journal that stays short stays in the processor's cache. Doesn't allocate.
     /// Returns None if the port has a cell or there is no such port. Then nothing changes.
     #[inline(always)]
-    pub fn arrive_keeping(
+    pub fn arrive_dropping(
         &mut self,
         port: u8,
         cell: &Cell,
@@ -282,7 +282,7 @@ impl Core {
         match picked {
             Ok(found) => {
                 drop_long_journal(&mut self.lines, found.vc, &found.seating, most);
-                Some(judge_line_without_cell(&mut self.lines, &found))
+                Some(judgement_on_line(&mut self.lines, &found))
             }
             Err(reason) => Some(Err(reason)),
         }
@@ -411,7 +411,7 @@ ghost use Rattle.upc_cell.specs.Connection.{vc_of};
 ghost use Rattle.card_core.specs.inner.Parts.{IsFound, IsMissed, ChangesLine, JudgesOrRefuses, DropsIfLong, HasRoomFor};
 
 /// Returns the seating of the cell's connection, and the value that its program gives for the cell. Every cell passes through this
-/// function and [`judge_line_without_cell`]. Both are inlined, since a call would copy the cell.
+/// function and [`judgement_on_line`]. Both are inlined, since a call would copy the cell.
 #[inline(always)]
 fn look_up_and_run(
     store: &Store,
@@ -454,7 +454,7 @@ fn drop_long_journal(lines: &mut Vec<Line>, vc: Vc, seating: &Seating, most: usi
 
 /// Judges a picked cell on its line. Returns the judgement without the leaving cell.
 #[inline(always)]
-fn judge_line_without_cell(lines: &mut Vec<Line>, found: &Found) -> Result<Judgement, Unjudged>
+fn judgement_on_line(lines: &mut Vec<Line>, found: &Found) -> Result<Judgement, Unjudged>
     requires { found.now.seating.line < length lines.old.items }
     ensures line { ChangesLine lines.old.items found.now.seating.line
         (JudgesOrRefuses found.now (answer_to found.now.named.cell result)) lines.new.items }
@@ -464,7 +464,7 @@ fn judge_line_without_cell(lines: &mut Vec<Line>, found: &Found) -> Result<Judge
     ensures connection { answer_to found.now.named.cell result ≢ Answer.NoConnection }
 {
     let line = &mut lines[usize::from(found.seating.line)];
-    judge_without_cell(line, found.vc, &found.seating, &found.named, found.moment)
+    judgement_at(line, found.vc, &found.seating, &found.named, found.moment)
 }
 
 /// Judges a picked cell on its line.
@@ -474,7 +474,7 @@ fn judge_line(lines: &mut Vec<Line>, found: &Found) -> Answer
         (JudgesOrRefuses found.now result) lines.new.items }
     ensures memory { result ≢ Answer.NoMemory }
 {
-    match judge_line_without_cell(lines, found) {
+    match judgement_on_line(lines, found) {
         Ok(judged) => judged.answer(&found.named.cell()),
         Err(reason) => reason.answer(),
     }

@@ -11,7 +11,7 @@ use crate::kinds::TextKind;
 use crate::program_text::program_in;
 use crate::sides::SideText;
 use cmd_rules::{MOST_RULES_OCTETS, add_rule_fault};
-use rules_text::{PlacedRules, RuleFault, RuleKind, read_with_places};
+use rules_text::{PlacedRules, RuleFault, RuleFaultKind, read_with_places};
 use std::alloc::{AllocError, Global};
 use text_words::{add_text, add_too_long};
 
@@ -51,7 +51,7 @@ fn read_text(
         Ok(placed_rules) => Ok(Some(placed_rules)),
         Err(
             RuleFault {
-                kind: RuleKind::NoMemory,
+                kind: RuleFaultKind::NoMemory,
                 ..
             },
         ) => Err(AllocError),

@@ -13,14 +13,14 @@ use Rattle.cmd_explain.specs.declared.forms.Form.{Form}
 use Rattle.cmd_explain_script.specs.declared.found_words.FoundWord.{FoundWord}
 
 -- The octets begin with a digit and spell no number of at most 4294967295.
-abbrev pub is_no_number : List ℕ → Bool
-is_no_number [] = false
-is_no_number (octet ∷ rest) = is_digit octet && is_none (number_of_word (octet ∷ rest))
+abbrev pub is_bad_number : List ℕ → Bool
+is_bad_number [] = false
+is_bad_number (octet ∷ rest) = is_digit octet && is_none (number_of_word (octet ∷ rest))
 
 -- The first of these tokens that is no number.
-abbrev pub first_no_number : List ℕ → List FoundWord → Option FoundWord
-first_no_number text [] = None
-first_no_number text (token ∷ tokens) = if is_no_number (word_octets text token) then Some token else first_no_number text tokens
+abbrev pub first_bad_number : List ℕ → List FoundWord → Option FoundWord
+first_bad_number text [] = None
+first_bad_number text (token ∷ tokens) = if is_bad_number (word_octets text token) then Some token else first_bad_number text tokens
 
 -- The first of these tokens that is a number.
 abbrev pub first_number : List ℕ → List FoundWord → Option FoundWord

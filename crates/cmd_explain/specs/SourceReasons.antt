@@ -5,7 +5,7 @@ use Rattle.bpf_asm.specs.SourceLines.{without_comment}
 use Rattle.bpf_asm.specs.declared.fault.AsmFault.{AsmFault}
 use Rattle.bpf_asm.specs.declared.fault.AsmKind.{AsmKind}
 use Rattle.bpf_asm.specs.declared.fault.AsmKind.TheVariants as asm
-use Rattle.cmd_explain.specs.BadLines.{bad_line_sentence, first_no_number, no_number_sentence, octets_of, wrong_token}
+use Rattle.cmd_explain.specs.BadLines.{bad_line_sentence, first_bad_number, no_number_sentence, octets_of, wrong_token}
 use Rattle.cmd_explain_script.specs.FoundWords.{column_of, word_octets}
 use Rattle.cmd_explain_script.specs.Places.{place_words, quoted}
 use Rattle.cmd_explain_script.specs.Tables.{value_among}
@@ -45,7 +45,7 @@ failing_label lines fault text (first ∷ operands) =
 -- The token that a fault of this kind is about, if it is about one.
 abbrev pub blamed_token : List (List ℕ) → AsmFault → AsmKind → List ℕ → Option FoundWord
 blamed_token lines fault asm.BadLine content = wrong_token (without_comment content) (instruction_tokens content)
-blamed_token lines fault asm.BadNumber content = first_no_number (without_comment content) (tokens_of_line content)
+blamed_token lines fault asm.BadNumber content = first_bad_number (without_comment content) (tokens_of_line content)
 blamed_token lines fault asm.LabelTwice content = slice_get (tokens_of_line content) 0
 blamed_token lines fault asm.UnknownLabel content = failing_label lines fault (without_comment content) (instruction_tokens content)
 blamed_token lines fault asm.Backward content = failing_label lines fault (without_comment content) (instruction_tokens content)

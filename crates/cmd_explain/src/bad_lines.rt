@@ -3,7 +3,7 @@
 ghost use Rattle.std.specs.Prelude.{◌≡◌, ◌++◌, OnOk, option_map, slice_get};
 ghost use Rattle.bpf_asm.specs.Numbers.{number_of_word};
 ghost use Rattle.cmd_explain_script.specs.Meant.{perhaps_text};
-ghost use Rattle.cmd_explain.specs.BadLines.{bad_line_sentence, first_no_number, first_number, first_word_sentence, is_no_number, no_mnemonic_sentence, no_number_sentence, octets_of, operands_sentence, wrong_operand, wrong_token};
+ghost use Rattle.cmd_explain.specs.BadLines.{bad_line_sentence, first_bad_number, first_number, first_word_sentence, is_bad_number, no_mnemonic_sentence, no_number_sentence, octets_of, operands_sentence, wrong_operand, wrong_token};
 ghost use Rattle.cmd_explain.specs.Forms.{known_mnemonics};
 ghost use Rattle.cmd_explain_script.specs.FoundWords.{word_octets};
 ghost use Rattle.cmd_explain_script.specs.Tables.{near_among};
@@ -27,8 +27,8 @@ pub(crate) fn octets_of(text: &[u8], token: Option<FoundWord>) -> &[u8]
 }
 
 /// Returns whether octets begin with a digit and spell no number.
-fn is_no_number(octets: &[u8]) -> bool
-    ensures { result ≡ is_no_number octets.now }
+fn is_bad_number(octets: &[u8]) -> bool
+    ensures { result ≡ is_bad_number octets.now }
 {
     match octets {
         [] => false,
@@ -37,12 +37,12 @@ fn is_no_number(octets: &[u8]) -> bool
 }
 
 /// Returns the first of these tokens that begins with a digit and spells no number.
-pub(crate) fn first_no_number(text: &[u8], tokens: &[FoundWord]) -> Option<FoundWord>
-    ensures { result ≡ first_no_number text.now tokens.now }
+pub(crate) fn first_bad_number(text: &[u8], tokens: &[FoundWord]) -> Option<FoundWord>
+    ensures { result ≡ first_bad_number text.now tokens.now }
 {
     let mut left = tokens;
     while let [token, rest @ ..] = left {
-        if is_no_number(word_octets(text, *token)) {
+        if is_bad_number(word_octets(text, *token)) {
             return Some(*token);
         }
         left = rest;

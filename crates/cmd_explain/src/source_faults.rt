@@ -7,7 +7,7 @@ ghost use Rattle.cmd_explain.specs.LinesFound.{instruction_tokens, label_line};
 ghost use Rattle.cmd_explain.specs.SourceReasons.{blamed_token, failing_label, failing_operand, label_fails, label_sentence, label_words, line_explanation, missing_label, source_explanation, source_sentence, takes_label};
 
 use crate::bad_lines::{
-    add_bad_line, add_no_number, first_no_number, octets_of, token_at, wrong_token,
+    add_bad_line, add_no_number, first_bad_number, octets_of, token_at, wrong_token,
 };
 use crate::forms::{Form, form_of};
 use crate::lines_found::{count_between, instruction_lines, label_line, line_numbered};
@@ -98,7 +98,7 @@ fn blamed_token(
     let tokens = tokens_of(alloc, text)?;
     match fault.kind {
         AsmKind::BadLine => Ok(wrong_token(text, after_label(text, &tokens))),
-        AsmKind::BadNumber => Ok(first_no_number(text, &tokens)),
+        AsmKind::BadNumber => Ok(first_bad_number(text, &tokens)),
         AsmKind::LabelTwice => Ok(token_at(&tokens, 0)),
         AsmKind::UnknownLabel => {
             failing_label(alloc, source, fault, text, after_label(text, &tokens))

@@ -6,8 +6,8 @@ use Rattle.cmd_explain_rules.specs.WordsFound.{rule_word_octets, words_found}
 use Rattle.cmd_explain_rules.specs.declared.token_parts.Part.{Part}
 use Rattle.cmd_explain_rules.specs.declared.token_parts.Part.TheVariants as part
 use Rattle.rules_text.specs.ContinuedLines.{place_past}
-use Rattle.rules_text.specs.declared.fault.RuleKind.{RuleKind}
-use Rattle.rules_text.specs.declared.fault.RuleKind.TheVariants as kind
+use Rattle.rules_text.specs.declared.fault.RuleFaultKind.{RuleFaultKind}
+use Rattle.rules_text.specs.declared.fault.RuleFaultKind.TheVariants as kind
 use Rattle.rules_text.specs.declared.place.TextPlace.{TextPlace}
 use Rattle.cmd_explain_rules.specs.declared.rule_tokens.RuleWord.{RuleWord}
 
@@ -22,14 +22,14 @@ begins_with_close (octet ∷ rest) = octet == 125
 
 -- Whether a line of rules that ends at this place has a fault of this kind at that one, where these lines follow. The last line has each
 -- that no line before it has. A line that ends too early before a `}` has its fault at the `}`, which begins the next line.
-abbrev pub has_fault : RuleKind → TextPlace → TextPlace → List (List ℕ) → Bool
+abbrev pub has_fault : RuleFaultKind → TextPlace → TextPlace → List (List ℕ) → Bool
 has_fault kind fault end [] = true
 has_fault kind.BadLine fault end (next ∷ lines) = comes_before fault end || (begins_with_close next && not (comes_before end fault))
 has_fault _ fault end (next ∷ lines) = comes_before fault end
 
 -- The line of rules that has a fault of this kind at this place, after the place where it begins. The first of these lines begins at the
 -- first place.
-abbrev pub line_holding : TextPlace → List (List ℕ) → RuleKind → TextPlace → TextPlace × List ℕ
+abbrev pub line_holding : TextPlace → List (List ℕ) → RuleFaultKind → TextPlace → TextPlace × List ℕ
 line_holding begin [] kind fault = (begin, [])
 line_holding begin (line ∷ lines) kind fault =
     if has_fault kind fault (place_past begin line) lines then (begin, line) else line_holding (place_past begin line) lines kind fault

@@ -16,8 +16,8 @@ use Rattle.cmd_explain_rules.specs.declared.rule_tokens.RuleWord.{RuleWord}
 use Rattle.cmd_explain_script.specs.Places.{place_words, quoted}
 use Rattle.rules_text.specs.ContinuedLines.{line_begin, rule_lines}
 use Rattle.rules_text.specs.declared.fault.RuleFault.{RuleFault}
-use Rattle.rules_text.specs.declared.fault.RuleKind.{RuleKind}
-use Rattle.rules_text.specs.declared.fault.RuleKind.TheVariants as kind
+use Rattle.rules_text.specs.declared.fault.RuleFaultKind.{RuleFaultKind}
+use Rattle.rules_text.specs.declared.fault.RuleFaultKind.TheVariants as kind
 use Rattle.rules_text.specs.declared.place.TextPlace.{TextPlace}
 use Rattle.text_words.specs.FaultLines.{line}
 
@@ -66,7 +66,7 @@ taken_sentence name part.Name found = given_sentence name (unwrap_or found 0)
 taken_sentence name _ found = quoted name ++ codes " is a word of rules, and no name"
 
 -- The sentence about a fault of this kind at this place, on a line with this content, at a token of these octets.
-abbrev pub rule_sentence : List (List ℕ) → RuleKind → TextPlace → List ℕ → Spot → List ℕ → List ℕ
+abbrev pub rule_sentence : List (List ℕ) → RuleFaultKind → TextPlace → List ℕ → Spot → List ℕ → List ℕ
 rule_sentence lines kind.BadLine fault content spot octets = rule_misfit_sentence spot octets
 rule_sentence lines kind.BadNumber fault content spot octets = no_rule_number_sentence octets
 rule_sentence lines kind.TooLarge fault content spot octets = too_large_sentence spot octets
@@ -95,7 +95,7 @@ abbrev pub place_of_fault : RuleFault → TextPlace
 place_of_fault fault = record { line = fault.line; column = fault.column }
 
 -- What is added where a token doesn't fit, or the line ends, and so many parentheses are open.
-abbrev pub inside_words : RuleKind → ℕ → List ℕ
+abbrev pub inside_words : RuleFaultKind → ℕ → List ℕ
 inside_words kind.BadLine depth = if nat_lt 0 depth then codes "; a `(` is open here" else []
 inside_words _ depth = []
 

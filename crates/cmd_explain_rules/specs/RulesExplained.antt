@@ -11,7 +11,7 @@ use Rattle.rules_text.specs.RulesRead.{LineRead, rule_line, block_line, end_line
 use Rattle.rules_text.specs.TextFaults.{IsTooLong}
 use Rattle.rules_text.specs.TextOfRules.{PlacedRulesRead, placed_rules_in, placed_fault}
 use Rattle.rules_text.specs.declared.fault.RuleFault.{RuleFault}
-use Rattle.rules_text.specs.declared.fault.RuleKind.TheVariants.{TooLong}
+use Rattle.rules_text.specs.declared.fault.RuleFaultKind.TheVariants.{TooLong}
 use Rattle.text_io.specs.declared.ending.Done.{Done}
 use Rattle.text_io.specs.declared.ending.Done.TheVariants.{Whole, Ended}
 use Rattle.text_words.specs.FaultLines.{line}

@@ -8,7 +8,7 @@ ghost use Rattle.cmd_explain_rules.specs.inner.CommentsFound.{MayBeCommentsFound
 
 use crate::rule_hints::add_rule_hints;
 use cmd_rules::MOST_RULES_OCTETS;
-use rules_text::{RuleFault, RuleKind, read_with_places};
+use rules_text::{RuleFault, RuleFaultKind, read_with_places};
 use std::alloc::{AllocError, Global};
 
 /// The hints about rules as comments.
@@ -45,7 +45,7 @@ fn add_hints_on(
         Ok(placed_rules) => add_rule_hints(alloc, answers, front, &placed_rules),
         Err(
             RuleFault {
-                kind: RuleKind::NoMemory,
+                kind: RuleFaultKind::NoMemory,
                 ..
             },
         ) => Err(AllocError),

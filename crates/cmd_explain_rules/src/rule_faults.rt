@@ -16,7 +16,7 @@ use crate::rule_tokens::{RuleWord, rule_word_octets, words_found};
 use crate::spots::{Place, Spot, spot_before};
 use crate::token_parts::{Part, part_of};
 use cmd_explain_script::{add_place, add_quoted};
-use rules_text::{RuleFault, RuleKind, TextPlace};
+use rules_text::{RuleFault, RuleFaultKind, TextPlace};
 use std::alloc::{AllocError, Global};
 use text_words::{add_number, add_text};
 
@@ -164,7 +164,7 @@ fn add_sentence(
     alloc: Global,
     answers: &mut Vec<u8>,
     text: &[u8],
-    kind: RuleKind,
+    kind: RuleFaultKind,
     fault: TextPlace,
     content: &[u8],
     words: &[RuleWord],
@@ -175,30 +175,30 @@ fn add_sentence(
     ensures { OnOk result (answers.new.items ≡ answers.old.items ++ rule_sentence (rule_lines text.now) kind fault content.now spot octets.now) }
 {
     match kind {
-        RuleKind::BadLine => add_bad_line(answers, spot, octets),
-        RuleKind::BadNumber => add_no_number(answers, octets),
-        RuleKind::TooLarge => add_too_large(answers, spot, octets),
-        RuleKind::OutsideCell => add_outside(answers, spot),
-        RuleKind::AfterOtherwise => add_text(answers, b"no line comes after `otherwise`"),
-        RuleKind::Unbalanced => {
+        RuleFaultKind::BadLine => add_bad_line(answers, spot, octets),
+        RuleFaultKind::BadNumber => add_no_number(answers, octets),
+        RuleFaultKind::TooLarge => add_too_large(answers, spot, octets),
+        RuleFaultKind::OutsideCell => add_outside(answers, spot),
+        RuleFaultKind::AfterOtherwise => add_text(answers, b"no line comes after `otherwise`"),
+        RuleFaultKind::Unbalanced => {
             add_text(
                 answers,
                 unbalanced_sentence(part_of(octets), depth_of(content, words)),
             )
         }
-        RuleKind::TooDeep => {
+        RuleFaultKind::TooDeep => {
             add_text(
                 answers,
                 b"at most 64 blocks and parentheses are open at once",
             )
         }
-        RuleKind::TooLong => add_text(answers, too_long_sentence(spot.place)),
-        RuleKind::NoMemory => Ok(()),
-        RuleKind::UnknownName => {
+        RuleFaultKind::TooLong => add_text(answers, too_long_sentence(spot.place)),
+        RuleFaultKind::NoMemory => Ok(()),
+        RuleFaultKind::UnknownName => {
             let named = near_name(alloc, spot.place, octets, fault, text)?;
             add_unknown(answers, spot, octets, named)
         }
-        RuleKind::NameTaken => add_taken(
+        RuleFaultKind::NameTaken => add_taken(
             answers,
             octets,
             part_of(octets),
@@ -228,11 +228,11 @@ fn blamed_octets(text: &[u8], word: Option<RuleWord>) -> &[u8]
 }
 
 /// Appends that a parenthesis is open where a token doesn't fit, or where the line ends, if so many are.
-fn add_inside(answers: &mut Vec<u8>, kind: RuleKind, depth: usize) -> Result<(), AllocError>
+fn add_inside(answers: &mut Vec<u8>, kind: RuleFaultKind, depth: usize) -> Result<(), AllocError>
     ensures { OnOk result (answers.new.items ≡ answers.old.items ++ inside_words kind depth) }
 {
     match kind {
-        RuleKind::BadLine if depth > 0 => add_text(answers, b"; a `(` is open here"),
+        RuleFaultKind::BadLine if depth > 0 => add_text(answers, b"; a `(` is open here"),
         _ => Ok(()),
     }
 }

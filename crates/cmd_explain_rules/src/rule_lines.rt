@@ -7,7 +7,7 @@ ghost use Rattle.cmd_explain_rules.specs.RuleLines.{begins_giving, begins_with_c
 
 use crate::rule_tokens::{RuleWord, rule_word_octets, words_found};
 use crate::token_parts::{Part, part_of};
-use rules_text::{RuleKind, TextPlace, next_rule_line, place_after};
+use rules_text::{RuleFaultKind, TextPlace, next_rule_line, place_after};
 use std::alloc::{AllocError, Global};
 
 /// Where a text begins.
@@ -35,14 +35,14 @@ fn begins_with_close(octets: &[u8]) -> bool
 }
 
 /// Returns whether a line of rules that ends at a place has a fault of this kind at another, where this rest of the text follows.
-fn has_fault(kind: RuleKind, fault: TextPlace, end: TextPlace, rest: &[u8]) -> bool
+fn has_fault(kind: RuleFaultKind, fault: TextPlace, end: TextPlace, rest: &[u8]) -> bool
     ensures { result ≡ has_fault kind fault end (rule_lines rest.now) }
 {
     let Some((next, _)) = next_rule_line(rest) else {
         return true;
     };
     match kind {
-        RuleKind::BadLine => {
+        RuleFaultKind::BadLine => {
             comes_before(fault, end) || (begins_with_close(next) && !comes_before(end, fault))
         }
         _ => comes_before(fault, end),
@@ -50,7 +50,7 @@ fn has_fault(kind: RuleKind, fault: TextPlace, end: TextPlace, rest: &[u8]) -> b
 }
 
 /// Returns the line of rules that has a fault of this kind at a place, and the place where it begins. It is empty if there is none.
-pub(crate) fn line_holding(text: &[u8], kind: RuleKind, fault: TextPlace) -> (TextPlace, &[u8])
+pub(crate) fn line_holding(text: &[u8], kind: RuleFaultKind, fault: TextPlace) -> (TextPlace, &[u8])
     ensures begin { result.0 ≡ (line_holding (line_begin 1) (rule_lines text.now) kind fault).0 }
     ensures line { result.1.now ≡ (line_holding (line_begin 1) (rule_lines text.now) kind fault).1 }
 {

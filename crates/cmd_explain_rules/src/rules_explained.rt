@@ -11,7 +11,7 @@ use crate::rule_faults::add_rule_explanation;
 use crate::rule_hints::add_rule_hints;
 use cmd_rules::{MOST_RULES_OCTETS, add_rule_fault};
 use rules_cells::{CodeFault, RuleLine, compile};
-use rules_text::{PlacedRules, RuleFault, RuleKind, read_with_places};
+use rules_text::{PlacedRules, RuleFault, RuleFaultKind, read_with_places};
 use std::alloc::{AllocError, Global};
 use text_io::{Answered, Answerer, Done, Ending, Input, Output, answer_whole};
 use text_words::{TOO_LONG, add_number, add_text};
@@ -103,7 +103,7 @@ fn explain_placed_rules(
             RuleFault {
                 line: 0,
                 column: 0,
-                kind: RuleKind::TooLong,
+                kind: RuleFaultKind::TooLong,
             },
             answers,
         ),
@@ -123,7 +123,7 @@ pub(crate) fn explain_text(
         Ok(placed_rules) => explain_placed_rules(alloc, text, &placed_rules, answers),
         Err(
             RuleFault {
-                kind: RuleKind::NoMemory,
+                kind: RuleFaultKind::NoMemory,
                 ..
             },
         ) => Err(AllocError),

@@ -7,22 +7,22 @@ use Rattle.leaky.specs.Bursts.{AllFill}
 use Rattle.leaky.specs.declared.gcra.Gcra.{Gcra}
 use Rattle.cmd_fit.specs.Fits.{bucket_of, fit_after, no_cells}
 use Rattle.cmd_fit.specs.FitLaws.{IsFitOf, captured_moments}
-use Rattle.cmd_fit.specs.declared.connection_fit.ConnectionFit.{ConnectionFit}
+use Rattle.cmd_fit.specs.declared.flow_fit.FlowFit.{FlowFit}
 use Rattle.cmd_fit.specs.declared.flow.Flow.{Flow}
 
 -- The state after these cells, from this one on.
-abbrev pub through : ℕ → ConnectionFit → List CapturedCell → ConnectionFit
+abbrev pub through : ℕ → FlowFit → List CapturedCell → FlowFit
 through increment fit [] = fit
 through increment fit (cell ∷ cells) = through increment (fit_after increment fit cell.moment cell.number) cells
 
-through-cells : (increment : ℕ) (fit : ConnectionFit) (cells : List CapturedCell) → (through increment fit cells).cells ≡ fit.cells + length cells
+through-cells : (increment : ℕ) (fit : FlowFit) (cells : List CapturedCell) → (through increment fit cells).cells ≡ fit.cells + length cells
 through-cells increment fit [] = omega arith
 through-cells increment fit (cell ∷ cells) =
     let rest = through-cells increment (fit_after increment fit cell.moment cell.number) cells in
     omega arith
 
 -- Cells that conform need no more than the limit.
-through-low : (gcra : Gcra) (fit : ConnectionFit) (cells : List CapturedCell)
+through-low : (gcra : Gcra) (fit : FlowFit) (cells : List CapturedCell)
     → AllFill gcra (bucket_of fit) (captured_moments cells) → fit.limit ≤ gcra.limit
     → (through gcra.increment fit cells).limit ≤ gcra.limit
 through-low gcra fit [] fill low = low
@@ -34,7 +34,7 @@ through-low gcra fit (cell ∷ cells) fill low =
     through-low gcra next cells fill.1 lower
 
 -- Under a limit that is enough, each conforms.
-through-fill : (gcra : Gcra) (fit : ConnectionFit) (cells : List CapturedCell)
+through-fill : (gcra : Gcra) (fit : FlowFit) (cells : List CapturedCell)
     → (through gcra.increment fit cells).limit ≤ gcra.limit
     → AllFill gcra (bucket_of fit) (captured_moments cells) × (fit.limit ≤ gcra.limit)
 through-fill gcra fit [] low = (tt, low)
@@ -47,7 +47,7 @@ through-fill gcra fit (cell ∷ cells) low =
     ((le-leb (level_at (bucket_of fit) cell.moment) gcra.limit needed, rest.0), before)
 
 -- The cell that is named: those before it need less.
-record Named (increment : ℕ) (fit : ConnectionFit) (cells : List CapturedCell) : Type 0 where
+record Named (increment : ℕ) (fit : FlowFit) (cells : List CapturedCell) : Type 0 where
   before : List CapturedCell
   named : CapturedCell
   later : List CapturedCell
@@ -57,11 +57,11 @@ record Named (increment : ℕ) (fit : ConnectionFit) (cells : List CapturedCell)
   needs : (through increment fit (before ++ named ∷ [])).limit ≡ (through increment fit cells).limit
 
 -- No cell needs more than the limit so far, and the named record stays, or some cell is named.
-record Same (increment : ℕ) (fit : ConnectionFit) (cells : List CapturedCell) : Type 0 where
+record Same (increment : ℕ) (fit : FlowFit) (cells : List CapturedCell) : Type 0 where
   limit : (through increment fit cells).limit ≡ fit.limit
   number : (through increment fit cells).number ≡ fit.number
 
-through-named : (increment : ℕ) (fit : ConnectionFit) (cells : List CapturedCell) → Same increment fit cells ⊎ Named increment fit cells
+through-named : (increment : ℕ) (fit : FlowFit) (cells : List CapturedCell) → Same increment fit cells ⊎ Named increment fit cells
 through-named increment fit [] = inl (record { limit = refl; number = refl })
 through-named increment fit (cell ∷ cells) =
     let needed = level_at (bucket_of fit) cell.moment in

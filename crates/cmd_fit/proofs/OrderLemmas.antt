@@ -14,7 +14,7 @@ use Rattle.cmd_fit.specs.Fits.{fit_in, is_of_class, with_fit}
 use Rattle.cmd_fit.specs.FitLaws.{LinesAreOfFlows}
 use Rattle.cmd_fit.specs.FitText.{FitWorld, fit_answer, fit_rules, fit_start, fits_with_cell, flow_key, put_in_order}
 use Rattle.cmd_fit.specs.Flows.{flow_of, is_same_flow}
-use Rattle.cmd_fit.specs.declared.connection_fit.ConnectionFit.{ConnectionFit}
+use Rattle.cmd_fit.specs.declared.flow_fit.FlowFit.{FlowFit}
 use Rattle.cmd_fit.specs.declared.fault.FitFault.{FitFault}
 use Rattle.cmd_fit.specs.declared.flow.Flow.{Flow}
 use Rattle.cmd_fit.proofs.FitLemmas.{fit_in-others}
@@ -39,12 +39,12 @@ same-twice : {X : Type 0} (b : Bool) (v w : X) (found : Option X) → cond b (So
 same-twice true v w found = refl
 same-twice false v w found = refl
 
-find-put : (entries : List (ℕ × ConnectionFit)) (k q : ℕ) (v : ConnectionFit)
+find-put : (entries : List (ℕ × FlowFit)) (k q : ℕ) (v : FlowFit)
     → lookup (is_at (nat_cmp q)) (insert_entry nat_cmp entries k v) ≡ cond (is_eq (nat_cmp q k)) (Some v) (lookup (is_at (nat_cmp q)) entries)
 find-put [] k q v = refl
 find-put (e ∷ entries) k q v =
-    let At : List (ℕ × ConnectionFit) → Option ConnectionFit = λ es. lookup (is_at (nat_cmp q)) es in
-    let wanted : Option ConnectionFit = cond (is_eq (nat_cmp q k)) (Some v) (At (e ∷ entries)) in
+    let At : List (ℕ × FlowFit) → Option FlowFit = λ es. lookup (is_at (nat_cmp q)) es in
+    let wanted : Option FlowFit = cond (is_eq (nat_cmp q k)) (Some v) (At (e ∷ entries)) in
     let choice : (r : Ordering) → nat_cmp k e.0 ≡ r
     → At (match_ordering r ((k, v) ∷ e ∷ entries) ((e.0, v) ∷ entries) (e ∷ insert_entry nat_cmp entries k v)) ≡ wanted = elim [
       | Less ↦ λ r. refl
@@ -64,21 +64,21 @@ find-put (e ∷ entries) k q v =
                 ap (λ b. cond b (Some e.1) (Some v)) (cmp-apart q e.0 apart)
             | false ↦ λ is. refl
           ] in
-          ap (λ (found : Option ConnectionFit). cond (is_eq (nat_cmp q e.0)) (Some e.1) found) rest
+          ap (λ (found : Option FlowFit). cond (is_eq (nat_cmp q e.0)) (Some e.1) found) rest
           ∙ by (is_eq (nat_cmp q k)) refl
     ] in
     choice (nat_cmp k e.0) refl
 
 -- States of different flows, each of which is small.
-abbrev AreApart : List ConnectionFit → Type 0
+abbrev AreApart : List FlowFit → Type 0
 AreApart [] = ⊤
 AreApart (fit ∷ fits) = (fit_in fit.flow fits ≡ None) × (IsSmall fit.flow × AreApart fits)
 
-abbrev or_else : Option ConnectionFit → Option ConnectionFit → Option ConnectionFit
+abbrev or_else : Option FlowFit → Option FlowFit → Option FlowFit
 or_else None other = other
 or_else (Some fit) other = Some fit
 
-put-all : (fits : List ConnectionFit) (ordered : List (ℕ × ConnectionFit)) (flow : Flow) → AreApart fits → IsSmall flow
+put-all : (fits : List FlowFit) (ordered : List (ℕ × FlowFit)) (flow : Flow) → AreApart fits → IsSmall flow
     → lookup (is_at (nat_cmp (flow_key flow))) (put_in_order ordered fits)
     ≡ or_else (fit_in flow fits) (lookup (is_at (nat_cmp (flow_key flow))) ordered)
 put-all [] ordered flow apart small = refl
@@ -95,7 +95,7 @@ put-all (fit ∷ fits) ordered flow apart small =
           let none : fit_in flow fits ≡ None = subst (λ (v : Flow). fit_in v fits ≡ None) (sym same) apart.0 in
           let here : is_eq (nat_cmp key (flow_key fit.flow)) ≡ true =
           ap (λ (v : Flow). is_eq (nat_cmp key (flow_key v))) (sym same) ∙ ap is_eq (cmp-itself key) in
-          ap (λ (found : Option ConnectionFit). or_else found (cond (is_eq (nat_cmp key (flow_key fit.flow))) (Some fit) before)) none
+          ap (λ (found : Option FlowFit). or_else found (cond (is_eq (nat_cmp key (flow_key fit.flow))) (Some fit) before)) none
           ∙ ap (λ b. cond b (Some fit) before) here
       | false ↦ λ e.
           let other : flow ≢ fit.flow = λ same.
@@ -109,7 +109,7 @@ put-all (fit ∷ fits) ordered flow apart small =
 
 -- They stay apart.
 
-apart-with : (fits : List ConnectionFit) (fit : ConnectionFit) → AreApart fits → IsSmall fit.flow → AreApart (with_fit fit fits)
+apart-with : (fits : List FlowFit) (fit : FlowFit) → AreApart fits → IsSmall fit.flow → AreApart (with_fit fit fits)
 apart-with [] fit apart small = (refl, (small, tt))
 apart-with (first ∷ fits) fit apart small =
     let choice : (b : Bool) → is_same_flow fit.flow first.flow ≡ b → AreApart (cond b (fit ∷ fits) (first ∷ with_fit fit fits)) = elim [
@@ -125,7 +125,7 @@ apart-with (first ∷ fits) fit apart small =
     ] in
     choice (is_same_flow fit.flow first.flow) refl
 
-apart-by : (world : FitWorld) (captured : CapturedCell) (next : FitWorld) (answer : Result (List ConnectionFit) FitFault)
+apart-by : (world : FitWorld) (captured : CapturedCell) (next : FitWorld) (answer : Result (List FlowFit) FitFault)
     → fits_with_cell world captured ≡ answer
     → (fit_answer world captured.number answer).1 ≡ Some next → AreApart world.fits → AreApart next.fits
 apart-by world captured next (Err fault) is goes apart = absurd (let no : None ≡ Some next = goes in cc)
@@ -149,7 +149,7 @@ run-apart world last (captured ∷ cells) (here, next, step, leads) apart =
     run-apart next last cells leads
     (apart-on world captured next (is_of_class world.scope.clp captured.cell) (ap (λ (s : List ℕ × Option FitWorld). s.1) step) apart)
 
-or-none : (found : Option ConnectionFit) → or_else found None ≡ found
+or-none : (found : Option FlowFit) → or_else found None ≡ found
 or-none None = refl
 or-none (Some fit) = refl
 

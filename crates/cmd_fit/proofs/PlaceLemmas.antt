@@ -7,7 +7,7 @@ use Rattle.std.proofs.lemmas.Bool.{cases_eq, le-leb, lt-leb}
 use Rattle.std.proofs.lemmas.Option.{same_Some, slice_get_within}
 use Rattle.cmd_fit.specs.Fits.{fit_after, fit_in, fits_after, fits_from, most_connections, no_cells, with_fit}
 use Rattle.cmd_fit.specs.FitText.{flow_key}
-use Rattle.cmd_fit.specs.declared.connection_fit.ConnectionFit.{ConnectionFit}
+use Rattle.cmd_fit.specs.declared.flow_fit.FlowFit.{FlowFit}
 use Rattle.cmd_fit.specs.declared.fault.FitFault.{FitFault}
 use Rattle.cmd_fit.specs.declared.fault.FitFault.TheVariants.{TooManyConnections, TooLarge}
 use Rattle.cmd_fit.specs.declared.flow.Flow.{Flow}
@@ -23,10 +23,10 @@ KeepsFits-none = record {
   kept = λ place fit at. cc;
 }
 
-module _ (places : List (ℕ × ℕ)) (fits : List ConnectionFit) (is : KeepsFits places fits) where
+module _ (places : List (ℕ × ℕ)) (fits : List FlowFit) (is : KeepsFits places fits) where
   -- A flow has one place.
   once : (flow : Flow) (place : ℕ) → state_place places flow ≡ Some place
-      → (other : ℕ) (another : ConnectionFit) → slice_get fits other ≡ Some another → another.flow ≡ flow → other ≡ place
+      → (other : ℕ) (another : FlowFit) → slice_get fits other ≡ Some another → another.flow ≡ flow → other ≡ place
   once flow place at other another there own =
       same_Some other place (sym (is.kept other another there).leads ∙ ap (state_place places) own ∙ at)
 
@@ -45,14 +45,14 @@ module _ (places : List (ℕ × ℕ)) (fits : List ConnectionFit) (is : KeepsFit
       cc)
 
   -- A new state at a place.
-  module _ (place : ℕ) (old fit : ConnectionFit) (at : slice_get fits place ≡ Some old) (own : fit.flow ≡ old.flow) where
+  module _ (place : ℕ) (old fit : FlowFit) (at : slice_get fits place ≡ Some old) (own : fit.flow ≡ old.flow) where
     within : place < length fits
     within = slice_get_within fits place old at
 
-    named-here : (there : ℕ) (other : ConnectionFit) → there ≡ place → fit ≡ other → IsLedTo places there other.flow
+    named-here : (there : ℕ) (other : FlowFit) → there ≡ place → fit ≡ other → IsLedTo places there other.flow
     named-here there other same is_fit =
         let here = is.kept place old at in
-        let named : other.flow ≡ old.flow = ap (λ (f : ConnectionFit). f.flow) (sym is_fit) ∙ own in
+        let named : other.flow ≡ old.flow = ap (λ (f : FlowFit). f.flow) (sym is_fit) ∙ own in
         record {
           leads = ap (state_place places) named ∙ here.leads ∙ ap (λ (n : ℕ). Some n) (sym same);
           small = subst IsSmall (sym named) here.small;
@@ -67,7 +67,7 @@ module _ (places : List (ℕ × ℕ)) (fits : List ConnectionFit) (is : KeepsFit
             record {
               fit = fit;
               there = ap (slice_get (set fits place fit)) same ∙ slice_get-set_same fits place fit within;
-              own = own ∙ ap (λ (f : ConnectionFit). f.flow) (sym was) ∙ has.own;
+              own = own ∙ ap (λ (f : FlowFit). f.flow) (sym was) ∙ has.own;
             }
         | inr away ↦
             let has = is.found flow small there line in
@@ -88,7 +88,7 @@ module _ (places : List (ℕ × ℕ)) (fits : List ConnectionFit) (is : KeepsFit
         with_fit-at fits fit place old at (sym own) (once fit.flow place (ap (state_place places) own ∙ (is.kept place old at).leads))
 
   -- The first state of a flow, at the end. The new entries have its place under its key, and the earlier ones under others.
-  module _ (new : List (ℕ × ℕ)) (fit : ConnectionFit) (none : fit_in fit.flow fits ≡ None) (small : IsSmall fit.flow)
+  module _ (new : List (ℕ × ℕ)) (fit : FlowFit) (none : fit_in fit.flow fits ≡ None) (small : IsSmall fit.flow)
       (put : (flow : Flow) → state_place new flow ≡ cond (is_at (nat_cmp (flow_key fit.flow)) (flow_key flow)) (Some (length fits)) (state_place places flow)) where
     here : state_place new fit.flow ≡ Some (length fits)
     here = put fit.flow ∙ ap (λ b. cond b (Some (length fits)) (state_place places fit.flow)) (key-itself fit.flow)
@@ -98,19 +98,19 @@ module _ (places : List (ℕ × ℕ)) (fits : List ConnectionFit) (is : KeepsFit
         put flow
         ∙ ap (λ b. cond b (Some (length fits)) (state_place places flow)) (key-apart fit.flow flow (keys-apart fit.flow flow small also (λ same. away (sym same))))
 
-    stranger : (place : ℕ) (other : ConnectionFit) → slice_get fits place ≡ Some other → other.flow ≢ fit.flow
+    stranger : (place : ℕ) (other : FlowFit) → slice_get fits place ≡ Some other → other.flow ≢ fit.flow
     stranger place other at own =
         let line : state_place places fit.flow ≡ Some place = ap (state_place places) (sym own) ∙ (is.kept place other at).leads in
         let no : None ≡ Some (is.found fit.flow small place line).fit = sym none ∙ found-fit fit.flow small place line in
         cc
 
-    placed-last : (place : ℕ) (other : ConnectionFit) → place ≡ length fits → fit ≡ other → IsLedTo new place other.flow
-    placed-last place other last is_fit = subst (λ (f : ConnectionFit). IsLedTo new place f.flow) is_fit (record {
+    placed-last : (place : ℕ) (other : FlowFit) → place ≡ length fits → fit ≡ other → IsLedTo new place other.flow
+    placed-last place other last is_fit = subst (λ (f : FlowFit). IsLedTo new place f.flow) is_fit (record {
       leads = here ∙ ap (λ (n : ℕ). Some n) (sym last);
       small = small;
     })
 
-    placed-early : (place : ℕ) (other : ConnectionFit) → slice_get fits place ≡ Some other → IsLedTo new place other.flow
+    placed-early : (place : ℕ) (other : FlowFit) → slice_get fits place ≡ Some other → IsLedTo new place other.flow
     placed-early place other early =
         let was = is.kept place other early in
         record {
@@ -144,7 +144,7 @@ module _ (places : List (ℕ × ℕ)) (fits : List ConnectionFit) (is : KeepsFit
 
   -- A cell of a flow with a state.
   module _ (increment : ℕ) (flow : Flow) (small : IsSmall flow) (place moment number : ℕ) (at : state_place places flow ≡ Some place) where
-    pub KeepsFits-taken : (fault : Option FitFault) (new : List ConnectionFit) → TakesAt fits place increment moment number fault new
+    pub KeepsFits-taken : (fault : Option FitFault) (new : List FlowFit) → TakesAt fits place increment moment number fault new
         → KeepsFits places new
     KeepsFits-taken None new takes =
         let has = is.found flow small place at in
@@ -152,40 +152,40 @@ module _ (places : List (ℕ × ℕ)) (fits : List ConnectionFit) (is : KeepsFit
         (KeepsFits-set place has.fit (fit_after increment has.fit moment number) has.there refl)
     KeepsFits-taken (Some fault) new takes = subst (KeepsFits places) (sym takes.0) is
 
-    pub fits_after-taken : (fault : Option FitFault) (new : List ConnectionFit) → TakesAt fits place increment moment number fault new
+    pub fits_after-taken : (fault : Option FitFault) (new : List FlowFit) → TakesAt fits place increment moment number fault new
         → fits_after increment fits flow moment number ≡ taken_as fault new
     fits_after-taken None new takes =
         let has = is.found flow small place at in
         let after = fit_after increment has.fit moment number in
         let took = takes has.fit has.there in
-        ap (λ (found : Option ConnectionFit). fits_from increment fits found flow moment number) (found-fit flow small place at)
+        ap (λ (found : Option FlowFit). fits_from increment fits found flow moment number) (found-fit flow small place at)
         ∙ ap (λ b. cond b (Ok (with_fit after fits)) (Err TooLarge)) took.0
         ∙ ap (taken_as None) (with_fit-set place has.fit after has.there refl ∙ sym took.1)
     fits_after-taken (Some fault) new takes =
         let has = is.found flow small place at in
         let after = fit_after increment has.fit moment number in
         let took = takes.1 has.fit has.there in
-        ap (λ (found : Option ConnectionFit). fits_from increment fits found flow moment number) (found-fit flow small place at)
+        ap (λ (found : Option FlowFit). fits_from increment fits found flow moment number) (found-fit flow small place at)
         ∙ ap (λ b. cond b (Ok (with_fit after fits)) (Err TooLarge)) took.0
         ∙ ap (λ (f : FitFault). taken_as (Some f) new) (sym took.1)
 
 -- The first cell of a flow.
-module _ (increment : ℕ) (fits : List ConnectionFit) (flow : Flow) (moment number : ℕ) (none : fit_in flow fits ≡ None) where
-  abbrev First : ConnectionFit
+module _ (increment : ℕ) (fits : List FlowFit) (flow : Flow) (moment number : ℕ) (none : fit_in flow fits ≡ None) where
+  abbrev First : FlowFit
   First = fit_after increment (no_cells flow number) moment number
 
   from-none : fits_after increment fits flow moment number ≡ fits_from increment fits None flow moment number
-  from-none = ap (λ (found : Option ConnectionFit). fits_from increment fits found flow moment number) none
+  from-none = ap (λ (found : Option FlowFit). fits_from increment fits found flow moment number) none
 
   pub fits_after-full : most_connections ≤ length fits → fits_after increment fits flow moment number ≡ Err TooManyConnections
   fits_after-full full =
       from-none
       ∙ ap (λ b. cond b (Err TooManyConnections) (Ok (with_fit First fits))) (le-leb most_connections (length fits) full)
 
-  pub fits_after-first : length fits < most_connections → (fit : ConnectionFit) → fit ≡ First
-      → (new : List ConnectionFit) → new ≡ fits ++ fit ∷ [] → fits_after increment fits flow moment number ≡ Ok new
+  pub fits_after-first : length fits < most_connections → (fit : FlowFit) → fit ≡ First
+      → (new : List FlowFit) → new ≡ fits ++ fit ∷ [] → fits_after increment fits flow moment number ≡ Ok new
   fits_after-first few fit same new is =
-      let grew : new ≡ fits ++ First ∷ [] = is ∙ ap (λ (f : ConnectionFit). fits ++ f ∷ []) same in
+      let grew : new ≡ fits ++ First ∷ [] = is ∙ ap (λ (f : FlowFit). fits ++ f ∷ []) same in
       from-none
       ∙ ap (λ b. cond b (Err TooManyConnections) (Ok (with_fit First fits))) (lt-leb most_connections (length fits) few)
       ∙ ap (taken_as None) (with_fit-new fits First none ∙ sym grew)

@@ -12,7 +12,7 @@ use Rattle.cmd_fit.specs.Fits.{fit_after, fit_in, fits_after, fits_from, is_in_6
 use Rattle.cmd_fit.specs.Flows.{flow_of, is_same_flow}
 use Rattle.cmd_fit.specs.FitText.{FitScope, FitWorld, fit_answer, fit_closes, fit_rules, fit_start, fit_steps, fits_with_cell}
 use Rattle.cmd_fit.specs.FitLaws.{ClassesAreAlone, FitsAreLeast, FitsAreWritten, IsFitOf, cells_fitted, cells_of_class, cells_of_flow, of_each_class}
-use Rattle.cmd_fit.specs.declared.connection_fit.ConnectionFit.{ConnectionFit}
+use Rattle.cmd_fit.specs.declared.flow_fit.FlowFit.{FlowFit}
 use Rattle.cmd_fit.specs.declared.fault.FitFault.{FitFault}
 use Rattle.cmd_fit.specs.declared.fault.FitFault.TheVariants.{TooManyConnections, TooLarge}
 use Rattle.cmd_fit.specs.declared.flow.Flow.{Flow}
@@ -21,62 +21,62 @@ use Rattle.cmd_fit.proofs.FlowLemmas.{flow_itself, flow_same}
 use Rattle.cmd_fit.proofs.LeastLemmas.{through, through-is}
 
 -- The state of a flow after these cells of it, if it has one then.
-abbrev over : ℕ → Flow → Option ConnectionFit → List CapturedCell → Option ConnectionFit
+abbrev over : ℕ → Flow → Option FlowFit → List CapturedCell → Option FlowFit
 over increment flow found [] = found
 over increment flow found (cell ∷ cells) =
     over increment flow (Some (fit_after increment (unwrap_or found (no_cells flow cell.number)) cell.moment cell.number)) cells
 
-over-through : (increment : ℕ) (flow : Flow) (fit : ConnectionFit) (cells : List CapturedCell)
+over-through : (increment : ℕ) (flow : Flow) (fit : FlowFit) (cells : List CapturedCell)
     → over increment flow (Some fit) cells ≡ Some (through increment fit cells)
 over-through increment flow fit [] = refl
 over-through increment flow fit (cell ∷ cells) = over-through increment flow (fit_after increment fit cell.moment cell.number) cells
 
 -- The new states are those with one more.
-held-with : (fit : ConnectionFit) (fits new : List ConnectionFit) → with_checked_fit fit fits ≡ Ok new → with_fit fit fits ≡ new
+held-with : (fit : FlowFit) (fits new : List FlowFit) → with_checked_fit fit fits ≡ Ok new → with_fit fit fits ≡ new
 held-with fit fits new is =
     let choice : (b : Bool) → is_in_64_bits fit ≡ b → with_fit fit fits ≡ new = elim [
       | true ↦ λ e.
-          let held : ◌≡◌ {A = Result (List ConnectionFit) FitFault} (Ok (with_fit fit fits)) (Ok new) =
+          let held : ◌≡◌ {A = Result (List FlowFit) FitFault} (Ok (with_fit fit fits)) (Ok new) =
           ap (λ b. cond b (Ok (with_fit fit fits)) (Err TooLarge)) (sym e) ∙ is in
           cc
       | false ↦ λ e. absurd (
-          let held : ◌≡◌ {A = Result (List ConnectionFit) FitFault} (Err TooLarge) (Ok new) =
+          let held : ◌≡◌ {A = Result (List FlowFit) FitFault} (Err TooLarge) (Ok new) =
           ap (λ b. cond b (Ok (with_fit fit fits)) (Err TooLarge)) (sym e) ∙ is in
           cc)
     ] in
     choice (is_in_64_bits fit) refl
 
 -- The states grew by one, which is the one after a cell.
-pub record GrewBy (increment : ℕ) (fits : List ConnectionFit) (flow : Flow) (moment number : ℕ) (new : List ConnectionFit) : Type 0 where
-  pub fit : ConnectionFit
+pub record GrewBy (increment : ℕ) (fits : List FlowFit) (flow : Flow) (moment number : ℕ) (new : List FlowFit) : Type 0 where
+  pub fit : FlowFit
   pub own : fit.flow ≡ flow
   pub is : with_fit fit fits ≡ new
   pub after : fit ≡ fit_after increment (unwrap_or (fit_in flow fits) (no_cells flow number)) moment number
 
-pub grew-by : (increment : ℕ) (fits : List ConnectionFit) (flow : Flow) (moment number : ℕ) (new : List ConnectionFit)
+pub grew-by : (increment : ℕ) (fits : List FlowFit) (flow : Flow) (moment number : ℕ) (new : List FlowFit)
     → fits_after increment fits flow moment number ≡ Ok new → GrewBy increment fits flow moment number new
 grew-by increment fits flow moment number new is =
-    let choice : (found : Option ConnectionFit) → fit_in flow fits ≡ found → GrewBy increment fits flow moment number new = elim [
+    let choice : (found : Option FlowFit) → fit_in flow fits ≡ found → GrewBy increment fits flow moment number new = elim [
       | Some fit ↦ λ e.
           let after = fit_after increment fit moment number in
           record {
             fit = after;
             own = fit_in-own fits flow fit e;
             is = held-with after fits new
-                (ap (λ (found : Option ConnectionFit). fits_from increment fits found flow moment number) (sym e) ∙ is);
-            after = ap (λ (found : Option ConnectionFit). fit_after increment (unwrap_or found (no_cells flow number)) moment number) (sym e);
+                (ap (λ (found : Option FlowFit). fits_from increment fits found flow moment number) (sym e) ∙ is);
+            after = ap (λ (found : Option FlowFit). fit_after increment (unwrap_or found (no_cells flow number)) moment number) (sym e);
           }
       | None ↦ λ e.
           let after = fit_after increment (no_cells flow number) moment number in
           let held : cond (nat_le most_connections (length fits)) (Err TooManyConnections) (Ok (with_fit after fits)) ≡ Ok new =
-          ap (λ (found : Option ConnectionFit). fits_from increment fits found flow moment number) (sym e) ∙ is in
+          ap (λ (found : Option FlowFit). fits_from increment fits found flow moment number) (sym e) ∙ is in
           let few : (b : Bool) → nat_le most_connections (length fits) ≡ b → with_fit after fits ≡ new = elim [
             | true ↦ λ full. absurd (
-                let no : ◌≡◌ {A = Result (List ConnectionFit) FitFault} (Err TooManyConnections) (Ok new) =
+                let no : ◌≡◌ {A = Result (List FlowFit) FitFault} (Err TooManyConnections) (Ok new) =
                 ap (λ b. cond b (Err TooManyConnections) (Ok (with_fit after fits))) (sym full) ∙ held in
                 cc)
             | false ↦ λ full.
-                let grew : ◌≡◌ {A = Result (List ConnectionFit) FitFault} (Ok (with_fit after fits)) (Ok new) =
+                let grew : ◌≡◌ {A = Result (List FlowFit) FitFault} (Ok (with_fit after fits)) (Ok new) =
                 ap (λ b. cond b (Err TooManyConnections) (Ok (with_fit after fits))) (sym full) ∙ held in
                 cc
           ] in
@@ -84,23 +84,23 @@ grew-by increment fits flow moment number new is =
             fit = after;
             own = refl;
             is = few (nat_le most_connections (length fits)) refl;
-            after = ap (λ (found : Option ConnectionFit). fit_after increment (unwrap_or found (no_cells flow number)) moment number) (sym e);
+            after = ap (λ (found : Option FlowFit). fit_after increment (unwrap_or found (no_cells flow number)) moment number) (sym e);
           }
     ] in
     choice (fit_in flow fits) refl
 
 -- What a cell does to the states.
-record TakesCell (increment : ℕ) (fits : List ConnectionFit) (flow : Flow) (moment number : ℕ) (new : List ConnectionFit) : Type 0 where
+record TakesCell (increment : ℕ) (fits : List FlowFit) (flow : Flow) (moment number : ℕ) (new : List FlowFit) : Type 0 where
   here : fit_in flow new ≡ Some (fit_after increment (unwrap_or (fit_in flow fits) (no_cells flow number)) moment number)
   others : (other : Flow) → other ≢ flow → fit_in other new ≡ fit_in other fits
 
-takes-cell : (increment : ℕ) (fits : List ConnectionFit) (flow : Flow) (moment number : ℕ) (new : List ConnectionFit)
+takes-cell : (increment : ℕ) (fits : List FlowFit) (flow : Flow) (moment number : ℕ) (new : List FlowFit)
     → fits_after increment fits flow moment number ≡ Ok new → TakesCell increment fits flow moment number new
 takes-cell increment fits flow moment number new is =
     let grew = grew-by increment fits flow moment number new is in
     record {
       here = ap (λ (v : Flow). fit_in v new) (sym grew.own) ∙ ap (fit_in grew.fit.flow) (sym grew.is) ∙ fit_in-with fits grew.fit
-          ∙ ap (λ (f : ConnectionFit). Some f) grew.after;
+          ∙ ap (λ (f : FlowFit). Some f) grew.after;
       others = λ other away.
           ap (fit_in other) (sym grew.is) ∙ fit_in-others fits grew.fit other (λ e. away (e ∙ grew.own));
     }
@@ -112,7 +112,7 @@ record GoesOn (world : FitWorld) (captured : CapturedCell) (next : FitWorld) : T
   fits : (flow : Flow) (later : List CapturedCell) → over world.scope.increment flow (fit_in flow next.fits) (cells_fitted world.scope flow later)
       ≡ over world.scope.increment flow (fit_in flow world.fits) (cells_fitted world.scope flow (captured ∷ later))
 
-goes-by : (world : FitWorld) (captured : CapturedCell) (next : FitWorld) (answer : Result (List ConnectionFit) FitFault)
+goes-by : (world : FitWorld) (captured : CapturedCell) (next : FitWorld) (answer : Result (List FlowFit) FitFault)
     → fits_with_cell world captured ≡ answer
     → is_of_class world.scope.clp captured.cell ≡ true → (fit_answer world captured.number answer).1 ≡ Some next → GoesOn world captured next
 goes-by world captured next (Err fault) is of goes = absurd (let no : None ≡ Some next = goes in cc)
@@ -125,7 +125,7 @@ goes-by world captured next (Ok new) is of goes =
     record {
       scope = ap (λ (w : FitWorld). w.scope) (sym same);
       silent = ap (λ b. (cond b (fit_answer world captured.number (fits_with_cell world captured)) ([], Some world)).0) of
-          ∙ ap (λ (r : Result (List ConnectionFit) FitFault). (fit_answer world captured.number r).0) is;
+          ∙ ap (λ (r : Result (List FlowFit) FitFault). (fit_answer world captured.number r).0) is;
       fits = λ flow later.
           let few = cells_of_class world.scope.clp later in
           let rest = cells_of_flow world.scope flow few in
@@ -138,16 +138,16 @@ goes-by world captured next (Ok new) is of goes =
                 let here : fit_in flow new ≡ Some (fit_after world.scope.increment (unwrap_or (fit_in flow world.fits) (no_cells flow captured.number)) captured.moment captured.number) =
                 subst (λ (v : Flow). fit_in v new ≡ Some (fit_after world.scope.increment (unwrap_or (fit_in v world.fits) (no_cells v captured.number)) captured.moment captured.number))
                 (sym own) takes.here in
-                ap (λ (found : Option ConnectionFit). over world.scope.increment flow found rest) here
+                ap (λ (found : Option FlowFit). over world.scope.increment flow found rest) here
             | false ↦ λ e.
                 let away : flow ≢ named = λ own.
                 let itself : is_same_flow flow flow ≡ true = flow_itself flow in
                 let other : is_same_flow flow flow ≡ false = subst (λ (v : Flow). is_same_flow flow v ≡ false) (sym own) e in
                 let no : true ≡ false = sym itself ∙ other in
                 cc in
-                ap (λ (found : Option ConnectionFit). over world.scope.increment flow found rest) (takes.others flow away)
+                ap (λ (found : Option FlowFit). over world.scope.increment flow found rest) (takes.others flow away)
           ] in
-          ap (λ (fs : List ConnectionFit). over world.scope.increment flow (fit_in flow fs) rest) (sym fits)
+          ap (λ (fs : List FlowFit). over world.scope.increment flow (fit_in flow fs) rest) (sym fits)
           ∙ choice (is_same_flow flow named) refl
           ∙ ap (λ (its : List CapturedCell). over world.scope.increment flow (fit_in flow world.fits) (cells_of_flow world.scope flow its)) (sym with_it);
     }
@@ -184,14 +184,14 @@ run-fits world last (captured ∷ cells) (here, next, step, leads) flow =
     same ∙ goes.fits flow cells
 
 -- What the state is that a flow has after all its cells.
-all-cells : (increment : ℕ) (flow : Flow) (cells : List CapturedCell) (found : Option ConnectionFit) → found ≡ over increment flow None cells
+all-cells : (increment : ℕ) (flow : Flow) (cells : List CapturedCell) (found : Option FlowFit) → found ≡ over increment flow None cells
     → MatchOption found (cells ≡ []) (IsFitOf increment cells)
-all-cells increment flow [] found is = subst (λ (f : Option ConnectionFit). MatchOption f (◌≡◌ {A = List CapturedCell} [] []) (IsFitOf increment [])) (sym is) refl
+all-cells increment flow [] found is = subst (λ (f : Option FlowFit). MatchOption f (◌≡◌ {A = List CapturedCell} [] []) (IsFitOf increment [])) (sym is) refl
 all-cells increment flow (cell ∷ cells) found is =
     let all = cell ∷ cells in
     let state = through increment (no_cells flow cell.number) all in
     let there : Some state ≡ found = sym (is ∙ over-through increment flow (fit_after increment (no_cells flow cell.number) cell.moment cell.number) cells) in
-    subst (λ (f : Option ConnectionFit). MatchOption f (all ≡ []) (IsFitOf increment all)) there (through-is increment flow cell cells)
+    subst (λ (f : Option FlowFit). MatchOption f (all ≡ []) (IsFitOf increment all)) there (through-is increment flow cell cells)
 
 pub fits-are-least : FitsAreLeast
 fits-are-least scope cells last leads flow =
@@ -202,7 +202,7 @@ abbrev of_all : FitWorld → FitWorld
 of_all world = record world { scope = of_each_class world.scope }
 
 -- Its answer to a cell is the same.
-same-answer : (world : FitWorld) (number : ℕ) (answer : Result (List ConnectionFit) FitFault)
+same-answer : (world : FitWorld) (number : ℕ) (answer : Result (List FlowFit) FitFault)
     → fit_answer (of_all world) number answer ≡ ((fit_answer world number answer).0, option_map of_all (fit_answer world number answer).1)
 same-answer world number (Ok fits) = refl
 same-answer world number (Err fault) = refl

@@ -19,7 +19,7 @@ use Rattle.cmd_fit.specs.FitAsked.{IsFitAsked}
 use Rattle.cmd_fit.specs.Fits.{fit_in, is_of_class}
 use Rattle.cmd_fit.specs.FitText.{FitScope, FitWorld, fit_rules, fit_start, flow_key, put_in_order}
 use Rattle.cmd_fit.specs.Flows.{flow_of, is_same_flow}
-use Rattle.cmd_fit.specs.declared.connection_fit.ConnectionFit.{ConnectionFit}
+use Rattle.cmd_fit.specs.declared.flow_fit.FlowFit.{FlowFit}
 use Rattle.captures_text.specs.declared.fit_choice.FitChoice.{FitChoice}
 use Rattle.cmd_fit.specs.declared.flow.Flow.{Flow}
 
@@ -45,7 +45,7 @@ captured_moments cells = map (λ cell. cell.moment) cells
 
 -- The state is right for a flow with these cells, with this increment. The cells all conform to a bucket, empty at first, exactly if its
 -- limit is at least the state's. With one tick less, the first cell that doesn't conform is that of the named record.
-pub record IsFitOf (increment : ℕ) (cells : List CapturedCell) (fit : ConnectionFit) : Type 0 where
+pub record IsFitOf (increment : ℕ) (cells : List CapturedCell) (fit : FlowFit) : Type 0 where
   pub count : fit.cells ≡ length cells
   pub least : (gcra : Gcra) → gcra.increment ≡ increment → AllFill gcra opening (captured_moments cells) ↔ (fit.limit ≤ gcra.limit)
   pub before : List CapturedCell

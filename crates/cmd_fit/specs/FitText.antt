@@ -21,7 +21,7 @@ use Rattle.upc_cell.specs.declared.vc.Vc.{Vc}
 use Rattle.text_words.specs.FaultLines.{line}
 use Rattle.cmd_fit.specs.Fits.{fits_after, is_of_class}
 use Rattle.cmd_fit.specs.Flows.{flow_of}
-use Rattle.cmd_fit.specs.declared.connection_fit.ConnectionFit.{ConnectionFit}
+use Rattle.cmd_fit.specs.declared.flow_fit.FlowFit.{FlowFit}
 use Rattle.cmd_fit.specs.declared.fault.FitFault.{FitFault}
 use Rattle.cmd_fit.specs.declared.fault.FitFault.TheVariants.{TooManyConnections, TooLarge}
 use Rattle.cmd_fit.specs.declared.flow.Flow.{Flow}
@@ -44,11 +44,11 @@ value_column valued value = if valued then decimal value ++ codes "\t" else []
 
 -- The columns after those of the flow: the number of its cells, its least limit in ticks, and the number of the first record whose cell
 -- needs that limit.
-abbrev pub limit_columns : ConnectionFit → List ℕ
+abbrev pub limit_columns : FlowFit → List ℕ
 limit_columns fit = (decimal fit.cells ++ codes "\t") ++ ((decimal fit.limit ++ codes "\t") ++ (decimal fit.number ++ codes "\n"))
 
 -- The line of a flow.
-abbrev pub fit_line : Side → Bool → ConnectionFit → List ℕ
+abbrev pub fit_line : Side → Bool → FlowFit → List ℕ
 fit_line side valued fit = connection_columns side fit.flow.vc ++ (value_column valued fit.flow.value ++ limit_columns fit)
 
 -- The number by which flows are in order of path, channel and value: the last has 32 bits, and the second 16.
@@ -56,12 +56,12 @@ abbrev pub flow_key : Flow → ℕ
 flow_key flow = 4294967296 * (65536 * flow.vc.vpi + flow.vc.vci) + flow.value
 
 -- These states in order, with more of them put where they belong.
-abbrev pub put_in_order : List (ℕ × ConnectionFit) → List ConnectionFit → List (ℕ × ConnectionFit)
+abbrev pub put_in_order : List (ℕ × FlowFit) → List FlowFit → List (ℕ × FlowFit)
 put_in_order ordered [] = ordered
 put_in_order ordered (fit ∷ fits) = put_in_order (insert_entry nat_cmp ordered (flow_key fit.flow) fit) fits
 
 -- The lines of the flows, in order of path, channel and value.
-abbrev pub fit_lines : Side → Bool → List ConnectionFit → List ℕ
+abbrev pub fit_lines : Side → Bool → List FlowFit → List ℕ
 fit_lines side valued fits = flat_map (fit_line side valued) (values_of (put_in_order [] fits))
 
 -- The answer to a cell that ends the run: the fault, and the number of the cell's record.
@@ -80,19 +80,19 @@ pub record FitScope : Type 0 where
 -- The state of a run: what it is about, and the states of the flows, in the order of their first cells.
 pub record FitWorld : Type 0 where
   pub scope : FitScope
-  pub fits : List ConnectionFit
+  pub fits : List FlowFit
 
 -- The state at first.
 abbrev pub fit_start : FitScope → FitWorld
 fit_start scope = record { scope = scope; fits = [] }
 
 -- The answer to a cell, whose record has this number, after which these are the states, or which ends the run for this reason.
-abbrev pub fit_answer : FitWorld → ℕ → Result (List ConnectionFit) FitFault → List ℕ × Option FitWorld
+abbrev pub fit_answer : FitWorld → ℕ → Result (List FlowFit) FitFault → List ℕ × Option FitWorld
 fit_answer world number (Ok fits) = ([], Some (record world { fits = fits }))
 fit_answer world number (Err fault) = (fit_fault_line fault number, None)
 
 -- The states after a cell, or why it ends the run.
-abbrev pub fits_with_cell : FitWorld → CapturedCell → Result (List ConnectionFit) FitFault
+abbrev pub fits_with_cell : FitWorld → CapturedCell → Result (List FlowFit) FitFault
 fits_with_cell world captured =
     fits_after world.scope.increment world.fits (flow_of world.scope.side world.scope.rules captured.cell) captured.moment captured.number
 

@@ -5,7 +5,7 @@ ghost use Rattle.std.specs.Map.{values_of};
 ghost use Rattle.cmd_fit.specs.FitText.{channel_column, connection_columns, fit_fault_line, fit_line, fit_lines, flow_key, heading, limit_columns, put_in_order, value_column};
 ghost use Rattle.cmd_fit.specs.inner.FlowPlaces.{IsSmall};
 
-use crate::connection_fit::ConnectionFit;
+use crate::flow_fit::FlowFit;
 use crate::fault::FitFault;
 use crate::flow::Flow;
 use std::alloc::{AllocError, Global};
@@ -66,7 +66,7 @@ fn add_value(answers: &mut Vec<u8>, valued: bool, value: u32) -> Result<(), Allo
 
 /// Appends the columns after those of the flow, and ends the line.
 #[tactic(auto, using(std::proofs::lemmas::List::append_assoc))]
-fn add_limit(answers: &mut Vec<u8>, fit: &ConnectionFit) -> Result<(), AllocError>
+fn add_limit(answers: &mut Vec<u8>, fit: &FlowFit) -> Result<(), AllocError>
     ensures { OnOk result (answers.new.items ≡ answers.old.items ++ limit_columns fit.now) }
 {
     add_column(answers, fit.cells)?;
@@ -81,7 +81,7 @@ fn add_fit_line(
     answers: &mut Vec<u8>,
     side: Side,
     valued: bool,
-    fit: &ConnectionFit,
+    fit: &FlowFit,
 ) -> Result<(), AllocError>
     ensures { OnOk result (answers.new.items ≡ answers.old.items ++ fit_line side valued fit.now) }
 {
@@ -102,8 +102,8 @@ pub(crate) fn key_of(flow: Flow) -> u64
 /// Returns the states in order of path, channel and value.
 fn in_order(
     alloc: Global,
-    fits: &[ConnectionFit],
-) -> Result<BTreeMap<u64, ConnectionFit>, AllocError>
+    fits: &[FlowFit],
+) -> Result<BTreeMap<u64, FlowFit>, AllocError>
     ensures { IfOk result (λ ordered. ordered.entries ≡ put_in_order [] fits.now) }
 {
     let mut ordered = BTreeMap::new(alloc);
@@ -118,7 +118,7 @@ fn add_ordered(
     answers: &mut Vec<u8>,
     side: Side,
     valued: bool,
-    ordered: &BTreeMap<u64, ConnectionFit>,
+    ordered: &BTreeMap<u64, FlowFit>,
 ) -> Result<(), AllocError>
     ensures { OnOk result (answers.new.items ≡ answers.old.items ++ flat_map (fit_line side valued) (values_of ordered.now.entries)) }
 {
@@ -134,7 +134,7 @@ pub(crate) fn add_fit_lines(
     answers: &mut Vec<u8>,
     side: Side,
     valued: bool,
-    fits: &[ConnectionFit],
+    fits: &[FlowFit],
 ) -> Result<(), AllocError>
     ensures { OnOk result (answers.new.items ≡ answers.old.items ++ fit_lines side valued fits.now) }
 {

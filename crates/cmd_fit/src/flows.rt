@@ -3,7 +3,7 @@
 ghost use Rattle.std.specs.Prelude.{◌≡◌, ◌<◌, length};
 ghost use Rattle.cmd_fit.specs.inner.FlowPlaces.{IsSmall, TakesAt, state_place};
 
-use crate::connection_fit::ConnectionFit;
+use crate::flow_fit::FlowFit;
 use crate::fault::FitFault;
 use crate::fit_lines::{add_fit_lines, key_of};
 use crate::flow::Flow;
@@ -25,12 +25,12 @@ const MOST_FLOWS: usize = 65535;
 pub(crate) struct Flows {
     /// The place of each flow's state, by the flow's key.
     places: BTreeMap<u64, usize>,
-    fits: Vec<ConnectionFit>,
+    fits: Vec<FlowFit>,
 }
 
 impl Model for Flows {
     ghost use Rattle.std.specs.Prelude.{List};
-    ghost use Rattle.cmd_fit.specs.declared.connection_fit.ConnectionFit.{ConnectionFit as State};
+    ghost use Rattle.cmd_fit.specs.declared.flow_fit.FlowFit.{FlowFit as State};
     ghost use Rattle.cmd_fit.specs.inner.FlowPlaces.{KeepsFits};
 
     ghost Value = { List State };
@@ -81,19 +81,19 @@ impl Flows {
         if self.fits().len() >= MOST_FLOWS {
             return Ok(Some(FitFault::TooManyConnections));
         }
-        self.add(ConnectionFit::first(flow, increment, moment, number))?;
+        self.add(FlowFit::first(flow, increment, moment, number))?;
         Ok(None)
     }
 
     /// Returns the states.
-    fn fits(&self) -> &[ConnectionFit]
+    fn fits(&self) -> &[FlowFit]
         ensures { result.now ≡ self.now }
     {
         &self.fits
     }
 
     /// Adds the state of another flow.
-    fn add(&mut self, fit: ConnectionFit) -> Result<(), AllocError>
+    fn add(&mut self, fit: FlowFit) -> Result<(), AllocError>
         requires { fit_in fit.flow self.old ≡ None }
         ensures { OnOk result (self.new ≡ self.old ++ fit ∷ []) }
     {
@@ -124,7 +124,7 @@ impl Flows {
 
 /// Takes a cell of the flow whose state is at this place.
 fn take_at(
-    fits: &mut Vec<ConnectionFit>,
+    fits: &mut Vec<FlowFit>,
     place: usize,
     increment: u64,
     moment: u64,

@@ -9,7 +9,7 @@ ghost use Rattle.text_words.specs.FaultLines.{too_long};
 
 use crate::cell_values::CellValues;
 use cmd_rules::{MOST_RULES_OCTETS, add_rule_fault};
-use rules_text::{RuleFault, RuleKind, read_rules};
+use rules_text::{RuleFault, RuleFaultKind, read_rules};
 use std::alloc::{AllocError, Global};
 use text_words::{add_text, add_too_long};
 
@@ -55,7 +55,7 @@ fn read_text(alloc: Global, text: &[u8]) -> Result<GivenRules, AllocError>
         }
         Err(
             RuleFault {
-                kind: RuleKind::NoMemory,
+                kind: RuleFaultKind::NoMemory,
                 ..
             },
         ) => Err(AllocError),

@@ -4,7 +4,7 @@
 #![tactic(auto)]
 
 mod cell_values;
-mod connection_fit;
+mod flow_fit;
 mod fault;
 mod fit;
 mod fit_lines;
@@ -19,7 +19,7 @@ mod links;
 mod links_driver;
 mod links_reading;
 
-pub use connection_fit::ConnectionFit;
+pub use flow_fit::FlowFit;
 pub use fault::FitFault;
 pub use fit::fit_capture;
 pub use flow::Flow;

@@ -2,7 +2,7 @@
 use Rattle.std.proofs.Common.{◌≡◌, ◌⊎◌, inl, inr, ℕ, ◌+◌, Bool, true, false, if◌then◌else◌, nat_lt, List, [], ◌∷◌, ◌++◌, length, Option, Some, None, Result, Ok, Err, refl, sym, subst, ◌∙◌}
 use Rattle.rules_text.specs.TextOfRules.{PlacedRulesRead, placed_rules_in, placed_fault}
 use Rattle.rules_text.specs.declared.fault.RuleFault.{RuleFault}
-use Rattle.rules_text.specs.declared.fault.RuleKind.TheVariants.{TooLong}
+use Rattle.rules_text.specs.declared.fault.RuleFaultKind.TheVariants.{TooLong}
 use Rattle.text_io.specs.Gathered.{gathered}
 use Rattle.text_io.specs.Lines.{Line, lines_of}
 use Rattle.text_io.specs.declared.ending.Done.{Done}

@@ -4,7 +4,7 @@ use Rattle.rules_text.specs.RulesRead.{RulesRead}
 use Rattle.rules_text.specs.TextFaults.{IsCompilingFault}
 use Rattle.rules_text.specs.TextOfRules.{PlacedRulesRead, placed_rules_in, placed_fault, read_then, rules_in}
 use Rattle.rules_text.specs.declared.fault.RuleFault.{RuleFault}
-use Rattle.rules_text.specs.declared.fault.RuleKind.TheVariants.{NoMemory}
+use Rattle.rules_text.specs.declared.fault.RuleFaultKind.TheVariants.{NoMemory}
 use Rattle.text_io.specs.Gathered.{gathered}
 use Rattle.cmd_explain_rules.specs.RuleReasons.{rule_explanation}
 use Rattle.cmd_explain_rules.specs.RulesExplained.{IsFaultOfText}

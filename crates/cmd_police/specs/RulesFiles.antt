@@ -13,7 +13,7 @@ use Rattle.rules_text.specs.CodeOfText.{IsCodeOfText}
 use Rattle.rules_text.specs.TextOfRules.{PlacedRulesRead, placed_rules_in, placed_fault}
 use Rattle.rules_text.specs.ValuesRead.{FollowsText}
 use Rattle.rules_text.specs.declared.fault.RuleFault.{RuleFault}
-use Rattle.rules_text.specs.declared.fault.RuleKind.TheVariants.{TooLong}
+use Rattle.rules_text.specs.declared.fault.RuleFaultKind.TheVariants.{TooLong}
 use Rattle.text_io.specs.Gathered.{gathered}
 use Rattle.text_words.specs.FaultLines.{too_long}
 use Rattle.text_words.specs.Hexadecimal.{octets_of_digits}

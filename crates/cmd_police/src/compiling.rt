@@ -13,7 +13,7 @@ ghost use Rattle.cmd_police.specs.inner.Expansion.{CompilesTo, GrowsByProgram};
 use bpf_code::{Instr, encode};
 use cmd_explain_rules::add_rule_explanation;
 use cmd_rules::add_rule_fault;
-use rules_text::{RuleFault, RuleKind, compile_text};
+use rules_text::{RuleFault, RuleFaultKind, compile_text};
 use std::alloc::{AllocError, Global};
 use text_words::{add_text, add_too_long};
 
@@ -73,7 +73,7 @@ fn program_or_fault(alloc: Global, text: &[u8]) -> Result<Compiled, AllocError>
         Ok(code) => Ok(Compiled::Program(code)),
         Err(
             RuleFault {
-                kind: RuleKind::NoMemory,
+                kind: RuleFaultKind::NoMemory,
                 ..
             },
         ) => Err(AllocError),

@@ -13,7 +13,7 @@ use crate::rules_lines::name_within;
 use crate::script_lines::next_line;
 use crate::shared_text::SharedText;
 use cmd_rules::Decider;
-use rules_text::{RuleFault, RuleKind};
+use rules_text::{RuleFault, RuleFaultKind};
 use std::alloc::{AllocError, Global};
 use text_io::first_word;
 
@@ -63,7 +63,7 @@ fn rules_of_file(
         }
         Err(
             RuleFault {
-                kind: RuleKind::NoMemory,
+                kind: RuleFaultKind::NoMemory,
                 ..
             },
         ) => Err(AllocError),

@@ -240,6 +240,6 @@ impl TimedCard {
         ensures arrives { ArrivesWithRoom self.old.card.core cell.now moment (option_map (λ decision. answer_to cell.now decision) result) self.new.card.core }
         ensures rest { self.new ≡ record self.old { card = record self.old.card { core = self.new.card.core } } }
     {
-        self.card.arrive_keeping(cell, moment, JOURNAL_DROPPED_AT)
+        self.card.arrive_dropping(cell, moment, JOURNAL_DROPPED_AT)
     }
 }

@@ -3,7 +3,7 @@ use Rattle.std.proofs.Common.{◌≡◌, ◌≢◌, ◌∙◌, ℕ, inl, inr, Li
 use Rattle.std.specs.Result.{IfOk}
 use Rattle.rules_text.specs.TextFaults.{IsCompilingFault}
 use Rattle.rules_text.specs.declared.fault.RuleFault.{RuleFault}
-use Rattle.rules_text.specs.declared.fault.RuleKind.TheVariants.{NoMemory}
+use Rattle.rules_text.specs.declared.fault.RuleFaultKind.TheVariants.{NoMemory}
 use Rattle.text_io.specs.Devices.{Adds}
 use Rattle.text_io.specs.declared.ending.Done.{Done}
 use Rattle.text_io.specs.declared.ending.Done.TheVariants.{Ended}

@@ -1,12 +1,12 @@
 -- The fault lines of texts of rules.
 use Rattle.std.specs.Prelude.{ℕ, List, ◌++◌, codes, decimal}
 use Rattle.rules_text.specs.declared.fault.RuleFault.{RuleFault}
-use Rattle.rules_text.specs.declared.fault.RuleKind.{RuleKind}
-use Rattle.rules_text.specs.declared.fault.RuleKind.TheVariants as kind
+use Rattle.rules_text.specs.declared.fault.RuleFaultKind.{RuleFaultKind}
+use Rattle.rules_text.specs.declared.fault.RuleFaultKind.TheVariants as kind
 use Rattle.text_words.specs.FaultLines.{line}
 
 -- The number and the name of a fault of a text. NoMemory is never printed.
-abbrev pub rule_name : RuleKind → List ℕ
+abbrev pub rule_name : RuleFaultKind → List ℕ
 rule_name kind.BadLine = codes "1 BadLine"
 rule_name kind.BadNumber = codes "2 BadNumber"
 rule_name kind.TooLarge = codes "3 TooLarge"

@@ -17,7 +17,7 @@ ghost use Rattle.cmd_rules.specs.inner.Places.{GivesPlaces, decision_by_place, l
 use bpf_interp::run;
 use bpf_verify::Program;
 use rules_cells::{CodeFault, Decision, RuleLine, Rules, compile, decide};
-use rules_text::{PlacedRules, RuleFault, RuleKind, compile_text, read_rules, read_with_places};
+use rules_text::{PlacedRules, RuleFault, RuleFaultKind, compile_text, read_rules, read_with_places};
 use std::alloc::{AllocError, Global};
 use upc_cell::Cell;
 
@@ -25,7 +25,7 @@ use upc_cell::Cell;
 const NO_MEMORY: RuleFault = RuleFault {
     line: 0,
     column: 0,
-    kind: RuleKind::NoMemory,
+    kind: RuleFaultKind::NoMemory,
 };
 
 /// The line, with this number as its value if it is a rule.
@@ -91,7 +91,7 @@ fn places_of_text(alloc: Global, text: &[u8]) -> Result<Option<Program>, AllocEr
         }
         Err(
             RuleFault {
-                kind: RuleKind::NoMemory,
+                kind: RuleFaultKind::NoMemory,
                 ..
             },
         ) => Err(AllocError),

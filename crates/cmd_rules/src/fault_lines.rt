@@ -1,31 +1,31 @@
 //! The fault line of a text of rules.
 
 ghost use Rattle.std.specs.Prelude.{◌≡◌, ◌≢◌, ◌++◌, IfOk, OnOk};
-ghost use Rattle.rules_text.specs.declared.fault.RuleKind.TheVariants.{NoMemory};
+ghost use Rattle.rules_text.specs.declared.fault.RuleFaultKind.TheVariants.{NoMemory};
 ghost use Rattle.text_io.specs.declared.ending.Done.TheVariants.{Ended};
 ghost use Rattle.cmd_rules.specs.RuleFaults.{place_text, rule_fault, rule_name};
 
-use rules_text::{RuleFault, RuleKind};
+use rules_text::{RuleFault, RuleFaultKind};
 use std::alloc::AllocError;
 use text_io::Done;
 use text_words::add_number;
 
 /// The number and the name of a fault.
-fn name_of(kind: RuleKind) -> &'static [u8]
+fn name_of(kind: RuleFaultKind) -> &'static [u8]
     ensures { result.now ≡ rule_name kind }
 {
     match kind {
-        RuleKind::BadLine => b"1 BadLine",
-        RuleKind::BadNumber => b"2 BadNumber",
-        RuleKind::TooLarge => b"3 TooLarge",
-        RuleKind::OutsideCell => b"4 OutsideCell",
-        RuleKind::AfterOtherwise => b"5 AfterOtherwise",
-        RuleKind::Unbalanced => b"6 Unbalanced",
-        RuleKind::TooDeep => b"7 TooDeep",
-        RuleKind::TooLong => b"8 TooLong",
-        RuleKind::NoMemory => b"9 NoMemory",
-        RuleKind::UnknownName => b"10 UnknownName",
-        RuleKind::NameTaken => b"11 NameTaken",
+        RuleFaultKind::BadLine => b"1 BadLine",
+        RuleFaultKind::BadNumber => b"2 BadNumber",
+        RuleFaultKind::TooLarge => b"3 TooLarge",
+        RuleFaultKind::OutsideCell => b"4 OutsideCell",
+        RuleFaultKind::AfterOtherwise => b"5 AfterOtherwise",
+        RuleFaultKind::Unbalanced => b"6 Unbalanced",
+        RuleFaultKind::TooDeep => b"7 TooDeep",
+        RuleFaultKind::TooLong => b"8 TooLong",
+        RuleFaultKind::NoMemory => b"9 NoMemory",
+        RuleFaultKind::UnknownName => b"10 UnknownName",
+        RuleFaultKind::NameTaken => b"11 NameTaken",
     }
 }
 
@@ -59,7 +59,7 @@ pub(crate) fn end_by_fault(answers: &mut Vec<u8>, fault: RuleFault) -> Result<Do
     ensures answer { IfOk result (λ done. (answers.new.items ≡ answers.old.items ++ rule_fault fault) × (done ≡ Ended)) }
 {
     match fault.kind {
-        RuleKind::NoMemory => Err(AllocError),
+        RuleFaultKind::NoMemory => Err(AllocError),
         _ => {
             add_rule_fault(answers, fault)?;
             Ok(Done::Ended)

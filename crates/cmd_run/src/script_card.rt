@@ -246,10 +246,10 @@ impl ScriptCard {
         self.core.arrive(PORT, cell, moment)
     }
 
-    /// Takes all steps of a cell at port 0 and returns its answer, as [`Core::arrive_keeping`] does: a journal that is full or has `most`
+    /// Takes all steps of a cell at port 0 and returns its answer, as [`Core::arrive_dropping`] does: a journal that is full or has `most`
     /// entries is dropped before them. None if the port has a cell; between commands it never has.
     #[inline(always)]
-    pub fn arrive_keeping(
+    pub fn arrive_dropping(
         &mut self,
         cell: &Cell,
         moment: u64,
@@ -261,7 +261,7 @@ impl ScriptCard {
             → IsWorn self.old.core (vc_of self.old.core.shape.side cell.now)) }
         ensures names { self.new.names ≡ self.old.names }
     {
-        self.core.arrive_keeping(PORT, cell, moment, most)
+        self.core.arrive_dropping(PORT, cell, moment, most)
     }
 
     /// Polices a cell.

@@ -7,7 +7,7 @@ use crate::ledgers::Ledgers;
 use crate::seat::PortSeat;
 use crate::seatings::Seatings;
 use crate::shares::LineShares;
-use card_core::{Answer, Ask, DeskFault, Named, cut, judge_without_cell, release, setup};
+use card_core::{Answer, Ask, DeskFault, Named, cut, judgement_at, release, setup};
 use leaky::Verdict;
 use line_record::{Line, Owner, Piece, Seating};
 use upc_cell::Vc;
@@ -90,7 +90,7 @@ impl<S: Ledgers> CountedLine<S> {
         if !books.has_room() {
             return Answer::JournalFull;
         }
-        match judge_without_cell(&mut self.line, vc, seating, named, moment) {
+        match judgement_at(&mut self.line, vc, seating, named, moment) {
             Ok(judged) => {
                 seat.count(books, &mut self.shares, judged.line, judged.verdict);
                 judged.answer(&named.cell())

@@ -12,7 +12,7 @@ use Rattle.rules_diagrams.specs.declared.diagram.Diagram.{Diagram}
 use Rattle.rules_diagrams.specs.declared.diagram.Diagram.TheVariants.{Leaf}
 use Rattle.rules_diagrams.specs.declared.diagram.Node.{Node}
 use Rattle.rules_diagrams.specs.declared.span.Bits.{Bits}
-use Rattle.rules_diagrams.specs.declared.span.Reach.{Reach}
+use Rattle.rules_diagrams.specs.declared.span.Interval.{Interval}
 use Rattle.rules_diagrams.proofs.Nodes.{keeps_both}
 
 -- What the highest of some bits counts, if it is set.
@@ -104,7 +104,7 @@ between_all low end n z lt = let e : is_between low end n ≡ true = grind (arit
 between_moved : (low end half n : ℕ) → is_between low end (half + n) ≡ is_between (low - half) (end - half) n
 between_moved low end half n = grind (arith, nat_tests)
 
-module _ (nodes : List Node) (bits : Bits) (mask : ℕ) (reach : Reach) (inside : bits.bit + bits.width ≤ 416) where
+module _ (nodes : List Node) (bits : Bits) (mask : ℕ) (reach : Interval) (inside : bits.bit + bits.width ≤ 416) where
   pub span_empty : reach.end ≤ reach.low → IsSpan nodes bits mask reach (Leaf 0)
   span_empty le = record {
     within = tt;
@@ -148,7 +148,7 @@ module _ (nodes : List Node) (bits : Bits) (mask : ℕ) (reach : Reach) (inside 
         is.value cell ∙ ap (λ n. truth (is_between reach.low reach.end n)) whole;
   }
 
-  pub span_joined : (low_done high_done : List Node) (rest : Bits) (less : Reach) (low high made : Diagram) → 0 < bits.width → rest.bit ≡ bits.bit + 1 → rest.width ≡ bits.width - 1
+  pub span_joined : (low_done high_done : List Node) (rest : Bits) (less : Interval) (low high made : Diagram) → 0 < bits.width → rest.bit ≡ bits.bit + 1 → rest.width ≡ bits.width - 1
       → (mask / 2 ^ rest.width % 2 == 1) ≡ true → less.low ≡ reach.low - 2 ^ rest.width → less.end ≡ reach.end - 2 ^ rest.width
       → IsSpan low_done rest mask reach low → Keeps low_done high_done → IsSpan high_done rest mask less high → Keeps high_done nodes
       → DecidesByBit nodes bits.bit low high made → IsSpan nodes bits mask reach made

@@ -24,7 +24,7 @@ use Rattle.rules_diagrams.specs.declared.diagram.Diagram.{Diagram}
 use Rattle.rules_diagrams.specs.declared.diagram.Diagram.TheVariants.{Leaf}
 use Rattle.rules_diagrams.specs.declared.diagram.Node.{Node}
 use Rattle.rules_diagrams.specs.declared.span.Bits.{Bits}
-use Rattle.rules_diagrams.specs.declared.span.Reach.{Reach}
+use Rattle.rules_diagrams.specs.declared.span.Interval.{Interval}
 
 pub gives_kept : (old new : List Node) (f : List ℕ → ℕ) (diagram : Diagram) → Keeps old new → GivesNumber old f diagram → GivesNumber new f diagram
 gives_kept old new f diagram keeps gives =
@@ -115,7 +115,7 @@ below_all cell bit width le =
     let power : 2 ^ width ≤ 2 ^ 32 = pow-le-pow_right (omega arith) le in
     omega arith
 
-module _ (nodes : List Node) (side : Side) (field : Field) (bits : Bits) (reach : Reach) (are : AreBitsOf side field bits) {E : Type 0} where
+module _ (nodes : List Node) (side : Side) (field : Field) (bits : Bits) (reach : Interval) (are : AreBitsOf side field bits) {E : Type 0} where
   -- A span of the bits of a field is one of the field.
   pub masked_tells : (mask : ℕ) (r : Result Diagram E) → IfOk r (IsSpan nodes bits mask reach)
       → IfOk r (Tells nodes (λ cell. is_between reach.low reach.end (kept_bits (Some mask) (number_in side field cell))))
@@ -258,7 +258,7 @@ module _ (old middle new : List Node) (so_far one made : Diagram) (keeps : Keeps
       (λ cell. ap truth (some_more side cell tests i test lt is))
       (joins (is_met side test) (some_is_met side (take i tests)) tells (gives_kept old middle (λ cell. truth (some_is_met side (take i tests) cell)) so_far keeps before))
 
-  pub among_step : (number : List ℕ → ℕ) (first : Span) (others : List Span) (i : ℕ) (span : Span) (reach : Reach) → i < length others → span ≡ get_or others i span
+  pub among_step : (number : List ℕ → ℕ) (first : Span) (others : List Span) (i : ℕ) (span : Span) (reach : Interval) → i < length others → span ≡ get_or others i span
       → reach.low ≡ span.low → reach.end ≡ span.high + 1 → Tells old (λ cell. is_among (first ∷ take i others) (number cell)) so_far
       → Tells middle (λ cell. is_between reach.low reach.end (number cell)) one
       → ((met also : List ℕ → Bool) → Tells middle met one → Tells middle also so_far → Tells new (λ cell. also cell || met cell) made)

@@ -12,7 +12,7 @@ ghost use Rattle.rules_code.specs.PlainTests.{is_among, kept_bits};
 
 use crate::diagram::Diagram;
 use crate::fault::Undecided;
-use crate::span::{Bits, Reach};
+use crate::span::{Bits, Interval};
 use crate::store::Diagrams;
 use bpf_code::Size;
 use rules_cells::{Field, Octets, Relation, Test};
@@ -63,7 +63,7 @@ fn reached(
     side: Side,
     field: Field,
     mask: Option<u32>,
-    reach: Reach,
+    reach: Interval,
 ) -> Result<Diagram, Undecided>
     ensures keeps { Keeps diagrams.old diagrams.new }
     ensures tells { IfOk result (Tells diagrams.new (λ cell. is_between reach.low reach.end (kept_bits mask (number_in side field cell)))) }
@@ -111,22 +111,22 @@ fn either(diagrams: &mut Diagrams, one: Diagram, other: Diagram) -> Result<Diagr
 }
 
 /// The numbers up to one.
-fn up_to(number: u32) -> Reach
+fn up_to(number: u32) -> Interval
     ensures low { result.low ≡ 0 }
     ensures end { result.end ≡ number + 1 }
 {
-    Reach {
+    Interval {
         low: 0,
         end: u64::from(number) + 1,
     }
 }
 
 /// The numbers below one.
-fn below(number: u32) -> Reach
+fn below(number: u32) -> Interval
     ensures low { result.low ≡ 0 }
     ensures end { result.end ≡ number }
 {
-    Reach {
+    Interval {
         low: 0,
         end: u64::from(number),
     }
@@ -141,11 +141,11 @@ fn span_at(spans: &[Span], place: usize) -> Span
 }
 
 /// The numbers of a span.
-fn within(span: Span) -> Reach
+fn within(span: Span) -> Interval
     ensures low { result.low ≡ span.low }
     ensures end { result.end ≡ span.high + 1 }
 {
-    Reach {
+    Interval {
         low: u64::from(span.low),
         end: u64::from(span.high) + 1,
     }
@@ -230,8 +230,8 @@ pub(crate) fn met(diagrams: &mut Diagrams, side: Side, test: &Test) -> Result<Di
 {
     match test {
         Test::Any => Ok(Diagram::Leaf(1)),
-        Test::Oam => reached(diagrams, side, Field::Pti, None, Reach { low: 4, end: 6 }),
-        Test::User => reached(diagrams, side, Field::Pti, None, Reach { low: 0, end: 4 }),
+        Test::Oam => reached(diagrams, side, Field::Pti, None, Interval { low: 4, end: 6 }),
+        Test::User => reached(diagrams, side, Field::Pti, None, Interval { low: 0, end: 4 }),
         Test::Compare {
             field,
             mask,

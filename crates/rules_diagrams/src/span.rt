@@ -19,7 +19,7 @@ pub(crate) struct Bits {
 
 /// Numbers from one on, up to another, which isn't among them.
 #[derive(Clone, Copy, Debug)]
-pub(crate) struct Reach {
+pub(crate) struct Interval {
     /// The first number.
     pub low: u64,
     /// The number after the last.
@@ -43,11 +43,11 @@ fn has_bit(mask: u32, place: u16) -> bool
 }
 
 /// The reach of what a number may be without a part of it.
-fn without(reach: Reach, part: u64) -> Reach
+fn without(reach: Interval, part: u64) -> Interval
     ensures low { result.low ≡ reach.low - part }
     ensures end { result.end ≡ reach.end - part }
 {
-    Reach {
+    Interval {
         low: reach.low.saturating_sub(part),
         end: reach.end.saturating_sub(part),
     }
@@ -61,7 +61,7 @@ impl Diagrams {
     ///
     /// As [`choose`](Self::choose) has them.
     #[tactic(auto, using(crate::proofs::Nodes::keeps_both, crate::proofs::Nodes::keeps_itself))]
-    pub(crate) fn span(&mut self, bits: Bits, mask: u32, reach: Reach) -> Result<Diagram, Undecided>
+    pub(crate) fn span(&mut self, bits: Bits, mask: u32, reach: Interval) -> Result<Diagram, Undecided>
         requires width { bits.width ≤ 32 }
         requires inside { bits.bit + bits.width ≤ 416 }
         ensures keeps { Keeps self.old self.new }

@@ -11,7 +11,7 @@ use Rattle.rules_text.specs.declared.lexer.Sign.TheVariants.{Equal as equal_sign
 use Rattle.rules_text.specs.RuleTokens.{RuleFound, RuleToken, and_word, arrow_mark, close_brace, close_parenthesis, comma_mark, dots_mark, mask_mark, number_word, open_brace, or_word, otherwise_word, side_word, sign_mark, size_word, slash_mark, star_mark, uni_word, nni_word}
 use Rattle.rules_text.specs.Subjects.{most_of_field, number_within, octets_at_token, value_read}
 use Rattle.rules_text.specs.TextOfRules.{fault_column, read_then, statement_from, fault_in_line}
-use Rattle.rules_text.specs.declared.fault.RuleKind.TheVariants.{BadLine, TooDeep, TooLarge, TooLong, Unbalanced, UnknownName}
+use Rattle.rules_text.specs.declared.fault.RuleFaultKind.TheVariants.{BadLine, TooDeep, TooLarge, TooLong, Unbalanced, UnknownName}
 use Rattle.rules_text.proofs.TestBeginnings.{AreOpen, Explained, ExplainedAt, InClosed, InList, InOpen, IsOpen, StatementWritten, grown, in_moved, made_by, no_form, number_ok, octets_ok, ok_is, range_span, range_tokens, ranges_tokens, renamed, same_statement, step_to, then_ok, unit_begins, unit_closes, unit_read, unless_ok}
 use Rattle.rules_text.proofs.GrammarGroups.{after_and, after_or, parenthesis_closes, whole_ok}
 

@@ -5,7 +5,7 @@ use Rattle.rules_text.specs.LineGrammar.{GroupRead, Reading, awaits_unit, awaits
 use Rattle.rules_text.specs.RuleGrammar.{TestForm, parenthesis_unit, part_written, test_tokens, test_written, units_tokens}
 use Rattle.rules_text.specs.RulesRead.{TestRead}
 use Rattle.rules_text.specs.RuleTokens.{RuleToken, and_word, close_parenthesis, open_parenthesis, or_word}
-use Rattle.rules_text.specs.declared.fault.RuleKind.TheVariants.{Unbalanced}
+use Rattle.rules_text.specs.declared.fault.RuleFaultKind.TheVariants.{Unbalanced}
 use Rattle.rules_text.proofs.TestBeginnings.{AreOpen, ClosedForm, Explained, InClosed, InOpen, IsClosed, OpenForm, around_tokens, closed_by, closed_by_group, closed_by_tokens, closed_test, closed_tokens, alternatives_tokens, made_by, ok_is, open_tokens}
 
 -- ---- a token after a unit

@@ -4,8 +4,8 @@ use Rattle.std.proofs.lemmas.List.{append-nil, length-append}
 use Rattle.rules_text.specs.Names.{NameRead, letters_of}
 use Rattle.rules_text.specs.RuleTokens.{RuleFound, RuleToken}
 use Rattle.rules_text.specs.TextOfRules.{is_equal, name_found, name_with_sign, new_name, placed_fault, read_then, fault_in_line}
-use Rattle.rules_text.specs.declared.fault.RuleKind.{RuleKind}
-use Rattle.rules_text.specs.declared.fault.RuleKind.TheVariants.{BadLine, BadNumber, TooLarge, OutsideCell, AfterOtherwise, Unbalanced, TooDeep, TooLong, NoMemory, UnknownName, NameTaken}
+use Rattle.rules_text.specs.declared.fault.RuleFaultKind.{RuleFaultKind}
+use Rattle.rules_text.specs.declared.fault.RuleFaultKind.TheVariants.{BadLine, BadNumber, TooLarge, OutsideCell, AfterOtherwise, Unbalanced, TooDeep, TooLong, NoMemory, UnknownName, NameTaken}
 use Rattle.rules_text.specs.declared.lexer.Found.{Found}
 use Rattle.rules_text.specs.SeenTokens.{found_seen}
 use Rattle.rules_text.specs.inner.SeenFaults.{fault_seen}
@@ -18,7 +18,7 @@ letters_same line found =
     ap (λ (k : ℕ). slice_range line k (found.end + 1 - 1)) start ∙ ap (λ (k : ℕ). slice_range line found.start k) end
 
 -- A fault with a place.
-pub has_place : (line column : ℕ) (kind : RuleKind) → kind ≢ NoMemory → fault_seen line column kind ≡ placed_fault line column kind
+pub has_place : (line column : ℕ) (kind : RuleFaultKind) → kind ≢ NoMemory → fault_seen line column kind ≡ placed_fault line column kind
 has_place line column BadLine other = refl
 has_place line column BadNumber other = refl
 has_place line column TooLarge other = refl
@@ -33,11 +33,11 @@ has_place line column NameTaken other = refl
 
 module _ (names : List NameRead) (line : List ℕ) (after : ℕ) (tokens : List RuleFound) (name : RuleFound) (rest : List RuleFound) (letters : List ℕ) where
   -- A name that may not be given.
-  pub name_bad : (kind : RuleKind) → tokens ≡ name ∷ rest → letters_of line name ≡ letters → new_name names letters name.token ≡ Err kind
+  pub name_bad : (kind : RuleFaultKind) → tokens ≡ name ∷ rest → letters_of line name ≡ letters → new_name names letters name.token ≡ Err kind
       → name_found names line after tokens ≡ Err (fault_in_line name.column kind)
   name_bad kind e same bad =
       ap (name_found names line after) e
-      ∙ ap (λ (r : Result (List ℕ) RuleKind). read_then r (λ k. fault_in_line name.column k) (λ found. name_with_sign found name.column name.after rest))
+      ∙ ap (λ (r : Result (List ℕ) RuleFaultKind). read_then r (λ k. fault_in_line name.column k) (λ found. name_with_sign found name.column name.after rest))
       (ap (λ (found : List ℕ). new_name names found name.token) same ∙ bad)
 
   -- A new name.
@@ -45,7 +45,7 @@ module _ (names : List NameRead) (line : List ℕ) (after : ℕ) (tokens : List 
       → name_found names line after tokens ≡ name_with_sign letters name.column name.after rest
   name_good e same good =
       ap (name_found names line after) e
-      ∙ ap (λ (r : Result (List ℕ) RuleKind). read_then r (λ k. fault_in_line name.column k) (λ found. name_with_sign found name.column name.after rest))
+      ∙ ap (λ (r : Result (List ℕ) RuleFaultKind). read_then r (λ k. fault_in_line name.column k) (λ found. name_with_sign found name.column name.after rest))
       (ap (λ (found : List ℕ). new_name names found name.token) same ∙ good)
 
 module _ (letters : List ℕ) (column after : ℕ) (tokens : List RuleFound) where

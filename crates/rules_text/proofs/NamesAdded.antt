@@ -7,7 +7,7 @@ use Rattle.rules_text.specs.Names.{FormRead, NameRead, admitted, all_at, expande
 use Rattle.rules_text.specs.RuleTokens.{RuleFound, RuleToken, no_room}
 use Rattle.rules_text.specs.TextOfRules.{read_then, statement_from}
 use Rattle.rules_text.specs.declared.fault.RuleFault.{RuleFault}
-use Rattle.rules_text.specs.declared.fault.RuleKind.{RuleKind}
+use Rattle.rules_text.specs.declared.fault.RuleFaultKind.{RuleFaultKind}
 
 -- A name that has room means all that it means.
 has_room : (is_word : Bool) (meaning : Option (List RuleToken)) (room : ℕ) → length (tokens_of_word is_word meaning) ≤ room
@@ -39,7 +39,7 @@ pub no_limit_within : RoomIsNoLimitWithin
 no_limit_within = same_tokens
 
 module _ (context : LineContext) (column after : ℕ) (statement : StatementRead) where
-  ok_by : {G : Type 0} (read : LineStep) (fault : RuleKind → RuleFault) (onward : Reading → Result StatementRead RuleFault)
+  ok_by : {G : Type 0} (read : LineStep) (fault : RuleFaultKind → RuleFault) (onward : Reading → Result StatementRead RuleFault)
       → read_then read fault onward ≡ Ok statement → ((next : Reading) → onward next ≡ Ok statement → G) → G
   ok_by (Ok next) fault onward e deep = deep next e
   ok_by (Err kind) fault onward e deep = absurd (cc)

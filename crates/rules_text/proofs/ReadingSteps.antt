@@ -9,8 +9,8 @@ use Rattle.rules_text.specs.RuleTokens.{RuleFound, rule_tokens}
 use Rattle.rules_text.specs.TextFaults.{IsFaultOf}
 use Rattle.rules_text.specs.TextOfRules.{PlacedRulesRead, TextReading, context_of, fault_column, fault_of_line, formed_statement, gives_name, name_given, no_text_read, placed_fault, placed_rules_at_end, placed_rules_from, placed_rules_in, read_then, rules_in, statement_from, text_with, text_with_line, text_with_name, text_with_room, text_with_tokens, fault_in_line}
 use Rattle.rules_text.specs.declared.fault.RuleFault.{RuleFault}
-use Rattle.rules_text.specs.declared.fault.RuleKind.{RuleKind}
-use Rattle.rules_text.specs.declared.fault.RuleKind.TheVariants.{AfterOtherwise, NoMemory}
+use Rattle.rules_text.specs.declared.fault.RuleFaultKind.{RuleFaultKind}
+use Rattle.rules_text.specs.declared.fault.RuleFaultKind.TheVariants.{AfterOtherwise, NoMemory}
 use Rattle.rules_text.specs.declared.line_reader.Statement.{Statement}
 use Rattle.rules_text.specs.declared.reader.PlacedRules.{PlacedRules}
 use Rattle.rules_text.specs.inner.SeenFaults.{IsReadAs}
@@ -24,7 +24,7 @@ unfolding statement_from
 statement_more context column reading next found rest e = rw e refl
 
 -- A token that is a fault.
-pub statement_fault : (context : LineContext) (column : ℕ) (reading : Reading) (found : RuleFound) (rest : List RuleFound) (kind : RuleKind)
+pub statement_fault : (context : LineContext) (column : ℕ) (reading : Reading) (found : RuleFound) (rest : List RuleFound) (kind : RuleFaultKind)
     → read_token context found.column reading found.token ≡ Err kind
     → statement_from context reading column (found ∷ rest) ≡ Err (fault_in_line (fault_column reading kind found.column) kind)
 unfolding statement_from

@@ -11,7 +11,7 @@ use Rattle.rules_text.specs.RulesRead.{LineRead, rule_line, block_line, end_line
 use Rattle.rules_text.specs.RuleTokens.{RuleFound, before_feed, first_cut, found_at, rule_tokens, separates, tokens_from}
 use Rattle.rules_text.specs.TextOfRules.{PlacedRulesRead, TextReading, context_of, fault_in_text, fault_of_line, formed_statement, gives_name, name_given, no_text_read, placed_rules_from, read_then, text_with, text_with_line, text_with_tokens, text_with_name, text_with_room, fault_in_line}
 use Rattle.rules_text.specs.declared.fault.RuleFault.{RuleFault}
-use Rattle.rules_text.specs.declared.fault.RuleKind.TheVariants.{AfterOtherwise, Unbalanced}
+use Rattle.rules_text.specs.declared.fault.RuleFaultKind.TheVariants.{AfterOtherwise, Unbalanced}
 use Rattle.rules_text.specs.declared.place.RulePlace.{RulePlace}
 use Rattle.rules_text.proofs.FeedCounts.{feeds_joined, lines_apart, lines_counted}
 use Rattle.rules_text.proofs.ReadingSteps.{rules_begun, without_places}

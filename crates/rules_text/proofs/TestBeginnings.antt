@@ -11,8 +11,8 @@ use Rattle.rules_text.specs.RulesRead.{FieldRead, gfc_field, vpi_field, vci_fiel
 use Rattle.rules_text.specs.RuleTokens.{RuleToken, and_word, arrow_mark, comma_mark, dots_mark, field_word, mask_mark, not_word, number_word, open_parenthesis, or_word, sign_mark, size_word, slash_mark, test_word}
 use Rattle.rules_text.specs.Subjects.{header_read, last_offset, most_of_field, number_within, octets_at_token}
 use Rattle.rules_text.specs.declared.fault.RuleFault.{RuleFault}
-use Rattle.rules_text.specs.declared.fault.RuleKind.{RuleKind}
-use Rattle.rules_text.specs.declared.fault.RuleKind.TheVariants.{OutsideCell, TooDeep, TooLarge, TooLong}
+use Rattle.rules_text.specs.declared.fault.RuleFaultKind.{RuleFaultKind}
+use Rattle.rules_text.specs.declared.fault.RuleFaultKind.TheVariants.{OutsideCell, TooDeep, TooLarge, TooLong}
 
 -- ---- the beginnings of tests
 
@@ -153,16 +153,16 @@ Explained tokens reading = ExplainedAt reading.awaited tokens reading
 
 -- ---- steps without a fault
 
-pub then_ok : {A B : Type 0} (found : Result A RuleKind) (next : A → Result B RuleKind) (result : B) → found_then found next ≡ Ok result
+pub then_ok : {A B : Type 0} (found : Result A RuleFaultKind) (next : A → Result B RuleFaultKind) (result : B) → found_then found next ≡ Ok result
     → (it : A) × (found ≡ Ok it) × (next it ≡ Ok result)
 then_ok (Ok it) next result e = (it, refl, e)
 then_ok (Err kind) next result e = absurd (cc)
 
-pub unless_ok : {A : Type 0} (fails : Bool) (kind : RuleKind) (step : Result A RuleKind) (result : A) → (if fails then Err kind else step) ≡ Ok result → step ≡ Ok result
+pub unless_ok : {A : Type 0} (fails : Bool) (kind : RuleFaultKind) (step : Result A RuleFaultKind) (result : A) → (if fails then Err kind else step) ≡ Ok result → step ≡ Ok result
 unless_ok true kind step result e = absurd (cc)
 unless_ok false kind step result e = e
 
-pub ok_is : {A : Type 0} (one other : A) (found : Result A RuleKind) → found ≡ Ok one → found ≡ Ok other → one ≡ other
+pub ok_is : {A : Type 0} (one other : A) (found : Result A RuleFaultKind) → found ≡ Ok one → found ≡ Ok other → one ≡ other
 ok_is one other found e f = cc
 
 abbrev pub step_to : Reading → LineStep

@@ -10,8 +10,8 @@ use Rattle.rules_text.specs.declared.lexer.Sign.{Sign}
 use Rattle.rules_text.specs.declared.lexer.Sign.TheVariants.{Equal as equal_sign, Unequal as unequal_sign}
 use Rattle.rules_text.specs.RuleTokens.{RuleToken, test_word, name_word, no_room, not_word, and_word, or_word, otherwise_word, side_word, uni_word, nni_word, field_word, size_word, arrow_mark, open_brace, close_brace, open_parenthesis, close_parenthesis, mask_mark, comma_mark, dots_mark, slash_mark, star_mark, sign_mark}
 use Rattle.rules_text.specs.Subjects.{header_read, most_of_field, number_within, octets_at_token, value_read}
-use Rattle.rules_text.specs.declared.fault.RuleKind.{RuleKind}
-use Rattle.rules_text.specs.declared.fault.RuleKind.TheVariants.{BadLine, TooLarge, Unbalanced, TooDeep, TooLong, UnknownName}
+use Rattle.rules_text.specs.declared.fault.RuleFaultKind.{RuleFaultKind}
+use Rattle.rules_text.specs.declared.fault.RuleFaultKind.TheVariants.{BadLine, TooLarge, Unbalanced, TooDeep, TooLong, UnknownName}
 
 -- What was read before a line.
 pub record LineContext : Type 0 where
@@ -111,10 +111,10 @@ pub record Reading : Type 0 where
 
 -- Reading goes on, or there is a fault.
 abbrev pub LineStep : Type 0
-LineStep = Result Reading RuleKind
+LineStep = Result Reading RuleFaultKind
 
 -- Reads on with what was found, if there is no fault.
-abbrev pub found_then : {A B : Type 0} → Result A RuleKind → (A → Result B RuleKind) → Result B RuleKind
+abbrev pub found_then : {A B : Type 0} → Result A RuleFaultKind → (A → Result B RuleFaultKind) → Result B RuleFaultKind
 found_then (Ok found) next = next found
 found_then (Err kind) next = Err kind
 
@@ -202,12 +202,12 @@ unfoldable pub with_closed_parenthesis : Reading → LineStep
 with_closed_parenthesis reading = unit_around reading reading.around (group_test reading.group)
 
 -- The test of the group, if there is one.
-abbrev pub some_test : Option TestRead → Result TestRead RuleKind
+abbrev pub some_test : Option TestRead → Result TestRead RuleFaultKind
 some_test None = Err BadLine
 some_test (Some test) = Ok test
 
 -- The whole test. Each parenthesis must be closed.
-unfoldable pub whole_test : Reading → Result TestRead RuleKind
+unfoldable pub whole_test : Reading → Result TestRead RuleFaultKind
 whole_test reading = if nat_lt 0 (length reading.around) then Err Unbalanced else some_test (group_test reading.group)
 
 -- The statement of the line is this, and nothing comes after it.
@@ -403,7 +403,7 @@ read_token context column reading token =
     if lacks_room token then Err TooLong else read_awaited reading.awaited context column reading token)
 
 -- The statement of the line where its tokens end, if it may end there.
-abbrev pub statement_at_end : Awaited → StatementRead → Result StatementRead RuleKind
+abbrev pub statement_at_end : Awaited → StatementRead → Result StatementRead RuleFaultKind
 statement_at_end awaits_start statement = Ok statement
 statement_at_end awaits_end statement = Ok statement
 statement_at_end _ statement = Err BadLine

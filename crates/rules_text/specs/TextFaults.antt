@@ -4,7 +4,7 @@ use Rattle.bpf_code.specs.declared.instr.Instr.{Instr}
 use Rattle.rules_text.specs.CodeOfText.{IsCodeOfText}
 use Rattle.rules_text.specs.TextOfRules.{placed_fault, rules_in}
 use Rattle.rules_text.specs.declared.fault.RuleFault.{RuleFault}
-use Rattle.rules_text.specs.declared.fault.RuleKind.TheVariants.{NoMemory, TooLong}
+use Rattle.rules_text.specs.declared.fault.RuleFaultKind.TheVariants.{NoMemory, TooLong}
 
 -- The fault is that an allocation failed, or it is what the definition says. Out of memory has no place.
 abbrev pub IsFaultOf : {A : Type 0} → Result A RuleFault → RuleFault → Type 0

@@ -14,8 +14,8 @@ use Rattle.rules_text.specs.RuleTokens.{RuleFound, RuleToken, contract_value, co
 use Rattle.rules_text.specs.LineGrammar.{LineContext, Reading, StatementRead, blank_statement, side_statement, line_statement, value_statement, may_be_name, read_token, statement_at_end}
 use Rattle.rules_text.specs.Names.{FormRead, rule_form, value_form, NameRead, defined_as, expanded, definition_form, form_start, letters_of, most_added, name_meaning, room_left}
 use Rattle.rules_text.specs.declared.fault.RuleFault.{RuleFault}
-use Rattle.rules_text.specs.declared.fault.RuleKind.{RuleKind}
-use Rattle.rules_text.specs.declared.fault.RuleKind.TheVariants.{AfterOtherwise, BadLine, NameTaken, TooLong, Unbalanced}
+use Rattle.rules_text.specs.declared.fault.RuleFaultKind.{RuleFaultKind}
+use Rattle.rules_text.specs.declared.fault.RuleFaultKind.TheVariants.{AfterOtherwise, BadLine, NameTaken, TooLong, Unbalanced}
 
 -- Goes on with what was read, or changes the fault.
 abbrev pub read_then : {A B E F : Type 0} → Result A E → (E → F) → (A → Result B F) → Result B F
@@ -23,16 +23,16 @@ read_then (Ok found) fault next = next found
 read_then (Err error) fault next = Err (fault error)
 
 -- The column of a fault at the token at this column: a parenthesis that isn't closed has its own.
-abbrev pub fault_column : Reading → RuleKind → ℕ → ℕ
+abbrev pub fault_column : Reading → RuleFaultKind → ℕ → ℕ
 fault_column reading Unbalanced column = if nat_lt 0 (length reading.around) then reading.outermost else column
 fault_column reading _ column = column
 
 -- The fault at this place.
-abbrev pub placed_fault : ℕ → ℕ → RuleKind → RuleFault
+abbrev pub placed_fault : ℕ → ℕ → RuleFaultKind → RuleFault
 placed_fault line column kind = record { line = line; column = column; kind = kind }
 
 -- A fault of a line of rules, at this column of it. Where the line is in the text isn't known yet, so it has no line.
-abbrev pub fault_in_line : ℕ → RuleKind → RuleFault
+abbrev pub fault_in_line : ℕ → RuleFaultKind → RuleFault
 fault_in_line column kind = placed_fault 0 column kind
 
 -- The statement of the tokens, read on from here. The column is the one after the last token. Columns count from 1.
@@ -121,7 +121,7 @@ abbrev pub starts_word : ℕ → Bool
 starts_word octet = is_word octet && not (is_digit octet)
 
 -- The letters of a new name: a word that is none of the language, and no name that was given. A text has at most 4096.
-abbrev pub new_name : List NameRead → List ℕ → RuleToken → Result (List ℕ) RuleKind
+abbrev pub new_name : List NameRead → List ℕ → RuleToken → Result (List ℕ) RuleFaultKind
 new_name names letters token =
     if may_be_name token
     then (if is_some (name_meaning names letters) then Err NameTaken else (if nat_le 4096 (length names) then Err TooLong else Ok letters))
@@ -218,7 +218,7 @@ unfoldable pub text_with_line : TextReading → TextPlace → List ℕ → Resul
 text_with_line text begin line = text_with_tokens text begin line (rule_tokens line)
 
 -- A fault of this kind at this place.
-abbrev pub fault_in_text : TextPlace → RuleKind → RuleFault
+abbrev pub fault_in_text : TextPlace → RuleFaultKind → RuleFault
 fault_in_text place kind = placed_fault place.line place.column kind
 
 -- A fault of the line of rules of these octets, which begins at this place, with its place in the text: it is where the octets before

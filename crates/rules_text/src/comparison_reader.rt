@@ -2,11 +2,11 @@
 
 ghost use Rattle.std.specs.Prelude.{◌≡◌, IfOk, IfErr};
 ghost use Rattle.rules_text.specs.LineGrammar.{read_channel, read_comma, read_constant, read_dots, read_high, read_low, read_mask, read_offset, read_relation, read_sign, read_slash, with_list, with_range};
-ghost use Rattle.rules_text.specs.declared.fault.RuleKind.TheVariants.{NoMemory};
+ghost use Rattle.rules_text.specs.declared.fault.RuleFaultKind.TheVariants.{NoMemory};
 ghost use Rattle.rules_text.specs.SeenTokens.{rule_token_seen};
 ghost use Rattle.rules_text.specs.inner.SeenReading.{TakesLineStep, TakesLineStepOrNoMemory, context_seen, list_seen, reading_seen, subject_seen, wants_seen};
 
-use crate::fault::{RuleKind, Step};
+use crate::fault::{RuleFaultKind, Step};
 use crate::lexer::{Sign, Token};
 use crate::line_reader::{Context, LineReader, Wants};
 use crate::subject::{
@@ -86,7 +86,7 @@ impl LineReader {
                 self.wants = Wants::Channel(path);
                 Ok(())
             }
-            _ => Err(RuleKind::BadLine),
+            _ => Err(RuleFaultKind::BadLine),
         }
     }
 
@@ -149,7 +149,7 @@ impl LineReader {
         ensures { TakesLineStep result self.new (with_range (reading_seen self.old) (wants_seen wants)) }
     {
         if self.comparisons >= MOST_COMPARISONS {
-            return Err(RuleKind::TooLong);
+            return Err(RuleFaultKind::TooLong);
         }
         self.comparisons += 1;
         self.wants = wants;
@@ -163,7 +163,7 @@ impl LineReader {
     {
         let high = number_for(token, field_of(of), context.side)?;
         if high < low {
-            return Err(RuleKind::TooLarge);
+            return Err(RuleFaultKind::TooLarge);
         }
         self.count(Wants::Comma(of, Span { low, high }))
     }

@@ -10,7 +10,7 @@ ghost use Rattle.rules_text.specs.RulesInMemory.{HasRules};
 ghost use Rattle.rules_text.specs.TextFaults.{IsCompilingFault};
 ghost use Rattle.rules_text.specs.ValuesRead.{FollowsText};
 
-use crate::fault::{RuleFault, RuleKind, fault_at};
+use crate::fault::{RuleFault, RuleFaultKind, fault_at};
 use crate::place::RulePlace;
 use crate::reader::{read_rules, read_with_places};
 use bpf_code::Instr;
@@ -34,8 +34,8 @@ pub fn compile_text(alloc: Global, text: &[u8]) -> Result<Vec<Instr>, RuleFault>
     let rules = read_rules(alloc, text)?;
     match compile(alloc, &rules) {
         Ok(code) => Ok(code),
-        Err(CodeFault::TooLong) => Err(fault_at(RuleKind::TooLong, 0, 0)),
-        Err(CodeFault::NoMemory) => Err(fault_at(RuleKind::NoMemory, 0, 0)),
+        Err(CodeFault::TooLong) => Err(fault_at(RuleFaultKind::TooLong, 0, 0)),
+        Err(CodeFault::NoMemory) => Err(fault_at(RuleFaultKind::NoMemory, 0, 0)),
     }
 }
 
@@ -66,7 +66,7 @@ pub fn compile_with_places(alloc: Global, text: &[u8]) -> Result<CodeWithPlaces,
             placed,
             begins: placed_rules.begins,
         }),
-        Err(CodeFault::TooLong) => Err(fault_at(RuleKind::TooLong, 0, 0)),
-        Err(CodeFault::NoMemory) => Err(fault_at(RuleKind::NoMemory, 0, 0)),
+        Err(CodeFault::TooLong) => Err(fault_at(RuleFaultKind::TooLong, 0, 0)),
+        Err(CodeFault::NoMemory) => Err(fault_at(RuleFaultKind::NoMemory, 0, 0)),
     }
 }

@@ -9,9 +9,9 @@ ghost use Rattle.rules_text.specs.inner.SeenFaults.{IsReadAs};
 ghost use Rattle.rules_text.specs.inner.SeenReading.{context_seen, line_statement_seen, name_seen, names_seen};
 ghost use Rattle.rules_text.specs.inner.SeenNameTable.{IsFoundByLetters};
 ghost use Rattle.rules_text.specs.inner.SeenNames.{letters_found, place_seen};
-ghost use Rattle.rules_text.specs.declared.fault.RuleKind.TheVariants.{NoMemory};
+ghost use Rattle.rules_text.specs.declared.fault.RuleFaultKind.TheVariants.{NoMemory};
 
-use crate::fault::{RuleFault, RuleKind, fault_in_line};
+use crate::fault::{RuleFault, RuleFaultKind, fault_in_line};
 use crate::lexer::{Found, Sign, Token, begins_word, next_token};
 use crate::line_reader::{Context, Statement};
 use crate::names::{Form, Name, NameTable, are_list, meaning};
@@ -30,7 +30,7 @@ pub(crate) struct NamePlace {
 }
 
 /// Whether the letters of a token are a new name.
-fn test_name(names: &NameTable, letters: &[u8], token: Token) -> Result<(), RuleKind>
+fn check_name(names: &NameTable, letters: &[u8], token: Token) -> Result<(), RuleFaultKind>
     requires names { IsFoundByLetters names.now }
     requires some { 0 < length letters.now }
     ensures found { letters_found letters.now result ≡ new_name (names_seen names.now) letters.now (rule_token_seen token) }
@@ -39,16 +39,16 @@ fn test_name(names: &NameTable, letters: &[u8], token: Token) -> Result<(), Rule
 {
     if !token.is_name() {
         return Err(if begins_word(letters[0]) {
-            RuleKind::NameTaken
+            RuleFaultKind::NameTaken
         } else {
-            RuleKind::BadLine
+            RuleFaultKind::BadLine
         });
     }
     if names.find(letters).is_some() {
-        return Err(RuleKind::NameTaken);
+        return Err(RuleFaultKind::NameTaken);
     }
     if names.len() >= MOST {
-        return Err(RuleKind::TooLong);
+        return Err(RuleFaultKind::TooLong);
     }
     Ok(())
 }
@@ -75,16 +75,16 @@ pub(crate) fn name_place(
     ensures err { IfErr result (λ fault. name_found (names_seen names.now) line.now (from + 1) (tokens_from (from + 1) 0 (drop from line.now)) ≡ Err fault) }
 {
     let Some(name) = next_token(line, from) else {
-        return Err(fault_in_line(RuleKind::BadLine, from + 1));
+        return Err(fault_in_line(RuleFaultKind::BadLine, from + 1));
     };
-    if let Err(kind) = test_name(names, &line[name.start..name.end], name.token) {
+    if let Err(kind) = check_name(names, &line[name.start..name.end], name.token) {
         return Err(fault_in_line(kind, name.start + 1));
     }
     let Some(sign) = next_token(line, name.end) else {
-        return Err(fault_in_line(RuleKind::BadLine, name.end + 1));
+        return Err(fault_in_line(RuleFaultKind::BadLine, name.end + 1));
     };
     if !equal(sign.token) {
-        return Err(fault_in_line(RuleKind::BadLine, sign.start + 1));
+        return Err(fault_in_line(RuleFaultKind::BadLine, sign.start + 1));
     }
     Ok(NamePlace {
         start: name.start,
@@ -155,7 +155,7 @@ pub(crate) fn definition(
         (λ tokens. record { letters = seen.letters; tokens = map rule_token_seen tokens.items }) }
 {
     let Some(tokens) = body(alloc, names, context.room, line, place.after)? else {
-        return Err(fault_in_line(RuleKind::TooLong, place.start + 1));
+        return Err(fault_in_line(RuleFaultKind::TooLong, place.start + 1));
     };
     let form = if are_list(tokens.as_slice()) {
         Form::List

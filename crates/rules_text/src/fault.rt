@@ -8,7 +8,7 @@ use thiserror::Error;
 
 /// The kind of a fault.
 #[derive(Clone, Copy, Debug, PartialEq, Eq, Error)]
-pub enum RuleKind {
+pub enum RuleFaultKind {
     /// What is here doesn't fit the grammar.
     #[error("1 BadLine")]
     BadLine,
@@ -46,29 +46,29 @@ pub enum RuleKind {
 }
 
 /// A step of a reader: nothing if it was taken, or the kind of its fault.
-pub(crate) type Step = Result<(), RuleKind>;
+pub(crate) type Step = Result<(), RuleFaultKind>;
 
-impl From<AllocError> for RuleKind {
+impl From<AllocError> for RuleFaultKind {
     ghost use Rattle.std.specs.Prelude.{◌≡◌};
-    ghost use Rattle.rules_text.specs.declared.fault.RuleKind.TheVariants.{NoMemory};
+    ghost use Rattle.rules_text.specs.declared.fault.RuleFaultKind.TheVariants.{NoMemory};
 
     ghost from_gives = { λ e kind. kind ≡ NoMemory };
 
     /// Returns the fault of a failed allocation.
-    fn from(_: AllocError) -> RuleKind {
-        RuleKind::NoMemory
+    fn from(_: AllocError) -> RuleFaultKind {
+        RuleFaultKind::NoMemory
     }
 }
 
-impl<T: Drop> From<AllocFailed<T>> for RuleKind {
+impl<T: Drop> From<AllocFailed<T>> for RuleFaultKind {
     ghost use Rattle.std.specs.Prelude.{◌≡◌};
-    ghost use Rattle.rules_text.specs.declared.fault.RuleKind.TheVariants.{NoMemory};
+    ghost use Rattle.rules_text.specs.declared.fault.RuleFaultKind.TheVariants.{NoMemory};
 
     ghost from_gives = { λ e kind. kind ≡ NoMemory };
 
     /// Returns the fault of a failed allocation.
-    fn from(_: AllocFailed<T>) -> RuleKind {
-        RuleKind::NoMemory
+    fn from(_: AllocFailed<T>) -> RuleFaultKind {
+        RuleFaultKind::NoMemory
     }
 }
 
@@ -81,41 +81,41 @@ pub struct RuleFault {
     /// The column of its octet, counted from 1; 0 if the fault has no place.
     pub column: usize,
     /// The kind of the fault.
-    pub kind: RuleKind,
+    pub kind: RuleFaultKind,
 }
 
 impl From<AllocError> for RuleFault {
     ghost use Rattle.std.specs.Prelude.{◌≡◌};
     ghost use Rattle.rules_text.specs.TextOfRules.{placed_fault};
-    ghost use Rattle.rules_text.specs.declared.fault.RuleKind.TheVariants.{NoMemory};
+    ghost use Rattle.rules_text.specs.declared.fault.RuleFaultKind.TheVariants.{NoMemory};
 
     ghost from_gives = { λ e fault. fault ≡ placed_fault 0 0 NoMemory };
 
     /// Returns the fault of a failed allocation.
     fn from(_: AllocError) -> RuleFault {
-        fault_at(RuleKind::NoMemory, 0, 0)
+        fault_at(RuleFaultKind::NoMemory, 0, 0)
     }
 }
 
 impl<T: Drop> From<AllocFailed<T>> for RuleFault {
     ghost use Rattle.std.specs.Prelude.{◌≡◌};
     ghost use Rattle.rules_text.specs.TextOfRules.{placed_fault};
-    ghost use Rattle.rules_text.specs.declared.fault.RuleKind.TheVariants.{NoMemory};
+    ghost use Rattle.rules_text.specs.declared.fault.RuleFaultKind.TheVariants.{NoMemory};
 
     ghost from_gives = { λ e fault. fault ≡ placed_fault 0 0 NoMemory };
 
     /// Returns the fault of a failed allocation.
     fn from(_: AllocFailed<T>) -> RuleFault {
-        fault_at(RuleKind::NoMemory, 0, 0)
+        fault_at(RuleFaultKind::NoMemory, 0, 0)
     }
 }
 
 /// The fault of this kind at a place. NoMemory has none.
-pub(crate) fn fault_at(kind: RuleKind, line: usize, column: usize) -> RuleFault
+pub(crate) fn fault_at(kind: RuleFaultKind, line: usize, column: usize) -> RuleFault
     ensures { result ≡ fault_seen line column kind }
 {
     match kind {
-        RuleKind::NoMemory => RuleFault {
+        RuleFaultKind::NoMemory => RuleFault {
             line: 0,
             column: 0,
             kind,
@@ -125,7 +125,7 @@ pub(crate) fn fault_at(kind: RuleKind, line: usize, column: usize) -> RuleFault
 }
 
 /// The fault of this kind at a column of a line of rules. Where the line is in the text isn't known yet, so it has no line.
-pub(crate) fn fault_in_line(kind: RuleKind, column: usize) -> RuleFault
+pub(crate) fn fault_in_line(kind: RuleFaultKind, column: usize) -> RuleFault
     ensures { result ≡ fault_seen 0 column kind }
 {
     fault_at(kind, 0, column)

@@ -21,7 +21,7 @@ mod test_reader;
 pub use class::Class;
 pub use compiler::{CodeWithPlaces, compile_text, compile_with_places};
 pub use continued_lines::next_rule_line;
-pub use fault::{RuleFault, RuleKind};
+pub use fault::{RuleFault, RuleFaultKind};
 pub use lexer::{Found, Sign, Token, WORDS, digit, next_token, word_octet};
 pub use place::{RulePlace, TextPlace, place_after};
 pub use reader::{PlacedRules, read_rules, read_with_places};

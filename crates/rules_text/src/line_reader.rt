@@ -4,11 +4,11 @@ ghost use Rattle.std.specs.Prelude.{◌≡◌, []};
 ghost use Rattle.rules_text.specs.LineGrammar.{LineContext, read_arrow, read_awaited, read_only_value, read_side, read_start, read_token, read_value};
 ghost use Rattle.rules_text.specs.Names.{first_awaited, form_start};
 ghost use Rattle.rules_text.specs.TextOfRules.{fault_column, statement_from};
-ghost use Rattle.rules_text.specs.declared.fault.RuleKind.TheVariants.{Unbalanced};
+ghost use Rattle.rules_text.specs.declared.fault.RuleFaultKind.TheVariants.{Unbalanced};
 ghost use Rattle.rules_text.specs.SeenTokens.{rule_token_seen};
 ghost use Rattle.rules_text.specs.inner.SeenReading.{TakesLineStep, TakesLineStepOrNoMemory, context_seen, form_seen, reading_seen, statement_found, wants_seen};
 
-use crate::fault::{RuleFault, RuleKind, Step, fault_in_line};
+use crate::fault::{RuleFault, RuleFaultKind, Step, fault_in_line};
 use crate::group::Group;
 use crate::lexer::{Sign, Token};
 use crate::names::Form;
@@ -154,10 +154,10 @@ impl LineReader {
         ensures { TakesLineStepOrNoMemory result self.new (read_token (context_seen context) column (reading_seen self.old) (rule_token_seen token)) }
     {
         if token.is_name() {
-            return Err(RuleKind::UnknownName);
+            return Err(RuleFaultKind::UnknownName);
         }
         if token.lacks_room() {
-            return Err(RuleKind::TooLong);
+            return Err(RuleFaultKind::TooLong);
         }
         self.read_known(context, column, token)
     }
@@ -186,7 +186,7 @@ impl LineReader {
             Wants::Value => self.value(token),
             Wants::OnlyValue => self.only_value(token),
             Wants::Side => self.side_name(token),
-            Wants::End => Err(RuleKind::BadLine),
+            Wants::End => Err(RuleFaultKind::BadLine),
         }
     }
 
@@ -197,7 +197,7 @@ impl LineReader {
     {
         match self.wants {
             Wants::Start | Wants::End => Ok(self.statement),
-            _ => Err(fault_in_line(RuleKind::BadLine, column)),
+            _ => Err(fault_in_line(RuleFaultKind::BadLine, column)),
         }
     }
 
@@ -220,21 +220,21 @@ impl LineReader {
         match token {
             Token::Otherwise => {
                 if context.blocks > 0 {
-                    return Err(RuleKind::BadLine);
+                    return Err(RuleFaultKind::BadLine);
                 }
                 self.wants = Wants::Arrow;
                 Ok(())
             }
             Token::Side => {
                 if context.begun {
-                    return Err(RuleKind::BadLine);
+                    return Err(RuleFaultKind::BadLine);
                 }
                 self.wants = Wants::Side;
                 Ok(())
             }
             Token::RightBrace => {
                 if context.blocks == 0 {
-                    return Err(RuleKind::Unbalanced);
+                    return Err(RuleFaultKind::Unbalanced);
                 }
                 self.statement = Statement::Line(RuleLine::End);
                 self.wants = Wants::End;
@@ -254,7 +254,7 @@ impl LineReader {
                 self.wants = Wants::OnlyValue;
                 Ok(())
             }
-            _ => Err(RuleKind::BadLine),
+            _ => Err(RuleFaultKind::BadLine),
         }
     }
 
@@ -297,7 +297,7 @@ impl LineReader {
                 self.wants = Wants::End;
                 Ok(())
             }
-            _ => Err(RuleKind::BadLine),
+            _ => Err(RuleFaultKind::BadLine),
         }
     }
 }

@@ -7,7 +7,7 @@ ghost use Rattle.rules_text.specs.RuleTokens.{rule_tokens, tokens_from};
 ghost use Rattle.rules_text.specs.RulesInMemory.{HasPlacedRules, HasRules, placed_rules_read};
 ghost use Rattle.rules_text.specs.TextFaults.{IsFaultOf};
 ghost use Rattle.rules_text.specs.TextOfRules.{context_of, formed_statement, name_given, placed_rules_at_end, placed_rules_in, placed_fault, rules_in, text_with, text_with_line, text_with_room, with_line, text_with_name};
-ghost use Rattle.rules_text.specs.declared.fault.RuleKind.TheVariants.{NoMemory};
+ghost use Rattle.rules_text.specs.declared.fault.RuleFaultKind.TheVariants.{NoMemory};
 ghost use Rattle.rules_text.specs.SeenTokens.{found_seen};
 ghost use Rattle.rules_text.specs.inner.SeenFaults.{IsReadAs};
 ghost use Rattle.rules_text.specs.inner.SeenNameTable.{IsFoundByLetters};
@@ -15,7 +15,7 @@ ghost use Rattle.rules_text.specs.inner.SeenReading.{context_seen, line_statemen
 
 use crate::continued_lines::next_rule_line;
 use crate::definition::{is_giving, name_at, name_place};
-use crate::fault::{RuleFault, RuleKind, fault_at, fault_in_line};
+use crate::fault::{RuleFault, RuleFaultKind, fault_at, fault_in_line};
 use crate::lexer::{Found, next_token};
 use crate::line_reader::{Context, Statement};
 use crate::names::{Form, Name, NameTable};
@@ -60,7 +60,7 @@ struct TextReader {
 
 impl TextReader {
     /// Takes a line of rules, which begins at a place, and has its first token at a column of it, counted from 1.
-    fn take_line(&mut self, line: RuleLine, begin: TextPlace, column: usize) -> Result<(), RuleKind>
+    fn take_line(&mut self, line: RuleLine, begin: TextPlace, column: usize) -> Result<(), RuleFaultKind>
         requires blocks { self.old.blocks < 2 ^ 63 }
         requires some { 0 < column }
         requires within { begin.column + column < 2 ^ 64 }
@@ -91,7 +91,7 @@ impl TextReader {
         statement: Statement,
         begin: TextPlace,
         column: usize,
-    ) -> Result<(), RuleKind>
+    ) -> Result<(), RuleFaultKind>
         requires blocks { self.old.blocks < 2 ^ 63 }
         requires some { 0 < column }
         requires within { begin.column + column < 2 ^ 64 }
@@ -138,7 +138,7 @@ impl TextReader {
         ensures new { IfOk result (λ name. name_meaning (names_seen self.now.names) name.letters.items ≡ None) }
     {
         if !self.rules.lines.is_empty() {
-            return Err(fault_in_line(RuleKind::BadLine, first.start + 1));
+            return Err(fault_in_line(RuleFaultKind::BadLine, first.start + 1));
         }
         let names = &self.names;
         let place = name_place(names, line, first.end)?;
@@ -191,7 +191,7 @@ impl TextReader {
         };
         let column = first.start + 1;
         if self.closed {
-            return Err(fault_in_line(RuleKind::AfterOtherwise, column));
+            return Err(fault_in_line(RuleFaultKind::AfterOtherwise, column));
         }
         if is_giving(first.token) {
             let name = self.name_in(alloc, line, first)?;
@@ -212,7 +212,7 @@ impl TextReader {
         ensures err { IfErr result (λ fault. placed_rules_at_end (text_seen self) ≡ Err fault) }
     {
         if self.blocks > 0 {
-            return Err(fault_at(RuleKind::Unbalanced, self.head.line, self.head.column));
+            return Err(fault_at(RuleFaultKind::Unbalanced, self.head.line, self.head.column));
         }
         Ok(PlacedRules {
             rules: self.rules,

@@ -10,7 +10,7 @@ ghost use Rattle.rules_text.specs.inner.SeenReading.{context_seen, form_seen, li
 ghost use Rattle.rules_text.specs.inner.SeenNameTable.{IsFoundByLetters};
 ghost use Rattle.rules_text.specs.inner.TokensRead.{token_read, all_tokens_read};
 
-use crate::fault::{RuleFault, RuleKind, fault_in_line};
+use crate::fault::{RuleFault, RuleFaultKind, fault_in_line};
 use crate::lexer::{Found, Token, next_token};
 use crate::line_reader::{Context, LineReader, Statement};
 use crate::names::{Form, NameTable, admit};
@@ -24,7 +24,7 @@ impl LineReader {
         let unbalanced = self.unbalanced_at(column);
         match self.read(context, column, token) {
             Ok(()) => Ok(()),
-            Err(RuleKind::Unbalanced) => Err(fault_in_line(RuleKind::Unbalanced, unbalanced)),
+            Err(RuleFaultKind::Unbalanced) => Err(fault_in_line(RuleFaultKind::Unbalanced, unbalanced)),
             Err(kind) => Err(fault_in_line(kind, column)),
         }
     }

@@ -8,7 +8,7 @@ ghost use Rattle.rules_text.specs.declared.lexer.Sign.TheVariants.{Equal as equa
 ghost use Rattle.rules_text.specs.SeenTokens.{rule_token_seen};
 ghost use Rattle.rules_text.specs.inner.SeenReading.{field_found, list_seen};
 
-use crate::fault::RuleKind;
+use crate::fault::RuleFaultKind;
 use crate::group::all_of_two;
 use crate::lexer::{Sign, Token};
 use bpf_code::Size;
@@ -37,12 +37,12 @@ pub(crate) enum ListOf {
 }
 
 /// The field of the header that this name denotes at this side.
-pub(crate) fn header_field(side: Side, name: Field) -> Result<Field, RuleKind>
+pub(crate) fn header_field(side: Side, name: Field) -> Result<Field, RuleFaultKind>
     ensures { field_found result ≡ header_read side (field_read name) }
 {
     match (side, name) {
         (Side::Nni, Field::Gfc) | (Side::NniPaths, Field::Gfc) | (_, Field::Octets(_)) => Err(
-            RuleKind::BadLine,
+            RuleFaultKind::BadLine,
         ),
         _ => Ok(name),
     }
@@ -63,7 +63,7 @@ pub(crate) fn relation_of(sign: Sign, k: u32) -> Relation
 }
 
 /// The octets at an offset, if they are all in the cell.
-fn octets_at(size: Size, at: u32) -> Result<Field, RuleKind>
+fn octets_at(size: Size, at: u32) -> Result<Field, RuleFaultKind>
     ensures { field_found result ≡ octets_read size at }
 {
     let last = match size {
@@ -72,19 +72,19 @@ fn octets_at(size: Size, at: u32) -> Result<Field, RuleKind>
         Size::Word => 48,
     };
     if last < at {
-        return Err(RuleKind::OutsideCell);
+        return Err(RuleFaultKind::OutsideCell);
     }
     Ok(Field::Octets(Octets { size, at }))
 }
 
 /// The octets at the offset that a token is.
-pub(crate) fn octets_of(size: Size, token: Token) -> Result<Field, RuleKind>
+pub(crate) fn octets_of(size: Size, token: Token) -> Result<Field, RuleFaultKind>
     ensures { field_found result ≡ octets_at_token size (rule_token_seen token) }
 {
     match token {
         Token::Number(at) => octets_at(size, at),
-        Token::BadNumber => Err(RuleKind::BadNumber),
-        _ => Err(RuleKind::BadLine),
+        Token::BadNumber => Err(RuleFaultKind::BadNumber),
+        _ => Err(RuleFaultKind::BadLine),
     }
 }
 
@@ -107,31 +107,31 @@ fn most_of(field: Field, side: Side) -> u32
 }
 
 /// The number of a token that a field can have.
-pub(crate) fn number_for(token: Token, field: Field, side: Side) -> Result<u32, RuleKind>
+pub(crate) fn number_for(token: Token, field: Field, side: Side) -> Result<u32, RuleFaultKind>
     ensures { result ≡ number_within (most_of_field side (field_read field)) (rule_token_seen token) }
 {
     match token {
         Token::Number(k) => {
             if most_of(field, side) < k {
-                Err(RuleKind::TooLarge)
+                Err(RuleFaultKind::TooLarge)
             } else {
                 Ok(k)
             }
         }
-        Token::BadNumber => Err(RuleKind::BadNumber),
-        _ => Err(RuleKind::BadLine),
+        Token::BadNumber => Err(RuleFaultKind::BadNumber),
+        _ => Err(RuleFaultKind::BadLine),
     }
 }
 
 /// The value of a rule that a token is.
-pub(crate) fn value_of(token: Token) -> Result<u32, RuleKind>
+pub(crate) fn value_of(token: Token) -> Result<u32, RuleFaultKind>
     ensures { result ≡ value_read (rule_token_seen token) }
 {
     match token {
         Token::Refuse => Ok(0),
         Token::Number(value) | Token::Value(value) => Ok(value),
-        Token::BadNumber => Err(RuleKind::BadNumber),
-        _ => Err(RuleKind::BadLine),
+        Token::BadNumber => Err(RuleFaultKind::BadNumber),
+        _ => Err(RuleFaultKind::BadLine),
     }
 }
 

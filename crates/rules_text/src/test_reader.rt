@@ -3,12 +3,12 @@
 ghost use Rattle.std.specs.Prelude.{◌≡◌, ◌≢◌, Ok, Err, IfOk, IfErr};
 ghost use Rattle.rules_text.specs.LineGrammar.{no_group, read_operator, read_unit, whole_test, with_block, with_closed_parenthesis, with_head, with_open_parenthesis, with_unit};
 ghost use Rattle.rules_text.specs.RulesRead.{test_read};
-ghost use Rattle.rules_text.specs.declared.fault.RuleKind.TheVariants.{NoMemory};
+ghost use Rattle.rules_text.specs.declared.fault.RuleFaultKind.TheVariants.{NoMemory};
 ghost use Rattle.rules_text.specs.SeenTokens.{class_seen, rule_token_seen};
 ghost use Rattle.rules_text.specs.inner.SeenReading.{TakesLineStepOrNoMemory, context_seen, group_seen, reading_seen};
 
 use crate::class::{Class, test_of};
-use crate::fault::{RuleKind, Step};
+use crate::fault::{RuleFaultKind, Step};
 use crate::group::Group;
 use crate::lexer::Token;
 use crate::line_reader::{Context, LineReader, Statement, Wants};
@@ -67,7 +67,7 @@ impl LineReader {
         ensures { TakesLineStepOrNoMemory result self.new (with_open_parenthesis (context_seen context) column (reading_seen self.old)) }
     {
         if context.blocks >= MOST_DEEP || self.around.len() >= MOST_DEEP - context.blocks {
-            return Err(RuleKind::TooDeep);
+            return Err(RuleFaultKind::TooDeep);
         }
         if self.around.is_empty() {
             self.outermost = column;
@@ -84,7 +84,7 @@ impl LineReader {
         ensures { TakesLineStepOrNoMemory result self.new (with_unit (reading_seen self.old) (test_read test)) }
     {
         if self.comparisons >= MOST_COMPARISONS {
-            return Err(RuleKind::TooLong);
+            return Err(RuleFaultKind::TooLong);
         }
         let alloc = self.alloc();
         self.group.add(alloc, test)?;
@@ -112,7 +112,7 @@ impl LineReader {
             Token::RightParenthesis => self.close_parenthesis(),
             Token::LeftBrace => self.block(context),
             Token::Arrow => self.head(),
-            _ => Err(RuleKind::BadLine),
+            _ => Err(RuleFaultKind::BadLine),
         }
     }
 
@@ -123,11 +123,11 @@ impl LineReader {
     {
         let alloc = self.alloc();
         let Some(around) = self.around.pop() else {
-            return Err(RuleKind::Unbalanced);
+            return Err(RuleFaultKind::Unbalanced);
         };
         let inner = std::mem::replace(&mut self.group, around);
         match inner.whole(alloc)? {
-            None => Err(RuleKind::BadLine),
+            None => Err(RuleFaultKind::BadLine),
             Some(test) => {
                 self.group.add(alloc, test)?;
                 self.wants = Wants::Operator;
@@ -138,18 +138,18 @@ impl LineReader {
 
     /// Takes the whole test. All parentheses must be closed.
     #[tactic(auto, unfolding(crate::specs::LineGrammar::whole_test))]
-    pub(crate) fn whole(&mut self) -> Result<Test, RuleKind>
+    pub(crate) fn whole(&mut self) -> Result<Test, RuleFaultKind>
         ensures ok { IfOk result (λ test. whole_test (reading_seen self.old) ≡ Ok (test_read test)) }
         ensures rest { IfOk result (λ _. self.new ≡ record self.old { group = self.new.group }) }
         ensures group { IfOk result (λ _. group_seen self.new.group ≡ no_group) }
         ensures err { IfErr result (λ kind. kind ≢ NoMemory → whole_test (reading_seen self.old) ≡ Err kind) }
     {
         if !self.around.is_empty() {
-            return Err(RuleKind::Unbalanced);
+            return Err(RuleFaultKind::Unbalanced);
         }
         let group = std::mem::replace(&mut self.group, Group::new());
         match group.whole(self.alloc())? {
-            None => Err(RuleKind::BadLine),
+            None => Err(RuleFaultKind::BadLine),
             Some(test) => Ok(test),
         }
     }
@@ -161,7 +161,7 @@ impl LineReader {
     {
         let test = self.whole()?;
         if context.blocks >= MOST_DEEP {
-            return Err(RuleKind::TooDeep);
+            return Err(RuleFaultKind::TooDeep);
         }
         self.statement = Statement::Line(RuleLine::Block { test });
         self.wants = Wants::End;

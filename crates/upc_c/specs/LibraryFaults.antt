@@ -10,8 +10,8 @@ use Rattle.bpf_code.specs.declared.decoder.DecodeFault.TheVariants as decode
 use Rattle.bpf_verify.specs.declared.fault.Fault.{Fault}
 use Rattle.bpf_verify.specs.declared.fault.Fault.TheVariants as verify
 use Rattle.rules_text.specs.declared.fault.RuleFault.{RuleFault}
-use Rattle.rules_text.specs.declared.fault.RuleKind.{RuleKind}
-use Rattle.rules_text.specs.declared.fault.RuleKind.TheVariants as rules
+use Rattle.rules_text.specs.declared.fault.RuleFaultKind.{RuleFaultKind}
+use Rattle.rules_text.specs.declared.fault.RuleFaultKind.TheVariants as rules
 use Rattle.upc_c.specs.Faults.{plain_fault, out_of_memory, ragged}
 use Rattle.upc_c.specs.declared.fault.UpcFault.{UpcFault}
 
@@ -57,7 +57,7 @@ abbrev pub fault_in_rules : ℕ → ℕ → ℕ → UpcFault
 fault_in_rules number line column = record { kind = 11; number = number; place = line; word = 0; code = 0; column = column }
 
 -- An error of a text of rules, from its kind, its line and its column.
-abbrev pub rule_fault_at : RuleKind → ℕ → ℕ → UpcFault
+abbrev pub rule_fault_at : RuleFaultKind → ℕ → ℕ → UpcFault
 rule_fault_at rules.BadLine line column = fault_in_rules 1 line column
 rule_fault_at rules.BadNumber line column = fault_in_rules 2 line column
 rule_fault_at rules.TooLarge line column = fault_in_rules 3 line column

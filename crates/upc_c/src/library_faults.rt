@@ -11,7 +11,7 @@ use crate::fault::{
 use bpf_asm::{AsmFault, AsmKind, ListFault};
 use bpf_code::DecodeFault;
 use bpf_verify::Fault;
-use rules_text::{RuleFault, RuleKind};
+use rules_text::{RuleFault, RuleFaultKind};
 
 /// Returns the error that an allocation failed.
 pub(crate) fn out_of_memory() -> UpcFault
@@ -90,17 +90,17 @@ pub(crate) fn rule_fault_for_c(found: RuleFault) -> UpcFault
     ensures numbered { IsNumbered result }
 {
     let number = match found.kind {
-        RuleKind::BadLine => 1,
-        RuleKind::BadNumber => 2,
-        RuleKind::TooLarge => 3,
-        RuleKind::OutsideCell => 4,
-        RuleKind::AfterOtherwise => 5,
-        RuleKind::Unbalanced => 6,
-        RuleKind::TooDeep => 7,
-        RuleKind::TooLong => 8,
-        RuleKind::NoMemory => return out_of_memory(),
-        RuleKind::UnknownName => 10,
-        RuleKind::NameTaken => 11,
+        RuleFaultKind::BadLine => 1,
+        RuleFaultKind::BadNumber => 2,
+        RuleFaultKind::TooLarge => 3,
+        RuleFaultKind::OutsideCell => 4,
+        RuleFaultKind::AfterOtherwise => 5,
+        RuleFaultKind::Unbalanced => 6,
+        RuleFaultKind::TooDeep => 7,
+        RuleFaultKind::TooLong => 8,
+        RuleFaultKind::NoMemory => return out_of_memory(),
+        RuleFaultKind::UnknownName => 10,
+        RuleFaultKind::NameTaken => 11,
     };
     UpcFault {
         column: found.column,

@@ -30,7 +30,7 @@ use invocation::explains_setup;
 pub use named_files::{NamedFiles, Unreadable, read_named_files};
 pub use notice::awaited;
 pub use progress::{Counted, reads_capture};
-pub use reason::{Knowing, Reasoned, Work};
+pub use reason::{WithReason, Reasoned, Work};
 pub use reporting::shell_status;
 use std::alloc::Global;
 use std::io::{BufReader, IsTerminal, Read};
@@ -75,9 +75,9 @@ fn main(rt: HostRuntime) -> ExitCode {
     };
     // The innermost device keeps the system's reason of a failure, the next one counts octets for the progress text, and the outermost
     // lets `explain` look at the first line.
-    let stdin = Knowing::new(rt.alloc(), Work::Reading, reader);
+    let stdin = WithReason::new(rt.alloc(), Work::Reading, reader);
     let mut input = LookedAt::new(rt.alloc(), Counted::new(rt.alloc(), stdin, shown_on));
-    let mut output = Knowing::new(rt.alloc(), Work::Writing, rt.stdout());
+    let mut output = WithReason::new(rt.alloc(), Work::Writing, rt.stdout());
     let mut errors = WriterOutput::new(rt.stderr());
     let ended = carry_out(
         &rt,

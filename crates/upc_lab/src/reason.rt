@@ -92,7 +92,7 @@ pub(crate) fn in_words(alloc: Global, error: &Error) -> Vec<u8> {
 /// A reader or writer of std as a device that keeps the reason of its last failed call. Every error counts as a failure, an interrupted
 /// call included. So does a call that writes nothing, unless there is nothing to write.
 #[derive(Drop)]
-pub struct Knowing<D> {
+pub struct WithReason<D> {
     alloc: Global,
     /// The reader or writer.
     pub device: D,
@@ -108,18 +108,18 @@ pub struct Knowing<D> {
     pub closed: bool,
 }
 
-impl<D> Knowing<D> {
+impl<D> WithReason<D> {
     ghost use Rattle.std.specs.Prelude.{false};
 
     /// Makes a device of this reader or writer.
-    pub fn new(alloc: Global, work: Work, device: D) -> Knowing<D>
+    pub fn new(alloc: Global, work: Work, device: D) -> WithReason<D>
         ensures device { result.device ≡ device }
         ensures work { result.work ≡ work }
         ensures calm { result.failures ≡ 0 }
         ensures unknown { result.line.items ≡ [] }
         ensures open { result.closed ≡ false }
     {
-        Knowing {
+        WithReason {
             alloc,
             device,
             work,
@@ -131,7 +131,7 @@ impl<D> Knowing<D> {
     }
 }
 
-impl<D> Knowing<D> {
+impl<D> WithReason<D> {
     ghost use Rattle.std.specs.Prelude.{◌↔◌, IsTrue};
     ghost use Rattle.std.specs.IoError.{error_kind};
 
@@ -150,7 +150,7 @@ impl<D> Knowing<D> {
     }
 }
 
-impl<R: Read> Input for Knowing<R> {
+impl<R: Read> Input for WithReason<R> {
     ghost is_known = { (r : _) → IsSome (R.remaining r) };
 
     ghost rest = { λ knowing. unwrap_or (R.remaining knowing.device) [] };
@@ -165,7 +165,7 @@ impl<R: Read> Input for Knowing<R> {
     }
 }
 
-impl<W: Write> Output for Knowing<W> {
+impl<W: Write> Output for WithReason<W> {
     ghost is_known = { (w : _) → IsSome (W.contents w) };
 
     ghost held = { λ knowing. unwrap_or (W.contents knowing.device) [] };
@@ -181,7 +181,7 @@ impl<W: Write> Output for Knowing<W> {
     }
 }
 
-impl<D> Reasoned for Knowing<D> {
+impl<D> Reasoned for WithReason<D> {
     ghost message = { λ knowing. if length knowing.line.items == 0 then plain_line knowing.work else knowing.line.items };
 
     ghost is_closed = { λ knowing. knowing.closed };

@@ -4,7 +4,7 @@ use Rattle.rules_diagrams.specs.inner.Values.{diagram_value, top_of, IsWithin}
 use Rattle.rules_diagrams.specs.declared.diagram.Diagram.{Diagram}
 use Rattle.rules_diagrams.specs.declared.diagram.Node.{Node}
 use Rattle.rules_diagrams.specs.declared.span.Bits.{Bits}
-use Rattle.rules_diagrams.specs.declared.span.Reach.{Reach}
+use Rattle.rules_diagrams.specs.declared.span.Interval.{Interval}
 
 -- The number that this many bits of a cell from one on are, the first highest.
 unfoldable pub bits_number : ℕ → ℕ → ℕ → ℕ
@@ -19,7 +19,7 @@ abbrev pub truth : Bool → ℕ
 truth b = if b then 1 else 0
 
 -- The diagram gives 1 to the cells in which the bits that the mask keeps are a number in the reach, 0 to all others.
-pub record IsSpan (nodes : List Node) (bits : Bits) (mask : ℕ) (reach : Reach) (diagram : Diagram) : Type 0 where
+pub record IsSpan (nodes : List Node) (bits : Bits) (mask : ℕ) (reach : Interval) (diagram : Diagram) : Type 0 where
   pub within : IsWithin nodes diagram
   pub top : bits.bit ≤ top_of nodes diagram
   pub value : (cell : ℕ) → diagram_value nodes diagram cell ≡ truth (is_between reach.low reach.end (bit_and (bits_number cell bits.bit bits.width) mask))

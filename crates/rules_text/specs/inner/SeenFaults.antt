@@ -3,11 +3,11 @@ use Rattle.std.specs.Prelude.{◌≡◌, ℕ, Result, Ok, Err}
 use Rattle.rules_text.specs.TextFaults.{IsFaultOf}
 use Rattle.rules_text.specs.TextOfRules.{placed_fault}
 use Rattle.rules_text.specs.declared.fault.RuleFault.{RuleFault}
-use Rattle.rules_text.specs.declared.fault.RuleKind.{RuleKind}
-use Rattle.rules_text.specs.declared.fault.RuleKind.TheVariants.{NoMemory}
+use Rattle.rules_text.specs.declared.fault.RuleFaultKind.{RuleFaultKind}
+use Rattle.rules_text.specs.declared.fault.RuleFaultKind.TheVariants.{NoMemory}
 
 -- A fault at a place. Out of memory has none.
-abbrev pub fault_seen : ℕ → ℕ → RuleKind → RuleFault
+abbrev pub fault_seen : ℕ → ℕ → RuleFaultKind → RuleFault
 fault_seen line column NoMemory = placed_fault 0 0 NoMemory
 fault_seen line column kind = placed_fault line column kind
 

@@ -3,10 +3,10 @@ use Rattle.std.specs.Prelude.{ℕ, ◌+◌, drop, slice_range, List, Result, Ok,
 use Rattle.rules_text.specs.RuleTokens.{tokens_from}
 use Rattle.rules_text.specs.TextOfRules.{NameFound}
 use Rattle.rules_text.specs.declared.definition.NamePlace.{NamePlace}
-use Rattle.rules_text.specs.declared.fault.RuleKind.{RuleKind}
+use Rattle.rules_text.specs.declared.fault.RuleFaultKind.{RuleFaultKind}
 
 -- The letters of a new name, or the fault.
-abbrev pub letters_found : {A : Type 0} → List ℕ → Result A RuleKind → Result (List ℕ) RuleKind
+abbrev pub letters_found : {A : Type 0} → List ℕ → Result A RuleFaultKind → Result (List ℕ) RuleFaultKind
 letters_found letters (Ok done) = Ok letters
 letters_found letters (Err kind) = Err kind
 

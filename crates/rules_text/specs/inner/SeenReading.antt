@@ -6,8 +6,8 @@ use Rattle.rules_text.specs.LineGrammar.{Awaited, GroupRead, LineContext, LineSt
 use Rattle.rules_text.specs.RulesRead.{FieldRead, TestRead, field_read, line_read, test_read}
 use Rattle.rules_text.specs.TextOfRules.{TextReading}
 use Rattle.rules_text.specs.Names.{FormRead, rule_form, value_form, test_form, list_form, NameRead}
-use Rattle.rules_text.specs.declared.fault.RuleKind.{RuleKind}
-use Rattle.rules_text.specs.declared.fault.RuleKind.TheVariants.{NoMemory}
+use Rattle.rules_text.specs.declared.fault.RuleFaultKind.{RuleFaultKind}
+use Rattle.rules_text.specs.declared.fault.RuleFaultKind.TheVariants.{NoMemory}
 use Rattle.rules_text.specs.declared.group.Group.{Group}
 use Rattle.rules_text.specs.declared.line_reader.Context.{Context}
 use Rattle.rules_text.specs.declared.line_reader.LineReader.{LineReader}
@@ -91,12 +91,12 @@ reading_seen reader = record {
 }
 
 -- A reader takes this step: afterwards it has read what the step gives, or it returns the fault of the step.
-abbrev pub TakesLineStep : {A : Type 0} → Result A RuleKind → LineReader → LineStep → Type 0
+abbrev pub TakesLineStep : {A : Type 0} → Result A RuleFaultKind → LineReader → LineStep → Type 0
 TakesLineStep (Ok done) reader step = step ≡ Ok (reading_seen reader)
 TakesLineStep (Err kind) reader step = step ≡ Err kind
 
 -- The same, unless an allocation fails.
-abbrev pub TakesLineStepOrNoMemory : {A : Type 0} → Result A RuleKind → LineReader → LineStep → Type 0
+abbrev pub TakesLineStepOrNoMemory : {A : Type 0} → Result A RuleFaultKind → LineReader → LineStep → Type 0
 TakesLineStepOrNoMemory (Ok done) reader step = step ≡ Ok (reading_seen reader)
 TakesLineStepOrNoMemory (Err kind) reader step = kind ≢ NoMemory → step ≡ Err kind
 
@@ -131,7 +131,7 @@ text_seen reader = record {
 }
 
 -- A field, or the fault.
-abbrev pub field_found : Result Field RuleKind → Result FieldRead RuleKind
+abbrev pub field_found : Result Field RuleFaultKind → Result FieldRead RuleFaultKind
 field_found (Ok field) = Ok (field_read field)
 field_found (Err kind) = Err kind
 

@@ -1,6 +1,6 @@
 use Rattle.std.proofs.Common.{rules, ◌≡◌, ◌≢◌, Some}
 use Rattle.rules_text.specs.TextOfRules.{placed_fault}
-use Rattle.rules_text.specs.declared.fault.RuleKind.TheVariants.{NoMemory}
+use Rattle.rules_text.specs.declared.fault.RuleFaultKind.TheVariants.{NoMemory}
 use Rattle.text_io.specs.Gathered.{gathered}
 use Rattle.cmd_rules.specs.RulesAnswers.{most_rules_octets}
 use Rattle.cmd_police.proofs.RulesTold.{fault_of_compiling, told}

@@ -23,7 +23,7 @@ returns-in_default-next_token-clause-err c =
     let letters = slice_range line name.start name.end in
     let rest = tokens_from (name.end + 1) 0 (drop name.end line) in
     name_good (names_seen c.args.names.now) line after (tokens_from after 0 (drop c.args.from line)) (found_seen name) rest letters c.in-Some.ensures.tokens (letters_same line name)
-    (sym c.in_default-test_name.ensures.found)
+    (sym c.in_default-check_name.ensures.found)
     ∙ sign_none letters (name.start + 1) (name.end + 1) rest c.in_default-next_token.ensures.tokens
     ∙ ap (λ (fault : RuleFault). Err fault) (sym c.fault_in_line-in_default-next_token.ensures)
 
@@ -36,7 +36,7 @@ returns-then-not-equal-clause-err c =
     let letters = slice_range line name.start name.end in
     let rest = tokens_from (name.end + 1) 0 (drop name.end line) in
     name_good (names_seen c.args.names.now) line after (tokens_from after 0 (drop c.args.from line)) (found_seen name) rest letters c.in-Some.ensures.tokens (letters_same line name)
-    (sym c.in_default-test_name.ensures.found)
+    (sym c.in_default-check_name.ensures.found)
     ∙ sign_bad letters (name.start + 1) (name.end + 1) rest (found_seen sign) (tokens_from (sign.end + 1) 0 (drop sign.end line)) c.in-Some-next_token.ensures.tokens
     (sym c.equal.ensures ∙ c.if-not-equal.true)
     ∙ ap (λ (fault : RuleFault). Err fault) (sym c.fault_in_line-then-not-equal.ensures)
@@ -50,6 +50,6 @@ returns-clause-ok c =
     let letters = slice_range line name.start name.end in
     let rest = tokens_from (name.end + 1) 0 (drop name.end line) in
     name_good (names_seen c.args.names.now) line after (tokens_from after 0 (drop c.args.from line)) (found_seen name) rest letters c.in-Some.ensures.tokens (letters_same line name)
-    (sym c.in_default-test_name.ensures.found)
+    (sym c.in_default-check_name.ensures.found)
     ∙ sign_good letters (name.start + 1) (name.end + 1) rest (found_seen sign) (tokens_from (sign.end + 1) 0 (drop sign.end line)) c.in-Some-next_token.ensures.tokens
     (sym c.equal.ensures ∙ c.if-not-equal.false)

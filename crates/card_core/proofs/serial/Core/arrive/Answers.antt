@@ -26,8 +26,8 @@ returns-in-Ok-clause-answered c =
     let l = c.self.inside in
     let free : is_idle (slice_get l.ports.items c.args.port) ≡ true =
     let test = c.is_idle_at.ensures in let same = c.deref.ensures.value in let is = c.if-not-is_idle_at.false in cc in
-    let after = c.judge_line_without_cell.new.lines.items in
-    let decision = c.judge_line_without_cell.result in
+    let after = c.judgement_on_line.new.lines.items in
+    let decision = c.judgement_on_line.result in
     let found = c.in-Ok.found in
     let New : CoreView = core_of l.shape l.store l.directory after l.ports.items in
     subst (λ (core : CoreView). AnswersArrival core c.args.port c.args.cell.now c.args.moment (answer_to c.args.cell.now decision) New) c.self.view_is
@@ -35,7 +35,7 @@ returns-in-Ok-clause-answered c =
     c.in-Ok.ensures.found.naming.same
     (arrives-judged l.shape l.store l.directory l.lines.items l.ports.items c.args.port (record { cell = c.args.cell.now; moment = c.args.moment }) free
     found c.in-Ok.ensures.found (answer_to found.named.cell decision) after
-    c.judge_line_without_cell.ensures.connection c.judge_line_without_cell.ensures.program_live c.judge_line_without_cell.ensures.line))
+    c.judgement_on_line.ensures.connection c.judgement_on_line.ensures.program_live c.judgement_on_line.ensures.line))
 
 pub returns-in-Err-clause-answered : goal.returns-in-Err-clause-answered
 returns-in-Err-clause-answered c =
@@ -49,7 +49,7 @@ returns-in-Err-clause-answered c =
 pub returns-in-Ok-clause-reserves : goal.returns-in-Ok-clause-reserves
 returns-in-Ok-clause-reserves c =
     let l = c.self.inside in
-    let New : CoreView = core_of l.shape l.store l.directory c.judge_line_without_cell.new.lines.items l.ports.items in
+    let New : CoreView = core_of l.shape l.store l.directory c.judgement_on_line.new.lines.items l.ports.items in
     subst (λ (old : CoreView). ReservesNothing old New) c.self.view_is
     (judge-reserves (core_of l.shape l.store l.directory l.lines.items l.ports.items) New c.in-Ok.found
-    (answer_to c.in-Ok.found.named.cell c.judge_line_without_cell.result) c.judge_line_without_cell.ensures.line)
+    (answer_to c.in-Ok.found.named.cell c.judgement_on_line.result) c.judgement_on_line.ensures.line)

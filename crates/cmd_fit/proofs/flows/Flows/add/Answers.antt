@@ -7,7 +7,7 @@ use Rattle.std.proofs.lemmas.Grind.{common_steps}
 use Rattle.std.proofs.lemmas.List.{take_at}
 use Rattle.cmd_fit.specs.Fits.{fit_in}
 use Rattle.cmd_fit.specs.FitText.{flow_key}
-use Rattle.cmd_fit.specs.declared.connection_fit.ConnectionFit.{ConnectionFit}
+use Rattle.cmd_fit.specs.declared.flow_fit.FlowFit.{FlowFit}
 use Rattle.cmd_fit.specs.inner.FlowPlaces.{KeepsFits, state_place}
 use Rattle.cmd_fit.proofs.PlaceLemmas.{KeepsFits-push}
 use Rattle.cmd_fit.proofs.flows.Flows.add.Goals as goal
@@ -18,7 +18,7 @@ invariant_of-self-in-Ok c =
     let fit = c.args.fit in
     let new = c.insert.new.self.entries in
     let none : fit_in fit.flow s.fits.items ≡ None =
-    subst (λ (fits : List ConnectionFit). fit_in fit.flow fits ≡ None) (sym c.self.view_is) c.requires in
+    subst (λ (fits : List FlowFit). fit_in fit.flow fits ≡ None) (sym c.self.view_is) c.requires in
     let last : c.len-place.result ≡ length s.fits.items = grind (arith, common_steps) in
     let put : (q : ℕ) → lookup (is_at (nat_cmp q)) new
     ≡ cond (is_at (nat_cmp c.key_of.result) q) (Some c.len-place.result) (lookup (is_at (nat_cmp q)) s.places.entries) = c.in-Ok.ensures.updates.0 in

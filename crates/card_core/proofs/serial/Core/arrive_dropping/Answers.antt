@@ -14,7 +14,7 @@ use Rattle.card_core.proofs.ArrivalSteps.{arrives-judged, arrives-missed}
 use Rattle.card_core.proofs.PortLemmas.{core_of}
 use Rattle.card_core.proofs.PortSteps.{enter-not}
 use Rattle.card_core.proofs.Shortening.{answers-keeping, cuts-if-long, full-is-worn, missed-is-no-full, missed-keeping, shortening-reserves}
-use Rattle.card_core.proofs.serial.Core.arrive_keeping.Goals as goal
+use Rattle.card_core.proofs.serial.Core.arrive_dropping.Goals as goal
 
 pub returns-then-not-is_idle_at-clause-not_now : goal.returns-then-not-is_idle_at-clause-not_now
 returns-then-not-is_idle_at-clause-not_now c =
@@ -29,8 +29,8 @@ returns-in-Ok-clause-answered c =
     let l = c.self.inside in
     let free : is_idle (slice_get l.ports.items c.args.port) ≡ true =
     let test = c.is_idle_at.ensures in let same = c.deref.ensures.value in let is = c.if-not-is_idle_at.false in cc in
-    let after = c.judge_line_without_cell.new.lines.items in
-    let decision = c.judge_line_without_cell.result in
+    let after = c.judgement_on_line.new.lines.items in
+    let decision = c.judgement_on_line.result in
     let found = c.in-Ok.found in
     let shortened = c.drop_long_journal.new.lines.items in
     let Middle : CoreView = core_of l.shape l.store l.directory shortened l.ports.items in
@@ -38,8 +38,8 @@ returns-in-Ok-clause-answered c =
     let own : found.vc ≡ vc_of l.shape.side c.args.cell.now = c.in-Ok.ensures.found.own in
     subst (λ (core : CoreView). AnswersKeeping c.args.most core c.args.port c.args.cell.now c.args.moment (answer_to c.args.cell.now decision) New) c.self.view_is
     (answers-keeping c.args.most (core_of l.shape l.store l.directory l.lines.items l.ports.items) New c.args.port c.args.cell.now c.args.moment
-    (answer_to c.args.cell.now decision) (subst (λ (octets : List ℕ). answer_to octets decision ≢ NoConnection) c.in-Ok.ensures.found.naming.same c.judge_line_without_cell.ensures.connection)
-    (subst (λ (octets : List ℕ). answer_to octets decision ≢ Stale) c.in-Ok.ensures.found.naming.same c.judge_line_without_cell.ensures.program_live) (
+    (answer_to c.args.cell.now decision) (subst (λ (octets : List ℕ). answer_to octets decision ≢ NoConnection) c.in-Ok.ensures.found.naming.same c.judgement_on_line.ensures.connection)
+    (subst (λ (octets : List ℕ). answer_to octets decision ≢ Stale) c.in-Ok.ensures.found.naming.same c.judgement_on_line.ensures.program_live) (
       Middle,
       subst (λ (vc : Vc). CutsIfLong c.args.most (core_of l.shape l.store l.directory l.lines.items l.ports.items) vc Middle) own
           (cuts-if-long l.shape l.store l.directory l.lines.items l.ports.items c.args.most found.vc found.seating c.in-Ok.ensures.found.sits shortened
@@ -48,7 +48,7 @@ returns-in-Ok-clause-answered c =
           c.in-Ok.ensures.found.naming.same
           (arrives-judged l.shape l.store l.directory shortened l.ports.items c.args.port (record { cell = c.args.cell.now; moment = c.args.moment }) free
           found c.in-Ok.ensures.found (answer_to found.named.cell decision) after
-          c.judge_line_without_cell.ensures.connection c.judge_line_without_cell.ensures.program_live c.judge_line_without_cell.ensures.line),
+          c.judgement_on_line.ensures.connection c.judgement_on_line.ensures.program_live c.judgement_on_line.ensures.line),
     ))
 
 pub returns-in-Err-clause-answered : goal.returns-in-Err-clause-answered
@@ -66,13 +66,13 @@ returns-in-Err-clause-answered c =
 pub returns-in-Ok-clause-full : goal.returns-in-Ok-clause-full
 returns-in-Ok-clause-full c =
     let l = c.self.inside in
-    let decision = c.judge_line_without_cell.result in
+    let decision = c.judgement_on_line.result in
     let found = c.in-Ok.found in
     let own : found.vc ≡ vc_of l.shape.side c.args.cell.now = c.in-Ok.ensures.found.own in
     λ full. subst (λ (core : CoreView). IsWorn core (vc_of core.shape.side c.args.cell.now)) c.self.view_is
     (subst (λ (vc : Vc). IsWorn (core_of l.shape l.store l.directory l.lines.items l.ports.items) vc) own
     (full-is-worn l.shape l.store l.directory l.lines.items l.ports.items c.args.most found c.in-Ok.ensures.found.sits c.drop_long_journal.new.lines.items
-    c.drop_long_journal.ensures.line (answer_to found.named.cell decision) c.judge_line_without_cell.new.lines.items c.judge_line_without_cell.ensures.line
+    c.drop_long_journal.ensures.line (answer_to found.named.cell decision) c.judgement_on_line.new.lines.items c.judgement_on_line.ensures.line
     (subst (λ (octets : List ℕ). answer_to octets decision ≡ JournalFull) (sym c.in-Ok.ensures.found.naming.same) full)))
 
 pub returns-in-Err-clause-full : goal.returns-in-Err-clause-full
@@ -84,8 +84,8 @@ pub returns-in-Ok-clause-reserves : goal.returns-in-Ok-clause-reserves
 returns-in-Ok-clause-reserves c =
     let l = c.self.inside in
     let found = c.in-Ok.found in
-    let last = c.judge_line_without_cell.new.lines.items in
+    let last = c.judgement_on_line.new.lines.items in
     subst (λ (old : CoreView). ReservesNothing old (core_of l.shape l.store l.directory last l.ports.items)) c.self.view_is
     (shortening-reserves l.shape l.store l.directory l.lines.items l.ports.items c.args.most found c.in-Ok.ensures.found.sits
     c.drop_long_journal.new.lines.items c.drop_long_journal.ensures.line
-    (answer_to found.named.cell c.judge_line_without_cell.result) last c.judge_line_without_cell.ensures.line)
+    (answer_to found.named.cell c.judgement_on_line.result) last c.judgement_on_line.ensures.line)

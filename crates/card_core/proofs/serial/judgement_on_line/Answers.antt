@@ -1,7 +1,7 @@
 use Rattle.std.proofs.Common.{◌≡◌, ◌<◌, ℕ, Some, length, refl, ap, subst, arith}
 use Rattle.std.specs.Prelude.{slice_get, slice_set}
 use Rattle.std.proofs.lemmas.Option.{slice_get_read}
-use Rattle.card_core.proofs.serial.judge_line_without_cell.Goals as goal
+use Rattle.card_core.proofs.serial.judgement_on_line.Goals as goal
 
 pub returns-clause-line : goal.returns-clause-line
 returns-clause-line c =
@@ -12,7 +12,7 @@ returns-clause-line c =
       line = line;
       there = subst (λ (n : ℕ). slice_get lines n ≡ Some line) c.from.ensures
           (slice_get_read lines (length lines) c.from.result line refl within c.index_mut-line.ensures.value);
-      next = c.judge_without_cell.new.line;
-      did = c.judge_without_cell.ensures.judged;
-      after = ap (λ (n : ℕ). slice_set lines n c.judge_without_cell.new.line) c.from.ensures;
+      next = c.judgement_at.new.line;
+      did = c.judgement_at.ensures.judged;
+      after = ap (λ (n : ℕ). slice_set lines n c.judgement_at.new.line) c.from.ensures;
     }

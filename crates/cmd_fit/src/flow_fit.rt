@@ -7,7 +7,7 @@ use crate::flow::Flow;
 
 /// A flow after some of its cells.
 #[derive(Clone, Copy, Debug)]
-pub struct ConnectionFit {
+pub struct FlowFit {
     /// The flow.
     pub flow: Flow,
     /// The number of its cells.
@@ -22,12 +22,12 @@ pub struct ConnectionFit {
     pub number: u64,
 }
 
-impl ConnectionFit {
+impl FlowFit {
     /// Returns the state after the first cell of this flow.
-    pub(crate) fn first(flow: Flow, increment: u64, moment: u64, number: u64) -> ConnectionFit
+    pub(crate) fn first(flow: Flow, increment: u64, moment: u64, number: u64) -> FlowFit
         ensures { result ≡ fit_after increment (no_cells flow number) moment number }
     {
-        ConnectionFit {
+        FlowFit {
             flow,
             cells: 1,
             level: increment,
@@ -38,7 +38,7 @@ impl ConnectionFit {
     }
 
     /// Returns the state after one more cell, or none if 64 bits don't hold its numbers.
-    pub(crate) fn after(self, increment: u64, moment: u64, number: u64) -> Option<ConnectionFit>
+    pub(crate) fn after(self, increment: u64, moment: u64, number: u64) -> Option<FlowFit>
         ensures { result ≡ (if is_in_64_bits (fit_after increment self moment number)
             then Some (fit_after increment self moment number) else None) }
     {
@@ -46,7 +46,7 @@ impl ConnectionFit {
         let needed = self.level.saturating_sub(elapsed);
         let cells = self.cells.checked_add(1)?;
         let level = needed.checked_add(increment)?;
-        Some(ConnectionFit {
+        Some(FlowFit {
             flow: self.flow,
             cells,
             level,

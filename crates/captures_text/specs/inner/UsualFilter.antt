@@ -5,14 +5,14 @@ use Rattle.captures.specs.declared.reader.Record.{Record}
 use Rattle.captures_text.specs.CellFilter.{filter_record, filter_state}
 use Rattle.captures_text.specs.declared.filter.CellFilter.{CellFilter}
 use Rattle.captures_text.specs.declared.filter.Filtered.TheVariants.{Counts}
-use Rattle.captures_text.specs.declared.filter.Following.{Following}
+use Rattle.captures_text.specs.declared.filter.UsualFilter.{UsualFilter}
 
 -- The filter with this clock.
 abbrev pub with_clock : CellFilter → Clock → CellFilter
 with_clock filter clock = record filter { clock = Some clock }
 
 -- The filter has this tick, link and clock.
-pub record IsFollowing (filter : CellFilter) (following : Following) (clock : Clock) : Type 0 where
+pub record IsFollowing (filter : CellFilter) (following : UsualFilter) (clock : Clock) : Type 0 where
   pub ticks : filter.ticks ≡ following.ticks
   pub link : filter.link ≡ Some following.link
   pub clock_is : filter.clock ≡ Some clock
