@@ -40,7 +40,7 @@ const OPTIONS_PLACE: usize = 16;
 const PACKET_PLACE: usize = 28;
 
 /// A section of a pcapng file, from its blocks so far.
-#[derive(Clone, Copy, PartialEq, Eq, Debug)]
+#[derive(Clone, Copy, PartialEq, Eq)]
 pub struct Section {
     /// In which order the octets of its numbers come.
     pub order: Order,
@@ -55,7 +55,7 @@ pub struct Section {
 }
 
 /// Why a block or a packet is skipped: what it is.
-#[derive(Clone, Copy, PartialEq, Eq, Debug)]
+#[derive(Clone, Copy, PartialEq, Eq)]
 pub enum Unread {
     /// A block without a packet: a section header, the description of an interface, names, statistics or secrets.
     NoPacket,

@@ -18,7 +18,7 @@ pub(crate) const FILE_HEADER_OCTETS: usize = 24;
 const MOST_OCTETS: u32 = 0xffff;
 
 /// In which order the octets of a number come.
-#[derive(Clone, Copy, PartialEq, Eq, Debug)]
+#[derive(Clone, Copy, PartialEq, Eq)]
 pub enum Order {
     /// The highest first.
     HighestFirst,
@@ -27,7 +27,7 @@ pub enum Order {
 }
 
 /// The container format.
-#[derive(Clone, Copy, PartialEq, Eq, Debug)]
+#[derive(Clone, Copy, PartialEq, Eq)]
 pub enum Format {
     /// Records, one after the other.
     Erf,

@@ -8,7 +8,7 @@ use std::marker::Model;
 use upc_cell::{CELL_OCTETS, Cell};
 
 /// The 52 octets of a cell, without the header error check, where its record has them: nothing is copied. Contracts see the list of them.
-#[derive(Drop, Debug)]
+#[derive(Drop)]
 pub struct LentCell<'a> {
     octets: &'a [u8; CELL_OCTETS],
 }

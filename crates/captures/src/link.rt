@@ -11,7 +11,7 @@ use byteorder::{BigEndian, ByteOrder};
 pub(crate) const CHANNEL_OCTETS: usize = 4;
 
 /// A physical port and a connection of a capture card, from a multi-channel header. It isn't the virtual connection of the cell.
-#[derive(Clone, Copy, PartialEq, Eq, Hash, Debug)]
+#[derive(Clone, Copy, PartialEq, Eq, Hash)]
 pub struct Channel {
     /// The physical port, 0 to 15.
     pub port: u8,
@@ -20,7 +20,7 @@ pub struct Channel {
 }
 
 /// What tells the line that a cell came by from each other line of a capture.
-#[derive(Clone, Copy, PartialEq, Eq, Hash, Debug)]
+#[derive(Clone, Copy, PartialEq, Eq, Hash)]
 pub struct Link {
     /// The interface of its packet among those of a pcapng file, from 0. None in a file of another format.
     pub packet: Option<u64>,

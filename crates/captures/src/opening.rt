@@ -37,7 +37,7 @@ pub enum FileFault {
 }
 
 /// What a file is, by its first octets.
-#[derive(Clone, Copy, PartialEq, Eq, Debug)]
+#[derive(Clone, Copy, PartialEq, Eq)]
 pub enum Opening {
     /// The file is a capture.
     Opened(Format),

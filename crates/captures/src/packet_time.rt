@@ -4,7 +4,7 @@ ghost use Rattle.std.specs.Prelude.{◌≡◌, ◌<◌, ◌^◌, IsTrue};
 ghost use Rattle.captures.specs.PacketTimes.{packet_time as time_of, same_unit, time_of_stamp, times_begun, times_in as packet_times_in, units_in_second as units_of_resolution, units_of_second};
 
 /// Which time of a record counts.
-#[derive(Clone, Copy, PartialEq, Eq, Debug)]
+#[derive(Clone, Copy, PartialEq, Eq)]
 pub enum TimeSource {
     /// Its own time, from its header, which the capture card wrote.
     Record,
@@ -13,7 +13,7 @@ pub enum TimeSource {
 }
 
 /// In which units the headers of packets count time.
-#[derive(Clone, Copy, PartialEq, Eq, Debug)]
+#[derive(Clone, Copy, PartialEq, Eq)]
 pub struct TimeUnit {
     /// N means 10^-N seconds, and 128 + N means 2^-N seconds.
     pub resolution: u8,
@@ -22,7 +22,7 @@ pub struct TimeUnit {
 }
 
 /// What is known of the times of packets.
-#[derive(Clone, Copy, PartialEq, Eq, Debug)]
+#[derive(Clone, Copy, PartialEq, Eq)]
 pub struct PacketTimes {
     /// Whether they count, in place of those of records.
     pub are_read: bool,

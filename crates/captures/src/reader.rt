@@ -18,7 +18,7 @@ use crate::packet::HEADER_OCTETS;
 use byteorder::{ByteOrder, LittleEndian};
 
 /// A record of a capture. It borrows its cell from the octets that it was read from.
-#[derive(PartialEq, Eq, Drop, Debug)]
+#[derive(PartialEq, Eq, Drop)]
 pub struct Record<'a> {
     /// Its number in its capture, from 1. Packets of a pcapng file that are passed over have numbers too (`Unread::has_number`).
     pub number: u64,
@@ -33,7 +33,7 @@ pub struct Record<'a> {
 }
 
 /// A block or a packet without a record, which was skipped. Printed texts say that it was passed over.
-#[derive(Clone, Copy, PartialEq, Eq, Debug)]
+#[derive(Clone, Copy, PartialEq, Eq)]
 pub struct SkippedBlock {
     /// What it is.
     pub what: Unread,
@@ -42,7 +42,7 @@ pub struct SkippedBlock {
 }
 
 /// What comes next in a capture.
-#[derive(PartialEq, Eq, Drop, Debug)]
+#[derive(PartialEq, Eq, Drop)]
 pub enum Next<'a> {
     /// A record, and how many octets are of it and its packet or block.
     Taken(Record<'a>, usize),
@@ -55,7 +55,7 @@ pub enum Next<'a> {
 }
 
 /// How far a capture was read.
-#[derive(Clone, Copy, PartialEq, Eq, Debug)]
+#[derive(Clone, Copy, PartialEq, Eq)]
 pub struct Reader {
     /// The container format. In a pcapng file it has the section of the next block.
     pub format: Format,

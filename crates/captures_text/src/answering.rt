@@ -19,7 +19,7 @@ use text_io::Turn;
 const FEW: usize = 256;
 
 /// How a run goes on after a step.
-#[derive(Clone, Copy, PartialEq, Eq, Debug)]
+#[derive(Clone, Copy, PartialEq, Eq)]
 pub(crate) enum StepOutcome {
     /// Some octets that wait may be read.
     On,

@@ -10,7 +10,7 @@ use std::alloc::AllocError;
 use text_words::{add_numbered, add_text};
 
 /// Blocks and packets of a pcapng file that have no record for this reader, by kind. The first of each is its place, in octets from 0.
-#[derive(Clone, Copy, PartialEq, Eq, Debug)]
+#[derive(Clone, Copy, PartialEq, Eq)]
 pub struct BlockTallies {
     /// Simple packets.
     pub simple: CountAndFirst,

@@ -3,7 +3,7 @@
 use upc_cell::Cell;
 
 /// A cell that counts: it is of the link that is read, and its time is not before that of an earlier one.
-#[derive(Clone, Copy, PartialEq, Eq, Debug)]
+#[derive(Clone, Copy, PartialEq, Eq)]
 pub struct CapturedCell {
     /// The number of its record in the capture, from 1.
     pub number: u64,

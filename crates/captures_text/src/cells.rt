@@ -16,7 +16,7 @@ use text_io::{Added, Ending, Input, Output, Turn};
 use text_words::{add_cell_octets, add_number, add_text};
 
 /// A run of `cells`.
-#[derive(Clone, Copy, Drop, Debug)]
+#[derive(Clone, Copy, Drop)]
 pub(crate) struct Cells {
     /// Whether each cell comes after the number of its record.
     pub numbered: bool,

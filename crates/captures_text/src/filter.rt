@@ -10,7 +10,7 @@ use crate::ticks::Ticks;
 use captures::{Clock, LentCell, Link, Record, SkippedBlock, Tick, TimeSource};
 
 /// What a record is to a run that reads the cells of one link.
-#[derive(PartialEq, Eq, Drop, Debug)]
+#[derive(PartialEq, Eq, Drop)]
 pub enum Filtered<'a> {
     /// Its cell counts: the moment, in ticks since the first cell of the capture, and the cell.
     Counts(u64, LentCell<'a>),
@@ -22,7 +22,7 @@ pub enum Filtered<'a> {
 
 /// Decides for each record of a capture whether its cell counts. If a link was asked for, its cells count, otherwise those of the first
 /// cell's link. A cell with a time before that of an earlier one does not count.
-#[derive(Clone, Copy, Drop, Debug)]
+#[derive(Clone, Copy, Drop)]
 pub struct CellFilter {
     ticks: Ticks,
     /// Which time the reader gives a record. Only contracts read it.

@@ -1,7 +1,7 @@
 //! Which cells get a line of the output.
 
 /// Which cells get a line of the output.
-#[derive(Clone, Copy, Debug, PartialEq, Eq)]
+#[derive(Clone, Copy, PartialEq, Eq)]
 pub enum LineChoice {
     /// All cells.
     All,

@@ -9,7 +9,7 @@ use std::alloc::AllocError;
 use text_words::{add_number, add_text};
 
 /// Records with marks, by mark.
-#[derive(Clone, Copy, PartialEq, Eq, Debug)]
+#[derive(Clone, Copy, PartialEq, Eq)]
 pub struct MarkTallies {
     /// Records were lost before them.
     pub losses: CountAndFirst,

@@ -24,7 +24,7 @@ pub const READING_OCTETS: usize = 131_072;
 const USUAL_OCTETS: usize = 16 + CELL_OCTETS;
 
 /// Why the reading stopped: what comes after the records that were read.
-#[derive(Clone, Copy, PartialEq, Eq, Debug)]
+#[derive(Clone, Copy, PartialEq, Eq)]
 pub(crate) enum StopReason {
     /// The octets that wait begin a frame, or there are none: more octets are wanted.
     Wants,

@@ -14,7 +14,7 @@ use text_words::{add_number, add_text};
 const TYPES: usize = 128;
 
 /// The records that were passed over, by reason; blocks and packets without a record, which were skipped; and records with marks.
-#[derive(Clone, Copy, PartialEq, Eq, Debug)]
+#[derive(Clone, Copy, PartialEq, Eq)]
 pub struct ReadingSummary {
     /// They are of a type that holds no cell: those of each type, at the place of its number.
     pub other_types: [CountAndFirst; TYPES],

@@ -9,7 +9,7 @@ use captures::Tick;
 const TWO_TO_64: u128 = 0x1_0000_0000_0000_0000;
 
 /// A tick, and its inverse. A multiplication by the inverse takes less time than a division of 64 bits.
-#[derive(Clone, Copy, Debug)]
+#[derive(Clone, Copy)]
 pub(crate) struct Ticks {
     pub(crate) tick: Tick,
     /// 2^64 - 1 divided by the nanoseconds of the tick, rounded down.

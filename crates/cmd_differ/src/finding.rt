@@ -6,7 +6,7 @@ ghost use Rattle.cmd_differ.specs.Findings.{ended_by, finding_done};
 use text_io::{Done, Ending, RunFault};
 
 /// What `unused` found of one text of rules, or `differ` of two texts, each of rules or with a program.
-#[derive(Clone, Copy, Debug, PartialEq, Eq)]
+#[derive(Clone, Copy, PartialEq, Eq)]
 pub enum Finding {
     /// Both texts give each cell the same value; each rule decides some cell.
     Nothing,

@@ -1,7 +1,7 @@
 //! What the texts are that are compared.
 
 /// What a text is.
-#[derive(Clone, Copy, Debug, PartialEq, Eq)]
+#[derive(Clone, Copy, PartialEq, Eq)]
 pub enum TextKind {
     /// Rules.
     Rules,
@@ -10,7 +10,7 @@ pub enum TextKind {
 }
 
 /// What the two texts of a comparison are.
-#[derive(Clone, Copy, Debug, PartialEq, Eq)]
+#[derive(Clone, Copy, PartialEq, Eq)]
 pub struct TextKinds {
     /// The text before the change.
     pub old: TextKind,

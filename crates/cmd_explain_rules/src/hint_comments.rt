@@ -12,7 +12,7 @@ use rules_text::{RuleFault, RuleFaultKind, read_with_places};
 use std::alloc::{AllocError, Global};
 
 /// The hints about rules as comments.
-#[derive(Debug, Drop)]
+#[derive(Drop)]
 pub enum Comments {
     /// These were made.
     Made(Vec<u8>),

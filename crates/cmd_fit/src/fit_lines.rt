@@ -5,9 +5,9 @@ ghost use Rattle.std.specs.Map.{values_of};
 ghost use Rattle.cmd_fit.specs.FitText.{channel_column, connection_columns, fit_fault_line, fit_line, fit_lines, flow_key, heading, limit_columns, put_in_order, value_column};
 ghost use Rattle.cmd_fit.specs.inner.FlowPlaces.{IsSmall};
 
-use crate::flow_fit::FlowFit;
 use crate::fault::FitFault;
 use crate::flow::Flow;
+use crate::flow_fit::FlowFit;
 use std::alloc::{AllocError, Global};
 use std::collections::BTreeMap;
 use text_words::{add_number, add_numbered, add_text};
@@ -100,10 +100,7 @@ pub(crate) fn key_of(flow: Flow) -> u64
 }
 
 /// Returns the states in order of path, channel and value.
-fn in_order(
-    alloc: Global,
-    fits: &[FlowFit],
-) -> Result<BTreeMap<u64, FlowFit>, AllocError>
+fn in_order(alloc: Global, fits: &[FlowFit]) -> Result<BTreeMap<u64, FlowFit>, AllocError>
     ensures { IfOk result (λ ordered. ordered.entries ≡ put_in_order [] fits.now) }
 {
     let mut ordered = BTreeMap::new(alloc);

@@ -3,7 +3,7 @@
 use upc_cell::Vc;
 
 /// The cells that have one line: those of a connection and, if rules are given, of one value.
-#[derive(Clone, Copy, PartialEq, Eq, Debug)]
+#[derive(Clone, Copy, PartialEq, Eq)]
 pub struct Flow {
     /// The connection.
     pub vc: Vc,

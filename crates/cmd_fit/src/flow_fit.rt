@@ -6,7 +6,7 @@ ghost use Rattle.cmd_fit.specs.Fits.{fit_after, is_in_64_bits, no_cells};
 use crate::flow::Flow;
 
 /// A flow after some of its cells.
-#[derive(Clone, Copy, Debug)]
+#[derive(Clone, Copy)]
 pub struct FlowFit {
     /// The flow.
     pub flow: Flow,

@@ -3,10 +3,10 @@
 ghost use Rattle.std.specs.Prelude.{◌≡◌, ◌<◌, length};
 ghost use Rattle.cmd_fit.specs.inner.FlowPlaces.{IsSmall, TakesAt, state_place};
 
-use crate::flow_fit::FlowFit;
 use crate::fault::FitFault;
 use crate::fit_lines::{add_fit_lines, key_of};
 use crate::flow::Flow;
+use crate::flow_fit::FlowFit;
 use std::alloc::{AllocError, Global};
 use std::collections::BTreeMap;
 use std::marker::Model;

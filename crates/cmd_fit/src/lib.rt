@@ -4,11 +4,11 @@
 #![tactic(auto)]
 
 mod cell_values;
-mod flow_fit;
 mod fault;
 mod fit;
 mod fit_lines;
 mod flow;
+mod flow_fit;
 mod flows;
 mod given_rules;
 pub mod laws;
@@ -19,9 +19,9 @@ mod links;
 mod links_driver;
 mod links_reading;
 
-pub use flow_fit::FlowFit;
 pub use fault::FitFault;
 pub use fit::fit_capture;
 pub use flow::Flow;
+pub use flow_fit::FlowFit;
 pub use link_tally::LinkTally;
 pub use links::links_of_capture;

@@ -10,7 +10,7 @@ use std::alloc::AllocError;
 use text_io::Window;
 
 /// How a reading goes on.
-#[derive(Clone, Copy, PartialEq, Eq, Debug)]
+#[derive(Clone, Copy, PartialEq, Eq)]
 pub(crate) enum StepOutcome {
     /// A frame was read, and there may be more among the octets that wait.
     On,

@@ -1,7 +1,7 @@
 //! How a cell goes on.
 
 /// Whether a cell goes on to the output, and in which form.
-#[derive(Clone, Copy, PartialEq, Eq, Debug)]
+#[derive(Clone, Copy, PartialEq, Eq)]
 pub enum Onward {
     /// It doesn't go on: its record isn't written.
     Stays,

@@ -15,7 +15,7 @@ use std::alloc::AllocError;
 use text_io::{Turn, Window};
 
 /// What a run does after a step.
-#[derive(Clone, Copy, PartialEq, Eq, Debug)]
+#[derive(Clone, Copy, PartialEq, Eq)]
 pub(crate) enum StepOutcome {
     /// It takes the next step: the window may have another whole frame.
     On,

@@ -18,7 +18,7 @@ use std::alloc::Global;
 use text_command_line::{Program, Row, Stop, VERSION, row_of_words};
 
 /// A subcommand without options.
-#[derive(Clone, Copy, Debug, PartialEq, Eq)]
+#[derive(Clone, Copy, PartialEq, Eq)]
 pub enum Subcommand {
     /// Compile a text of rules, and print the octets of their program.
     Rules,
@@ -37,7 +37,7 @@ pub enum Subcommand {
 }
 
 /// What the program should do.
-#[derive(Debug, PartialEq, Eq, Drop)]
+#[derive(PartialEq, Eq, Drop)]
 pub enum Asked {
     /// Run a subcommand without options.
     Plain(Subcommand),

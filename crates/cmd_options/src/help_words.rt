@@ -17,7 +17,7 @@ use std::alloc::Global;
 use text_command_line::Stop;
 
 /// A subcommand with options.
-#[derive(Clone, Copy, Debug, PartialEq, Eq)]
+#[derive(Clone, Copy, PartialEq, Eq)]
 pub enum WithOptions {
     /// `why`.
     Why,

@@ -157,7 +157,7 @@ fn has_lines_before(begun: bool, spans: &Spans, commanded: bool) -> bool
 }
 
 /// What is chosen for a run of `police`.
-#[derive(Clone, Copy, Debug)]
+#[derive(Clone, Copy)]
 pub struct PoliceChoice {
     /// How many threads may work at once.
     pub threads: usize,

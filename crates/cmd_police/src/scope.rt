@@ -4,7 +4,7 @@ use captures::{Link, TimeSource};
 use captures_text::LineChoice;
 
 /// Which cells of a capture are policed, and what is written about them.
-#[derive(Clone, Copy, Debug)]
+#[derive(Clone, Copy)]
 pub struct PoliceScope {
     /// The link whose cells are read. Without one the cells of a capture may be of one link only.
     pub link: Option<Link>,

@@ -28,7 +28,7 @@ pub(crate) struct TickLine {
 }
 
 /// The ticks of a run for which a setup script names one, and another was asked for.
-#[derive(Clone, Copy, PartialEq, Eq, Debug)]
+#[derive(Clone, Copy, PartialEq, Eq)]
 pub struct TicksDiffer {
     /// The nanoseconds of the one that the script names.
     pub named: u64,

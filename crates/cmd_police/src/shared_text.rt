@@ -7,7 +7,7 @@ use std::alloc::{AllocError, Global};
 use std::rc::Rc;
 
 /// The octets of a file of rules. Lines that name the same file share them.
-#[derive(Debug, Drop)]
+#[derive(Drop)]
 pub struct SharedText {
     /// The octets.
     pub octets: Rc<Vec<u8>>,

@@ -17,7 +17,9 @@ ghost use Rattle.cmd_rules.specs.inner.Places.{GivesPlaces, decision_by_place, l
 use bpf_interp::run;
 use bpf_verify::Program;
 use rules_cells::{CodeFault, Decision, RuleLine, Rules, compile, decide};
-use rules_text::{PlacedRules, RuleFault, RuleFaultKind, compile_text, read_rules, read_with_places};
+use rules_text::{
+    PlacedRules, RuleFault, RuleFaultKind, compile_text, read_rules, read_with_places,
+};
 use std::alloc::{AllocError, Global};
 use upc_cell::Cell;
 

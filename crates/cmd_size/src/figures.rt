@@ -1,7 +1,7 @@
 //! The figures of a contract, as it is on paper.
 
 /// A rate of cells.
-#[derive(Clone, Copy, Debug)]
+#[derive(Clone, Copy)]
 pub enum CellRate {
     /// Cells a second.
     Cells(u64),
@@ -10,7 +10,7 @@ pub enum CellRate {
 }
 
 /// The kinds of contract that have a sustained rate.
-#[derive(Clone, Copy, Debug)]
+#[derive(Clone, Copy)]
 pub enum VbrKind {
     Vbr1,
     Vbr2,
@@ -18,7 +18,7 @@ pub enum VbrKind {
 }
 
 /// The figures of the sustained rate.
-#[derive(Clone, Copy, Debug)]
+#[derive(Clone, Copy)]
 pub struct Sustained {
     /// The kind of the contract.
     pub kind: VbrKind,
@@ -29,7 +29,7 @@ pub struct Sustained {
 }
 
 /// The figures of a contract, and the tick of its policer.
-#[derive(Clone, Copy, Debug)]
+#[derive(Clone, Copy)]
 pub struct Figures {
     /// The peak cell rate.
     pub pcr: CellRate,

@@ -19,7 +19,7 @@ use rules_code::Span;
 use upc_cell::{Cell, Side};
 
 /// What rules decide for a cell.
-#[derive(Clone, Copy, Debug, PartialEq, Eq)]
+#[derive(Clone, Copy, PartialEq, Eq)]
 pub struct Decision {
     /// The place of the rule that decides among the lines of rules, counted from 0; none if no rule does.
     pub line: Option<usize>,

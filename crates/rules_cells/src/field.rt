@@ -6,7 +6,7 @@ ghost use Rattle.bpf_interp.specs.Packet.{octets_loaded};
 use bpf_code::Size;
 
 /// One, two or four octets of a cell, as one number, the first octet highest.
-#[derive(Clone, Copy, Debug)]
+#[derive(Clone, Copy)]
 pub struct Octets {
     /// How many octets.
     pub size: Size,
@@ -16,7 +16,7 @@ pub struct Octets {
 }
 
 /// A number of a cell: a field of its header (ITU-T I.361), or some of its octets.
-#[derive(Clone, Copy, Debug)]
+#[derive(Clone, Copy)]
 pub enum Field {
     /// Generic flow control.
     Gfc,

@@ -3,7 +3,7 @@
 use rules_code::Span;
 
 /// What a number is compared with.
-#[derive(Debug, Drop)]
+#[derive(Drop)]
 pub enum Relation {
     /// It is this one.
     Equal(u32),

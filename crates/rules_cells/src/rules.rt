@@ -4,7 +4,7 @@ use crate::test::Test;
 use upc_cell::Side;
 
 /// A line: a rule, the head of a block, or its end. Lines are tried in order.
-#[derive(Debug, Drop)]
+#[derive(Drop)]
 pub enum RuleLine {
     /// Where the test holds, the value is this.
     Rule {
@@ -23,7 +23,7 @@ pub enum RuleLine {
 }
 
 /// Rules for the cells at one side.
-#[derive(Debug, Drop)]
+#[derive(Drop)]
 pub struct Rules {
     /// The side at which headers are read.
     pub side: Side,

@@ -4,7 +4,7 @@ use crate::field::Field;
 use crate::relation::Relation;
 
 /// A test of a cell.
-#[derive(Debug, Drop)]
+#[derive(Drop)]
 pub enum Test {
     /// Holds of every cell.
     Any,

@@ -19,7 +19,7 @@ use std::alloc::{AllocError, Global};
 use std::collections::VecDeque;
 
 /// A line: a rule, the head of a block, or its end. Lines are tried in order.
-#[derive(Debug, Drop)]
+#[derive(Drop)]
 pub enum Line {
     /// Where the test holds, the value is this.
     Rule {
@@ -180,7 +180,7 @@ fn with_entry_jump(coding: Coding) -> Result<Vec<Instr>, AllocError>
 }
 
 /// A code, and where that of each line begins.
-#[derive(Debug, Drop)]
+#[derive(Drop)]
 pub struct PlacedCode {
     /// The instructions.
     pub code: Vec<Instr>,

@@ -7,7 +7,7 @@ use bpf_code::Size;
 
 /// A number in a packet of 52 octets: one, two or four octets from an offset, big-endian, of which a mask may keep some
 /// bits.
-#[derive(Clone, Copy, Debug)]
+#[derive(Clone, Copy)]
 pub struct Part {
     /// How many octets.
     pub size: Size,
@@ -19,7 +19,7 @@ pub struct Part {
 }
 
 /// An inclusive range of numbers.
-#[derive(Clone, Copy, Debug, PartialEq, Eq)]
+#[derive(Clone, Copy, PartialEq, Eq)]
 pub struct Span {
     /// The lowest number.
     pub low: u32,

@@ -3,7 +3,7 @@
 use crate::packet_part::{Part, Span};
 
 /// A test on the numbers in a packet.
-#[derive(Debug, Drop)]
+#[derive(Drop)]
 pub enum PlainTest {
     /// Holds of every packet.
     Always,

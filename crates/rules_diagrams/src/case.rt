@@ -4,7 +4,7 @@ use rules_cells::Decision;
 use upc_cell::Cell;
 
 /// What the old and the new side of a comparison decide for a cell. A side is rules or a program; a program decides by no line.
-#[derive(Clone, Copy, Debug)]
+#[derive(Clone, Copy)]
 pub struct Case {
     /// What the old side decides.
     pub old: Decision,

@@ -12,7 +12,7 @@ use crate::word::Bit;
 use bpf_code::Test;
 
 /// The contents of the registers and of the scratch words.
-#[derive(Clone, Copy, Debug)]
+#[derive(Clone, Copy)]
 pub(crate) struct Contents {
     /// The bits of A, the lowest first.
     pub a: [Bit; 32],
@@ -85,7 +85,7 @@ pub(crate) fn are_same(one: &Contents, other: &Contents) -> bool
 }
 
 /// A register.
-#[derive(Clone, Copy, Debug)]
+#[derive(Clone, Copy)]
 pub(crate) enum Register {
     /// A.
     A,
@@ -110,7 +110,7 @@ pub(crate) fn with_word(contents: &Contents, register: Register, word: [Bit; 32]
 }
 
 /// What one instruction makes of a register.
-#[derive(Clone, Copy, Debug)]
+#[derive(Clone, Copy)]
 pub(crate) enum Made {
     /// It puts this word into it.
     Word([Bit; 32]),
@@ -145,7 +145,7 @@ impl Made {
 }
 
 /// What one instruction does.
-#[derive(Clone, Copy, Debug)]
+#[derive(Clone, Copy)]
 pub(crate) enum Followed {
     /// It ends the program with this value.
     Ends(u32),
@@ -172,7 +172,7 @@ pub(crate) enum Followed {
 }
 
 /// What a program gives each cell from a place on.
-#[derive(Clone, Copy, Debug)]
+#[derive(Clone, Copy)]
 pub(crate) struct Told {
     /// The place.
     pub place: usize,

@@ -1,7 +1,7 @@
 //! Diagrams and the nodes that they are made of.
 
 /// A diagram: its number, or the node at which it begins.
-#[derive(Clone, Copy, Debug, PartialEq, Eq)]
+#[derive(Clone, Copy, PartialEq, Eq)]
 pub(crate) enum Diagram {
     /// Every cell has this number.
     Leaf(u32),
@@ -11,7 +11,7 @@ pub(crate) enum Diagram {
 
 /// A node: a bit, and the diagrams of the cells in which it isn't set and in which it is. Both are made of older nodes, and ask only for
 /// later bits.
-#[derive(Clone, Copy, Debug, PartialEq, Eq)]
+#[derive(Clone, Copy, PartialEq, Eq)]
 pub(crate) struct Node {
     /// The bit. Bit 0 is the highest bit of the first octet, bit 415 the lowest bit of the last.
     pub bit: u16,

@@ -39,7 +39,7 @@ impl<T: Drop> From<AllocFailed<T>> for Undecided {
 }
 
 /// Why a program has no diagram.
-#[derive(Clone, Copy, Debug, PartialEq, Eq)]
+#[derive(Clone, Copy, PartialEq, Eq)]
 pub(crate) enum Unfollowed {
     /// The instruction at this place isn't followed.
     At(usize),

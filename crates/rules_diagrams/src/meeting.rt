@@ -4,7 +4,7 @@ use crate::diagram::Diagram;
 use upc_cell::Cell;
 
 /// The numbers that two diagrams give a cell, and the cell.
-#[derive(Clone, Copy, Debug)]
+#[derive(Clone, Copy)]
 pub(crate) struct Meeting {
     /// The number that the first diagram gives.
     pub one: u32,
@@ -15,7 +15,7 @@ pub(crate) struct Meeting {
 }
 
 /// Two numbers.
-#[derive(Clone, Copy, Debug)]
+#[derive(Clone, Copy)]
 pub(crate) struct Pair {
     /// The first.
     pub one: u32,
@@ -24,7 +24,7 @@ pub(crate) struct Pair {
 }
 
 /// Two diagrams, which may be of two stores.
-#[derive(Clone, Copy, Debug, PartialEq, Eq)]
+#[derive(Clone, Copy, PartialEq, Eq)]
 pub(crate) struct Both {
     /// The first.
     pub one: Diagram,

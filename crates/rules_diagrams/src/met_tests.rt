@@ -230,8 +230,20 @@ pub(crate) fn met(diagrams: &mut Diagrams, side: Side, test: &Test) -> Result<Di
 {
     match test {
         Test::Any => Ok(Diagram::Leaf(1)),
-        Test::Oam => reached(diagrams, side, Field::Pti, None, Interval { low: 4, end: 6 }),
-        Test::User => reached(diagrams, side, Field::Pti, None, Interval { low: 0, end: 4 }),
+        Test::Oam => reached(
+            diagrams,
+            side,
+            Field::Pti,
+            None,
+            Interval { low: 4, end: 6 },
+        ),
+        Test::User => reached(
+            diagrams,
+            side,
+            Field::Pti,
+            None,
+            Interval { low: 0, end: 4 },
+        ),
         Test::Compare {
             field,
             mask,

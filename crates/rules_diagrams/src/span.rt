@@ -9,7 +9,7 @@ use crate::fault::Undecided;
 use crate::store::Diagrams;
 
 /// Some bits of a cell that are one number, the first highest.
-#[derive(Clone, Copy, Debug)]
+#[derive(Clone, Copy)]
 pub(crate) struct Bits {
     /// The first bit. Bit 0 is the highest bit of the first octet.
     pub bit: u16,
@@ -18,7 +18,7 @@ pub(crate) struct Bits {
 }
 
 /// Numbers from one on, up to another, which isn't among them.
-#[derive(Clone, Copy, Debug)]
+#[derive(Clone, Copy)]
 pub(crate) struct Interval {
     /// The first number.
     pub low: u64,
@@ -61,7 +61,12 @@ impl Diagrams {
     ///
     /// As [`choose`](Self::choose) has them.
     #[tactic(auto, using(crate::proofs::Nodes::keeps_both, crate::proofs::Nodes::keeps_itself))]
-    pub(crate) fn span(&mut self, bits: Bits, mask: u32, reach: Interval) -> Result<Diagram, Undecided>
+    pub(crate) fn span(
+        &mut self,
+        bits: Bits,
+        mask: u32,
+        reach: Interval,
+    ) -> Result<Diagram, Undecided>
         requires width { bits.width ≤ 32 }
         requires inside { bits.bit + bits.width ≤ 416 }
         ensures keeps { Keeps self.old self.new }

@@ -3,7 +3,7 @@
 use crate::diagram::Diagram;
 
 /// A choice that is asked for.
-#[derive(Clone, Copy, Debug, PartialEq, Eq)]
+#[derive(Clone, Copy, PartialEq, Eq)]
 pub(crate) struct Asked {
     /// What decides.
     pub test: Diagram,
@@ -14,7 +14,7 @@ pub(crate) struct Asked {
 }
 
 /// A choice that was made.
-#[derive(Clone, Copy, Debug)]
+#[derive(Clone, Copy)]
 pub(crate) struct Step {
     /// What was asked for.
     pub asked: Asked,

@@ -25,7 +25,7 @@ pub(crate) const NO_BIT: u16 = 416;
 /// The nodes of diagrams. A node is never changed or taken away, so a diagram keeps its meaning.
 ///
 /// Contracts see the list of the nodes, the newest first.
-#[derive(Debug, Drop)]
+#[derive(Drop)]
 pub(crate) struct Diagrams {
     /// The nodes, the oldest first.
     nodes: Vec<Node>,

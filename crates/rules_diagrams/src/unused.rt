@@ -1,7 +1,7 @@
 //! A rule that decides no cell.
 
 /// A rule that decides no cell.
-#[derive(Debug, Drop)]
+#[derive(Drop)]
 pub struct Unused {
     /// The place of the rule among the lines of rules, counted from 0.
     pub place: usize,

@@ -7,7 +7,7 @@ ghost use Rattle.rules_diagrams.specs.inner.Words.{word_number};
 use std::alloc::{AllocError, Global};
 
 /// A bit of a number.
-#[derive(Clone, Copy, Debug, PartialEq, Eq)]
+#[derive(Clone, Copy, PartialEq, Eq)]
 pub(crate) enum Bit {
     /// 0 for every cell.
     Zero,

@@ -40,7 +40,7 @@ pub fn compile_text(alloc: Global, text: &[u8]) -> Result<Vec<Instr>, RuleFault>
 }
 
 /// The code of a text of rules, and which line of rules each part of it is of.
-#[derive(Debug, Drop)]
+#[derive(Drop)]
 pub struct CodeWithPlaces {
     /// The code, and where that of each line of rules begins.
     pub placed: PlacedCode,

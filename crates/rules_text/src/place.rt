@@ -7,7 +7,7 @@ ghost use Rattle.rules_text.specs.TextOfRules.{fault_of_line};
 use crate::fault::RuleFault;
 
 /// Where a line of rules begins. It is printed as the number of the source line, and the column if there is one.
-#[derive(Clone, Copy, Debug, PartialEq, Eq)]
+#[derive(Clone, Copy, PartialEq, Eq)]
 pub struct RulePlace {
     /// The number of the source line, counted from 1.
     pub line: usize,
@@ -16,7 +16,7 @@ pub struct RulePlace {
 }
 
 /// A place in a text, both numbers counted from 1.
-#[derive(Clone, Copy, Debug, PartialEq, Eq)]
+#[derive(Clone, Copy, PartialEq, Eq)]
 pub struct TextPlace {
     /// The number of the source line.
     pub line: usize,

@@ -29,7 +29,7 @@ use upc_cell::Side;
 const MOST_ADDED: usize = 262_144;
 
 /// Rules, and where they begin.
-#[derive(Debug, Drop)]
+#[derive(Drop)]
 pub struct PlacedRules {
     /// The rules.
     pub rules: Rules,
@@ -60,7 +60,12 @@ struct TextReader {
 
 impl TextReader {
     /// Takes a line of rules, which begins at a place, and has its first token at a column of it, counted from 1.
-    fn take_line(&mut self, line: RuleLine, begin: TextPlace, column: usize) -> Result<(), RuleFaultKind>
+    fn take_line(
+        &mut self,
+        line: RuleLine,
+        begin: TextPlace,
+        column: usize,
+    ) -> Result<(), RuleFaultKind>
         requires blocks { self.old.blocks < 2 ^ 63 }
         requires some { 0 < column }
         requires within { begin.column + column < 2 ^ 64 }

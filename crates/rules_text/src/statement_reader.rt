@@ -24,7 +24,10 @@ impl LineReader {
         let unbalanced = self.unbalanced_at(column);
         match self.read(context, column, token) {
             Ok(()) => Ok(()),
-            Err(RuleFaultKind::Unbalanced) => Err(fault_in_line(RuleFaultKind::Unbalanced, unbalanced)),
+            Err(RuleFaultKind::Unbalanced) => Err(fault_in_line(
+                RuleFaultKind::Unbalanced,
+                unbalanced,
+            )),
             Err(kind) => Err(fault_in_line(kind, column)),
         }
     }

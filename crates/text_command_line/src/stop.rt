@@ -8,7 +8,7 @@ use clap::error::ErrorKind;
 use std::alloc::Global;
 
 /// Why the words give no choice. A text is the whole message, with its last line feed.
-#[derive(Debug, Drop)]
+#[derive(Drop)]
 pub enum Stop {
     /// Help or the version was requested. The text goes to the standard output, and the exit status is 0.
     Help(String),

@@ -9,7 +9,7 @@ use text_words::{CELL_DIGITS, HEADER_DIGITS, cell_of_digits};
 use upc_cell::Cell;
 
 /// A cell of a script, and the moment when it arrives, in ticks.
-#[derive(Clone, Copy, Debug)]
+#[derive(Clone, Copy)]
 pub struct Arrival {
     pub moment: u64,
     pub cell: Cell,

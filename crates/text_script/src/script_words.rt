@@ -10,7 +10,7 @@ use memchr::memchr;
 use upc_cell::{Side, Vc};
 
 /// A rate as a script requests it. Its numbers may be outside all limits.
-#[derive(Clone, Copy, Debug, PartialEq, Eq)]
+#[derive(Clone, Copy, PartialEq, Eq)]
 pub struct Rate {
     /// The time between two cells, in ticks.
     pub increment: u64,
@@ -19,7 +19,7 @@ pub struct Rate {
 }
 
 /// A contract as a script requests it. Of two rates the first is that of the peak.
-#[derive(Clone, Copy, Debug, PartialEq, Eq)]
+#[derive(Clone, Copy, PartialEq, Eq)]
 pub enum Wanted {
     Cbr1(Rate),
     Vbr1(Rate, Rate),

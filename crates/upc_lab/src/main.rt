@@ -30,7 +30,7 @@ use invocation::explains_setup;
 pub use named_files::{NamedFiles, Unreadable, read_named_files};
 pub use notice::awaited;
 pub use progress::{Counted, reads_capture};
-pub use reason::{WithReason, Reasoned, Work};
+pub use reason::{Reasoned, WithReason, Work};
 pub use reporting::shell_status;
 use std::alloc::Global;
 use std::io::{BufReader, IsTerminal, Read};

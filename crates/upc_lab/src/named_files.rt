@@ -34,7 +34,7 @@ const MOST_LINE_OCTETS: usize = 70000;
 const PART: u64 = 65536;
 
 /// The octets of the files that the words name.
-#[derive(Debug, Drop)]
+#[derive(Drop)]
 pub struct NamedFiles {
     /// The octets of the setup script, as far as they were read, without the tick that it names.
     pub script: Vec<u8>,
@@ -63,7 +63,7 @@ impl NamedFiles {
 }
 
 /// Why a file could not be read.
-#[derive(Debug, Drop)]
+#[derive(Drop)]
 pub struct Unreadable {
     /// The reason, in the words of the system.
     pub reason: Vec<u8>,

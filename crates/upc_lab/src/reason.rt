@@ -29,7 +29,7 @@ pub trait Reasoned {
 }
 
 /// What a device is used for.
-#[derive(Clone, Copy, Debug, PartialEq, Eq)]
+#[derive(Clone, Copy, PartialEq, Eq)]
 pub enum Work {
     Reading,
     Writing,
