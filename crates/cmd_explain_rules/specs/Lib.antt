@@ -1,6 +1,6 @@
 -- Texts of rules, explained. Read the modules in this order:
-pub mod WordsFound
 pub mod Parts
+pub mod WordsFound
 pub mod Spots
 pub mod Reasons
 pub mod RuleLines

@@ -3,19 +3,20 @@ use Rattle.std.specs.Prelude.{ℕ, Bool, true, false, ◌&&◌, if◌then◌else
 use Rattle.cmd_explain_script.specs.Meant.{is_near, perhaps_text}
 use Rattle.cmd_explain_script.specs.Places.{quoted}
 use Rattle.cmd_explain_rules.specs.NearNames.{either_word}
-use Rattle.cmd_explain_rules.specs.Parts.{known_words}
+use Rattle.cmd_explain_rules.specs.Parts.{part_of}
 use Rattle.cmd_explain_rules.specs.Reasons.{expected}
 use Rattle.cmd_explain_rules.specs.declared.token_parts.Part.{Part}
 use Rattle.cmd_explain_rules.specs.declared.token_parts.Part.TheVariants as part
 use Rattle.cmd_explain_rules.specs.declared.spots.Place.{Place}
 use Rattle.cmd_explain_rules.specs.declared.spots.Place.TheVariants as here
 use Rattle.cmd_explain_rules.specs.declared.spots.Spot.{Spot}
+use Rattle.rules_text.specs.RuleTokens.{RuleToken, rule_words}
 
 -- Whether a word begins a unit of a test.
 abbrev pub begins_unit : Part → Bool
 begins_unit part.Test = true
 begins_unit (part.Field compared) = true
-begins_unit (part.Size compared) = true
+begins_unit (part.Size size) = true
 begins_unit part.Not = true
 begins_unit _ = false
 
@@ -56,9 +57,9 @@ may_come here.Side word = is_side word
 may_come _ word = false
 
 -- The first of these words that may come at a place and is near a word.
-abbrev pub near_word : Place → List ℕ → List (List ℕ × Part) → Option (List ℕ)
+abbrev pub near_word : Place → List ℕ → List (List ℕ × RuleToken) → Option (List ℕ)
 near_word place word [] = None
-near_word place word (row ∷ rows) = if may_come place row.1 && is_near word row.0 then Some row.0 else near_word place word rows
+near_word place word (row ∷ rows) = if may_come place (part_of row.1) && is_near word row.0 then Some row.0 else near_word place word rows
 
 -- What is said of a word that is unknown: the word that was perhaps meant, or what may come there.
 abbrev pub meant_text : Option (List ℕ) → List ℕ → List ℕ
@@ -67,7 +68,7 @@ meant_text (Some word) other = perhaps_text (Some word)
 
 -- What is said of an unknown word at a place, where this name is near it, if one is.
 unfoldable pub near_text : Spot → List ℕ → Option (List ℕ) → List ℕ
-near_text spot word named = meant_text (either_word named (near_word spot.place word known_words)) (expected spot.defines spot.place)
+near_text spot word named = meant_text (either_word named (near_word spot.place word rule_words)) (expected spot.defines spot.place)
 
 -- The sentence about a word that is unknown, where this name is near it, if one is.
 abbrev pub unknown_word_sentence : Spot → List ℕ → Option (List ℕ) → List ℕ

@@ -1,7 +1,7 @@
 -- The name that a text gives and that was perhaps meant by a word that is unknown.
-use Rattle.std.specs.Prelude.{ℕ, Bool, true, false, ◌&&◌, if◌then◌else◌, List, [], ◌∷◌, Option, Some, None}
-use Rattle.cmd_explain_rules.specs.Parts.{part_of}
+use Rattle.std.specs.Prelude.{ℕ, Bool, true, false, ◌&&◌, ◌||◌, if◌then◌else◌, List, [], ◌∷◌, Option, Some, None}
 use Rattle.cmd_explain_rules.specs.RuleLines.{comes_before}
+use Rattle.cmd_explain_rules.specs.Spots.{takes_list, takes_test}
 use Rattle.cmd_explain_rules.specs.WordsFound.{rule_word_octets, words_found}
 use Rattle.cmd_explain_rules.specs.declared.token_parts.Part.{Part}
 use Rattle.cmd_explain_rules.specs.declared.token_parts.Part.TheVariants as part
@@ -14,14 +14,7 @@ use Rattle.rules_text.specs.declared.place.TextPlace.{TextPlace}
 
 -- Whether a name that `define` gives may come at a place: where a test begins, or where a list has numbers.
 abbrev pub takes_defined : Place → Bool
-takes_defined here.Start = true
-takes_defined here.Unit = true
-takes_defined here.Body = true
-takes_defined here.Relation = true
-takes_defined here.Sign = true
-takes_defined here.Low = true
-takes_defined here.Channel = true
-takes_defined _ = false
+takes_defined place = takes_test place || takes_list place
 
 -- Whether the name of a contract may come at a place.
 abbrev pub takes_contract : Place → Bool
@@ -39,7 +32,7 @@ abbrev pub near_given : Place → List ℕ → List ℕ → List RuleWord → Op
 near_given place word text [] = None
 near_given place word text (first ∷ []) = None
 near_given place word text (first ∷ second ∷ words) =
-    if takes_given place (part_of (rule_word_octets text first)) && is_near word (rule_word_octets text second)
+    if takes_given place first.part && is_near word (rule_word_octets text second)
     then Some (rule_word_octets text second)
     else None
 

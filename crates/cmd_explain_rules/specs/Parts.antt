@@ -1,48 +1,55 @@
 -- What a token of a line of rules is.
-use Rattle.std.specs.Prelude.{ℕ, Bool, false, if◌then◌else◌, List, [], ◌∷◌, codes, unwrap_or}
-use Rattle.bpf_asm.specs.Tokens.{is_word}
-use Rattle.text_io.specs.Words.{is_digit}
-use Rattle.cmd_explain_script.specs.Tables.{value_among}
 use Rattle.cmd_explain_rules.specs.declared.token_parts.Part.{Part}
 use Rattle.cmd_explain_rules.specs.declared.token_parts.Part.TheVariants as part
+use Rattle.cmd_explain_rules.specs.declared.token_parts.Subject.{Subject}
 use Rattle.cmd_explain_rules.specs.declared.token_parts.Subject.TheVariants as about
+use Rattle.rules_text.specs.RulesRead.{FieldRead, gfc_field, vpi_field, vci_field, pti_field, clp_field, octets_field}
+use Rattle.rules_text.specs.RuleTokens.{RuleToken, test_word, not_word, and_word, or_word, otherwise_word, refuse_word, side_word, uni_word, nni_word, define_word, contract_word, name_word, field_word, size_word, number_word, bad_number, arrow_mark, open_brace, close_brace, open_parenthesis, close_parenthesis, mask_mark, comma_mark, dots_mark, slash_mark, star_mark, sign_mark}
+use Rattle.rules_text.specs.declared.lexer.Sign.{Sign}
+use Rattle.rules_text.specs.declared.lexer.Sign.TheVariants.{Equal as equal_sign, Unequal as unequal_sign}
 
--- The words of the language.
-abbrev pub known_words : List (List ℕ × Part)
-known_words =
-    (codes "any", part.Test) ∷ (codes "user", part.Test) ∷ (codes "oam", part.Test) ∷ (codes "oamf4", part.Test)
-    ∷ (codes "oamf4s", part.Test) ∷ (codes "oamf4e", part.Test) ∷ (codes "oamf5", part.Test) ∷ (codes "oamf5s", part.Test)
-    ∷ (codes "oamf5e", part.Test) ∷ (codes "rm", part.Test) ∷ (codes "metasig", part.Test) ∷ (codes "bcast", part.Test)
-    ∷ (codes "signal", part.Test) ∷ (codes "ilmi", part.Test) ∷ (codes "idle", part.Test) ∷ (codes "oamf4sc", part.Test)
-    ∷ (codes "oamf4ec", part.Test) ∷ (codes "metac", part.Test) ∷ (codes "bcc", part.Test) ∷ (codes "sc", part.Test)
-    ∷ (codes "ilmic", part.Test) ∷ (codes "not", part.Not) ∷ (codes "and", part.And) ∷ (codes "or", part.Or)
-    ∷ (codes "otherwise", part.Otherwise) ∷ (codes "refuse", part.Refuse) ∷ (codes "drop", part.Refuse)
-    ∷ (codes "side", part.Side) ∷ (codes "uni", part.SideName) ∷ (codes "nni", part.SideName) ∷ (codes "define", part.Define)
-    ∷ (codes "contract", part.Contract) ∷ (codes "gfc", part.Field about.Gfc) ∷ (codes "vpi", part.Field about.Vpi)
-    ∷ (codes "vci", part.Field about.Vci) ∷ (codes "pti", part.Field about.Pti) ∷ (codes "clp", part.Field about.Clp)
-    ∷ (codes "octet", part.Size about.Octet) ∷ (codes "half", part.Size about.Half) ∷ (codes "word", part.Size about.Word) ∷ []
+-- What numbers after a field are compared with.
+abbrev pub field_subject : FieldRead → Subject
+field_subject gfc_field = about.Gfc
+field_subject vpi_field = about.Vpi
+field_subject vci_field = about.Vci
+field_subject pti_field = about.Pti
+field_subject clp_field = about.Clp
+field_subject (octets_field size at) = about.Octets size
 
--- The marks of the language.
-abbrev pub known_marks : List (List ℕ × Part)
-known_marks =
-    (codes "->", part.Arrow) ∷ (codes "..", part.Dots) ∷ (codes "&&", part.And) ∷ (codes "||", part.Or)
-    ∷ (codes "==", part.Equal) ∷ (codes "!=", part.Equal) ∷ (codes "<=", part.Order) ∷ (codes ">=", part.Order)
-    ∷ (codes "{", part.LeftBrace) ∷ (codes "}", part.RightBrace) ∷ (codes "(", part.LeftParenthesis) ∷ (codes ")", part.RightParenthesis)
-    ∷ (codes "&", part.Mask) ∷ (codes ",", part.Comma) ∷ (codes "/", part.Slash) ∷ (codes "*", part.Star) ∷ (codes "!", part.Not)
-    ∷ (codes "=", part.Equal) ∷ (codes "<", part.Order) ∷ (codes ">", part.Order) ∷ []
+-- What a sign is: one before a list, or one before a number.
+abbrev pub sign_part : Sign → Part
+sign_part equal_sign = part.Equal
+sign_part unequal_sign = part.Equal
+sign_part _ = part.Order
 
--- Whether octets begin with a digit.
-abbrev pub begins_digit : List ℕ → Bool
-begins_digit [] = false
-begins_digit (octet ∷ rest) = is_digit octet
-
--- What octets are that are neither a word nor a mark of the language: a name, or anything else.
-abbrev pub plain_part : List ℕ → Part
-plain_part [] = part.Other
-plain_part (octet ∷ rest) = if is_word octet then part.Name else part.Other
-
--- What the octets of a token are.
-unfoldable pub part_of : List ℕ → Part
-part_of octets =
-    if begins_digit octets then part.Number
-    else unwrap_or (value_among octets known_words) (unwrap_or (value_among octets known_marks) (plain_part octets))
+-- What a token is.
+abbrev pub part_of : RuleToken → Part
+part_of (test_word test) = part.Test
+part_of (field_word field) = part.Field (field_subject field)
+part_of (size_word size) = part.Size size
+part_of not_word = part.Not
+part_of and_word = part.And
+part_of or_word = part.Or
+part_of otherwise_word = part.Otherwise
+part_of refuse_word = part.Refuse
+part_of side_word = part.Side
+part_of uni_word = part.SideName
+part_of nni_word = part.SideName
+part_of define_word = part.Define
+part_of contract_word = part.Contract
+part_of arrow_mark = part.Arrow
+part_of open_brace = part.LeftBrace
+part_of close_brace = part.RightBrace
+part_of open_parenthesis = part.LeftParenthesis
+part_of close_parenthesis = part.RightParenthesis
+part_of mask_mark = part.Mask
+part_of comma_mark = part.Comma
+part_of dots_mark = part.Dots
+part_of slash_mark = part.Slash
+part_of star_mark = part.Star
+part_of (sign_mark sign) = sign_part sign
+part_of (number_word k) = part.Number
+part_of bad_number = part.Number
+part_of name_word = part.Name
+part_of _ = part.Other

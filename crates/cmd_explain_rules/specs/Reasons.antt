@@ -1,6 +1,7 @@
 -- What is wrong with a token of a line of rules, in words.
 use Rattle.std.specs.Prelude.{ℕ, Bool, true, false, if◌then◌else◌, List, [], ◌++◌, codes}
 use Rattle.std.specs.Str.{bytes_eq}
+use Rattle.bpf_code.specs.declared.instr.Size.TheVariants as size
 use Rattle.cmd_explain_rules.specs.declared.token_parts.Part.{Part}
 use Rattle.cmd_explain_rules.specs.declared.token_parts.Part.TheVariants as part
 use Rattle.cmd_explain_rules.specs.declared.token_parts.Subject.{Subject}
@@ -83,9 +84,9 @@ greatest about.Vpi = codes "vpi is at most 255, and between nodes (`side nni`) a
 greatest about.Vci = codes "vci is at most 65535"
 greatest about.Pti = codes "pti is at most 7"
 greatest about.Clp = codes "clp is at most 1"
-greatest about.Octet = codes "one octet is at most 255"
-greatest about.Half = codes "two octets are at most 65535"
-greatest about.Word = codes "four octets are at most 4294967295"
+greatest (about.Octets size.Octet) = codes "one octet is at most 255"
+greatest (about.Octets size.Half) = codes "two octets are at most 65535"
+greatest (about.Octets size.Word) = codes "four octets are at most 4294967295"
 
 -- What is said of the last number of a range.
 abbrev pub range_words : Place → List ℕ
@@ -108,7 +109,7 @@ too_large_words _ = codes " doesn't fit here; "
 
 -- Which octets may begin where a size comes first.
 abbrev pub offsets : Subject → List ℕ
-offsets about.Octet = codes "`octet` takes an offset of 0 to 51"
-offsets about.Half = codes "`half` takes an offset of 0 to 50"
-offsets about.Word = codes "`word` takes an offset of 0 to 48"
+offsets (about.Octets size.Octet) = codes "`octet` takes an offset of 0 to 51"
+offsets (about.Octets size.Half) = codes "`half` takes an offset of 0 to 50"
+offsets (about.Octets size.Word) = codes "`word` takes an offset of 0 to 48"
 offsets _ = codes "an offset is at most 51"

@@ -1,7 +1,6 @@
 -- The lines of a text of rules.
 use Rattle.std.specs.Prelude.{ℕ, ◌+◌, ◌-◌, ◌==◌, Bool, true, false, not, ◌&&◌, ◌||◌, if◌then◌else◌, nat_lt, min, length, List, [], ◌∷◌, Option, Some, None}
 use Rattle.std.specs.Str.{bytes_eq}
-use Rattle.cmd_explain_rules.specs.Parts.{part_of}
 use Rattle.cmd_explain_rules.specs.WordsFound.{rule_word_octets, words_found}
 use Rattle.cmd_explain_rules.specs.declared.token_parts.Part.{Part}
 use Rattle.cmd_explain_rules.specs.declared.token_parts.Part.TheVariants as part
@@ -58,7 +57,7 @@ begins_giving _ = false
 abbrev pub gives : List ℕ → List ℕ → List RuleWord → Bool
 gives name text [] = false
 gives name text (first ∷ []) = false
-gives name text (first ∷ second ∷ words) = begins_giving (part_of (rule_word_octets text first)) && bytes_eq (rule_word_octets text second) name
+gives name text (first ∷ second ∷ words) = begins_giving first.part && bytes_eq (rule_word_octets text second) name
 
 -- The number of the source line in which the first line of rules begins that gives this name, if one does. The first of these lines begins
 -- at this place.
@@ -80,18 +79,15 @@ ends_test part.LeftBrace = true
 ends_test _ = false
 
 -- How many parentheses are open where the test of these tokens ends, if this many were before them.
-abbrev pub depth_from : List ℕ → ℕ → List RuleWord → ℕ
-depth_from text depth [] = depth
-depth_from text depth (word ∷ words) =
-    if ends_test (part_of (rule_word_octets text word)) then depth else depth_from text (depth_after (part_of (rule_word_octets text word)) depth) words
+abbrev pub depth_from : ℕ → List RuleWord → ℕ
+depth_from depth [] = depth
+depth_from depth (word ∷ words) = if ends_test word.part then depth else depth_from (depth_after word.part depth) words
 
 -- How many parentheses are open before this column, if this many were before these tokens.
-abbrev pub depth_before : List ℕ → ℕ → ℕ → List RuleWord → ℕ
-depth_before text column depth [] = depth
-depth_before text column depth (word ∷ words) =
-    if nat_lt word.column column
-    then depth_before text column (depth_after (part_of (rule_word_octets text word)) depth) words
-    else depth
+abbrev pub depth_before : ℕ → ℕ → List RuleWord → ℕ
+depth_before column depth [] = depth
+depth_before column depth (word ∷ words) =
+    if nat_lt word.column column then depth_before column (depth_after word.part depth) words else depth
 
 -- The token in a column, if there is one.
 abbrev pub word_at : ℕ → List RuleWord → Option RuleWord

@@ -2,7 +2,6 @@
 use Rattle.std.specs.Prelude.{ℕ, ◌==◌, ◌-◌, if◌then◌else◌, nat_lt, List, [], ◌∷◌, ◌++◌, codes, decimal, unwrap_or, Option, Some, None}
 use Rattle.cmd_explain_rules.specs.MeantWords.{unknown_word_sentence}
 use Rattle.cmd_explain_rules.specs.NearNames.{near_name}
-use Rattle.cmd_explain_rules.specs.Parts.{part_of}
 use Rattle.cmd_explain_rules.specs.Reasons.{expected, number_reason, offsets, reason, too_large_words}
 use Rattle.cmd_explain_rules.specs.RuleLines.{column_within, depth_before, depth_from, giving_line, line_holding, word_at}
 use Rattle.cmd_explain_rules.specs.Spots.{first_spot, spot_from}
@@ -25,11 +24,15 @@ use Rattle.text_words.specs.FaultLines.{line}
 abbrev pub misfit_sentence : List ℕ → List ℕ → List ℕ
 misfit_sentence octets why = quoted octets ++ (codes " doesn't fit here; " ++ why)
 
+-- The sentence about a line that ends too early.
+abbrev pub early_end_sentence : Spot → List ℕ
+early_end_sentence spot = codes "the line ends too early; " ++ expected spot.defines spot.place
+
 -- The sentence about a token that doesn't fit, or about a line that ends too early.
-abbrev pub rule_misfit_sentence : Spot → List ℕ → List ℕ
-rule_misfit_sentence spot [] = codes "the line ends too early; " ++ expected spot.defines spot.place
-rule_misfit_sentence spot (octet ∷ rest) =
-    misfit_sentence (octet ∷ rest) (reason spot.defines spot.place (part_of (octet ∷ rest)) (octet ∷ rest))
+abbrev pub rule_misfit_sentence : Spot → List ℕ → Part → List ℕ
+rule_misfit_sentence spot [] token = early_end_sentence spot
+rule_misfit_sentence spot (octet ∷ rest) token =
+    misfit_sentence (octet ∷ rest) (reason spot.defines spot.place token (octet ∷ rest))
 
 -- The sentence about a word that is no number.
 abbrev pub no_rule_number_sentence : List ℕ → List ℕ
@@ -37,8 +40,8 @@ no_rule_number_sentence word =
     quoted word ++ codes " is no number; a number has decimal digits, or hexadecimal digits after 0x, and is at most 4294967295"
 
 -- The sentence about a number that is too large.
-abbrev pub too_large_sentence : Spot → List ℕ → List ℕ
-too_large_sentence spot octets = quoted octets ++ (too_large_words (part_of octets) ++ number_reason spot)
+abbrev pub too_large_sentence : Spot → List ℕ → Part → List ℕ
+too_large_sentence spot octets token = quoted octets ++ (too_large_words token ++ number_reason spot)
 
 -- The sentence about octets that aren't all in a cell.
 abbrev pub outside_sentence : Spot → List ℕ
@@ -65,20 +68,20 @@ abbrev pub taken_sentence : List ℕ → Part → Option ℕ → List ℕ
 taken_sentence name part.Name found = given_sentence name (unwrap_or found 0)
 taken_sentence name _ found = quoted name ++ codes " is a word of rules, and no name"
 
--- The sentence about a fault of this kind at this place, on a line with this content, at a token of these octets.
-abbrev pub rule_sentence : List (List ℕ) → RuleFaultKind → TextPlace → List ℕ → Spot → List ℕ → List ℕ
-rule_sentence lines kind.BadLine fault content spot octets = rule_misfit_sentence spot octets
-rule_sentence lines kind.BadNumber fault content spot octets = no_rule_number_sentence octets
-rule_sentence lines kind.TooLarge fault content spot octets = too_large_sentence spot octets
-rule_sentence lines kind.OutsideCell fault content spot octets = outside_sentence spot
-rule_sentence lines kind.AfterOtherwise fault content spot octets = codes "no line comes after `otherwise`"
-rule_sentence lines kind.Unbalanced fault content spot octets = unbalanced_sentence (part_of octets) (depth_from content 0 (words_found content))
-rule_sentence lines kind.TooDeep fault content spot octets = codes "at most 64 blocks and parentheses are open at once"
-rule_sentence lines kind.TooLong fault content spot octets = too_long_sentence spot.place
-rule_sentence lines kind.NoMemory fault content spot octets = []
-rule_sentence lines kind.UnknownName fault content spot octets =
+-- The sentence about a fault of this kind at this place, on a line with this content, at this token of these octets.
+abbrev pub rule_sentence : List (List ℕ) → RuleFaultKind → TextPlace → List ℕ → Spot → List ℕ → Part → List ℕ
+rule_sentence lines kind.BadLine fault content spot octets token = rule_misfit_sentence spot octets token
+rule_sentence lines kind.BadNumber fault content spot octets token = no_rule_number_sentence octets
+rule_sentence lines kind.TooLarge fault content spot octets token = too_large_sentence spot octets token
+rule_sentence lines kind.OutsideCell fault content spot octets token = outside_sentence spot
+rule_sentence lines kind.AfterOtherwise fault content spot octets token = codes "no line comes after `otherwise`"
+rule_sentence lines kind.Unbalanced fault content spot octets token = unbalanced_sentence token (depth_from 0 (words_found content))
+rule_sentence lines kind.TooDeep fault content spot octets token = codes "at most 64 blocks and parentheses are open at once"
+rule_sentence lines kind.TooLong fault content spot octets token = too_long_sentence spot.place
+rule_sentence lines kind.NoMemory fault content spot octets token = []
+rule_sentence lines kind.UnknownName fault content spot octets token =
     unknown_word_sentence spot octets (near_name spot.place octets fault (line_begin 1) lines)
-rule_sentence lines kind.NameTaken fault content spot octets = taken_sentence octets (part_of octets) (giving_line octets (line_begin 1) lines)
+rule_sentence lines kind.NameTaken fault content spot octets token = taken_sentence octets token (giving_line octets (line_begin 1) lines)
 
 -- The column of a fault, if there is a token.
 abbrev pub rule_word_column : ℕ → Option RuleWord → Option ℕ
@@ -89,6 +92,11 @@ rule_word_column column (Some word) = Some column
 abbrev pub blamed_octets : List ℕ → Option RuleWord → List ℕ
 blamed_octets text None = []
 blamed_octets text (Some word) = rule_word_octets text word
+
+-- What a token is, if there is one.
+abbrev pub part_blamed : Option RuleWord → Part
+part_blamed None = part.Other
+part_blamed (Some word) = word.part
 
 -- Where a fault is.
 abbrev pub place_of_fault : RuleFault → TextPlace
@@ -104,8 +112,9 @@ abbrev pub placed_explanation : List (List ℕ) → RuleFault → ℕ → List �
 placed_explanation lines fault column content words =
     place_words fault.line (rule_word_column fault.column (word_at column words))
     ++ line
-    (rule_sentence lines fault.kind (place_of_fault fault) content (spot_from content column first_spot words) (blamed_octets content (word_at column words))
-    ++ inside_words fault.kind (depth_before content column 0 words))
+    (rule_sentence lines fault.kind (place_of_fault fault) content (spot_from column first_spot words) (blamed_octets content (word_at column words))
+    (part_blamed (word_at column words))
+    ++ inside_words fault.kind (depth_before column 0 words))
 
 -- The explanation of a fault on this line of rules, after the place where it begins.
 abbrev pub explanation_within : List (List ℕ) → RuleFault → TextPlace × List ℕ → List ℕ

@@ -1,7 +1,6 @@
 -- What may come next in a line of rules, by the tokens before it.
 use Rattle.std.specs.Prelude.{ℕ, Bool, true, false, if◌then◌else◌, nat_lt, List, [], ◌∷◌}
-use Rattle.cmd_explain_rules.specs.Parts.{part_of}
-use Rattle.cmd_explain_rules.specs.WordsFound.{rule_word_octets}
+use Rattle.bpf_code.specs.declared.instr.Size.TheVariants.{Word}
 use Rattle.cmd_explain_rules.specs.declared.token_parts.Part.{Part}
 use Rattle.cmd_explain_rules.specs.declared.token_parts.Part.TheVariants as part
 use Rattle.cmd_explain_rules.specs.declared.token_parts.Subject.{Subject}
@@ -11,34 +10,41 @@ use Rattle.cmd_explain_rules.specs.declared.spots.Place.TheVariants as here
 use Rattle.cmd_explain_rules.specs.declared.spots.Spot.{Spot}
 use Rattle.cmd_explain_rules.specs.declared.rule_tokens.RuleWord.{RuleWord}
 
+-- Whether a test may begin at a place.
+abbrev pub takes_test : Place → Bool
+takes_test here.Start = true
+takes_test here.Unit = true
+takes_test here.Body = true
+takes_test _ = false
+
+-- Whether a number of a list comes at a place. What a new name means may be a list, too.
+abbrev pub takes_list : Place → Bool
+takes_list here.Relation = true
+takes_list here.Sign = true
+takes_list here.Low = true
+takes_list here.Channel = true
+takes_list _ = false
+
+-- What comes after a number or a name: one where a test may begin, another where a number of a list comes, and elsewhere the same.
+abbrev pub after_value : Place → Place → Place → Place
+after_value place of_test of_list = if takes_test place then of_test else if takes_list place then of_list else place
+
 -- What comes after a number. A number where a test may begin is a path.
 abbrev pub after_number : Place → Place
-after_number here.Start = here.Slash
-after_number here.Unit = here.Slash
 after_number here.Body = here.Dots
 after_number here.Offset = here.Relation
 after_number here.Mask = here.Sign
 after_number here.Constant = here.Operator
-after_number here.Relation = here.Dots
-after_number here.Sign = here.Dots
-after_number here.Low = here.Dots
-after_number here.Channel = here.Dots
 after_number here.High = here.Comma
 after_number here.Value = here.End
-after_number other = other
+after_number other = after_value other here.Slash here.Dots
 
 -- What comes after a name: it is a test where one may begin, a list where a number may come, and a contract where a value may.
 abbrev pub after_name : Place → Place
-after_name here.Start = here.Operator
-after_name here.Unit = here.Operator
 after_name here.Body = here.Comma
-after_name here.Relation = here.Comma
-after_name here.Sign = here.Comma
-after_name here.Low = here.Comma
-after_name here.Channel = here.Comma
 after_name here.NewName = here.Equal
 after_name here.Value = here.End
-after_name other = other
+after_name other = after_value other here.Operator here.Comma
 
 -- What comes after `=` or `!=`: what a new name means, or a number.
 abbrev pub after_equal : Bool → Place → Place
@@ -50,7 +56,7 @@ after_equal defines other = here.Low
 abbrev pub place_after : Bool → Place → Part → Place
 place_after defines before part.Test = here.Operator
 place_after defines before (part.Field compared) = here.Relation
-place_after defines before (part.Size compared) = here.Offset
+place_after defines before (part.Size size) = here.Offset
 place_after defines before part.Not = here.Unit
 place_after defines before part.And = here.Unit
 place_after defines before part.Or = here.Unit
@@ -79,13 +85,13 @@ place_after defines before part.Other = before
 -- What numbers after a token are compared with. A new name may mean any numbers.
 abbrev pub subject_after : Subject → Part → Subject
 subject_after before (part.Field compared) = compared
-subject_after before (part.Size compared) = compared
+subject_after before (part.Size size) = about.Octets size
 subject_after before part.Not = about.Vpi
 subject_after before part.And = about.Vpi
 subject_after before part.Or = about.Vpi
 subject_after before part.LeftParenthesis = about.Vpi
 subject_after before part.Slash = about.Vci
-subject_after before part.Define = about.Word
+subject_after before part.Define = about.Octets Word
 subject_after before _ = before
 
 -- Whether a line begins with `define`.
@@ -106,7 +112,7 @@ abbrev pub first_spot : Spot
 first_spot = record { place = here.Start; subject = about.Vpi; defines = false }
 
 -- The place of the token at a column, or of the end of the line, after these tokens.
-abbrev pub spot_from : List ℕ → ℕ → Spot → List RuleWord → Spot
-spot_from text column spot [] = spot
-spot_from text column spot (word ∷ words) =
-    if nat_lt word.column column then spot_from text column (spot_after spot (part_of (rule_word_octets text word))) words else spot
+abbrev pub spot_from : ℕ → Spot → List RuleWord → Spot
+spot_from column spot [] = spot
+spot_from column spot (word ∷ words) =
+    if nat_lt word.column column then spot_from column (spot_after spot word.part) words else spot

@@ -5,7 +5,6 @@ mod hint_comments;
 mod hinted_rules;
 mod meant_words;
 mod near_names;
-mod octets;
 mod reasons;
 mod rule_faults;
 mod rule_hints;
@@ -17,9 +16,9 @@ mod token_parts;
 
 pub use hint_comments::{Comments, add_hints_about};
 pub use hinted_rules::compile_with_hints;
-pub use octets::{digit, word_octet};
 pub use rule_faults::add_rule_explanation;
 pub use rule_tokens::RuleWord;
 pub use rules_explained::explain_rules;
+pub use rules_text::{digit, word_octet};
 pub use spots::{Place, Spot};
 pub use token_parts::{Part, Subject};

@@ -3,12 +3,13 @@
 ghost use Rattle.std.specs.Prelude.{◌≡◌, ◌++◌, OnOk, map, option_map};
 ghost use Rattle.cmd_explain_rules.specs.MeantWords.{begins_line, begins_unit, is_side, is_value, joins_tests, may_come, meant_text, near_text, near_word, unknown_word_sentence};
 ghost use Rattle.cmd_explain_rules.specs.NearNames.{either_word};
-ghost use Rattle.cmd_explain_rules.specs.Parts.{known_words};
+ghost use Rattle.rules_text.specs.RuleTokens.{rule_words};
+ghost use Rattle.rules_text.specs.SeenTokens.{rule_token_seen};
 
-use crate::reasons::expected;
 use crate::spots::{Place, Spot};
-use crate::token_parts::{Part, WORDS};
+use crate::token_parts::{Part, part_of};
 use cmd_explain_script::{add_perhaps, add_quoted, is_near};
+use rules_text::{Token, WORDS};
 use std::alloc::AllocError;
 use text_words::add_text;
 
@@ -90,13 +91,13 @@ fn may_come(place: Place, part: Part) -> bool
 fn near_among<'a>(
     place: Place,
     word: &[u8],
-    rows: &'a [(&'static [u8], Part)],
+    rows: &'a [(&'static [u8], Token)],
 ) -> Option<&'static [u8]>
-    ensures { option_map (λ near. near.now) result ≡ near_word place word.now (map (λ row. (row.0.now, row.1)) rows.entry.now) }
+    ensures { option_map (λ near. near.now) result ≡ near_word place word.now (map (λ row. (row.0.now, rule_token_seen row.1)) rows.entry.now) }
 {
     let mut left = rows;
     while let [row, rest @ ..] = left {
-        if may_come(place, row.1) && is_near(word, row.0) {
+        if may_come(place, part_of(row.1)) && is_near(word, row.0) {
             return Some(row.0);
         }
         left = rest;
@@ -106,7 +107,7 @@ fn near_among<'a>(
 
 /// Returns the first word of the language that may come at a place and is near a word.
 fn near_word(place: Place, word: &[u8]) -> Option<&'static [u8]>
-    ensures { option_map (λ near. near.now) result ≡ near_word place word.now known_words }
+    ensures { option_map (λ near. near.now) result ≡ near_word place word.now rule_words }
 {
     near_among(place, word, &WORDS)
 }
@@ -149,7 +150,7 @@ fn add_near(
     add_meant(
         answers,
         either_word(named, near_word(spot.place, word)),
-        expected(spot.defines, spot.place),
+        spot.place.expected(spot.defines),
     )
 }
 

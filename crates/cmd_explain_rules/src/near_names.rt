@@ -7,8 +7,8 @@ ghost use Rattle.cmd_explain_rules.specs.NearNames.{near_given, near_name, takes
 
 use crate::rule_lines::{comes_before, text_begin};
 use crate::rule_tokens::{RuleWord, rule_word_octets, words_found};
-use crate::spots::Place;
-use crate::token_parts::{Part, part_of};
+use crate::spots::{Place, takes_list, takes_test};
+use crate::token_parts::Part;
 use cmd_explain_script::is_near;
 use rules_text::{TextPlace, next_rule_line, place_after};
 use std::alloc::{AllocError, Global};
@@ -17,16 +17,7 @@ use std::alloc::{AllocError, Global};
 fn takes_defined(place: Place) -> bool
     ensures { result ≡ takes_defined place }
 {
-    match place {
-        Place::Start => true,
-        Place::Unit => true,
-        Place::Body => true,
-        Place::Relation => true,
-        Place::Sign => true,
-        Place::Low => true,
-        Place::Channel => true,
-        _ => false,
-    }
+    takes_test(place) || takes_list(place)
 }
 
 /// Returns whether the name of a contract may come at a place.
@@ -57,7 +48,7 @@ fn near_given<'a>(place: Place, word: &[u8], text: &'a [u8], words: &[RuleWord])
     match words {
         [first, second, ..] => {
             let name = rule_word_octets(text, *second);
-            if takes_given(place, part_of(rule_word_octets(text, *first))) && is_near(word, name) {
+            if takes_given(place, first.part) && is_near(word, name) {
                 Some(name)
             } else {
                 None

@@ -1,28 +1,31 @@
 //! The explanation of a fault of a text of rules.
 
-ghost use Rattle.std.specs.Prelude.{◌≡◌, ◌++◌, [], codes, OnOk};
+ghost use Rattle.std.specs.Prelude.{◌≡◌, ◌++◌, codes, OnOk};
 ghost use Rattle.cmd_explain_script.specs.Places.{quoted};
 ghost use Rattle.rules_text.specs.ContinuedLines.{rule_lines};
 ghost use Rattle.cmd_explain_rules.specs.WordsFound.{words_found};
-ghost use Rattle.cmd_explain_rules.specs.RuleReasons.{rule_misfit_sentence, rule_word_column, given_sentence, misfit_sentence, no_rule_number_sentence, blamed_octets, inside_words, outside_sentence, place_of_fault, placed_explanation, rule_explanation, rule_sentence, taken_sentence, too_large_sentence, too_long_sentence, unbalanced_sentence};
+ghost use Rattle.cmd_explain_rules.specs.RuleReasons.{early_end_sentence, rule_misfit_sentence, rule_word_column, given_sentence, misfit_sentence, no_rule_number_sentence, blamed_octets, part_blamed, inside_words, outside_sentence, place_of_fault, placed_explanation, rule_explanation, rule_sentence, taken_sentence, too_large_sentence, too_long_sentence, unbalanced_sentence};
 
 use crate::meant_words::add_unknown;
 use crate::near_names::near_name;
-use crate::reasons::{add_number_reason, expected, offsets, reason, too_large_words};
+use crate::reasons::{add_number_reason, reason};
 use crate::rule_lines::{
     column_within, depth_before, depth_of, giving_line, line_holding, word_at,
 };
 use crate::rule_tokens::{RuleWord, rule_word_octets, words_found};
 use crate::spots::{Place, Spot, spot_before};
-use crate::token_parts::{Part, part_of};
+use crate::token_parts::Part;
 use cmd_explain_script::{add_place, add_quoted};
 use rules_text::{RuleFault, RuleFaultKind, TextPlace};
 use std::alloc::{AllocError, Global};
 use text_words::{add_number, add_text};
 
+/// Nothing, once the text was appended, or that an allocation failed.
+type Added = Result<(), AllocError>;
+
 /// Appends the sentence about a token that doesn't fit, for this reason.
 #[tactic(auto, using(std::proofs::lemmas::List::append_assoc))]
-fn add_misfit(answers: &mut Vec<u8>, octets: &[u8], why: &[u8]) -> Result<(), AllocError>
+fn add_misfit(answers: &mut Vec<u8>, octets: &[u8], why: &[u8]) -> Added
     ensures { OnOk result (answers.new.items ≡ answers.old.items ++ misfit_sentence octets.now why.now) }
 {
     add_quoted(answers, octets)?;
@@ -33,21 +36,21 @@ fn add_misfit(answers: &mut Vec<u8>, octets: &[u8], why: &[u8]) -> Result<(), Al
 
 /// Appends the sentence about a line that ends too early.
 #[tactic(auto, using(std::proofs::lemmas::List::append_assoc))]
-fn add_early_end(answers: &mut Vec<u8>, spot: Spot) -> Result<(), AllocError>
-    ensures { OnOk result (answers.new.items ≡ answers.old.items ++ rule_misfit_sentence spot []) }
+fn add_early_end(answers: &mut Vec<u8>, spot: Spot) -> Added
+    ensures { OnOk result (answers.new.items ≡ answers.old.items ++ early_end_sentence spot) }
 {
     add_text(answers, b"the line ends too early; ")?;
-    add_text(answers, expected(spot.defines, spot.place))
+    add_text(answers, spot.place.expected(spot.defines))
 }
 
 /// Appends the sentence about a token that doesn't fit, or about a line that ends too early.
-fn add_bad_line(answers: &mut Vec<u8>, spot: Spot, octets: &[u8]) -> Result<(), AllocError>
-    ensures { OnOk result (answers.new.items ≡ answers.old.items ++ rule_misfit_sentence spot octets.now) }
+fn add_bad_line(answers: &mut Vec<u8>, spot: Spot, octets: &[u8], part: Part) -> Added
+    ensures { OnOk result (answers.new.items ≡ answers.old.items ++ rule_misfit_sentence spot octets.now part) }
 {
     match octets {
         [] => add_early_end(answers, spot),
         [_, ..] => {
-            let why = reason(spot.defines, spot.place, part_of(octets), octets);
+            let why = reason(spot.defines, spot.place, part, octets);
             add_misfit(answers, octets, why)
         }
     }
@@ -55,7 +58,7 @@ fn add_bad_line(answers: &mut Vec<u8>, spot: Spot, octets: &[u8]) -> Result<(), 
 
 /// Appends the sentence about a word that is no number.
 #[tactic(auto, using(std::proofs::lemmas::List::append_assoc))]
-fn add_no_number(answers: &mut Vec<u8>, word: &[u8]) -> Result<(), AllocError>
+fn add_no_number(answers: &mut Vec<u8>, word: &[u8]) -> Added
     ensures { OnOk result (answers.new.items ≡ answers.old.items ++ no_rule_number_sentence word.now) }
 {
     add_quoted(answers, word)?;
@@ -67,21 +70,21 @@ fn add_no_number(answers: &mut Vec<u8>, word: &[u8]) -> Result<(), AllocError>
 
 /// Appends the sentence about a number that is too large.
 #[tactic(auto, using(std::proofs::lemmas::List::append_assoc))]
-fn add_too_large(answers: &mut Vec<u8>, spot: Spot, octets: &[u8]) -> Result<(), AllocError>
-    ensures { OnOk result (answers.new.items ≡ answers.old.items ++ too_large_sentence spot octets.now) }
+fn add_too_large(answers: &mut Vec<u8>, spot: Spot, octets: &[u8], part: Part) -> Added
+    ensures { OnOk result (answers.new.items ≡ answers.old.items ++ too_large_sentence spot octets.now part) }
 {
     add_quoted(answers, octets)?;
-    add_text(answers, too_large_words(part_of(octets)))?;
+    add_text(answers, part.too_large_words())?;
     add_number_reason(answers, spot)
 }
 
 /// Appends the sentence about octets that aren't all in a cell.
 #[tactic(auto, using(std::proofs::lemmas::List::append_assoc))]
-fn add_outside(answers: &mut Vec<u8>, spot: Spot) -> Result<(), AllocError>
+fn add_outside(answers: &mut Vec<u8>, spot: Spot) -> Added
     ensures { OnOk result (answers.new.items ≡ answers.old.items ++ outside_sentence spot) }
 {
     add_text(answers, b"a cell has the octets 0 to 51; ")?;
-    add_text(answers, offsets(spot.subject))
+    add_text(answers, spot.subject.offsets())
 }
 
 /// Returns the sentence about a parenthesis or a block without its other end.
@@ -102,10 +105,10 @@ fn unbalanced_sentence(part: Part, depth: usize) -> &'static [u8]
 }
 
 /// Returns the sentence about a line that is too long.
-fn too_long_sentence(place: Place) -> &'static [u8]
-    ensures { result.now ≡ too_long_sentence place }
+fn too_long_sentence(spot: Spot) -> &'static [u8]
+    ensures { result.now ≡ too_long_sentence spot.place }
 {
-    match place {
+    match spot.place {
         Place::NewName => b"a name means at most 4096 tokens, and a text gives at most 4096 names",
         _ => {
             b"a test has at most 4096 comparisons and words, and names add at most 262144 tokens to a text"
@@ -115,7 +118,7 @@ fn too_long_sentence(place: Place) -> &'static [u8]
 
 /// Appends the sentence about a name that this line gives.
 #[tactic(auto, using(std::proofs::lemmas::List::append_assoc))]
-fn add_given(answers: &mut Vec<u8>, name: &[u8], number: usize) -> Result<(), AllocError>
+fn add_given(answers: &mut Vec<u8>, name: &[u8], number: usize) -> Added
     ensures { OnOk result (answers.new.items ≡ answers.old.items ++ given_sentence name.now number) }
 {
     add_quoted(answers, name)?;
@@ -127,7 +130,7 @@ fn add_given(answers: &mut Vec<u8>, name: &[u8], number: usize) -> Result<(), Al
 
 /// Appends that a name is a word of the language.
 #[tactic(auto, using(std::proofs::lemmas::List::append_assoc))]
-fn add_no_name(answers: &mut Vec<u8>, name: &[u8]) -> Result<(), AllocError>
+fn add_no_name(answers: &mut Vec<u8>, name: &[u8]) -> Added
     ensures { OnOk result (answers.new.items ≡ answers.old.items ++ (quoted name.now ++ codes " is a word of rules, and no name")) }
 {
     add_quoted(answers, name)?;
@@ -135,12 +138,7 @@ fn add_no_name(answers: &mut Vec<u8>, name: &[u8]) -> Result<(), AllocError>
 }
 
 /// Appends the sentence about a name that is taken.
-fn add_taken(
-    answers: &mut Vec<u8>,
-    name: &[u8],
-    part: Part,
-    found: Option<usize>,
-) -> Result<(), AllocError>
+fn add_taken(answers: &mut Vec<u8>, name: &[u8], part: Part, found: Option<usize>) -> Added
     ensures { OnOk result (answers.new.items ≡ answers.old.items ++ taken_sentence name.now part found) }
 {
     match part {
@@ -159,7 +157,7 @@ fn place_of_fault(fault: RuleFault) -> TextPlace
     }
 }
 
-/// Appends the sentence about a fault of this kind at this place, on a line with this content and these tokens, at a token of these octets.
+/// Appends the sentence about a fault of this kind at this place, on a line with this content and these tokens, at this token of these octets.
 fn add_sentence(
     alloc: Global,
     answers: &mut Vec<u8>,
@@ -170,40 +168,31 @@ fn add_sentence(
     words: &[RuleWord],
     spot: Spot,
     octets: &[u8],
-) -> Result<(), AllocError>
+    part: Part,
+) -> Added
     requires { words.now ≡ words_found content.now }
-    ensures { OnOk result (answers.new.items ≡ answers.old.items ++ rule_sentence (rule_lines text.now) kind fault content.now spot octets.now) }
+    ensures { OnOk result (answers.new.items ≡ answers.old.items ++ rule_sentence (rule_lines text.now) kind fault content.now spot octets.now part) }
 {
     match kind {
-        RuleFaultKind::BadLine => add_bad_line(answers, spot, octets),
+        RuleFaultKind::BadLine => add_bad_line(answers, spot, octets, part),
         RuleFaultKind::BadNumber => add_no_number(answers, octets),
-        RuleFaultKind::TooLarge => add_too_large(answers, spot, octets),
+        RuleFaultKind::TooLarge => add_too_large(answers, spot, octets, part),
         RuleFaultKind::OutsideCell => add_outside(answers, spot),
         RuleFaultKind::AfterOtherwise => add_text(answers, b"no line comes after `otherwise`"),
-        RuleFaultKind::Unbalanced => {
-            add_text(
-                answers,
-                unbalanced_sentence(part_of(octets), depth_of(content, words)),
-            )
-        }
+        RuleFaultKind::Unbalanced => { add_text(answers, unbalanced_sentence(part, depth_of(words))) }
         RuleFaultKind::TooDeep => {
             add_text(
                 answers,
                 b"at most 64 blocks and parentheses are open at once",
             )
         }
-        RuleFaultKind::TooLong => add_text(answers, too_long_sentence(spot.place)),
+        RuleFaultKind::TooLong => add_text(answers, too_long_sentence(spot)),
         RuleFaultKind::NoMemory => Ok(()),
         RuleFaultKind::UnknownName => {
             let named = near_name(alloc, spot.place, octets, fault, text)?;
             add_unknown(answers, spot, octets, named)
         }
-        RuleFaultKind::NameTaken => add_taken(
-            answers,
-            octets,
-            part_of(octets),
-            giving_line(alloc, text, octets)?,
-        ),
+        RuleFaultKind::NameTaken => add_taken(answers, octets, part, giving_line(alloc, text, octets)?),
     }
 }
 
@@ -227,8 +216,18 @@ fn blamed_octets(text: &[u8], word: Option<RuleWord>) -> &[u8]
     }
 }
 
+/// Returns what a token is, if there is one.
+fn part_blamed(word: Option<RuleWord>) -> Part
+    ensures { result ≡ part_blamed word }
+{
+    match word {
+        Some(word) => word.part,
+        None => Part::Other,
+    }
+}
+
 /// Appends that a parenthesis is open where a token doesn't fit, or where the line ends, if so many are.
-fn add_inside(answers: &mut Vec<u8>, kind: RuleFaultKind, depth: usize) -> Result<(), AllocError>
+fn add_inside(answers: &mut Vec<u8>, kind: RuleFaultKind, depth: usize) -> Added
     ensures { OnOk result (answers.new.items ≡ answers.old.items ++ inside_words kind depth) }
 {
     match kind {
@@ -246,14 +245,14 @@ fn add_placed(
     fault: RuleFault,
     column: usize,
     content: &[u8],
-) -> Result<(), AllocError>
+) -> Added
     ensures { OnOk result (answers.new.items
         ≡ answers.old.items ++ placed_explanation (rule_lines text.now) fault column content.now (words_found content.now)) }
 {
     let words = words_found(alloc, content)?;
     let blamed = word_at(column, &words);
     add_place(answers, fault.line, rule_word_column(fault.column, blamed))?;
-    let spot = spot_before(content, column, &words);
+    let spot = spot_before(column, &words);
     let octets = blamed_octets(content, blamed);
     add_sentence(
         alloc,
@@ -265,8 +264,9 @@ fn add_placed(
         &words,
         spot,
         octets,
+        part_blamed(blamed),
     )?;
-    add_inside(answers, fault.kind, depth_before(content, column, &words))?;
+    add_inside(answers, fault.kind, depth_before(column, &words))?;
     answers.push(b'\n')?;
     Ok(())
 }

@@ -1,12 +1,12 @@
 //! The lines of a text of rules.
 
-ghost use Rattle.std.specs.Prelude.{◌≡◌, ◌≤◌, length, IfOk};
+ghost use Rattle.std.specs.Prelude.{◌≡◌, ◌≤◌, ◌<◌, ◌+◌, ◌^◌, length, IfOk};
 ghost use Rattle.rules_text.specs.ContinuedLines.{line_begin, rule_lines};
 ghost use Rattle.cmd_explain_rules.specs.WordsFound.{words_found};
-ghost use Rattle.cmd_explain_rules.specs.RuleLines.{begins_giving, begins_with_close, column_within, comes_before, depth_before, depth_from, ends_test, gives, giving_line, has_fault, line_holding, octets_before, word_at};
+ghost use Rattle.cmd_explain_rules.specs.RuleLines.{begins_giving, begins_with_close, column_within, comes_before, depth_after, depth_before, depth_from, ends_test, gives, giving_line, has_fault, line_holding, octets_before, word_at};
 
 use crate::rule_tokens::{RuleWord, rule_word_octets, words_found};
-use crate::token_parts::{Part, part_of};
+use crate::token_parts::Part;
 use rules_text::{RuleFaultKind, TextPlace, next_rule_line, place_after};
 use std::alloc::{AllocError, Global};
 
@@ -117,8 +117,7 @@ fn gives(name: &[u8], text: &[u8], words: &[RuleWord]) -> bool
 {
     match words {
         [first, second, ..] => {
-            begins_giving(part_of(rule_word_octets(text, *first)))
-                && rule_word_octets(text, *second) == name
+            begins_giving(first.part) && rule_word_octets(text, *second) == name
         }
         _ => false,
     }
@@ -152,6 +151,19 @@ pub(crate) fn giving_line(
     Ok(None)
 }
 
+/// Returns how many parentheses are open after a token, if this many were before it.
+fn depth_after(part: Part, depth: usize) -> usize
+    requires { depth + 1 < 2 ^ 64 }
+    ensures after { result ≡ depth_after part depth }
+    ensures most { result ≤ depth + 1 }
+{
+    match part {
+        Part::LeftParenthesis => depth + 1,
+        Part::RightParenthesis => depth.saturating_sub(1),
+        _ => depth,
+    }
+}
+
 /// Returns whether a test ends before a token.
 fn ends_test(part: Part) -> bool
     ensures { result ≡ ends_test part }
@@ -164,29 +176,24 @@ fn ends_test(part: Part) -> bool
 }
 
 /// Returns how many parentheses are open where the test of a line ends.
-pub(crate) fn depth_of(text: &[u8], words: &[RuleWord]) -> usize
-    ensures { result ≡ depth_from text.now 0 words.now }
+pub(crate) fn depth_of(words: &[RuleWord]) -> usize
+    ensures { result ≡ depth_from 0 words.now }
 {
     let mut left = words;
     let mut depth: usize = 0;
     while let [word, rest @ ..] = left {
-        let part = part_of(rule_word_octets(text, *word));
-        if ends_test(part) {
+        if ends_test(word.part) {
             return depth;
         }
-        match part {
-            Part::LeftParenthesis => depth += 1,
-            Part::RightParenthesis => depth = depth.saturating_sub(1),
-            _ => {}
-        }
+        depth = depth_after(word.part, depth);
         left = rest;
     }
     depth
 }
 
 /// Returns how many parentheses are open before a column.
-pub(crate) fn depth_before(text: &[u8], column: usize, words: &[RuleWord]) -> usize
-    ensures { result ≡ depth_before text.now column 0 words.now }
+pub(crate) fn depth_before(column: usize, words: &[RuleWord]) -> usize
+    ensures { result ≡ depth_before column 0 words.now }
 {
     let mut left = words;
     let mut depth: usize = 0;
@@ -194,11 +201,7 @@ pub(crate) fn depth_before(text: &[u8], column: usize, words: &[RuleWord]) -> us
         if word.column >= column {
             return depth;
         }
-        match part_of(rule_word_octets(text, *word)) {
-            Part::LeftParenthesis => depth += 1,
-            Part::RightParenthesis => depth = depth.saturating_sub(1),
-            _ => {}
-        }
+        depth = depth_after(word.part, depth);
         left = rest;
     }
     depth

@@ -1,10 +1,11 @@
 //! What may come next in a line of rules.
 
 ghost use Rattle.std.specs.Prelude.{◌≡◌};
-ghost use Rattle.cmd_explain_rules.specs.Spots.{after_equal, after_name, after_number, defines_after, first_spot, place_after, spot_after, spot_from, subject_after};
+ghost use Rattle.cmd_explain_rules.specs.Spots.{after_equal, after_name, after_number, after_value, defines_after, first_spot, place_after, spot_after, spot_from, subject_after, takes_list, takes_test};
 
-use crate::rule_tokens::{RuleWord, rule_word_octets};
-use crate::token_parts::{Part, Subject, part_of};
+use crate::rule_tokens::RuleWord;
+use crate::token_parts::{Part, Subject};
+use bpf_code::Size;
 
 /// What comes next in a line.
 #[derive(Clone, Copy)]
@@ -64,24 +65,48 @@ pub struct Spot {
     pub defines: bool,
 }
 
+/// Returns whether a test may begin at a place.
+pub(crate) fn takes_test(place: Place) -> bool
+    ensures { result ≡ takes_test place }
+{
+    matches!(place, Place::Start | Place::Unit | Place::Body)
+}
+
+/// Returns whether a number of a list comes at a place.
+pub(crate) fn takes_list(place: Place) -> bool
+    ensures { result ≡ takes_list place }
+{
+    matches!(
+        place,
+        Place::Relation | Place::Sign | Place::Low | Place::Channel
+    )
+}
+
+/// Returns what comes after a number or a name: one where a test may begin, another where a number of a list comes, and elsewhere the same.
+fn after_value(place: Place, of_test: Place, of_list: Place) -> Place
+    ensures { result ≡ after_value place of_test of_list }
+{
+    if takes_test(place) {
+        of_test
+    } else if takes_list(place) {
+        of_list
+    } else {
+        place
+    }
+}
+
 /// Returns what comes after a number.
 fn after_number(place: Place) -> Place
     ensures { result ≡ after_number place }
 {
     match place {
-        Place::Start => Place::Slash,
-        Place::Unit => Place::Slash,
         Place::Body => Place::Dots,
         Place::Offset => Place::Relation,
         Place::Mask => Place::Sign,
         Place::Constant => Place::Operator,
-        Place::Relation => Place::Dots,
-        Place::Sign => Place::Dots,
-        Place::Low => Place::Dots,
-        Place::Channel => Place::Dots,
         Place::High => Place::Comma,
         Place::Value => Place::End,
-        _ => place,
+        _ => after_value(place, Place::Slash, Place::Dots),
     }
 }
 
@@ -90,16 +115,10 @@ fn after_name(place: Place) -> Place
     ensures { result ≡ after_name place }
 {
     match place {
-        Place::Start => Place::Operator,
-        Place::Unit => Place::Operator,
         Place::Body => Place::Comma,
-        Place::Relation => Place::Comma,
-        Place::Sign => Place::Comma,
-        Place::Low => Place::Comma,
-        Place::Channel => Place::Comma,
         Place::NewName => Place::Equal,
         Place::Value => Place::End,
-        _ => place,
+        _ => after_value(place, Place::Operator, Place::Comma),
     }
 }
 
@@ -154,13 +173,13 @@ fn subject_after(before: Subject, part: Part) -> Subject
 {
     match part {
         Part::Field(subject) => subject,
-        Part::Size(subject) => subject,
+        Part::Size(size) => Subject::Octets(size),
         Part::Not => Subject::Vpi,
         Part::And => Subject::Vpi,
         Part::Or => Subject::Vpi,
         Part::LeftParenthesis => Subject::Vpi,
         Part::Slash => Subject::Vci,
-        Part::Define => Subject::Word,
+        Part::Define => Subject::Octets(Size::Word),
         _ => before,
     }
 }
@@ -187,8 +206,8 @@ fn spot_after(spot: Spot, part: Part) -> Spot
 }
 
 /// Returns the place of the token at a column, or of the end of the line.
-pub(crate) fn spot_before(text: &[u8], column: usize, words: &[RuleWord]) -> Spot
-    ensures { result ≡ spot_from text.now column first_spot words.now }
+pub(crate) fn spot_before(column: usize, words: &[RuleWord]) -> Spot
+    ensures { result ≡ spot_from column first_spot words.now }
 {
     let mut left = words;
     let mut spot = Spot {
@@ -200,7 +219,7 @@ pub(crate) fn spot_before(text: &[u8], column: usize, words: &[RuleWord]) -> Spo
         if word.column >= column {
             return spot;
         }
-        spot = spot_after(spot, part_of(rule_word_octets(text, *word)));
+        spot = spot_after(spot, word.part);
         left = rest;
     }
     spot

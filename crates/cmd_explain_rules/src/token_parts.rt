@@ -1,11 +1,13 @@
 //! What a token of a line of rules is.
 
 ghost use Rattle.std.specs.Prelude.{◌≡◌};
-ghost use Rattle.cmd_explain_script.specs.Tables.{value_among};
-ghost use Rattle.cmd_explain_rules.specs.Parts.{begins_digit, known_marks, known_words, part_of, plain_part};
+ghost use Rattle.rules_text.specs.RulesRead.{field_read};
+ghost use Rattle.rules_text.specs.SeenTokens.{rule_token_seen};
+ghost use Rattle.cmd_explain_rules.specs.Parts.{field_subject, part_of, sign_part};
 
-use crate::octets::{digit, word_octet};
-use cmd_explain_script::value_among;
+use bpf_code::Size;
+use rules_cells::Field;
+use rules_text::{Sign, Token};
 
 /// What numbers are compared with, or octets begin at.
 #[derive(Clone, Copy)]
@@ -20,12 +22,8 @@ pub enum Subject {
     Pti,
     /// `clp`
     Clp,
-    /// `octet`
-    Octet,
-    /// `half`
-    Half,
-    /// `word`
-    Word,
+    /// `octet`, `half` or `word`.
+    Octets(Size),
 }
 
 /// What a token is.
@@ -36,7 +34,7 @@ pub enum Part {
     /// A field of the header.
     Field(Subject),
     /// `octet`, `half` or `word`.
-    Size(Subject),
+    Size(Size),
     /// `not` or `!`
     Not,
     /// `and` or `&&`
@@ -87,127 +85,60 @@ pub enum Part {
     Other,
 }
 
-/// The words of the language.
-pub(crate) const WORDS: [(&[u8], Part); 40] = [
-    (b"any", Part::Test),
-    (b"user", Part::Test),
-    (b"oam", Part::Test),
-    (b"oamf4", Part::Test),
-    (b"oamf4s", Part::Test),
-    (b"oamf4e", Part::Test),
-    (b"oamf5", Part::Test),
-    (b"oamf5s", Part::Test),
-    (b"oamf5e", Part::Test),
-    (b"rm", Part::Test),
-    (b"metasig", Part::Test),
-    (b"bcast", Part::Test),
-    (b"signal", Part::Test),
-    (b"ilmi", Part::Test),
-    (b"idle", Part::Test),
-    (b"oamf4sc", Part::Test),
-    (b"oamf4ec", Part::Test),
-    (b"metac", Part::Test),
-    (b"bcc", Part::Test),
-    (b"sc", Part::Test),
-    (b"ilmic", Part::Test),
-    (b"not", Part::Not),
-    (b"and", Part::And),
-    (b"or", Part::Or),
-    (b"otherwise", Part::Otherwise),
-    (b"refuse", Part::Refuse),
-    (b"drop", Part::Refuse),
-    (b"side", Part::Side),
-    (b"uni", Part::SideName),
-    (b"nni", Part::SideName),
-    (b"define", Part::Define),
-    (b"contract", Part::Contract),
-    (b"gfc", Part::Field(Subject::Gfc)),
-    (b"vpi", Part::Field(Subject::Vpi)),
-    (b"vci", Part::Field(Subject::Vci)),
-    (b"pti", Part::Field(Subject::Pti)),
-    (b"clp", Part::Field(Subject::Clp)),
-    (b"octet", Part::Size(Subject::Octet)),
-    (b"half", Part::Size(Subject::Half)),
-    (b"word", Part::Size(Subject::Word)),
-];
-
-/// The marks of the language.
-const MARKS: [(&[u8], Part); 20] = [
-    (b"->", Part::Arrow),
-    (b"..", Part::Dots),
-    (b"&&", Part::And),
-    (b"||", Part::Or),
-    (b"==", Part::Equal),
-    (b"!=", Part::Equal),
-    (b"<=", Part::Order),
-    (b">=", Part::Order),
-    (b"{", Part::LeftBrace),
-    (b"}", Part::RightBrace),
-    (b"(", Part::LeftParenthesis),
-    (b")", Part::RightParenthesis),
-    (b"&", Part::Mask),
-    (b",", Part::Comma),
-    (b"/", Part::Slash),
-    (b"*", Part::Star),
-    (b"!", Part::Not),
-    (b"=", Part::Equal),
-    (b"<", Part::Order),
-    (b">", Part::Order),
-];
-
-/// Returns what octets are, if they are a word of the language.
-fn known_word(octets: &[u8]) -> Option<Part>
-    ensures { result ≡ value_among octets.now known_words }
+/// Returns what numbers after a field are compared with.
+fn field_subject(field: Field) -> Subject
+    ensures { result ≡ field_subject (field_read field) }
 {
-    value_among(octets, &WORDS)
-}
-
-/// Returns what octets are, if they are a mark of the language.
-fn known_mark(octets: &[u8]) -> Option<Part>
-    ensures { result ≡ value_among octets.now known_marks }
-{
-    value_among(octets, &MARKS)
-}
-
-/// Returns whether octets begin with a digit.
-fn begins_digit(octets: &[u8]) -> bool
-    ensures { result ≡ begins_digit octets.now }
-{
-    match octets {
-        [] => false,
-        [octet, ..] => digit(*octet),
+    match field {
+        Field::Gfc => Subject::Gfc,
+        Field::Vpi => Subject::Vpi,
+        Field::Vci => Subject::Vci,
+        Field::Pti => Subject::Pti,
+        Field::Clp => Subject::Clp,
+        Field::Octets(octets) => Subject::Octets(octets.size),
     }
 }
 
-/// Returns what octets are that are neither a word nor a mark of the language.
-fn plain_part(octets: &[u8]) -> Part
-    ensures { result ≡ plain_part octets.now }
+/// Returns what a sign is: one before a list, or one before a number.
+fn sign_part(sign: Sign) -> Part
+    ensures { result ≡ sign_part sign }
 {
-    match octets {
-        [] => Part::Other,
-        [octet, ..] => {
-            if word_octet(*octet) {
-                Part::Name
-            } else {
-                Part::Other
-            }
-        }
+    match sign {
+        Sign::Equal | Sign::Unequal => Part::Equal,
+        _ => Part::Order,
     }
 }
 
-/// Returns what the octets of a token are.
-#[tactic(auto, unfolding(crate::specs::Parts::part_of))]
-pub(crate) fn part_of(octets: &[u8]) -> Part
-    ensures { result ≡ part_of octets.now }
+/// Returns what a token is.
+pub(crate) fn part_of(token: Token) -> Part
+    ensures { result ≡ part_of (rule_token_seen token) }
 {
-    if begins_digit(octets) {
-        return Part::Number;
-    }
-    match known_word(octets) {
-        Some(part) => part,
-        None => match known_mark(octets) {
-            Some(part) => part,
-            None => plain_part(octets),
-        },
+    match token {
+        Token::Test(_) => Part::Test,
+        Token::Field(field) => Part::Field(field_subject(field)),
+        Token::Octets(size) => Part::Size(size),
+        Token::Not => Part::Not,
+        Token::And => Part::And,
+        Token::Or => Part::Or,
+        Token::Otherwise => Part::Otherwise,
+        Token::Refuse => Part::Refuse,
+        Token::Side => Part::Side,
+        Token::Uni | Token::Nni => Part::SideName,
+        Token::Define => Part::Define,
+        Token::Contract => Part::Contract,
+        Token::Arrow => Part::Arrow,
+        Token::LeftBrace => Part::LeftBrace,
+        Token::RightBrace => Part::RightBrace,
+        Token::LeftParenthesis => Part::LeftParenthesis,
+        Token::RightParenthesis => Part::RightParenthesis,
+        Token::Mask => Part::Mask,
+        Token::Comma => Part::Comma,
+        Token::Dots => Part::Dots,
+        Token::Slash => Part::Slash,
+        Token::Star => Part::Star,
+        Token::Sign(sign) => sign_part(sign),
+        Token::Number(_) | Token::BadNumber => Part::Number,
+        Token::Name => Part::Name,
+        Token::Value(_) | Token::NoRoom | Token::Unknown => Part::Other,
     }
 }

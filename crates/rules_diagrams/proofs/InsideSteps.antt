@@ -8,7 +8,8 @@ use Rattle.rules_cells.specs.declared.rules.RuleLine.{RuleLine}
 use Rattle.rules_cells.specs.declared.rules.RuleLine.TheVariants.{Rule, Block, End}
 use Rattle.rules_cells.specs.declared.rules.Rules.{Rules}
 use Rattle.rules_cells.specs.declared.test.Test.{Test}
-use Rattle.rules_diagrams.specs.inner.Holding.{AreInside, first_inside, inside_at, left_inside, passed_before}
+use Rattle.rules_diagrams.specs.inner.Holding.{AreInside, first_inside, inside_at, passed_before}
+use Rattle.rules_diagrams.specs.inner.Stacks.{later_diagrams}
 use Rattle.rules_diagrams.specs.inner.Spans.{truth}
 use Rattle.rules_diagrams.specs.inner.Tells.{GivesNumber, Tells}
 use Rattle.rules_diagrams.specs.inner.Values.{Keeps, IsWithin}
@@ -56,7 +57,7 @@ block_later side test (suc passed) most cell = grind (arith, nat_tests)
 end_least : (passed most : ℕ) → nat_le passed (suc most) ≡ nat_le (passed - 1) most
 end_least passed most = grind (arith, nat_tests)
 
-left_at : (inside : List Diagram) (most : ℕ) → inside_at inside (suc most) ≡ inside_at (left_inside inside) most
+left_at : (inside : List Diagram) (most : ℕ) → inside_at inside (suc most) ≡ inside_at (later_diagrams inside) most
 left_at [] zero = refl
 left_at [] (suc most) = refl
 left_at (first ∷ more) most = refl
@@ -88,7 +89,7 @@ module _ (rules : Rules) (place : ℕ) (old new : List Node) (inside : List Diag
       gives_same old (λ cell. truth (nat_le (passed_before rules place cell) most)) (λ cell. truth (nat_le (passed_before rules (place + 1) cell) most)) (inside_at inside most)
       (λ cell. ap (λ n. truth (nat_le n most)) (sym (passed_next rules.side rules.lines.items 0 place cell (Rule test value) at))) (are most)
 
-  pub end_inside : (after : List Diagram) → slice_get rules.lines.items place ≡ Some End → after ≡ left_inside inside → AreInside old (passed_before rules (place + 1)) after
+  pub end_inside : (after : List Diagram) → slice_get rules.lines.items place ≡ Some End → after ≡ later_diagrams inside → AreInside old (passed_before rules (place + 1)) after
   end_inside after at is most =
       subst (λ (d : Diagram). GivesNumber old (λ cell. truth (nat_le (passed_before rules (place + 1) cell) most)) d) (left_at inside most ∙ ap (λ (ds : List Diagram). inside_at ds most) (sym is))
       (gives_same old (λ cell. truth (nat_le (passed_before rules place cell) (suc most))) (λ cell. truth (nat_le (passed_before rules (place + 1) cell) most)) (inside_at inside (suc most))

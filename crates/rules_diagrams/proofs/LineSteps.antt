@@ -14,7 +14,8 @@ use Rattle.rules_diagrams.specs.inner.Lines.{line_number, deciding_line}
 use Rattle.rules_diagrams.specs.inner.Spans.{truth}
 use Rattle.rules_diagrams.specs.inner.Tells.{GivesNumber, Tells}
 use Rattle.rules_diagrams.specs.inner.Values.{IsWithin, Keeps}
-use Rattle.rules_diagrams.specs.inner.Lined.{lined_at, first_outer, later_outer, AreLined, AreAllWithin}
+use Rattle.rules_diagrams.specs.inner.Lined.{lined_at, first_outer, AreLined, AreAllWithin}
+use Rattle.rules_diagrams.specs.inner.Stacks.{later_diagrams}
 use Rattle.rules_diagrams.specs.declared.diagram.Diagram.{Diagram}
 use Rattle.rules_diagrams.specs.declared.diagram.Diagram.TheVariants.{Leaf}
 use Rattle.rules_diagrams.specs.declared.diagram.Node.{Node}
@@ -33,7 +34,7 @@ later_at : (so_far made : Diagram) (outer : List Diagram) (passed : ℕ) → lin
 later_at so_far made [] passed = refl
 later_at so_far made (first ∷ more) passed = refl
 
-taken_at : (so_far made : Diagram) (outer : List Diagram) (passed : ℕ) → lined_at so_far outer (suc (suc passed)) ≡ lined_at made (later_outer outer) (suc passed)
+taken_at : (so_far made : Diagram) (outer : List Diagram) (passed : ℕ) → lined_at so_far outer (suc (suc passed)) ≡ lined_at made (later_diagrams outer) (suc passed)
 taken_at so_far made [] passed = refl
 taken_at so_far made (first ∷ more) passed = later_at first made more passed
 
@@ -68,7 +69,7 @@ module _ (side : Side) (rest : List RuleLine) (place otherwise : ℕ) where
         subst (λ (d : Diagram). GivesNumber new (after (suc passed)) d) (later_at so_far made outer passed) (moved (suc passed))
 
     block_at : (met made : Diagram) → Tells middle (is_met side test) met → IsChoice new met so_far (first_outer outer) made → (passed : ℕ)
-        → GivesNumber new (from (Block test) passed) (lined_at made (later_outer outer) passed)
+        → GivesNumber new (from (Block test) passed) (lined_at made (later_diagrams outer) passed)
     block_at met made told is zero =
         gives_same new (λ cell. chosen (truth (is_met side test cell)) (after 0 cell) (after 1 cell)) (from (Block test) 0) made
         (λ cell. block_passes (is_met side test cell) (λ passed. after passed cell))
@@ -93,7 +94,7 @@ module _ {E : Type 0} (side : Side) (place : ℕ) (old middle new : List Node) (
   rule_lined test value met (Err e) p q told is = tt
 
   pub block_lined : (test : Test) (met after : Diagram) (left : List Diagram) (r : Result Diagram E) → Keeps old middle → Keeps middle new → Tells middle (is_met side test) met
-      → after ≡ first_outer outer → left ≡ later_outer outer → IfOk r (IsChoice new met so_far after)
+      → after ≡ first_outer outer → left ≡ later_diagrams outer → IfOk r (IsChoice new met so_far after)
       → IfOk r (λ made. (rest : List RuleLine) (otherwise : ℕ) → AreLined old side rest (place + 1) otherwise so_far outer → AreLined new side (Block test ∷ rest) place otherwise made left)
   block_lined test met after left (Ok made) p q told e f is = λ rest otherwise lined passed.
       let chosen_is : IsChoice new met so_far (first_outer outer) made = subst (λ (d : Diagram). IsChoice new met so_far d made) e is in

@@ -9,6 +9,7 @@ pub mod Asking
 pub mod Store
 pub mod Steps
 pub mod Fields
+pub mod Stacks
 pub mod Lined
 pub mod Walks
 pub mod CaseLists

@@ -9,7 +9,7 @@ ghost use Rattle.rules_diagrams.specs.inner.Store.{above};
 ghost use Rattle.rules_diagrams.specs.declared.diagram.Node.{Node};
 
 use crate::diagram::Diagram;
-use crate::fault::Undecided;
+use crate::fault::Drawn;
 use crate::step::{Asked, Parts};
 use crate::store::{Diagrams, is_same};
 
@@ -69,7 +69,7 @@ impl Diagrams {
 
     /// The choice that is asked for.
     #[tactic(auto, using(crate::proofs::Nodes::keeps_both, crate::proofs::Nodes::keeps_itself))]
-    fn choose_asked(&mut self, asked: Asked) -> Result<Diagram, Undecided>
+    fn choose_asked(&mut self, asked: Asked) -> Drawn
         requires { AreWithin self.old asked }
         ensures keeps { Keeps self.old self.new }
         ensures answer { IfOk result (IsAnswer self.new asked) }
@@ -96,12 +96,7 @@ impl Diagrams {
     ///
     /// `TooLarge` if the store had to have more than [`MOST_NODES`](crate::MOST_NODES) nodes; `NoMemory` if an allocation
     /// failed. The nodes made so far stay.
-    pub(crate) fn choose(
-        &mut self,
-        test: Diagram,
-        one: Diagram,
-        other: Diagram,
-    ) -> Result<Diagram, Undecided>
+    pub(crate) fn choose(&mut self, test: Diagram, one: Diagram, other: Diagram) -> Drawn
         requires test { IsWithin self.old test }
         requires one { IsWithin self.old one }
         requires other { IsWithin self.old other }

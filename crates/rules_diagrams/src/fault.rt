@@ -1,7 +1,11 @@
 //! Why nothing was decided.
 
+use crate::diagram::Diagram;
 use std::alloc::{AllocError, AllocFailed};
 use thiserror::Error;
+
+/// A diagram, or why none was made.
+pub(crate) type Drawn = Result<Diagram, Undecided>;
 
 /// Why no diagram was made, or diagrams weren't compared.
 #[derive(Clone, Copy, Debug, PartialEq, Eq, Error)]

@@ -4,10 +4,11 @@ ghost use Rattle.std.specs.Prelude.{◌≡◌, ◌+◌, ◌<◌, ℕ, Bool, ◌&
 ghost use Rattle.rules_cells.specs.Tests.{is_met};
 ghost use Rattle.rules_diagrams.specs.inner.Values.{IsWithin, Keeps};
 ghost use Rattle.rules_diagrams.specs.inner.Tells.{Tells};
-ghost use Rattle.rules_diagrams.specs.inner.Holding.{AreInside, first_inside, left_inside, passed_before};
+ghost use Rattle.rules_diagrams.specs.inner.Holding.{AreInside, first_inside, passed_before};
+ghost use Rattle.rules_diagrams.specs.inner.Stacks.{later_diagrams};
 
 use crate::diagram::Diagram;
-use crate::fault::Undecided;
+use crate::fault::{Drawn, Undecided};
 use crate::met_tests::{both, met};
 use crate::store::Diagrams;
 use rules_cells::{RuleLine, Rules, Test};
@@ -26,7 +27,7 @@ fn first_of(inside: &VecDeque<Diagram>) -> Diagram
 
 /// Removes the first diagram, if there is one.
 fn leave(inside: &mut VecDeque<Diagram>)
-    ensures { inside.new.items ≡ left_inside inside.old.items }
+    ensures { inside.new.items ≡ later_diagrams inside.old.items }
 {
     inside.pop_front();
 }
@@ -39,7 +40,7 @@ pub(crate) fn held(
     side: Side,
     test: &Test,
     inside: &VecDeque<Diagram>,
-) -> Result<Diagram, Undecided>
+) -> Drawn
     requires { IsWithin diagrams.old (first_inside inside.now.items) }
     ensures keeps { Keeps diagrams.old diagrams.new }
     ensures tells { IfOk result (λ made. (within : List ℕ → Bool) → Tells diagrams.old within (first_inside inside.now.items)

@@ -4,11 +4,12 @@ ghost use Rattle.std.specs.Prelude.{◌≡◌, ◌+◌, ◌-◌, ◌<◌, ◌^�
 ghost use Rattle.rules_diagrams.specs.inner.Values.{Keeps};
 ghost use Rattle.rules_diagrams.specs.inner.Tells.{GivesNumber};
 ghost use Rattle.rules_diagrams.specs.inner.Lines.{deciding_line};
-ghost use Rattle.rules_diagrams.specs.inner.Lined.{AreAllWithin, AreLined, first_outer, later_outer};
+ghost use Rattle.rules_diagrams.specs.inner.Lined.{AreAllWithin, AreLined, first_outer};
+ghost use Rattle.rules_diagrams.specs.inner.Stacks.{later_diagrams};
 ghost use Rattle.rules_cells.specs.declared.rules.RuleLine.{RuleLine as Written};
 
 use crate::diagram::Diagram;
-use crate::fault::Undecided;
+use crate::fault::{Drawn, Undecided};
 use crate::met_tests::met;
 use crate::store::Diagrams;
 use rules_cells::{RuleLine, Rules};
@@ -19,7 +20,7 @@ use upc_cell::Side;
 /// Takes the diagram of what comes after the first end, or that of no line if there is no end.
 fn take_first(outer: &mut VecDeque<Diagram>) -> Diagram
     ensures first { result ≡ first_outer outer.old.items }
-    ensures left { outer.new.items ≡ later_outer outer.old.items }
+    ensures left { outer.new.items ≡ later_diagrams outer.old.items }
 {
     match outer.pop_front() {
         None => Diagram::Leaf(0),
@@ -37,7 +38,7 @@ fn with_line(
     place: u32,
     so_far: Diagram,
     outer: &mut VecDeque<Diagram>,
-) -> Result<Diagram, Undecided>
+) -> Drawn
     requires within { AreAllWithin diagrams.old so_far outer.old.items }
     requires place { place + 1 < 2 ^ 32 }
     ensures keeps { Keeps diagrams.old diagrams.new }
@@ -67,11 +68,7 @@ fn with_line(
 /// # Errors
 ///
 /// As [`Diagrams::choose`] has them; also `TooLarge` for 4,294,967,295 lines or more.
-pub(crate) fn deciding_lines(
-    alloc: Global,
-    diagrams: &mut Diagrams,
-    rules: &Rules,
-) -> Result<Diagram, Undecided>
+pub(crate) fn deciding_lines(alloc: Global, diagrams: &mut Diagrams, rules: &Rules) -> Drawn
     ensures keeps { Keeps diagrams.old diagrams.new }
     ensures gives { IfOk result (GivesNumber diagrams.new (deciding_line rules.now)) }
     ensures few { IfOk result (λ _. length rules.now.lines.items < 2 ^ 32 - 1) }

@@ -11,7 +11,7 @@ ghost use Rattle.rules_cells.specs.inner.MetTests.{each_is_met, some_is_met};
 ghost use Rattle.rules_code.specs.PlainTests.{is_among, kept_bits};
 
 use crate::diagram::Diagram;
-use crate::fault::Undecided;
+use crate::fault::Drawn;
 use crate::span::{Bits, Interval};
 use crate::store::Diagrams;
 use bpf_code::Size;
@@ -64,7 +64,7 @@ fn reached(
     field: Field,
     mask: Option<u32>,
     reach: Interval,
-) -> Result<Diagram, Undecided>
+) -> Drawn
     ensures keeps { Keeps diagrams.old diagrams.new }
     ensures tells { IfOk result (Tells diagrams.new (λ cell. is_between reach.low reach.end (kept_bits mask (number_in side field cell)))) }
 {
@@ -76,7 +76,7 @@ fn reached(
 }
 
 /// The diagram of the cells that another doesn't tell.
-fn denied(diagrams: &mut Diagrams, test: Diagram) -> Result<Diagram, Undecided>
+fn denied(diagrams: &mut Diagrams, test: Diagram) -> Drawn
     requires { IsWithin diagrams.old test }
     ensures keeps { Keeps diagrams.old diagrams.new }
     ensures tells { IfOk result (λ made. (met : List ℕ → Bool) → Tells diagrams.old met test → Tells diagrams.new (λ cell. not (met cell)) made) }
@@ -85,11 +85,7 @@ fn denied(diagrams: &mut Diagrams, test: Diagram) -> Result<Diagram, Undecided>
 }
 
 /// The diagram of the cells that both of two tell.
-pub(crate) fn both(
-    diagrams: &mut Diagrams,
-    one: Diagram,
-    other: Diagram,
-) -> Result<Diagram, Undecided>
+pub(crate) fn both(diagrams: &mut Diagrams, one: Diagram, other: Diagram) -> Drawn
     requires one { IsWithin diagrams.old one }
     requires other { IsWithin diagrams.old other }
     ensures keeps { Keeps diagrams.old diagrams.new }
@@ -100,7 +96,7 @@ pub(crate) fn both(
 }
 
 /// The diagram of the cells that one of two tells.
-fn either(diagrams: &mut Diagrams, one: Diagram, other: Diagram) -> Result<Diagram, Undecided>
+fn either(diagrams: &mut Diagrams, one: Diagram, other: Diagram) -> Drawn
     requires one { IsWithin diagrams.old one }
     requires other { IsWithin diagrams.old other }
     ensures keeps { Keeps diagrams.old diagrams.new }
@@ -160,7 +156,7 @@ fn among(
     mask: Option<u32>,
     first: Span,
     others: &[Span],
-) -> Result<Diagram, Undecided>
+) -> Drawn
     ensures keeps { Keeps diagrams.old diagrams.new }
     ensures tells { IfOk result (Tells diagrams.new (λ cell. is_among (first ∷ others.now) (kept_bits mask (number_in side field cell)))) }
 {
@@ -181,7 +177,7 @@ fn compared(
     field: Field,
     mask: Option<u32>,
     relation: &Relation,
-) -> Result<Diagram, Undecided>
+) -> Drawn
     ensures keeps { Keeps diagrams.old diagrams.new }
     ensures tells { IfOk result (Tells diagrams.new (λ cell. is_so relation.now (kept_bits mask (number_in side field cell)))) }
 {
@@ -224,7 +220,7 @@ fn compared(
 /// As [`Diagrams::choose`] has them.
 #[cycle(met)]
 #[tactic(auto, using(crate::proofs::Nodes::keeps_both, crate::proofs::Nodes::keeps_itself))]
-pub(crate) fn met(diagrams: &mut Diagrams, side: Side, test: &Test) -> Result<Diagram, Undecided>
+pub(crate) fn met(diagrams: &mut Diagrams, side: Side, test: &Test) -> Drawn
     ensures keeps { Keeps diagrams.old diagrams.new }
     ensures tells { IfOk result (Tells diagrams.new (is_met side test.now)) }
 {
@@ -261,7 +257,7 @@ pub(crate) fn met(diagrams: &mut Diagrams, side: Side, test: &Test) -> Result<Di
 /// The diagram of the cells of which each of these tests holds.
 #[cycle(met)]
 #[tactic(auto, using(crate::proofs::Nodes::keeps_both, crate::proofs::Nodes::keeps_itself))]
-fn all_met(diagrams: &mut Diagrams, side: Side, tests: &[Test]) -> Result<Diagram, Undecided>
+fn all_met(diagrams: &mut Diagrams, side: Side, tests: &[Test]) -> Drawn
     ensures keeps { Keeps diagrams.old diagrams.new }
     ensures tells { IfOk result (Tells diagrams.new (each_is_met side tests.now)) }
 {
@@ -276,7 +272,7 @@ fn all_met(diagrams: &mut Diagrams, side: Side, tests: &[Test]) -> Result<Diagra
 /// The diagram of the cells of which one of these tests holds.
 #[cycle(met)]
 #[tactic(auto, using(crate::proofs::Nodes::keeps_both, crate::proofs::Nodes::keeps_itself))]
-fn one_met(diagrams: &mut Diagrams, side: Side, tests: &[Test]) -> Result<Diagram, Undecided>
+fn one_met(diagrams: &mut Diagrams, side: Side, tests: &[Test]) -> Drawn
     ensures keeps { Keeps diagrams.old diagrams.new }
     ensures tells { IfOk result (Tells diagrams.new (some_is_met side tests.now)) }
 {

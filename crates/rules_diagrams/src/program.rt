@@ -11,7 +11,7 @@ ghost use Rattle.rules_diagrams.specs.declared.contents.Told.{Told as Known};
 
 use crate::contents::{Contents, FIRST, Followed, Told, are_same};
 use crate::diagram::Diagram;
-use crate::fault::{Undecided, Unfollowed};
+use crate::fault::{Drawn, Undecided, Unfollowed};
 use crate::following::follow;
 use crate::reaching::{Reached, reach};
 use crate::store::Diagrams;
@@ -107,7 +107,7 @@ fn branched(
     k: u32,
     one: Diagram,
     other: Diagram,
-) -> Result<Diagram, Undecided>
+) -> Drawn
     requires one { IsWithin diagrams.old one }
     requires other { IsWithin diagrams.old other }
     ensures keeps { Keeps diagrams.old diagrams.new }

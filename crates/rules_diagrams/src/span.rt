@@ -5,7 +5,7 @@ ghost use Rattle.rules_diagrams.specs.inner.Values.{Keeps};
 ghost use Rattle.rules_diagrams.specs.inner.Spans.{IsSpan};
 
 use crate::diagram::Diagram;
-use crate::fault::Undecided;
+use crate::fault::Drawn;
 use crate::store::Diagrams;
 
 /// Some bits of a cell that are one number, the first highest.
@@ -61,12 +61,7 @@ impl Diagrams {
     ///
     /// As [`choose`](Self::choose) has them.
     #[tactic(auto, using(crate::proofs::Nodes::keeps_both, crate::proofs::Nodes::keeps_itself))]
-    pub(crate) fn span(
-        &mut self,
-        bits: Bits,
-        mask: u32,
-        reach: Interval,
-    ) -> Result<Diagram, Undecided>
+    pub(crate) fn span(&mut self, bits: Bits, mask: u32, reach: Interval) -> Drawn
         requires width { bits.width ≤ 32 }
         requires inside { bits.bit + bits.width ≤ 416 }
         ensures keeps { Keeps self.old self.new }

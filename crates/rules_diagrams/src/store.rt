@@ -8,7 +8,7 @@ ghost use Rattle.rules_diagrams.specs.inner.Store.{IsNode, HasNode, DecidesByBit
 ghost use Rattle.rules_diagrams.specs.inner.Steps.{AreSides};
 
 use crate::diagram::{Diagram, Node, Sides};
-use crate::fault::Undecided;
+use crate::fault::{Drawn, Undecided};
 use crate::step::{Asked, Step};
 use std::alloc::Global;
 use std::marker::Model;
@@ -215,7 +215,7 @@ impl Diagrams {
     }
 
     /// Adds a node.
-    fn push(&mut self, node: Node) -> Result<Diagram, Undecided>
+    fn push(&mut self, node: Node) -> Drawn
         requires { IsNode self.old node }
         ensures keeps { Keeps self.old self.new }
         ensures made { IfOk result (DecidesByBit self.new node.bit node.low node.high) }
@@ -231,12 +231,7 @@ impl Diagrams {
     }
 
     /// The diagram that decides by a bit between two others, which ask only for later bits.
-    pub(crate) fn make(
-        &mut self,
-        bit: u16,
-        low: Diagram,
-        high: Diagram,
-    ) -> Result<Diagram, Undecided>
+    pub(crate) fn make(&mut self, bit: u16, low: Diagram, high: Diagram) -> Drawn
         requires bit { bit < 416 }
         requires low { IsWithin self.old low }
         requires high { IsWithin self.old high }

@@ -9,13 +9,13 @@ ghost use Rattle.rules_diagrams.specs.inner.Words.{bit_in, word_number, test_bit
 ghost use Rattle.rules_diagrams.specs.declared.diagram.Node.{Node};
 
 use crate::diagram::Diagram;
-use crate::fault::Undecided;
+use crate::fault::{Drawn, Undecided};
 use crate::store::{Diagrams, NO_BIT};
 use crate::word::Bit;
 use bpf_code::Test;
 
 /// The diagram of the cells for which a bit is set.
-fn set(diagrams: &mut Diagrams, bit: Bit) -> Result<Diagram, Undecided>
+fn set(diagrams: &mut Diagrams, bit: Bit) -> Drawn
     ensures keeps { Keeps diagrams.old diagrams.new }
     ensures shows { IfOk result (GivesTruth diagrams.new (bit_in bit)) }
 {
@@ -56,13 +56,7 @@ fn if_clear(test: Test, other: bool, lower: Diagram) -> Diagram
 
 /// The diagram of the test of a bit with a bit of a constant, above lower bits that gave a diagram.
 #[tactic(auto, using(crate::proofs::Nodes::keeps_both, crate::proofs::Nodes::keeps_itself))]
-fn stepped(
-    diagrams: &mut Diagrams,
-    test: Test,
-    bit: Bit,
-    other: bool,
-    lower: Diagram,
-) -> Result<Diagram, Undecided>
+fn stepped(diagrams: &mut Diagrams, test: Test, bit: Bit, other: bool, lower: Diagram) -> Drawn
     requires { IsWithin diagrams.old lower }
     ensures keeps { Keeps diagrams.old diagrams.new }
     ensures within { IfOk result (IsWithin diagrams.new) }
@@ -89,13 +83,7 @@ fn ended(test: Test, k: u32, lower: Diagram) -> Diagram
 
 /// The diagram of the test of bits with a constant, above lower bits that gave a diagram.
 #[tactic(auto, using(crate::proofs::Nodes::keeps_both, crate::proofs::Nodes::keeps_itself))]
-fn tested(
-    diagrams: &mut Diagrams,
-    test: Test,
-    bits: &[Bit],
-    k: u32,
-    lower: Diagram,
-) -> Result<Diagram, Undecided>
+fn tested(diagrams: &mut Diagrams, test: Test, bits: &[Bit], k: u32, lower: Diagram) -> Drawn
     requires { IsWithin diagrams.old lower }
     ensures keeps { Keeps diagrams.old diagrams.new }
     ensures tested { IfOk result (IsTestedAfter diagrams.old diagrams.new test bits.now k lower) }
@@ -124,12 +112,7 @@ fn of_none(test: Test) -> Diagram
 /// # Errors
 ///
 /// As [`Diagrams::choose`] has them.
-pub(crate) fn test_shown(
-    diagrams: &mut Diagrams,
-    test: Test,
-    bits: &[Bit],
-    k: u32,
-) -> Result<Diagram, Undecided>
+pub(crate) fn test_shown(diagrams: &mut Diagrams, test: Test, bits: &[Bit], k: u32) -> Drawn
     ensures keeps { Keeps diagrams.old diagrams.new }
     ensures shows { IfOk result (GivesTruth diagrams.new (λ cell. test_of test (word_number bits.now cell) k)) }
 {

@@ -11,6 +11,7 @@ use Rattle.rules_cells.specs.declared.rules.RuleLine.{RuleLine}
 use Rattle.rules_cells.specs.declared.rules.RuleLine.TheVariants.{Rule, Block, End}
 use Rattle.rules_cells.specs.declared.rules.Rules.{Rules}
 use Rattle.rules_diagrams.specs.UnusedRules.{AreAscending, ArePlacesAscending, Decides, DecidesNone, HasPlace, IsRuleAt, IsUnused}
+use Rattle.rules_diagrams.specs.inner.Stacks.{first_diagram}
 use Rattle.rules_diagrams.specs.inner.Tells.{Tells}
 use Rattle.rules_diagrams.specs.declared.diagram.Diagram.{Diagram}
 use Rattle.rules_diagrams.specs.declared.diagram.Diagram.TheVariants.{Leaf}
@@ -19,13 +20,7 @@ use Rattle.rules_diagrams.specs.declared.unused.Unused.{Unused}
 
 -- The first of the diagrams of blocks, that of the innermost. Outside of blocks it is that of all cells.
 abbrev pub first_inside : List Diagram → Diagram
-first_inside [] = Leaf 1
-first_inside (first ∷ more) = first
-
--- The others.
-abbrev pub left_inside : List Diagram → List Diagram
-left_inside [] = []
-left_inside (first ∷ more) = more
+first_inside inside = first_diagram (Leaf 1) inside
 
 -- The diagram of the block around this many.
 abbrev pub inside_at : List Diagram → ℕ → Diagram

@@ -4,6 +4,7 @@ use Rattle.upc_cell.specs.declared.side.Side.{Side}
 use Rattle.rules_cells.specs.Decisions.{decision_from}
 use Rattle.rules_cells.specs.declared.rules.RuleLine.{RuleLine}
 use Rattle.rules_diagrams.specs.inner.Lines.{line_number}
+use Rattle.rules_diagrams.specs.inner.Stacks.{first_diagram}
 use Rattle.rules_diagrams.specs.inner.Tells.{GivesNumber}
 use Rattle.rules_diagrams.specs.inner.Values.{IsWithin}
 use Rattle.rules_diagrams.specs.declared.diagram.Diagram.{Diagram}
@@ -16,15 +17,9 @@ lined_at so_far outer zero = so_far
 lined_at so_far [] (suc passed) = Leaf 0
 lined_at so_far (first ∷ more) (suc passed) = lined_at first more passed
 
--- The first of the diagrams after the ends of blocks.
+-- The first of the diagrams after the ends of blocks. Where no end follows, it is that of no line.
 abbrev pub first_outer : List Diagram → Diagram
-first_outer [] = Leaf 0
-first_outer (first ∷ more) = first
-
--- The others.
-abbrev pub later_outer : List Diagram → List Diagram
-later_outer [] = []
-later_outer (first ∷ more) = more
+first_outer outer = first_diagram (Leaf 0) outer
 
 -- All of them are of these nodes.
 abbrev pub AreAllWithin : List Node → Diagram → List Diagram → Type 0

@@ -6,7 +6,7 @@ use Rattle.cmd_explain_rules.proofs.rule_lines.depth_of.Given as goal
 abbrev pub invariant-loop-left : goal.invariant-loop-left
 invariant-loop-left l = record {
   within : l.depth + length l.left ≤ length l.words;
-  rest : depth_from l.text l.depth l.left ≡ depth_from l.text 0 l.words;
+  rest : depth_from l.depth l.left ≡ depth_from 0 l.words;
 }
 
 abbrev pub decreases-loop-left : goal.decreases-loop-left

@@ -4,7 +4,7 @@ use Rattle.cmd_explain_rules.specs.Spots.{first_spot, spot_from}
 use Rattle.cmd_explain_rules.proofs.spots.spot_before.Given as goal
 
 abbrev pub invariant-loop-left : goal.invariant-loop-left
-invariant-loop-left l = spot_from l.text l.column l.spot l.left ≡ spot_from l.text l.column first_spot l.words
+invariant-loop-left l = spot_from l.column l.spot l.left ≡ spot_from l.column first_spot l.words
 
 abbrev pub decreases-loop-left : goal.decreases-loop-left
 decreases-loop-left l = length l.left
