@@ -5,7 +5,6 @@ mod ContractLemmas
 mod EntryLemmas
 mod HandingOut
 mod HiddenWords
-mod LineLemmas
 mod Listed
 mod Policing
 mod SettingUp

@@ -1,11 +1,11 @@
 -- The state of a connection, as it is written for C.
-use Rattle.std.proofs.Common.{◌≡◌, ℕ, zero, suc, ◌<◌, List, [], ◌∷◌, length, Option, Some, None, refl, sym, ap, subst, ◌∙◌, arith}
+use Rattle.std.proofs.Common.{◌≡◌, ℕ, zero, suc, ◌<◌, ◌≤◌, List, [], ◌∷◌, length, Option, Some, None, refl, sym, ap, subst, ◌∙◌, arith}
 use Rattle.std.specs.Prelude.{MatchOption, IfSome, IfNone, slice_get}
 use Rattle.std.proofs.lemmas.Bool.Decides.{nat_tests}
 use Rattle.std.proofs.lemmas.Option.{slice_get_within}
 use Rattle.card_core.specs.Agreement.{CoreView, CoreAgrees}
 use Rattle.card_core.specs.ConnectionState.{IsStateIn, HasLevelsForEach}
-use Rattle.card_core.specs.World.{World, connection_in}
+use Rattle.card_core.specs.World.{World, Connection, connection_in, kept_cells}
 use Rattle.card_core.specs.declared.connection_state.ConnectionState.{ConnectionState}
 use Rattle.leaky.specs.declared.contract.Contract.{Contract}
 use Rattle.line_record.specs.History.{numbered}
@@ -16,8 +16,8 @@ use Rattle.upc_c.specs.CardState.{HasState, IsStateForC}
 use Rattle.upc_c.specs.declared.card.UpcCard.{UpcCard}
 use Rattle.upc_c.specs.declared.state.UpcMeter.{UpcMeter}
 use Rattle.upc_c.specs.declared.state.UpcState.{UpcState}
-use Rattle.upc_c.specs.inner.LineCounts.{IsMissingIn}
-use Rattle.upc_c.specs.inner.WrittenState.{IsStateOf, IsStateOn, IsWrittenState, meter_for_c}
+use Rattle.upc_c.specs.inner.HandOut.{IsLongerIn, IsShortIn}
+use Rattle.upc_c.specs.inner.WrittenState.{IsMissingIn, IsStateOf, IsStateOn, IsWrittenState, meter_for_c}
 
 -- A list has an item at each place below its length.
 item-at : {X : Type 0} (xs : List X) (place : ℕ) → place < length xs → (x : X) × (slice_get xs place ≡ Some x)
@@ -97,3 +97,22 @@ pub state-missing : (core : CoreView) (vc : Vc) (found : Option ConnectionState)
     → IfNone found (IsMissingIn core vc)
 state-missing core vc None is = is
 state-missing core vc (Some state) is = tt
+
+-- The journal of a connection with this state.
+abbrev connection-or : Option Connection → Connection → Connection
+connection-or None other = other
+connection-or (Some connection) other = connection
+
+pub short-by-state : (core : CoreView) (vc : Vc) (most : ℕ) (state : ConnectionState) → IsStateOf core vc state → state.entries ≤ most
+    → IsShortIn core vc most
+short-by-state core vc most state is few = record {
+  few = λ world agrees connection found.
+      let it = is world agrees in
+      let same : it.connection ≡ connection = ap (λ c. connection-or c connection) (sym it.found ∙ found) in
+      subst (λ (n : ℕ). n ≤ most) (it.entries ∙ ap (λ (c : Connection). length (kept_cells c)) same) few;
+}
+
+pub longer-by-state : (core : CoreView) (vc : Vc) (most : ℕ) (state : ConnectionState) → IsStateOf core vc state → most < state.entries
+    → IsLongerIn core vc most state.entries
+longer-by-state core vc most state is more =
+    (more, λ world agrees. let it = is world agrees in (it.connection, it.found, sym it.entries))

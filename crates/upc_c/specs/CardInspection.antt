@@ -17,12 +17,7 @@ use Rattle.upc_c.specs.declared.shape.UpcShape.{UpcShape}
 
 -- The counts of a line, as C gets them.
 abbrev pub counts_for_c : Tally → UpcCounts
-counts_for_c tally = record {
-  passed = tally.passed;
-  tagged = tally.tagged;
-  discarded = tally.discarded;
-  refused = tally.refused;
-}
+counts_for_c tally = record { passed = tally.passed; tagged = tally.tagged; discarded = tally.discarded; refused = tally.refused }
 
 -- There is a card, and these are the numbers of its shape.
 abbrev pub HasShape : UpcCard → UpcShape → Type 0

@@ -12,12 +12,14 @@ use Rattle.upc_c.specs.declared.fault.UpcFault.{UpcFault}
 use Rattle.upc_c.specs.declared.shape.UpcShape.{UpcShape}
 
 -- The shape with these numbers.
-pub record IsShapeOf (given : UpcShape) (shape : Shape) : Type 0 where
-  pub side : given.side ≡ side_number shape.side
-  pub programs : shape.programs ≡ given.programs
-  pub lines : shape.lines ≡ given.lines
-  pub ports : shape.ports ≡ given.ports
-  pub journal : shape.journal ≡ given.journal
+abbrev pub IsShapeOf : UpcShape → Shape → Type 0
+IsShapeOf given shape = given ≡ record {
+  side = side_number shape.side;
+  programs = shape.programs;
+  lines = shape.lines;
+  ports = shape.ports;
+  journal = shape.journal;
+}
 
 -- The core is that of an empty card with these numbers.
 abbrev pub IsEmptyCard : UpcShape → CoreView → Type 0

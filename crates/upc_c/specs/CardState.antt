@@ -6,6 +6,7 @@ use Rattle.card_core.specs.World.{World, Connection, kept_cells}
 use Rattle.card_core.specs.declared.fault.DeskFault.TheVariants.{NoConnection}
 use Rattle.leaky.specs.declared.contract.Contract.{Contract}
 use Rattle.leaky.specs.declared.contract.Contract.TheVariants.{Cbr1, Vbr1, Vbr2, Vbr3}
+use Rattle.leaky.specs.declared.gcra.Gcra.{Gcra}
 use Rattle.line_record.specs.History.{buckets_after_cells, empty_buckets, last_moment}
 use Rattle.line_record.specs.Tally.{tally_of}
 use Rattle.upc_cell.specs.declared.vc.Vc.{Vc}
@@ -21,6 +22,16 @@ use Rattle.upc_c.specs.declared.fault.UpcFault.{UpcFault}
 use Rattle.upc_c.specs.declared.state.UpcMeter.{UpcMeter}
 use Rattle.upc_c.specs.declared.state.UpcState.{UpcState}
 
+-- A contract of this kind with two rates, as C has it.
+abbrev pub two_rates_for_c : ℕ → Gcra → Gcra → UpcContract
+two_rates_for_c kind peak sustained = record {
+  kind = kind;
+  peak_increment = peak.increment;
+  peak_limit = peak.limit;
+  sustained_increment = sustained.increment;
+  sustained_limit = sustained.limit;
+}
+
 -- The contract, as C has it: its kind, and the rates of its buckets. Without a bucket 2 its two numbers are 0.
 abbrev pub contract_for_c : Contract → UpcContract
 contract_for_c (Cbr1 peak) = record {
@@ -30,27 +41,9 @@ contract_for_c (Cbr1 peak) = record {
   sustained_increment = 0;
   sustained_limit = 0;
 }
-contract_for_c (Vbr1 peak sustained) = record {
-  kind = 2;
-  peak_increment = peak.increment;
-  peak_limit = peak.limit;
-  sustained_increment = sustained.increment;
-  sustained_limit = sustained.limit;
-}
-contract_for_c (Vbr2 peak sustained) = record {
-  kind = 3;
-  peak_increment = peak.increment;
-  peak_limit = peak.limit;
-  sustained_increment = sustained.increment;
-  sustained_limit = sustained.limit;
-}
-contract_for_c (Vbr3 peak sustained) = record {
-  kind = 4;
-  peak_increment = peak.increment;
-  peak_limit = peak.limit;
-  sustained_increment = sustained.increment;
-  sustained_limit = sustained.limit;
-}
+contract_for_c (Vbr1 peak sustained) = two_rates_for_c 2 peak sustained
+contract_for_c (Vbr2 peak sustained) = two_rates_for_c 3 peak sustained
+contract_for_c (Vbr3 peak sustained) = two_rates_for_c 4 peak sustained
 
 -- At this place, from 0, of the buffer is this contract, with levels that represent its buckets after the connection's
 -- history. A contract's number is its place plus 1.

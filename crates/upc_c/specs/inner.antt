@@ -2,7 +2,6 @@
 pub mod Numbered
 pub mod Hidden
 pub mod ReachedCore
-pub mod LineCounts
 pub mod HandOut
 pub mod WrittenState
 pub mod CellsOnCore

@@ -15,10 +15,10 @@ ghost use Rattle.upc_c.specs.inner.Numbered.{IsNumbered};
 
 use crate::card::UpcCard;
 use crate::cell::cell_of;
-use crate::desk_fault::card_missing;
-use crate::fault::{OF_AN_ARRIVAL, UpcFault, fault_at, report, report_success};
+use crate::fault::{
+    OF_AN_ARRIVAL, UpcFault, card_missing, fault_at, out_of_memory, report, report_success,
+};
 use crate::id::{UpcId, id_for_c};
-use crate::library_faults::out_of_memory;
 use crate::meter::number_of_verdict;
 use crate::stepping::{put_core, take_core};
 use card_core::{Core, Judgement, Unjudged};

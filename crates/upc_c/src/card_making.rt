@@ -9,8 +9,9 @@ ghost use Rattle.upc_c.specs.inner.ReachedCore.{IsReachedCore};
 ghost use Rattle.upc_c.specs.inner.Numbered.{IsNumbered};
 
 use crate::card::UpcCard;
-use crate::fault::{OF_A_SHAPE, OF_THE_CALL, UpcFault, fault_at, report, report_success};
-use crate::library_faults::out_of_memory;
+use crate::fault::{
+    OF_A_SHAPE, OF_THE_CALL, UpcFault, fault_at, out_of_memory, report, report_success,
+};
 use crate::shape::{UpcShape, shape_of};
 use crate::stepping::{put_core, take_core};
 use card_core::{CardFault, Core};

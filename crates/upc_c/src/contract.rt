@@ -1,7 +1,7 @@
 //! Contracts, as C has them.
 
 ghost use Rattle.std.specs.Prelude.{◌≡◌, ◌≢◌, IfOk, IfErr};
-ghost use Rattle.upc_c.specs.CardState.{contract_for_c};
+ghost use Rattle.upc_c.specs.CardState.{contract_for_c, two_rates_for_c};
 ghost use Rattle.upc_c.specs.GivenContract.{IsGivenContract, IsContractFault, IsGivenRate, IsRateFault, AreARate, AreAContract};
 ghost use Rattle.upc_c.specs.Faults.{AnswersCall};
 ghost use Rattle.upc_c.specs.inner.Numbered.{IsNumbered};
@@ -65,13 +65,7 @@ pub(crate) fn contract_of(given: &UpcContract) -> Result<Contract, UpcFault>
 
 /// Returns the contract of this kind with two rates, as C has it.
 fn two_rates_for_c(kind: u32, peak: &Gcra, sustained: &Gcra) -> UpcContract
-    ensures { result ≡ record {
-      kind = kind;
-      peak_increment = peak.now.increment;
-      peak_limit = peak.now.limit;
-      sustained_increment = sustained.now.increment;
-      sustained_limit = sustained.now.limit;
-    } }
+    ensures { result ≡ two_rates_for_c kind peak.now sustained.now }
 {
     UpcContract {
         kind,

@@ -2,19 +2,10 @@
 
 ghost use Rattle.std.specs.Prelude.{◌≡◌};
 ghost use Rattle.upc_c.specs.CardDesk.{desk_fault_for_c};
-ghost use Rattle.upc_c.specs.CardHandle.{card_missing};
 ghost use Rattle.upc_c.specs.inner.Numbered.{IsNumbered};
 
-use crate::fault::{OF_THE_CALL, OF_THE_DESK, UpcFault, fault_at};
-use crate::library_faults::out_of_memory;
+use crate::fault::{OF_THE_DESK, UpcFault, fault_at, out_of_memory};
 use card_core::DeskFault;
-
-/// Returns the error that there is no card.
-pub(crate) fn card_missing() -> UpcFault
-    ensures { result ≡ card_missing }
-{
-    fault_at(OF_THE_CALL, 9, 0)
-}
 
 /// Returns the error for C of a step that the desk refused.
 pub(crate) fn desk_fault_for_c(found: DeskFault) -> UpcFault

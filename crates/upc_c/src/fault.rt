@@ -1,7 +1,8 @@
 //! Errors, as C gets them.
 
 ghost use Rattle.std.specs.Prelude.{◌≡◌, ◌≢◌};
-ghost use Rattle.upc_c.specs.Faults.{AnswersCall, no_fault, plain_fault};
+ghost use Rattle.upc_c.specs.Faults.{AnswersCall, no_fault, out_of_memory, plain_fault};
+ghost use Rattle.upc_c.specs.CardHandle.{card_missing};
 ghost use Rattle.upc_c.specs.inner.Numbered.{IsNumbered};
 
 /// The error of a call, or all zeros if it has none.
@@ -75,6 +76,20 @@ pub(crate) fn fault_at(kind: u32, number: u32, place: usize) -> UpcFault
         code: 0,
         column: 0,
     }
+}
+
+/// Returns the error that an allocation failed.
+pub(crate) fn out_of_memory() -> UpcFault
+    ensures { result ≡ out_of_memory }
+{
+    fault_at(OF_THE_CALL, 1, 0)
+}
+
+/// Returns the error that there is no card.
+pub(crate) fn card_missing() -> UpcFault
+    ensures { result ≡ card_missing }
+{
+    fault_at(OF_THE_CALL, 9, 0)
 }
 
 /// Writes the error and returns its result: 256 times its kind, plus its number.

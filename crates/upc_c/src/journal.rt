@@ -14,11 +14,11 @@ ghost use Rattle.upc_c.specs.inner.Numbered.{IsNumbered};
 
 use crate::card::UpcCard;
 use crate::counts::{UpcCounts, counts_for_c};
-use crate::desk_fault::{card_missing, desk_fault_for_c};
+use crate::desk_fault::desk_fault_for_c;
 use crate::entry::{UpcEntry, write_entries};
-use crate::fault::{OF_THE_CALL, UpcFault, fault_at, report, report_success};
-use crate::inspecting::counts_of_line;
+use crate::fault::{OF_THE_CALL, UpcFault, card_missing, fault_at, report, report_success};
 use crate::setting_up::vc_on;
+use crate::state::state_in;
 use crate::stepping::{put_core, take_core};
 use card_core::{Core, DeskFault};
 use line_record::Piece;
@@ -85,13 +85,13 @@ fn too_many(core: &Core, vc: Vc, most: usize) -> Option<usize>
     ensures longer { IfSome result (IsLongerIn core.now vc most) }
     ensures fits { IfNone result (IsShortIn core.now vc most) }
 {
-    let Some(line) = counts_of_line(core, vc) else {
+    let Some(state) = state_in(core, vc) else {
         return None;
     };
-    if line.cells <= most {
+    if state.entries <= most {
         return None;
     }
-    Some(line.cells)
+    Some(state.entries)
 }
 
 /// Takes the step on the card, if the journal has at most `most` cells.

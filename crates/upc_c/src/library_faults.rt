@@ -2,23 +2,15 @@
 
 ghost use Rattle.std.specs.Prelude.{◌≡◌};
 ghost use Rattle.upc_c.specs.LibraryFaults.{asm_fault_for_c, check_fault_for_c, decode_fault_for_c, list_fault_for_c, rule_fault_for_c};
-ghost use Rattle.upc_c.specs.Faults.{out_of_memory};
 ghost use Rattle.upc_c.specs.inner.Numbered.{IsNumbered};
 
 use crate::fault::{
-    OF_ASSEMBLY, OF_DECODING, OF_RULES, OF_THE_CALL, OF_THE_CHECK, UpcFault, fault_at,
+    OF_ASSEMBLY, OF_DECODING, OF_RULES, OF_THE_CHECK, UpcFault, fault_at, out_of_memory,
 };
 use bpf_asm::{AsmFault, AsmKind, ListFault};
 use bpf_code::DecodeFault;
 use bpf_verify::Fault;
 use rules_text::{RuleFault, RuleFaultKind};
-
-/// Returns the error that an allocation failed.
-pub(crate) fn out_of_memory() -> UpcFault
-    ensures { result ≡ out_of_memory }
-{
-    fault_at(OF_THE_CALL, 1, 0)
-}
 
 /// Returns the error for C of octets that are no code.
 pub(crate) fn decode_fault_for_c(found: DecodeFault) -> UpcFault
@@ -40,17 +32,11 @@ pub(crate) fn asm_fault_for_c(found: AsmFault) -> UpcFault
     ensures fault { result ≡ asm_fault_for_c found }
     ensures numbered { IsNumbered result }
 {
-    let number = match found.kind {
-        AsmKind::BadLine => 1,
-        AsmKind::BadNumber => 2,
-        AsmKind::LabelTwice => 3,
-        AsmKind::UnknownLabel => 4,
-        AsmKind::Backward => 5,
-        AsmKind::TooFar => 6,
-        AsmKind::DanglingLabel => 7,
-        AsmKind::NoMemory => return out_of_memory(),
-    };
-    fault_at(OF_ASSEMBLY, number, found.line)
+    match found.kind {
+        AsmKind::NoMemory => out_of_memory(),
+        // The kinds have their numbers from 1 on, in order.
+        kind => fault_at(OF_ASSEMBLY, kind as u32 + 1, found.line),
+    }
 }
 
 /// Returns the error for C of a code that is no program.

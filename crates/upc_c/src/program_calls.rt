@@ -1,6 +1,6 @@
 //! The calls for a program that C has.
 
-ghost use Rattle.std.specs.Prelude.{◌≡◌, ◌≢◌, List, length, Some, None, IfOk, IfErr};
+ghost use Rattle.std.specs.Prelude.{◌≡◌, ◌≢◌, List, length, Some, None, IfOk, IfErr, IfSome, IfNone};
 ghost use Rattle.bpf_code.specs.OctetSpelling.{SpellsCode};
 ghost use Rattle.bpf_code.specs.declared.instr.Instr.{Instr};
 ghost use Rattle.bpf_interp.specs.Value.{Value};
@@ -10,9 +10,8 @@ ghost use Rattle.upc_c.specs.ProgramHandle.{IsNoProgram, IsRunFault, program_in,
 ghost use Rattle.upc_c.specs.inner.Numbered.{IsNumbered};
 
 use crate::cell::cell_of;
-use crate::fault::{OF_THE_CALL, UpcFault, fault_at, report, report_success};
+use crate::fault::{OF_THE_CALL, UpcFault, fault_at, out_of_memory, report, report_success};
 use crate::hidden::{Hidden, HiddenProgram};
-use crate::library_faults::out_of_memory;
 use crate::program::UpcProgram;
 use crate::program_octets::accepted;
 use bpf_interp::run;
@@ -64,13 +63,16 @@ pub extern "C" fn upc_program_new(
     }
 }
 
-/// Frees the program. Without a program it does nothing.
-#[unsafe(no_mangle)]
-pub extern "C" fn upc_program_free(alloc: Global, program: &mut UpcProgram)
-    ensures { program_in program.new ≡ None }
+/// Takes the program out, if there is one. The handle then has none.
+fn take_program(alloc: Global, program: &mut UpcProgram) -> Option<Box<Program>>
+    ensures code { IfSome result (λ boxed. program_in program.old ≡ Some boxed.value) }
+    ensures accepted { IfSome result (λ boxed. IsAccepted boxed.value) }
+    ensures gone { program_in program.new ≡ None }
+    ensures none { IfNone result (program_in program.old ≡ None) }
+    ensures left { IfNone result (program.new ≡ program.old) }
 {
     if program.live == 0 {
-        return;
+        return None;
     }
     let old = replace(
         program,
@@ -80,7 +82,15 @@ pub extern "C" fn upc_program_free(alloc: Global, program: &mut UpcProgram)
         },
     );
     let UpcProgram { live: _, inner } = old;
-    drop(inner.into_hidden().into_box());
+    Some(inner.into_hidden().into_box())
+}
+
+/// Frees the program. Without a program it does nothing.
+#[unsafe(no_mangle)]
+pub extern "C" fn upc_program_free(alloc: Global, program: &mut UpcProgram)
+    ensures { program_in program.new ≡ None }
+{
+    drop(take_program(alloc, program));
 }
 
 /// Runs the program on a cell of 52 octets. Returns the result of the error, or 0.
@@ -104,18 +114,9 @@ pub extern "C" fn upc_program_run(
         Ok(cell) => cell,
         Err(found) => return report(fault, found),
     };
-    if program.live == 0 {
+    let Some(boxed) = take_program(alloc, program) else {
         return report(fault, fault_at(OF_THE_CALL, 7, 0));
-    }
-    let old = replace(
-        program,
-        UpcProgram {
-            live: 0,
-            inner: HiddenProgram::of(Hidden::none(alloc)),
-        },
-    );
-    let UpcProgram { live: _, inner } = old;
-    let boxed = inner.into_hidden().into_box();
+    };
     let outcome = run(&boxed, &cell);
     *program = UpcProgram {
         live: 1,

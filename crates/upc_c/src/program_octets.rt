@@ -7,9 +7,9 @@ ghost use Rattle.upc_c.specs.Faults.{AnswersCall, out_of_memory, ragged};
 ghost use Rattle.upc_c.specs.Programs.{IsAsmRefusal, IsAssembled, IsCheckRefusal, IsDecodeRefusal, IsListRefusal, IsListed, IsBufferFault, IsProgram, IsWritten};
 ghost use Rattle.upc_c.specs.inner.Numbered.{IsNumbered};
 
-use crate::fault::{UpcFault, report, report_success};
+use crate::fault::{UpcFault, out_of_memory, report, report_success};
 use crate::library_faults::{
-    asm_fault_for_c, check_fault_for_c, decode_fault_for_c, list_fault_for_c, out_of_memory,
+    asm_fault_for_c, check_fault_for_c, decode_fault_for_c, list_fault_for_c,
 };
 use crate::room::write_to;
 use bpf_asm::{assemble, listing};

@@ -6,8 +6,8 @@ ghost use Rattle.upc_c.specs.Programs.{IsBufferFault, IsWritten};
 ghost use Rattle.upc_c.specs.CompiledRules.{IsCompiled, IsRulesRefusal};
 ghost use Rattle.upc_c.specs.inner.Numbered.{IsNumbered};
 
-use crate::fault::{UpcFault, report};
-use crate::library_faults::{out_of_memory, rule_fault_for_c};
+use crate::fault::{UpcFault, out_of_memory, report};
+use crate::library_faults::rule_fault_for_c;
 use crate::room::write_to;
 use bpf_code::encode;
 use rules_text::compile_text;

@@ -7,8 +7,7 @@ ghost use Rattle.upc_c.specs.CardInspection.{IsLookUpFault};
 ghost use Rattle.upc_c.specs.CardState.{HasState, IsStateFault};
 ghost use Rattle.upc_c.specs.Faults.{AnswersCall, no_room};
 ghost use Rattle.upc_c.specs.inner.Numbered.{IsNumbered};
-ghost use Rattle.upc_c.specs.inner.LineCounts.{IsMissingIn};
-ghost use Rattle.upc_c.specs.inner.WrittenState.{AreMetersOf, IsStateOf, IsStateOn, IsWrittenState, levels_for_c, state_for_c};
+ghost use Rattle.upc_c.specs.inner.WrittenState.{AreMetersOf, IsMissingIn, IsStateOf, IsStateOn, IsWrittenState, levels_for_c, state_for_c};
 
 use crate::card::UpcCard;
 use crate::contract::{UpcContract, contract_for_c};
@@ -117,7 +116,7 @@ fn write_state(
 }
 
 /// Returns the state of the connection, if there is one.
-fn state_in(core: &Core, vc: Vc) -> Option<ConnectionState>
+pub(crate) fn state_in(core: &Core, vc: Vc) -> Option<ConnectionState>
     ensures state { IfSome result (IsStateOf core.now vc) }
     ensures sized { IfSome result HasLevelsForEach }
     ensures none { IfNone result (IsMissingIn core.now vc) }
@@ -126,7 +125,7 @@ fn state_in(core: &Core, vc: Vc) -> Option<ConnectionState>
 }
 
 /// Returns the state of the connection on this path and channel.
-fn state_on(
+pub(crate) fn state_on(
     alloc: Global,
     card: &mut UpcCard,
     path: u16,

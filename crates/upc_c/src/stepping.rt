@@ -8,8 +8,7 @@ ghost use Rattle.upc_c.specs.inner.ReachedCore.{IsReachedCore};
 ghost use Rattle.upc_c.specs.inner.WithCore.{IsCalledOn, KeepsReached};
 
 use crate::card::UpcCard;
-use crate::desk_fault::card_missing;
-use crate::fault::UpcFault;
+use crate::fault::{UpcFault, card_missing};
 use crate::hidden::{Hidden, HiddenCard};
 use card_core::{Core, Shape};
 use std::alloc::Global;

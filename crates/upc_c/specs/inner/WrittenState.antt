@@ -1,8 +1,8 @@
 -- The state of a connection, from the core to C.
-use Rattle.std.specs.Prelude.{◌≡◌, ◌<◌, ◌≤◌, ℕ, List, length, Option, Some, MatchOption, slice_get}
+use Rattle.std.specs.Prelude.{◌≡◌, ◌<◌, ◌≤◌, ℕ, List, length, Option, Some, None, MatchOption, slice_get}
 use Rattle.card_core.specs.Agreement.{CoreView, CoreAgrees}
 use Rattle.card_core.specs.ConnectionState.{IsStateIn, IsNextVc, IsLastVc}
-use Rattle.card_core.specs.World.{World}
+use Rattle.card_core.specs.World.{World, connection_in}
 use Rattle.card_core.specs.declared.connection_state.ConnectionState.{ConnectionState}
 use Rattle.leaky.specs.declared.contract.Contract.{Contract}
 use Rattle.leaky.specs.declared.levels.Levels.{Levels}
@@ -52,6 +52,10 @@ pub record IsWrittenState (state : ConnectionState) (before room : List UpcMeter
 -- In each world that the core agrees with, this is the state of the connection.
 abbrev pub IsStateOf : CoreView → Vc → ConnectionState → Type 0
 IsStateOf core vc state = (world : World) → CoreAgrees core world → IsStateIn world vc state
+
+-- No world that the core agrees with has such a connection.
+abbrev pub IsMissingIn : CoreView → Vc → Type 0
+IsMissingIn core vc = (world : World) → CoreAgrees core world → connection_in world.connections vc ≡ None
 
 -- This is the state of the connection of this path and channel on the card.
 pub record IsStateOn (card : UpcCard) (path channel : ℕ) (state : ConnectionState) : Type 0 where
