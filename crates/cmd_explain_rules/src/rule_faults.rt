@@ -179,7 +179,9 @@ fn add_sentence(
         RuleFaultKind::TooLarge => add_too_large(answers, spot, octets, part),
         RuleFaultKind::OutsideCell => add_outside(answers, spot),
         RuleFaultKind::AfterOtherwise => add_text(answers, b"no line comes after `otherwise`"),
-        RuleFaultKind::Unbalanced => { add_text(answers, unbalanced_sentence(part, depth_of(words))) }
+        RuleFaultKind::Unbalanced => {
+            add_text(answers, unbalanced_sentence(part, depth_of(words)))
+        }
         RuleFaultKind::TooDeep => {
             add_text(
                 answers,
@@ -192,7 +194,12 @@ fn add_sentence(
             let named = near_name(alloc, spot.place, octets, fault, text)?;
             add_unknown(answers, spot, octets, named)
         }
-        RuleFaultKind::NameTaken => add_taken(answers, octets, part, giving_line(alloc, text, octets)?),
+        RuleFaultKind::NameTaken => add_taken(
+            answers,
+            octets,
+            part,
+            giving_line(alloc, text, octets)?,
+        ),
     }
 }
 
