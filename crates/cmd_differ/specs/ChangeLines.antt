@@ -1,6 +1,7 @@
 -- The lines of `upc-lab differ`: what decides a cell before the change and after it, which is a line of rules or a
 -- program, both values, and the cell.
-use Rattle.std.specs.Prelude.{ℕ, ◌==◌, ◌&&◌, ◌||◌, not, Bool, true, false, if◌then◌else◌, List, [], ◌∷◌, ◌++◌, codes, decimal, Option, Some, None}
+use Rattle.std.specs.Prelude.{ℕ, ◌==◌, ◌&&◌, ◌||◌, not, Bool, false, if◌then◌else◌, List, [], ◌∷◌, ◌++◌, codes, decimal, Option, Some, None}
+use Rattle.std.specs.Option.{option_eq}
 use Rattle.hex.specs.Hex.{encode_lower}
 use Rattle.rules_diagrams.specs.declared.case.Case.{Case}
 use Rattle.rules_cells.specs.declared.deciding.Decision.{Decision}
@@ -62,16 +63,9 @@ abbrev pub source_begin : List RulePlace → Option ℕ → RulePlace
 source_begin begins None = record { line = 0; column = None }
 source_begin begins (Some place) = begin_at begins place
 
--- Whether both columns are the same, or neither is there.
-abbrev pub is_same_column : Option ℕ → Option ℕ → Bool
-is_same_column None None = true
-is_same_column None (Some other) = false
-is_same_column (Some column) None = false
-is_same_column (Some column) (Some other) = column == other
-
--- Whether lines of rules begin at the same place of their texts.
+-- Whether lines of rules begin at the same place of their texts. Of some only the line is known.
 abbrev pub is_same_begin : RulePlace → RulePlace → Bool
-is_same_begin one other = (one.line == other.line) && is_same_column one.column other.column
+is_same_begin one other = (one.line == other.line) && option_eq ◌==◌ one.column other.column
 
 -- Whether one line of rules, by where it begins, decides on both sides. A program is none.
 abbrev pub is_one_line : SideRead → SideRead → Option ℕ → Option ℕ → Bool

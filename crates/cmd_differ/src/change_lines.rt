@@ -4,7 +4,7 @@ ghost use Rattle.std.specs.Prelude.{◌≡◌, ◌++◌, codes, OnOk};
 ghost use Rattle.hex.specs.Hex.{encode_lower};
 ghost use Rattle.upc_cell.specs.Header.{clp_of};
 ghost use Rattle.text_words.specs.FaultLines.{line};
-ghost use Rattle.cmd_differ.specs.ChangeLines.{both_text, case_text, cases_text, change_text, field_text, fields_text, given_text, is_listed, is_one_line, is_same_begin, is_same_column, path_text, cell_with_fields, shown_side, side_decider, source_begin};
+ghost use Rattle.cmd_differ.specs.ChangeLines.{both_text, case_text, cases_text, change_text, field_text, fields_text, given_text, is_listed, is_one_line, is_same_begin, path_text, cell_with_fields, shown_side, side_decider, source_begin};
 ghost use Rattle.cmd_differ.specs.inner.SidesRead.{side_read};
 
 use crate::sides::SideText;
@@ -29,22 +29,11 @@ fn source_begin(begins: &[RulePlace], line: Option<usize>) -> RulePlace
     }
 }
 
-/// Whether both columns are the same, or neither is there.
-fn is_same_column(one: Option<usize>, other: Option<usize>) -> bool
-    ensures { result ≡ is_same_column one other }
-{
-    match (one, other) {
-        (None, None) => true,
-        (Some(column), Some(another)) => column == another,
-        (None, Some(_)) | (Some(_), None) => false,
-    }
-}
-
 /// Whether lines of rules begin at the same place of their texts.
 fn is_same_begin(one: RulePlace, other: RulePlace) -> bool
     ensures { result ≡ is_same_begin one other }
 {
-    one.line == other.line && is_same_column(one.column, other.column)
+    one.line == other.line && one.column == other.column
 }
 
 /// Appends the name of a field and its number.

@@ -31,6 +31,9 @@ use text_words::{
 };
 use upc_cell::Cell;
 
+/// A cell that a line has, or none if the line has its answer already.
+type CellRead = Result<Option<Cell>, AllocError>;
+
 /// Appends the value of a cell, and ends the answer's line.
 #[tactic(auto, using(std::proofs::lemmas::List::append_assoc))]
 fn add_value(answers: &mut Vec<u8>, value: u32) -> Result<(), AllocError>
@@ -56,11 +59,7 @@ fn add_decision(
 }
 
 /// Reads a word of a cell line, or appends the answer to one that is no cell.
-fn cell_in_word(
-    alloc: Global,
-    word: &[u8],
-    answers: &mut Vec<u8>,
-) -> Result<Option<Cell>, AllocError>
+fn cell_in_word(alloc: Global, word: &[u8], answers: &mut Vec<u8>) -> CellRead
     ensures { IfOk result (IsLineRead (cell_word_read (octets_of_digits word.now)) answers.old.items answers.new.items) }
 {
     match cell_of_word(alloc, word)? {
@@ -93,11 +92,7 @@ fn word_of_cell_line(line: &[u8]) -> Option<&[u8]>
 }
 
 /// Reads the word of a cell, or appends the answer to a line without one.
-fn cell_if_word(
-    alloc: Global,
-    word: Option<&[u8]>,
-    answers: &mut Vec<u8>,
-) -> Result<Option<Cell>, AllocError>
+fn cell_if_word(alloc: Global, word: Option<&[u8]>, answers: &mut Vec<u8>) -> CellRead
     ensures { IfOk result (IsLineRead (cell_if_word (option_map (λ it. it.now) word.entry)) answers.old.items answers.new.items) }
 {
     let Some(word) = word else {
@@ -108,11 +103,7 @@ fn cell_if_word(
 }
 
 /// Reads a line after the line `cells`, or appends the answer to one without a cell.
-fn cell_in_line(
-    alloc: Global,
-    line: &[u8],
-    answers: &mut Vec<u8>,
-) -> Result<Option<Cell>, AllocError>
+fn cell_in_line(alloc: Global, line: &[u8], answers: &mut Vec<u8>) -> CellRead
     ensures { IfOk result (IsLineRead (cell_line_read (words_of line.now)) answers.old.items answers.new.items) }
 {
     match line_words(line) {

@@ -11,10 +11,10 @@ use text_io::Done;
 use text_words::add_number;
 
 /// The number and the name of a fault.
-fn name_of(kind: RuleFaultKind) -> &'static [u8]
-    ensures { result.now ≡ rule_name kind }
+fn name_of(fault: RuleFault) -> &'static [u8]
+    ensures { result.now ≡ rule_name fault.kind }
 {
-    match kind {
+    match fault.kind {
         RuleFaultKind::BadLine => b"1 BadLine",
         RuleFaultKind::BadNumber => b"2 BadNumber",
         RuleFaultKind::TooLarge => b"3 TooLarge",
@@ -48,7 +48,7 @@ pub fn add_rule_fault(answers: &mut Vec<u8>, fault: RuleFault) -> Result<(), All
     ensures { OnOk result (answers.new.items ≡ answers.old.items ++ rule_fault fault) }
 {
     answers.extend_from_slice(b"fault rules ")?;
-    answers.extend_from_slice(name_of(fault.kind))?;
+    answers.extend_from_slice(name_of(fault))?;
     add_place(answers, fault.line, fault.column)?;
     Ok(())
 }
