@@ -18,10 +18,10 @@ use Rattle.captures_text.specs.declared.filter.Filtered.TheVariants.{Counts, Ski
 use Rattle.captures_text.specs.declared.reading_ahead.StopReason.{StopReason}
 use Rattle.captures_text.specs.declared.reading_ahead.StopReason.TheVariants as stop
 use Rattle.captures_text.specs.declared.reading_ahead.ReadingAhead.{ReadingAhead}
-use Rattle.captures_text.specs.declared.filter.UsualFilter.{UsualFilter}
+use Rattle.captures_text.specs.declared.filter.LinkClock.{LinkClock}
 use Rattle.captures_text.specs.declared.reading_ahead.Farther.{Farther}
 use Rattle.captures_text.specs.inner.Ahead.{ComesAfter, HasCellsFrom, ReadsCells, ReadsSoFar, ReadsUsual, reading_at, reading_farther}
-use Rattle.captures_text.specs.inner.UsualFilter.{CountsAt, IsFollowing, with_clock}
+use Rattle.captures_text.specs.inner.LinkClocks.{CountsAt, IsLinkClock, with_clock}
 use Rattle.captures_text.proofs.CellsOfOctets.{broken_cells, skipped_cells, some_cells, taken_cells}
 
 -- From where a reading is, octets have some cells.
@@ -114,20 +114,20 @@ reads_captured before between after record_read moment cell own old new newer ca
     takes read has))
 
 -- No usual record.
-pub reads_no_usual : (following : UsualFilter) (reader : Reader) (octets : List ℕ) (cells : List CapturedCell)
-    → ReadsUsual following reader octets cells (record { reader = reader; clock = following.clock; place = 0 }) cells
-reads_no_usual following reader octets cells first filter old follows reads =
+pub reads_no_usual : (link_clock : LinkClock) (reader : Reader) (octets : List ℕ) (cells : List CapturedCell)
+    → ReadsUsual link_clock reader octets cells (record { reader = reader; clock = link_clock.clock; place = 0 }) cells
+reads_no_usual link_clock reader octets cells first filter old follows reads =
     subst (λ (clock : Option Clock). ReadsSoFar first (reading_at (record filter { clock = clock }) reader octets) old cells) follows.clock_is reads
 
 -- One usual record more.
-pub reads_usual : (following : UsualFilter) (reader next : Reader) (octets : List ℕ) (cells new newer : List CapturedCell) (so_far : Farther)
+pub reads_usual : (link_clock : LinkClock) (reader next : Reader) (octets : List ℕ) (cells new newer : List CapturedCell) (so_far : Farther)
     (record_read : Record) (moment : ℕ) (cell : List ℕ) (own : ℕ) (clock : Clock) (captured : CapturedCell)
-    → ReadsUsual following reader octets cells so_far new
+    → ReadsUsual link_clock reader octets cells so_far new
     → TakesFrame so_far.reader (drop so_far.place octets) (Ok record_read) own next
-    → ((filter : CellFilter) → IsFollowing filter following so_far.clock → CountsAt filter record_read moment cell clock)
+    → ((filter : CellFilter) → IsLinkClock filter link_clock so_far.clock → CountsAt filter record_read moment cell clock)
     → captured ≡ record { number = record_read.number; moment = moment; cell = cell } → newer ≡ new ++ captured ∷ []
-    → ReadsUsual following reader octets cells (record { reader = next; clock = clock; place = so_far.place + own }) newer
-reads_usual following reader next octets cells new newer so_far record_read moment cell own clock captured usual takes counts made grew first filter old follows reads =
+    → ReadsUsual link_clock reader octets cells (record { reader = next; clock = clock; place = so_far.place + own }) newer
+reads_usual link_clock reader next octets cells new newer so_far record_read moment cell own clock captured usual takes counts made grew first filter old follows reads =
     let between = reading_farther filter octets so_far in
     let after = reading_farther filter octets (record { reader = next; clock = clock; place = so_far.place + own }) in
     let in_time = with_clock filter so_far.clock in

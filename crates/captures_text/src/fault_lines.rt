@@ -6,7 +6,7 @@ ghost use Rattle.text_io.specs.Devices.{IsPart};
 ghost use Rattle.text_io.specs.Failures.{write_failures};
 
 use captures::{Fault, FileFault, RecordFault};
-use text_io::{Added, Done, Ending, Output, give_last};
+use text_io::{Added, Done, Ending, Output, RunFault, give_last};
 use text_words::{add_number, add_numbered, add_text};
 
 /// Appends the answer to a file that isn't read.

@@ -2,7 +2,7 @@
 
 ghost use Rattle.std.specs.Prelude.{◌≡◌, List, ℕ, Ok, IfSome};
 ghost use Rattle.captures_text.specs.CellFilter.{filter_at_link, filter_at_time, filter_content, filter_block, filter_record, filter_start, filter_state};
-ghost use Rattle.captures_text.specs.inner.UsualFilter.{CountsAt, IsFollowing, with_clock};
+ghost use Rattle.captures_text.specs.inner.LinkClocks.{CountsAt, IsLinkClock, with_clock};
 ghost use Rattle.captures_text.specs.declared.filter.CellFilter.{CellFilter as Filter};
 
 use crate::reading_summary::ReadingSummary;
@@ -39,18 +39,18 @@ pub struct CellFilter {
 /// The part of a filter that usual records (`Reader::is_usual`) need, once the link is known. They change only the clock. The caller keeps
 /// the clock in a variable, so that it stays in registers. It is no `CellFollower`, which answers cells.
 #[derive(Clone, Copy)]
-pub(crate) struct UsualFilter {
+pub(crate) struct LinkClock {
     ticks: Ticks,
     link: Link,
     pub(crate) clock: Clock,
 }
 
-impl UsualFilter {
+impl LinkClock {
     /// Takes a record with a cell. Returns its moment if the cell counts and the record has no marks, and sets `clock` to its time.
     /// Otherwise returns none.
     #[inline(always)]
     pub(crate) fn moment_of(self, clock: &mut Clock, record_read: &Record<'_>) -> Option<u64>
-        ensures { (filter : Filter) (cell : List ℕ) → IsFollowing filter self clock.old → record_read.now.content ≡ Ok cell
+        ensures { (filter : Filter) (cell : List ℕ) → IsLinkClock filter self clock.old → record_read.now.content ≡ Ok cell
             → IfSome result (λ moment. CountsAt filter record_read.now moment cell clock.new) }
     {
         if record_read.marks.any()
@@ -81,12 +81,12 @@ impl CellFilter {
     }
 
     /// Returns what usual records need of the filter. None before the first cell.
-    pub(crate) fn following(&self) -> Option<UsualFilter>
-        ensures { IfSome result (λ following. IsFollowing self.now following following.clock) }
+    pub(crate) fn link_clock(&self) -> Option<LinkClock>
+        ensures { IfSome result (λ link_clock. IsLinkClock self.now link_clock link_clock.clock) }
     {
         let link = self.link?;
         let clock = self.clock?;
-        Some(UsualFilter {
+        Some(LinkClock {
             ticks: self.ticks,
             link,
             clock,

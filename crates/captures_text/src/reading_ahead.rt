@@ -7,7 +7,7 @@ ghost use Rattle.captures_text.specs.declared.captured_cell.CapturedCell.{Captur
 ghost use Rattle.captures_text.specs.declared.reading_ahead.ReadingAhead.{ReadingAhead as Reading};
 
 use crate::captured_cell::CapturedCell;
-use crate::filter::{CellFilter, Filtered, UsualFilter};
+use crate::filter::{CellFilter, Filtered, LinkClock};
 use byteorder::{BigEndian, ByteOrder};
 use captures::{Clock, Fault, Link, Next, Reader};
 use std::alloc::AllocError;
@@ -69,16 +69,16 @@ fn is_usual(reader: &Reader, octets: &[u8]) -> bool {
 /// room left. The reader and the clock are in variables: behind references, the compiler would load the header again after each change of
 /// them.
 fn read_usual_of(
-    following: UsualFilter,
+    link_clock: LinkClock,
     mut reader: Reader,
     octets: &[u8],
     cells: &mut Vec<CapturedCell>,
     most: usize,
 ) -> Farther
     ensures within { result.place ≤ length octets.now }
-    ensures reads { ReadsUsual following reader octets.now cells.old.items result cells.new.items }
+    ensures reads { ReadsUsual link_clock reader octets.now cells.old.items result cells.new.items }
 {
-    let mut clock = following.clock;
+    let mut clock = link_clock.clock;
     let mut place = 0;
     while cells.len() < most && cells.len() < cells.capacity() {
         let left = &octets[place..];
@@ -93,7 +93,7 @@ fn read_usual_of(
             break;
         };
         let mut next_clock = clock;
-        let Some(moment) = following.moment_of(&mut next_clock, &record_read) else {
+        let Some(moment) = link_clock.moment_of(&mut next_clock, &record_read) else {
             break;
         };
         cells.push_reserved(CapturedCell {
@@ -184,11 +184,11 @@ impl ReadingAhead {
             → ReadsSoFar first self.new old cells.new.items }
         ensures shorter { length self.new.window ≤ length self.old.window }
     {
-        let Some(following) = self.filter.following() else {
+        let Some(link_clock) = self.filter.link_clock() else {
             return;
         };
         let octets = self.window.octets();
-        let found = read_usual_of(following, self.reader, octets, cells, most);
+        let found = read_usual_of(link_clock, self.reader, octets, cells, most);
         self.reader = found.reader;
         self.filter.go_on_at(found.clock);
         self.window.skip(found.place);

@@ -6,13 +6,13 @@ use Rattle.captures_text.specs.CellFilter.{CellsEnd, Closes, Crosses, HasCells, 
 use Rattle.captures_text.specs.CellFollowing.{OfEachWorld}
 use Rattle.captures_text.specs.CellRules.{CellRules}
 use Rattle.captures.specs.declared.reader.Reader.{Reader}
-use Rattle.captures_text.specs.inner.UsualFilter.{IsFollowing, with_clock}
+use Rattle.captures_text.specs.inner.LinkClocks.{IsLinkClock, with_clock}
 use Rattle.captures_text.specs.inner.Progress.{CaptureProgress, Texts}
 use Rattle.captures_text.specs.declared.answering.StepOutcome.{StepOutcome}
 use Rattle.captures_text.specs.declared.answering.StepOutcome.TheVariants as outcome
 use Rattle.captures_text.specs.declared.captured_cell.CapturedCell.{CapturedCell}
 use Rattle.captures_text.specs.declared.filter.CellFilter.{CellFilter}
-use Rattle.captures_text.specs.declared.filter.UsualFilter.{UsualFilter}
+use Rattle.captures_text.specs.declared.filter.LinkClock.{LinkClock}
 use Rattle.captures_text.specs.declared.reading_ahead.Farther.{Farther}
 use Rattle.captures_text.specs.declared.reading_ahead.StopReason.{StopReason}
 use Rattle.captures_text.specs.declared.reading_ahead.StopReason.TheVariants as stop
@@ -63,9 +63,9 @@ pub record ReadsSoFar (before after : ReadingAhead) (old new : List CapturedCell
 
 -- Usual records were read so far among these octets, from this reader on, and their cells came to the others: what reading came to them came
 -- through them.
-abbrev pub ReadsUsual : UsualFilter → Reader → List ℕ → List CapturedCell → Farther → List CapturedCell → Type 0
-ReadsUsual following reader octets cells found cells' = (first : ReadingAhead) (filter : CellFilter) (old : List CapturedCell)
-    → IsFollowing filter following following.clock → ReadsSoFar first (reading_at filter reader octets) old cells
+abbrev pub ReadsUsual : LinkClock → Reader → List ℕ → List CapturedCell → Farther → List CapturedCell → Type 0
+ReadsUsual link_clock reader octets cells found cells' = (first : ReadingAhead) (filter : CellFilter) (old : List CapturedCell)
+    → IsLinkClock filter link_clock link_clock.clock → ReadsSoFar first (reading_at filter reader octets) old cells
     → ReadsSoFar first (reading_farther filter octets found) old cells'
 
 -- How far the reading came: to where more octets are wanted, or through one frame at least.

@@ -7,7 +7,7 @@ use Rattle.captures_text.proofs.ReadingLemmas.{reads_no_usual, reads_usual}
 use Rattle.captures_text.proofs.reading_ahead.read_usual_of.Goals as goal
 
 pub loop-cells-init : goal.loop-cells-init
-loop-cells-init c = (omega arith, reads_no_usual c.args.following c.args.reader c.args.octets.now c.args.cells.now.items)
+loop-cells-init c = (omega arith, reads_no_usual c.args.link_clock c.args.reader c.args.octets.now c.args.cells.now.items)
 
 pub loop-cells-smaller : goal.loop-cells-smaller
 loop-cells-smaller c =
@@ -23,7 +23,7 @@ loop-cells-preserved c =
     (take_rest c.args.octets.now place) c.in-Taken.ensures in
     let captured : CapturedCell = record { number = record_read.number; moment = c.in-Some.moment; cell = c.cell.result } in (
       omega (arith, c.loop-cells.invariant.0, takes.within, length-drop place c.args.octets.now),
-      reads_usual c.args.following c.args.reader c.next.new.self c.args.octets.now c.args.cells.now.items c.loop-cells.cells.items c.push_reserved.new.self.items
+      reads_usual c.args.link_clock c.args.reader c.next.new.self c.args.octets.now c.args.cells.now.items c.loop-cells.cells.items c.push_reserved.new.self.items
           (record { reader = c.loop-cells.reader; clock = c.loop-cells.clock; place = place })
           record_read c.in-Some.moment c.in-Ok.cell c.in-Taken.own c.moment_of.new.clock captured
           c.loop-cells.invariant.1 takes
