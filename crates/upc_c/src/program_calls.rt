@@ -66,7 +66,6 @@ pub extern "C" fn upc_program_new(
 /// Takes the program out, if there is one. The handle then has none.
 fn take_program(alloc: Global, program: &mut UpcProgram) -> Option<Box<Program>>
     ensures code { IfSome result (λ boxed. program_in program.old ≡ Some boxed.value) }
-    ensures accepted { IfSome result (λ boxed. IsAccepted boxed.value) }
     ensures gone { program_in program.new ≡ None }
     ensures none { IfNone result (program_in program.old ≡ None) }
     ensures left { IfNone result (program.new ≡ program.old) }
