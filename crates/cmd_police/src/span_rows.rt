@@ -21,24 +21,14 @@ pub(crate) type SpanRows = BTreeMap<u64, (Vc, Tally)>;
 fn with_judged(counts: Tally, verdict: Verdict) -> Tally
     ensures { result ≡ with_judged counts verdict }
 {
+    let mut judged = counts;
     match verdict {
-        Verdict::Pass => Tally {
-            passed: counts.passed.saturating_add(1),
-            ..counts
-        },
-        Verdict::Tag => Tally {
-            tagged: counts.tagged.saturating_add(1),
-            ..counts
-        },
-        Verdict::Discard => Tally {
-            discarded: counts.discarded.saturating_add(1),
-            ..counts
-        },
-        Verdict::Refuse => Tally {
-            refused: counts.refused.saturating_add(1),
-            ..counts
-        },
+        Verdict::Pass => judged.passed = counts.passed.saturating_add(1),
+        Verdict::Tag => judged.tagged = counts.tagged.saturating_add(1),
+        Verdict::Discard => judged.discarded = counts.discarded.saturating_add(1),
+        Verdict::Refuse => judged.refused = counts.refused.saturating_add(1),
     }
+    judged
 }
 
 /// Counts one more cell of this connection, with this verdict.

@@ -16,7 +16,7 @@ ghost use Rattle.upc_c.specs.inner.Numbered.{IsNumbered};
 use crate::card::UpcCard;
 use crate::cell::cell_of;
 use crate::fault::{
-    OF_AN_ARRIVAL, UpcFault, card_missing, fault_at, out_of_memory, report, report_success,
+    ForC, OF_AN_ARRIVAL, UpcFault, card_missing, fault_at, out_of_memory, report, report_success,
 };
 use crate::id::{UpcId, id_for_c};
 use crate::meter::number_of_verdict;
@@ -91,7 +91,7 @@ fn write_leaving_cell(octets: &mut [u8], cell: &Cell, verdict: Verdict)
 
 /// Judges the cell of these octets on the core. If the verdict is Tag, the octets become the tagged cell.
 #[inline(always)]
-pub(crate) fn police(core: &mut Core, octets: &mut [u8], moment: u64) -> Result<UpcAnswer, UpcFault>
+pub(crate) fn police(core: &mut Core, octets: &mut [u8], moment: u64) -> ForC<UpcAnswer>
     requires { IsReachedCore core.old }
     ensures policed { IfOk result (λ answer.
         PolicesOn core.old core.new octets.old moment answer octets.new) }

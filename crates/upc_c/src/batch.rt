@@ -11,7 +11,7 @@ ghost use Rattle.upc_c.specs.inner.Numbered.{IsNumbered};
 
 use crate::arrival::{UpcAnswer, fault_without_card, police};
 use crate::card::UpcCard;
-use crate::fault::{OF_THE_CALL, UpcFault, fault_at, report, report_success};
+use crate::fault::{ForC, OF_THE_CALL, UpcFault, fault_at, report, report_success};
 use crate::stepping::{put_core, take_core};
 use card_core::Core;
 use std::alloc::Global;
@@ -44,7 +44,7 @@ fn police_number(
     stride: usize,
     number: usize,
     moment: u64,
-) -> Result<UpcAnswer, UpcFault>
+) -> ForC<UpcAnswer>
     requires { IsReachedCore core.old }
     ensures policed { IfOk result (PolicesNumber core.old core.new octets.old octets.new stride number moment) }
     ensures refused { IfErr result (RefusesOn core.old (cell_in octets.old stride number) moment) }
@@ -66,7 +66,7 @@ fn police_each(
     moments: &[u64],
     answers: &mut [UpcAnswer],
     done: &mut usize,
-) -> Result<(), UpcFault>
+) -> ForC<()>
     requires reached { IsReachedCore core.old }
     requires fits { length moments.now ≤ length answers.old }
     ensures policed { PolicesFirst core.old core.new octets.old octets.new stride moments.now
@@ -110,7 +110,7 @@ fn police_on(
     moments: &[u64],
     answers: &mut [UpcAnswer],
     done: &mut usize,
-) -> Result<(), UpcFault>
+) -> ForC<()>
     requires some { 0 < length moments.now }
     requires fits { length moments.now ≤ length answers.old }
     ensures policed { ArePoliced card.old card.new octets.old octets.new stride moments.now

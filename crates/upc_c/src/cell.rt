@@ -7,7 +7,7 @@ ghost use Rattle.upc_c.specs.CellHeader.{IsCellFault, IsFieldsFault, fields_at, 
 ghost use Rattle.upc_c.specs.Faults.{AnswersCall};
 ghost use Rattle.upc_c.specs.inner.Numbered.{IsNumbered};
 
-use crate::fault::{OF_A_CELL, UpcFault, fault_at, report, report_success};
+use crate::fault::{ForC, OF_A_CELL, UpcFault, fault_at, report, report_success};
 use crate::shape::side_of;
 use upc_cell::{Cell, CellFault, Side};
 
@@ -29,7 +29,7 @@ pub struct UpcFields {
 
 /// Returns the cell of these octets.
 #[inline]
-pub(crate) fn cell_of(octets: &[u8]) -> Result<Cell, UpcFault>
+pub(crate) fn cell_of(octets: &[u8]) -> ForC<Cell>
     ensures length { IfOk result (λ _. length octets.now ≡ 52) }
     ensures cell { IfOk result (λ cell. cell ≡ octets.now) }
     ensures fault { IfErr result (IsCellFault octets.now) }

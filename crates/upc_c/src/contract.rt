@@ -6,7 +6,7 @@ ghost use Rattle.upc_c.specs.GivenContract.{IsGivenContract, IsContractFault, Is
 ghost use Rattle.upc_c.specs.Faults.{AnswersCall};
 ghost use Rattle.upc_c.specs.inner.Numbered.{IsNumbered};
 
-use crate::fault::{OF_A_RATE, OF_THE_CALL, UpcFault, fault_at, report, report_success};
+use crate::fault::{ForC, OF_A_RATE, OF_THE_CALL, UpcFault, fault_at, report, report_success};
 use leaky::{Contract, Gcra, GcraFault};
 
 /// A traffic contract: its kind, and an increment and a limit in ticks for each of its two buckets.
@@ -27,7 +27,7 @@ pub struct UpcContract {
 
 /// Returns the rate of a bucket, by its number from 1.
 #[inline]
-fn rate_of(bucket: usize, increment: u64, limit: u64) -> Result<Gcra, UpcFault>
+fn rate_of(bucket: usize, increment: u64, limit: u64) -> ForC<Gcra>
     ensures rate { IfOk result (IsGivenRate increment limit) }
     ensures numbers { IfOk result (λ _. AreARate increment limit) }
     ensures fault { IfErr result (IsRateFault bucket increment limit) }
@@ -42,7 +42,7 @@ fn rate_of(bucket: usize, increment: u64, limit: u64) -> Result<Gcra, UpcFault>
 
 /// Returns the contract with these numbers.
 #[inline]
-pub(crate) fn contract_of(given: &UpcContract) -> Result<Contract, UpcFault>
+pub(crate) fn contract_of(given: &UpcContract) -> ForC<Contract>
     ensures contract { IfOk result (IsGivenContract given.now) }
     ensures numbers { IfOk result (λ _. AreAContract given.now) }
     ensures fault { IfErr result (IsContractFault given.now) }

@@ -28,6 +28,9 @@ pub struct UpcFault {
     pub column: usize,
 }
 
+/// What a call from C finds, or its error.
+pub(crate) type ForC<T> = Result<T, UpcFault>;
+
 /// The errors of the call itself: an allocation failed, the buffer is too small, the kind of the contract is unknown,
 /// the levels are too late, the side is unknown, and so on.
 pub(crate) const OF_THE_CALL: u32 = 1;

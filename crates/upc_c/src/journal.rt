@@ -16,7 +16,7 @@ use crate::card::UpcCard;
 use crate::counts::{UpcCounts, counts_for_c};
 use crate::desk_fault::desk_fault_for_c;
 use crate::entry::{UpcEntry, write_entries};
-use crate::fault::{OF_THE_CALL, UpcFault, card_missing, fault_at, report, report_success};
+use crate::fault::{ForC, OF_THE_CALL, UpcFault, card_missing, fault_at, report, report_success};
 use crate::setting_up::vc_on;
 use crate::state::state_in;
 use crate::stepping::{put_core, take_core};
@@ -95,13 +95,7 @@ fn too_many(core: &Core, vc: Vc, most: usize) -> Option<usize>
 }
 
 /// Takes the step on the card, if the journal has at most `most` cells.
-fn hand_out_on(
-    alloc: Global,
-    card: &mut UpcCard,
-    vc: Vc,
-    when: HandOut,
-    most: usize,
-) -> Result<Piece, UpcFault>
+fn hand_out_on(alloc: Global, card: &mut UpcCard, vc: Vc, when: HandOut, most: usize) -> ForC<Piece>
     ensures handed { IfOk result (λ piece. CardTakes card.old card.new (step_of when vc) (handing_reply when piece)) }
     ensures fits { IfOk result (λ piece. length piece.entries ≤ most) }
     ensures refused { IfErr result (λ fault.
@@ -133,7 +127,7 @@ fn hand_out_to(
     when: HandOut,
     room: &mut [UpcEntry],
     journal: &mut UpcJournal,
-) -> Result<(), UpcFault>
+) -> ForC<()>
     ensures handed { IfOk result (λ _. IsHandedOut card.old card.new path channel
         (step_of when) (handing_reply when) room.old room.new journal.new) }
     ensures refused { IfErr result (IsJournalFault card.old card.new path channel (step_of when) room.old) }

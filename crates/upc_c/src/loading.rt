@@ -10,7 +10,7 @@ ghost use Rattle.upc_c.specs.inner.Numbered.{IsNumbered};
 
 use crate::card::UpcCard;
 use crate::desk_fault::desk_fault_for_c;
-use crate::fault::{UpcFault, report, report_success};
+use crate::fault::{ForC, UpcFault, report, report_success};
 use crate::id::{UpcId, id_for_c};
 use crate::program_octets::accepted;
 use crate::stepping::with_core;
@@ -19,7 +19,7 @@ use gen_arena::Id;
 use std::alloc::Global;
 
 /// Takes the step `Load`.
-fn load_on(alloc: Global, card: &mut UpcCard, program: Program) -> Result<Id, UpcFault>
+fn load_on(alloc: Global, card: &mut UpcCard, program: Program) -> ForC<Id>
     ensures loaded { IfOk result (λ id. CardTakes card.old card.new (Load program) (Loaded id)) }
     ensures refused { IfErr result (IsDeskFault card.old card.new (Load program)) }
     ensures left { OnErr result (card_in card.new ≡ card_in card.old) }

@@ -8,7 +8,7 @@ ghost use Rattle.upc_c.specs.Judging.{AreLevels, IsJudged, IsMeterFault, number_
 ghost use Rattle.upc_c.specs.inner.Numbered.{IsNumbered};
 
 use crate::contract::{UpcContract, contract_of};
-use crate::fault::{OF_AN_ARRIVAL, OF_THE_CALL, UpcFault, fault_at, report, report_success};
+use crate::fault::{ForC, OF_AN_ARRIVAL, OF_THE_CALL, UpcFault, fault_at, report, report_success};
 use leaky::{Contract, LAST_MOMENT, Levels, MOST_TICKS, Verdict, judge};
 
 /// The greatest theoretical arrival time: 2^62 + 2^49.
@@ -40,11 +40,7 @@ pub(crate) fn number_of_verdict(verdict: Verdict) -> u32
 
 /// Checks the contract, the levels and the moment. Returns the contract by which a cell is judged, or the first error.
 #[inline]
-pub(crate) fn check_meter(
-    given: &UpcContract,
-    levels: &UpcLevels,
-    moment: u64,
-) -> Result<Contract, UpcFault>
+pub(crate) fn check_meter(given: &UpcContract, levels: &UpcLevels, moment: u64) -> ForC<Contract>
     ensures contract { IfOk result (IsGivenContract given.now) }
     ensures levels { IfOk result (λ _. AreLevels levels.now) }
     ensures moment { IfOk result (λ _. moment ≤ 2 ^ 62) }

@@ -7,7 +7,7 @@ ghost use Rattle.upc_c.specs.Faults.{AnswersCall, out_of_memory, ragged};
 ghost use Rattle.upc_c.specs.Programs.{IsAsmRefusal, IsAssembled, IsCheckRefusal, IsDecodeRefusal, IsListRefusal, IsListed, IsBufferFault, IsProgram, IsWritten};
 ghost use Rattle.upc_c.specs.inner.Numbered.{IsNumbered};
 
-use crate::fault::{UpcFault, out_of_memory, report, report_success};
+use crate::fault::{ForC, UpcFault, out_of_memory, report, report_success};
 use crate::library_faults::{
     asm_fault_for_c, check_fault_for_c, decode_fault_for_c, list_fault_for_c,
 };
@@ -32,7 +32,7 @@ pub(crate) fn code_of(alloc: Global, octets: &[u8]) -> Result<Vec<Instr>, UpcFau
 }
 
 /// Returns the program that the octets spell.
-pub(crate) fn accepted(alloc: Global, octets: &[u8]) -> Result<Program, UpcFault>
+pub(crate) fn accepted(alloc: Global, octets: &[u8]) -> ForC<Program>
     ensures code { IfOk result (SpellsCode octets.now) }
     ensures accepted { IfOk result IsAccepted }
     ensures fault { IfErr result (λ fault. IsDecodeRefusal octets.now fault ⊎ IsCheckRefusal octets.now fault) }
@@ -48,7 +48,7 @@ pub(crate) fn accepted(alloc: Global, octets: &[u8]) -> Result<Program, UpcFault
 }
 
 /// Returns whether the octets spell a program.
-fn checked(alloc: Global, octets: &[u8]) -> Result<(), UpcFault>
+fn checked(alloc: Global, octets: &[u8]) -> ForC<()>
     ensures program { IfOk result (λ _. IsProgram octets.now) }
     ensures fault { IfErr result (λ fault. IsDecodeRefusal octets.now fault ⊎ IsCheckRefusal octets.now fault) }
     ensures ragged { 0 < length octets.now % 8 → IfErr result (λ fault. fault ≡ ragged) }

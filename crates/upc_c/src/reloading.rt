@@ -11,7 +11,7 @@ ghost use Rattle.upc_c.specs.inner.Numbered.{IsNumbered};
 
 use crate::card::UpcCard;
 use crate::desk_fault::desk_fault_for_c;
-use crate::fault::{UpcFault, report, report_success};
+use crate::fault::{ForC, UpcFault, report, report_success};
 use crate::id::{UpcId, id_for_c, id_of};
 use crate::setting_up::vc_on;
 use crate::stepping::with_core;
@@ -21,7 +21,7 @@ use std::alloc::Global;
 use upc_cell::Vc;
 
 /// Takes the step `Retire`.
-fn retire_on(alloc: Global, card: &mut UpcCard, id: Id) -> Result<Program, UpcFault>
+fn retire_on(alloc: Global, card: &mut UpcCard, id: Id) -> ForC<Program>
     ensures retired { IfOk result (λ program. CardTakes card.old card.new (Retire id) (Retired program)) }
     ensures refused { IfErr result (IsDeskFault card.old card.new (Retire id)) }
     ensures left { OnErr result (card_in card.new ≡ card_in card.old) }
@@ -35,7 +35,7 @@ fn retire_on(alloc: Global, card: &mut UpcCard, id: Id) -> Result<Program, UpcFa
 }
 
 /// Takes the step `Reload`.
-fn reload_on(alloc: Global, card: &mut UpcCard, vc: Vc, program: Id) -> Result<Id, UpcFault>
+fn reload_on(alloc: Global, card: &mut UpcCard, vc: Vc, program: Id) -> ForC<Id>
     ensures reloaded { IfOk result (λ id. CardTakes card.old card.new (Reload vc program) (Reloaded id)) }
     ensures refused { IfErr result (IsDeskFault card.old card.new (Reload vc program)) }
     ensures left { OnErr result (card_in card.new ≡ card_in card.old) }

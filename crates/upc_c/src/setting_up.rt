@@ -12,7 +12,7 @@ use crate::card::UpcCard;
 use crate::contract::UpcContract;
 use crate::contracts::contracts_of;
 use crate::desk_fault::desk_fault_for_c;
-use crate::fault::{OF_THE_CALL, UpcFault, fault_at, report, report_success};
+use crate::fault::{ForC, OF_THE_CALL, UpcFault, fault_at, report, report_success};
 use crate::id::{UpcId, id_of};
 use crate::stepping::{shape_on, with_core};
 use card_core::Ask;
@@ -21,12 +21,7 @@ use std::alloc::Global;
 use upc_cell::Vc;
 
 /// Returns the virtual connection of this path and channel, if the card's side has such a path.
-pub(crate) fn vc_on(
-    alloc: Global,
-    card: &mut UpcCard,
-    path: u16,
-    channel: u16,
-) -> Result<Vc, UpcFault>
+pub(crate) fn vc_on(alloc: Global, card: &mut UpcCard, path: u16, channel: u16) -> ForC<Vc>
     ensures vc { IfOk result (IsVc card.old path channel) }
     ensures fault { IfErr result (λ fault. ((card_in card.old ≡ None) × (fault ≡ card_missing))
         ⊎ (HasNoPath card.old path × (fault ≡ path_too_large))) }
@@ -41,7 +36,7 @@ pub(crate) fn vc_on(
 }
 
 /// Takes the step `Setup`.
-fn setup_on(alloc: Global, card: &mut UpcCard, ask: Ask) -> Result<Owner, UpcFault>
+fn setup_on(alloc: Global, card: &mut UpcCard, ask: Ask) -> ForC<Owner>
     ensures set { IfOk result (λ owner. CardTakes card.old card.new (Setup ask) (SetUp owner)) }
     ensures refused { IfErr result (IsDeskFault card.old card.new (Setup ask)) }
     ensures left { IfErr result (λ fault. fault ≢ out_of_memory → card_in card.new ≡ card_in card.old) }

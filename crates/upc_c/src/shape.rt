@@ -5,7 +5,7 @@ ghost use Rattle.upc_c.specs.CardMaking.{IsShapeOf};
 ghost use Rattle.upc_c.specs.CellHeader.{side_number};
 ghost use Rattle.upc_c.specs.Faults.{unknown_side};
 
-use crate::fault::{OF_THE_CALL, UpcFault, fault_at};
+use crate::fault::{ForC, OF_THE_CALL, fault_at};
 use card_core::Shape;
 use upc_cell::Side;
 
@@ -26,7 +26,7 @@ pub struct UpcShape {
 }
 
 /// Returns the side of this number.
-pub(crate) fn side_of(number: u32) -> Result<Side, UpcFault>
+pub(crate) fn side_of(number: u32) -> ForC<Side>
     ensures side { IfOk result (λ side. number ≡ side_number side) }
     ensures unknown { IfErr result (λ _. 3 < number) }
     ensures fault { IfErr result (λ fault. fault ≡ unknown_side) }
@@ -59,7 +59,7 @@ pub(crate) fn shape_for_c(shape: Shape) -> UpcShape
 }
 
 /// Returns the shape with these numbers.
-pub(crate) fn shape_of(given: &UpcShape) -> Result<Shape, UpcFault>
+pub(crate) fn shape_of(given: &UpcShape) -> ForC<Shape>
     ensures shape { IfOk result (IsShapeOf given.now) }
     ensures unknown { IfErr result (λ _. 3 < given.now.side) }
     ensures fault { IfErr result (λ fault. fault ≡ unknown_side) }

@@ -13,7 +13,7 @@ use crate::card::UpcCard;
 use crate::contract::{UpcContract, contract_for_c};
 use crate::counts::{UpcCounts, counts_for_c};
 use crate::desk_fault::desk_fault_for_c;
-use crate::fault::{OF_THE_CALL, UpcFault, fault_at, report, report_success};
+use crate::fault::{ForC, OF_THE_CALL, UpcFault, fault_at, report, report_success};
 use crate::id::{UpcId, id_for_c};
 use crate::meter::UpcLevels;
 use crate::setting_up::vc_on;
@@ -93,11 +93,7 @@ fn state_for_c(state: &ConnectionState) -> UpcState
 }
 
 /// Writes the state to the buffer and beside it.
-fn write_state(
-    state: &ConnectionState,
-    room: &mut [UpcMeter],
-    written: &mut UpcState,
-) -> Result<(), UpcFault>
+fn write_state(state: &ConnectionState, room: &mut [UpcMeter], written: &mut UpcState) -> ForC<()>
     requires { HasLevelsForEach state.now }
     ensures written { IfOk result (λ _. IsWrittenState state.now room.old room.new written.new) }
     ensures short { IfErr result (λ _. length room.old < length state.now.contracts.items) }
@@ -130,7 +126,7 @@ pub(crate) fn state_on(
     card: &mut UpcCard,
     path: u16,
     channel: u16,
-) -> Result<ConnectionState, UpcFault>
+) -> ForC<ConnectionState>
     ensures state { IfOk result (IsStateOn card.old path channel) }
     ensures sized { IfOk result HasLevelsForEach }
     ensures fault { IfErr result (IsLookUpFault card.old path channel) }

@@ -8,7 +8,7 @@ ghost use Rattle.upc_c.specs.inner.ReachedCore.{IsReachedCore};
 ghost use Rattle.upc_c.specs.inner.WithCore.{IsCalledOn, KeepsReached};
 
 use crate::card::UpcCard;
-use crate::fault::{UpcFault, card_missing};
+use crate::fault::{ForC, card_missing};
 use crate::hidden::{Hidden, HiddenCard};
 use card_core::{Core, Shape};
 use std::alloc::Global;
@@ -53,7 +53,7 @@ pub(crate) fn with_core<R, F: FnOnce(&mut Core) -> R>(
     alloc: Global,
     card: &mut UpcCard,
     call: F,
-) -> Result<R, UpcFault>
+) -> ForC<R>
     requires callable { F.IsAlwaysCallable call }
     requires reached { KeepsReached (λ old answer new. FnOnceReturnsAtMut F.FnOnce call old answer new) }
     ensures called { IfOk result (λ answer.
@@ -72,7 +72,7 @@ pub(crate) fn with_core<R, F: FnOnce(&mut Core) -> R>(
 }
 
 /// Returns the shape of the card, or the error that there is no card.
-pub(crate) fn shape_on(alloc: Global, card: &mut UpcCard) -> Result<Shape, UpcFault>
+pub(crate) fn shape_on(alloc: Global, card: &mut UpcCard) -> ForC<Shape>
     ensures shape { IfOk result (IsShapeIn card.old) }
     ensures none { IfErr result (λ _. card_in card.old ≡ None) }
     ensures fault { IfErr result (λ fault. fault ≡ card_missing) }
