@@ -12,7 +12,7 @@ UNKNOWN = "tools/atlas/tests/questions"
 FIRST = 3
 # Of so many known questions one is asked, since all take minutes; how many of these may stay unanswered, because others are like them; and
 # how many unknown ones are answered at least.
-EACH, LEFT, ANSWERED = 12, 2, 48
+EACH, LEFT, ANSWERED = 12, 2, 74
 # How many answers a place names at most: one that names more says too little.
 MOST_AT_PLACE = 10
 
