@@ -258,7 +258,7 @@ typedef struct upc_fields {
 } upc_fields;
 UPC_SIZE(upc_fields, 8);
 
-/* Reads the VPI, VCI and other fields of a cell. It has 52 octets.
+/* Reads the VPI, VCI and other fields of the cell with these 52 octets.
  * Faults: UPC_CELL_WRONG_LENGTH, then UPC_UNKNOWN_SIDE. */
 uint32_t upc_cell_fields(const uint8_t *octets, size_t length, uint32_t side, upc_fields *fields,
                          upc_fault *fault) UPC_RESULT;
@@ -397,7 +397,7 @@ UPC_SIZE(upc_state, 80);
 
 /* A connection from which the next one is found. All zeros are before the first. */
 typedef struct upc_cursor {
-	uint32_t begun; /* 0 before the first connection; the other two are then free */
+	uint32_t begun; /* 0 before the first connection; the other two may then be anything */
 	uint16_t path;
 	uint16_t channel; /* 0 for a virtual path */
 } upc_cursor;
