@@ -18,7 +18,7 @@ fn expect_printed<T: Copy + Display>(rt: &HostRuntime, rows: &[(T, &str)]) -> Re
 }
 
 /// Why octets are no record.
-const REASONS: [(RecordFault, &str); 14] = [
+const REASONS: [(RecordFault, &str); 16] = [
     (RecordFault::CutOff, "1 CutOff"),
     (RecordFault::ShortLength(15), "2 ShortLength 15"),
     (RecordFault::LongLength(65536), "3 LongLength 65536"),
@@ -33,6 +33,8 @@ const REASONS: [(RecordFault, &str); 14] = [
     (RecordFault::NoInterface(1), "12 NoInterface 1"),
     (RecordFault::LongPacket(69), "13 LongPacket 69"),
     (RecordFault::ShortText, "14 ShortText"),
+    (RecordFault::OtherResolution(64), "15 OtherResolution 64"),
+    (RecordFault::OtherUnit(9), "16 OtherUnit 9"),
 ];
 
 /// Why files aren't read.
