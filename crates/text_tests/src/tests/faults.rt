@@ -5,13 +5,18 @@ use captures::{Fault, FileFault, NoCell, RecordFault};
 use card_core::{CardFault, DeskFault};
 use card_shelf::{NoRoom, ProgramFault, ShelfFault};
 use cmd_fit::FitFault;
+use std::alloc::Global;
 use std::fmt::Display;
+use std::process::Abort;
 use std::test::Fail;
 
+/// How a test ended.
+type Tested = Result<(), Fail>;
+
 /// Expects that each value is printed as the text beside it.
-fn expect_printed<T: Copy + Display>(rt: &HostRuntime, rows: &[(T, &str)]) -> Result<(), Fail> {
+fn expect_printed<T: Copy + Display>(rt: &impl Abort, alloc: Global, rows: &[(T, &str)]) -> Tested {
     for (value, wanted) in rows {
-        let text = format!(in rt.alloc(); "{value}")?;
+        let text = format!(in alloc; "{value}")?;
         assert_eq!(rt; text.as_str(), *wanted);
     }
     Ok(())
@@ -62,26 +67,27 @@ const FIT_FAULTS: [(FitFault, &str); 2] = [
 ];
 
 #[test]
-fn faults_of_captures_as_text(rt: HostRuntime) -> Result<(), Fail> {
+fn faults_of_captures_as_text(rt: HostRuntime) -> Tested {
     let fault = Fault {
         at: 136,
         reason: RecordFault::ShortLength(15),
     };
-    expect_printed(&rt, &[(fault, "136 2 ShortLength 15")])?;
-    expect_printed(&rt, &REASONS)?;
-    expect_printed(&rt, &FILE_FAULTS)?;
-    expect_printed(&rt, &NO_CELLS)
+    expect_printed(&rt, rt.alloc(), &[(fault, "136 2 ShortLength 15")])?;
+    expect_printed(&rt, rt.alloc(), &REASONS)?;
+    expect_printed(&rt, rt.alloc(), &FILE_FAULTS)?;
+    expect_printed(&rt, rt.alloc(), &NO_CELLS)
 }
 
 #[test]
-fn faults_of_least_limits_as_text(rt: HostRuntime) -> Result<(), Fail> {
-    expect_printed(&rt, &FIT_FAULTS)
+fn faults_of_least_limits_as_text(rt: HostRuntime) -> Tested {
+    expect_printed(&rt, rt.alloc(), &FIT_FAULTS)
 }
 
 #[test]
-fn faults_of_cards_and_shelves_as_text(rt: HostRuntime) -> Result<(), Fail> {
+fn faults_of_cards_and_shelves_as_text(rt: HostRuntime) -> Tested {
     expect_printed(
         &rt,
+        rt.alloc(),
         &[
             (ShelfFault::Card(CardFault::Programs), "1 Programs"),
             (ShelfFault::Card(CardFault::Lines), "2 Lines"),
@@ -94,6 +100,7 @@ fn faults_of_cards_and_shelves_as_text(rt: HostRuntime) -> Result<(), Fail> {
     let full = ProgramFault::Card(63, DeskFault::ProgramsFull);
     expect_printed(
         &rt,
+        rt.alloc(),
         &[
             (ProgramFault::NoMemory, "1 NoMemory"),
             (ProgramFault::Ids, "2 Ids"),
@@ -102,6 +109,7 @@ fn faults_of_cards_and_shelves_as_text(rt: HostRuntime) -> Result<(), Fail> {
     )?;
     expect_printed(
         &rt,
+        rt.alloc(),
         &[(NoRoom::Arrivals, "1 Arrivals"), (NoRoom::Cards, "2 Cards")],
     )
 }

@@ -26,11 +26,11 @@ fn expect_pairs(rt: &impl Abort, digit: u8, size: usize)
         for low in 0..=255u8 {
             let place = (usize::from(high) + 3 * usize::from(low)) % size;
             let mut digits = [digit; 104];
-            digits[2 * place] = high;
-            digits[2 * place + 1] = low;
-            let word = &digits[..2 * size];
+            let (word, _) = digits.split_at_mut(2 * size);
+            word[2 * place] = high;
+            word[2 * place + 1] = low;
             let mut octets = [0; 52];
-            let read = hex::decode_to_slice(word, &mut octets[..size]).is_ok();
+            let read = hex::decode_to_slice(&*word, &mut octets[..size]).is_ok();
             expect_as(rt, word, read, octets);
         }
     }
