@@ -18,7 +18,7 @@ use Rattle.card_core.specs.declared.port.Found.{Found}
 use Rattle.card_core.specs.declared.port.Port.{Port}
 use Rattle.card_core.specs.declared.shape.Shape.{Shape}
 use Rattle.card_core.specs.Agreement.{CoreView}
-use Rattle.card_core.specs.Arrival.{AnswersAfterCut, AnswersArrival, AnswersKeeping, CutsIfLong, HasLongJournal, IsWorn}
+use Rattle.card_core.specs.Arrival.{AnswersAfterCut, AnswersArrival, AnswersDropping, CutsIfLong, HasLongJournal, IsWorn}
 use Rattle.card_core.specs.Kept.{ReservesNothing}
 use Rattle.card_core.specs.Sections.{answer_for, holder, is_owned_by, judging_refusal, JudgesAt}
 use Rattle.card_core.specs.inner.Parts.{ChangesLine, CutsOrRefuses, DropsIfLong, HasRoomFor, IsLongFor, IsMissed, JudgesOrRefuses}
@@ -83,7 +83,7 @@ module _ (shape : Shape) (store : List (Slot (List Instr))) (directory : Directo
 
 -- A cell that no pick answers arrives after the cut.
 pub answers-keeping : (most : ℕ) (old new : CoreView) (port : ℕ) (cell : List ℕ) (moment : ℕ) (answer : Answer) → answer ≢ NoConnection → answer ≢ Stale
-    → AnswersAfterCut most old port cell moment answer new → AnswersKeeping most old port cell moment answer new
+    → AnswersAfterCut most old port cell moment answer new → AnswersDropping most old port cell moment answer new
 answers-keeping most old new port cell moment NoConnection found live way = absurd (found refl)
 answers-keeping most old new port cell moment Stale found live way = absurd (live refl)
 answers-keeping most old new port cell moment (Judged line number at value program verdict leaving) found live way = way
@@ -96,7 +96,7 @@ answers-keeping most old new port cell moment NoMemory found live way = way
 -- A cell that the pick answers.
 pub missed-keeping : (most : ℕ) (store : List (Slot (List Instr))) (directory : DirectoryView) (vc : Vc) (old new : CoreView) (port : ℕ) (cell : List ℕ)
     (moment : ℕ) (answer : Answer) → IsMissed store directory vc answer → AnswersArrival old port cell moment answer new
-    → AnswersKeeping most old port cell moment answer new
+    → AnswersDropping most old port cell moment answer new
 missed-keeping most store directory vc old new port cell moment NoConnection missed way = way
 missed-keeping most store directory vc old new port cell moment Stale missed way = way
 missed-keeping most store directory vc old new port cell moment (Judged line number at value program verdict leaving) missed way = absurd missed

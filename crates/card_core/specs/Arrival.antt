@@ -56,11 +56,11 @@ abbrev pub AnswersAfterCut : ℕ → CoreView → ℕ → List ℕ → ℕ → A
 AnswersAfterCut most old port cell moment answer new =
     (middle : CoreView) × CutsIfLong most old (vc_of old.shape.side cell) middle × AnswersArrival middle port cell moment answer new
 
--- The same, but that nothing is cut for a cell that the pick answers.
-abbrev pub AnswersKeeping : ℕ → CoreView → ℕ → List ℕ → ℕ → Answer → CoreView → Type 0
-AnswersKeeping most old port cell moment NoConnection new = AnswersArrival old port cell moment NoConnection new
-AnswersKeeping most old port cell moment Stale new = AnswersArrival old port cell moment Stale new
-AnswersKeeping most old port cell moment answer new = AnswersAfterCut most old port cell moment answer new
+-- The same, except that nothing is cut if the pick answers the cell.
+abbrev pub AnswersDropping : ℕ → CoreView → ℕ → List ℕ → ℕ → Answer → CoreView → Type 0
+AnswersDropping most old port cell moment NoConnection new = AnswersArrival old port cell moment NoConnection new
+AnswersDropping most old port cell moment Stale new = AnswersArrival old port cell moment Stale new
+AnswersDropping most old port cell moment answer new = AnswersAfterCut most old port cell moment answer new
 
 -- 2^62 cells were judged on the line of a connection.
 abbrev pub IsWorn : CoreView → Vc → Type 0

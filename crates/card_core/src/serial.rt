@@ -57,7 +57,7 @@ impl Core {
     ghost use Rattle.card_core.specs.Shapes.{shape_fault};
     ghost use Rattle.card_core.specs.declared.step.Step.TheVariants.{Enter, Pick, Judge, Load, Retire, Setup, Reload, Release, Cut};
     ghost use Rattle.card_core.specs.Agreement.{CoreAgrees, Follows, FollowsAll};
-    ghost use Rattle.card_core.specs.Arrival.{AnswersArrival, AnswersKeeping, IsWorn};
+    ghost use Rattle.card_core.specs.Arrival.{AnswersArrival, AnswersDropping, IsWorn};
     ghost use Rattle.upc_cell.specs.Connection.{vc_of};
     ghost use Rattle.card_core.specs.Inspection.{load_fault_of, IsRetireFault, PutsIn, TakesOut};
     ghost use Rattle.card_core.specs.Kept.{RefusalKeeps, ReservesNothing, StepReserves, AnswersSteps};
@@ -263,7 +263,7 @@ impl Core {
         most: usize,
     ) -> Option<Result<Judgement, Unjudged>>
         ensures answered { IfSome result (λ decision.
-            AnswersKeeping most self.old port cell.now moment (answer_to cell.now decision) self.new) }
+            AnswersDropping most self.old port cell.now moment (answer_to cell.now decision) self.new) }
         ensures not_now { IfNone result (Follows self.old (Enter port cell.now moment) Reply.NotNow self.new) }
         ensures rest { self.new ≡ record self.old { lines = self.new.lines } }
         ensures reserves { ReservesNothing self.old self.new }

@@ -34,7 +34,7 @@ pub record CellsAsked : Type 0 where
   pub timing : TimeSource
   pub numbered : Bool
 
--- These are asked for.
+-- What is asked for, by its parts.
 abbrev pub cells_asking : ℕ → Option Link → TimeSource → Bool → CellsAsked
 cells_asking nanoseconds link timing numbered = record { nanoseconds = nanoseconds; link = link; timing = timing; numbered = numbered }
 

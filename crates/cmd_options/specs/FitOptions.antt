@@ -31,7 +31,7 @@ pub record FitAsked : Type 0 where
   pub clp : Option ℕ
   pub rules : Option Text
 
--- These are asked for.
+-- What is asked for, by its parts.
 abbrev pub fit_asking : ℕ → ℕ → Option Link → TimeSource → Side → Option ℕ → Option Text → FitAsked
 fit_asking increment nanoseconds link timing side clp rules =
     record { increment = increment; nanoseconds = nanoseconds; link = link; timing = timing; side = side; clp = clp; rules = rules }

@@ -26,7 +26,7 @@ pub record ForwardAsked : Type 0 where
   pub link : Option Link
   pub others : Bool
 
--- These are asked for.
+-- What is asked for, by its parts.
 abbrev pub forward_asking : Text → Option ℕ → Option Link → Bool → ForwardAsked
 forward_asking setup nanoseconds link others = record { setup = setup; nanoseconds = nanoseconds; link = link; others = others }
 

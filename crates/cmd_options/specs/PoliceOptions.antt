@@ -42,7 +42,7 @@ pub record PoliceAsked : Type 0 where
   pub why : Bool
   pub threads : ℕ
 
--- These are asked for.
+-- What is asked for, by its parts.
 abbrev pub police_asking : Text → Option ℕ → Option Link → TimeSource → LineChoice → Option ℕ → Bool → ℕ → PoliceAsked
 police_asking setup nanoseconds link timing lines every why threads =
     record { setup = setup; nanoseconds = nanoseconds; link = link; timing = timing; lines = lines; every = every; why = why; threads = threads }

@@ -3,7 +3,7 @@ use Rattle.std.proofs.Common.{◌≡◌, ◌≤◌, ◌⊎◌, ℕ, ◌^◌, inl
 use Rattle.std.specs.Option.{IfNone, IfSome}
 use Rattle.std.proofs.lemmas.List.{append-nil}
 use Rattle.card_core.specs.Agreement.{CoreAgrees, CoreView, Follows, seating_of}
-use Rattle.card_core.specs.Arrival.{AnswersAfterCut, AnswersArrival, AnswersKeeping, CutsIfLong, IsWorn}
+use Rattle.card_core.specs.Arrival.{AnswersAfterCut, AnswersArrival, AnswersDropping, CutsIfLong, IsWorn}
 use Rattle.card_core.specs.World.{Connection, World, connection_in}
 use Rattle.card_core.specs.Laws.{is_of_memory}
 use Rattle.card_core.specs.Sections.{answer_to}
@@ -78,7 +78,7 @@ worn_in_world core world vc agrees (line, has, worn) =
     (found.0, found.1, subst (λ n. 2 ^ 62 ≤ n) (ap cells_in counts ∙ verdicts_count.cells (world.verdicts found.0.line)) worn)
 
 -- Two ways in which a cell arrives: as it is, or after a cut of its connection if its journal is long.
-keeping_ways : (most : ℕ) (old new : CoreView) (cell : List ℕ) (moment : ℕ) (answer : Answer) → AnswersKeeping most old 0 cell moment answer new
+keeping_ways : (most : ℕ) (old new : CoreView) (cell : List ℕ) (moment : ℕ) (answer : Answer) → AnswersDropping most old 0 cell moment answer new
     → AnswersArrival old 0 cell moment answer new ⊎ AnswersAfterCut most old 0 cell moment answer new
 keeping_ways most old new cell moment NoConnection way = inl way
 keeping_ways most old new cell moment Stale way = inl way
@@ -120,7 +120,7 @@ module _ (most : ℕ) (old new : CoreView) (cell : List ℕ) (moment : ℕ) (dec
       let on = arrives_once middle new cell moment (Some decision) arrival tt cuts.1 (cut-led before cuts.1 vc cuts.0 led cuts.2) cuts.3 in
       (on.0, on.1, on.2, record { ready = cuts.1; cuts = inr (cuts.0, cuts.2); taken = on.3; room = λ journal. inl (cuts.0, cuts.2) }, on.4)
 
-  arrived : AnswersKeeping most old 0 cell moment (answer_to cell decision) new → Arrived
+  arrived : AnswersDropping most old 0 cell moment (answer_to cell decision) new → Arrived
   arrived way = elim (keeping_ways most old new cell moment (answer_to cell decision) way) [
     | inl once ↦ as_it_is once
     | inr (middle, cuts, arrival) ↦ after_cut middle cuts arrival
@@ -133,14 +133,14 @@ arrives_none old new cell moment not before led agrees =
     let no : None ≡ Some on.0 = on.1 in absurd cc
 
 arrives_some : (most : ℕ) (old new : CoreView) (cell : List ℕ) (moment : ℕ) (decision : Result Judgement Unjudged)
-    → AnswersKeeping most old 0 cell moment (answer_to cell decision) new
+    → AnswersDropping most old 0 cell moment (answer_to cell decision) new
     → (answer_to cell decision ≡ JournalFull → IsWorn old (vc_of old.shape.side cell))
     → ArrivesWithRoom old cell moment (Some (answer_to cell decision)) new
 arrives_some most old new cell moment decision goes full before led agrees = arrived most old new cell moment decision full before led agrees goes
 
 -- A cell that takes all its steps, after a long journal of its connection is dropped.
 pub arrives_with_room : (most : ℕ) (old new : CoreView) (cell : List ℕ) (moment : ℕ) (decision : Option (Result Judgement Unjudged))
-    → IfSome decision (λ t. AnswersKeeping most old 0 cell moment (answer_to cell t) new)
+    → IfSome decision (λ t. AnswersDropping most old 0 cell moment (answer_to cell t) new)
     → IfNone decision (Follows old (Enter 0 cell moment) NotNow new)
     → IfSome decision (λ t. answer_to cell t ≡ JournalFull → IsWorn old (vc_of old.shape.side cell))
     → ArrivesWithRoom old cell moment (option_map (λ t. answer_to cell t) decision) new

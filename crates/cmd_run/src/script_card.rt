@@ -42,7 +42,7 @@ impl ScriptCard {
     ghost use Rattle.std.specs.Prelude.{◌≡◌, ◌⊎◌, ◌∷◌, [], IfNone, IfOk, IfErr, IfSome, OnOk, MatchResult, None, Some, option_map};
     ghost use Rattle.bpf_verify.specs.Accepted.{IsAccepted};
     ghost use Rattle.card_core.specs.Agreement.{Follows};
-    ghost use Rattle.card_core.specs.Arrival.{AnswersKeeping, IsWorn};
+    ghost use Rattle.card_core.specs.Arrival.{AnswersDropping, IsWorn};
     ghost use Rattle.card_core.specs.Sections.{answer_to};
     ghost use Rattle.card_core.specs.Shapes.{shape_fault};
     ghost use Rattle.text_card.specs.CardLine.{card_line_shape};
@@ -255,7 +255,7 @@ impl ScriptCard {
         moment: u64,
         most: usize,
     ) -> Option<Result<Judgement, Unjudged>>
-        ensures answered { IfSome result (λ decision. AnswersKeeping most self.old.core 0 cell.now moment (answer_to cell.now decision) self.new.core) }
+        ensures answered { IfSome result (λ decision. AnswersDropping most self.old.core 0 cell.now moment (answer_to cell.now decision) self.new.core) }
         ensures not_now { IfNone result (Follows self.old.core (Enter 0 cell.now moment) NotNow self.new.core) }
         ensures full { IfSome result (λ decision. answer_to cell.now decision ≡ Answer.JournalFull
             → IsWorn self.old.core (vc_of self.old.core.shape.side cell.now)) }

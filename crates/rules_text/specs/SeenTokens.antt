@@ -1,4 +1,4 @@
--- What tokens are in the words of the definitions.
+-- The tokens of the code, in the words of the definitions.
 use Rattle.std.specs.Prelude.{◌+◌}
 use Rattle.rules_text.specs.RulesRead.{TestRead, any_cell, f5_cell, user_cell, field_read}
 use Rattle.rules_text.specs.RuleTokens.{RuleFound, RuleToken, test_word, not_word, and_word, or_word, otherwise_word, refuse_word, side_word, uni_word, nni_word, define_word, contract_word, name_word, contract_value, no_room, field_word, size_word, number_word, bad_number, arrow_mark, open_brace, close_brace, open_parenthesis, close_parenthesis, mask_mark, comma_mark, dots_mark, slash_mark, star_mark, sign_mark, no_token}

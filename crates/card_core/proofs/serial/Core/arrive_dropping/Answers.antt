@@ -6,7 +6,7 @@ use Rattle.card_core.specs.declared.answer.Answer.TheVariants.{JournalFull, NoCo
 use Rattle.card_core.specs.declared.reply.Reply.TheVariants.{NotNow}
 use Rattle.card_core.specs.declared.step.Step.TheVariants.{Enter}
 use Rattle.card_core.specs.Agreement.{CoreView, Follows}
-use Rattle.card_core.specs.Arrival.{AnswersArrival, AnswersKeeping, CutsIfLong, IsWorn}
+use Rattle.card_core.specs.Arrival.{AnswersArrival, AnswersDropping, CutsIfLong, IsWorn}
 use Rattle.card_core.specs.Kept.{ReservesNothing}
 use Rattle.card_core.specs.Sections.{answer_to, unjudged_answer}
 use Rattle.card_core.specs.inner.Ports.{is_idle}
@@ -36,7 +36,7 @@ returns-in-Ok-clause-answered c =
     let Middle : CoreView = core_of l.shape l.store l.directory shortened l.ports.items in
     let New : CoreView = core_of l.shape l.store l.directory after l.ports.items in
     let own : found.vc ≡ vc_of l.shape.side c.args.cell.now = c.in-Ok.ensures.found.own in
-    subst (λ (core : CoreView). AnswersKeeping c.args.most core c.args.port c.args.cell.now c.args.moment (answer_to c.args.cell.now decision) New) c.self.view_is
+    subst (λ (core : CoreView). AnswersDropping c.args.most core c.args.port c.args.cell.now c.args.moment (answer_to c.args.cell.now decision) New) c.self.view_is
     (answers-keeping c.args.most (core_of l.shape l.store l.directory l.lines.items l.ports.items) New c.args.port c.args.cell.now c.args.moment
     (answer_to c.args.cell.now decision) (subst (λ (octets : List ℕ). answer_to octets decision ≢ NoConnection) c.in-Ok.ensures.found.naming.same c.judgement_on_line.ensures.connection)
     (subst (λ (octets : List ℕ). answer_to octets decision ≢ Stale) c.in-Ok.ensures.found.naming.same c.judgement_on_line.ensures.program_live) (
@@ -57,7 +57,7 @@ returns-in-Err-clause-answered c =
     let free : is_idle (slice_get l.ports.items c.args.port) ≡ true =
     let test = c.is_idle_at.ensures in let same = c.deref.ensures.value in let is = c.if-not-is_idle_at.false in cc in
     let vc = vc_of l.shape.side c.args.cell.now in
-    subst (λ (core : CoreView). AnswersKeeping c.args.most core c.args.port c.args.cell.now c.args.moment (unjudged_answer c.in-Err.reason) core) c.self.view_is
+    subst (λ (core : CoreView). AnswersDropping c.args.most core c.args.port c.args.cell.now c.args.moment (unjudged_answer c.in-Err.reason) core) c.self.view_is
     (let Old : CoreView = core_of l.shape l.store l.directory l.lines.items l.ports.items in
     missed-keeping c.args.most l.store l.directory vc Old Old c.args.port c.args.cell.now c.args.moment (unjudged_answer c.in-Err.reason) c.in-Err.ensures.found
     (arrives-missed l.shape l.store l.directory l.lines.items l.ports.items c.args.port (record { cell = c.args.cell.now; moment = c.args.moment }) free
