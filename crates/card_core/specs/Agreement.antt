@@ -30,8 +30,8 @@ pub record CoreView : Type 0 where
   pub lines : List LineView
   pub ports : List PortState
 
--- There is a slot for each program of the shape. Each slot's generation is the number of times that the slot was given.
--- The code of each id is that of the live ids; an id that isn't live has none.
+-- There are as many slots as programs in the shape. Each slot's generation is the number of times that the slot was given.
+-- Each live id has its code in its slot; an id that isn't live has no code there.
 pub record StoreAgrees (shape : Shape) (slots : List (Slot (List Instr))) (given live : List Loading) : Type 0 where
   pub sized : length slots ≡ shape.programs
   pub generations : (slot : ℕ) → generation_at slots slot ≡ times_given given slot
@@ -103,8 +103,8 @@ pub record GoneOn (shape : Shape) (log : List Event) (before : World) (step : St
   pub leads : Leads shape (log ++ record { step = step; reply = reply } ∷ []) after
   pub agrees : CoreAgrees new after
 
--- For every log and every world that it leads to and the old core agrees with, this event leads on to a world that the
--- new core agrees with.
+-- Take any log, and any world to which the log leads and with which the old core agrees. From that world this event leads
+-- to a world with which the new core agrees.
 abbrev pub Follows : CoreView → Step → Reply → CoreView → Type 0
 Follows old step reply new = (shape : Shape) (log : List Event) (before : World)
     → Leads shape log before → CoreAgrees old before → GoneOn shape log before step reply new
@@ -123,8 +123,8 @@ pub record GoneAll (shape : Shape) (log : List Event) (before : World) (events :
   pub leads : Leads shape (log ++ events) after
   pub agrees : CoreAgrees new after
 
--- For every log and every world that it leads to and the old core agrees with, these events lead on to a world that the
--- new core agrees with.
+-- Take any log, and any world to which the log leads and with which the old core agrees. From that world these events lead
+-- to a world with which the new core agrees.
 abbrev pub FollowsAll : CoreView → List Step → List Reply → CoreView → Type 0
 FollowsAll old steps replies new = (shape : Shape) (log : List Event) (before : World)
     → Leads shape log before → CoreAgrees old before → GoneAll shape log before (events_of steps replies) new

@@ -34,7 +34,7 @@ abbrev pub AnswersArrival : CoreView → ℕ → List ℕ → ℕ → Answer →
 AnswersArrival old port cell moment answer new =
     FollowsAll old (steps_of_arrival port cell moment answer) (replies_to_arrival answer) new
 
--- The line of a connection, which serves it.
+-- The line that the directory has for a connection, and that serves it.
 pub record HasLineOf (core : CoreView) (vc : Vc) (line : LineView) : Type 0 where
   pub seating : Seating
   pub seated : seating_at core.directory vc ≡ Some seating
@@ -56,7 +56,7 @@ abbrev pub AnswersAfterCut : ℕ → CoreView → ℕ → List ℕ → ℕ → A
 AnswersAfterCut most old port cell moment answer new =
     (middle : CoreView) × CutsIfLong most old (vc_of old.shape.side cell) middle × AnswersArrival middle port cell moment answer new
 
--- The same, except that nothing is cut if the pick answers the cell.
+-- As AnswersAfterCut, except that nothing is cut if the pick answers the cell.
 abbrev pub AnswersDropping : ℕ → CoreView → ℕ → List ℕ → ℕ → Answer → CoreView → Type 0
 AnswersDropping most old port cell moment NoConnection new = AnswersArrival old port cell moment NoConnection new
 AnswersDropping most old port cell moment Stale new = AnswersArrival old port cell moment Stale new

@@ -1,5 +1,5 @@
--- The core after a refusal: its slots, directory, lines and ports. A world doesn't have all of these, so this is more
--- than that the world is unchanged. Last, all that is promised of a list of steps.
+-- The core after a refusal: its slots, directory, lines and ports. A world doesn't have all of these, so an unchanged core
+-- says more than an unchanged world. Last, all that is promised of a list of steps.
 use Rattle.std.specs.Prelude.{◌≡◌, ◌≢◌, ℕ, ⊤, true, List, [], ◌∷◌, length, Some, slice_get, slice_set}
 use Rattle.line_record.specs.Line.{LineView}
 use Rattle.card_core.specs.declared.answer.Answer.{Answer}

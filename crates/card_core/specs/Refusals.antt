@@ -33,9 +33,8 @@ pick_refusal world (Some (entered cell moment)) =
     else None
 pick_refusal world (Some (picked picking)) = Some NotNow
 
--- A cell of this moment on the connection is refused if the moment is above 2^62; else if it is before that of the last
--- judged cell; else if as many cells were judged since the last cut as a journal has at most, or 2^62 cells were judged
--- on the line.
+-- A cell of this moment on the connection is refused if the moment is above 2^62; else if the moment is before that of the
+-- last judged cell; else if the cells that no cut has returned fill a journal, or 2^62 cells were judged on the line.
 abbrev pub cell_refusal : World → Connection → ℕ → Option Answer
 cell_refusal world connection moment =
     if nat_lt (2 ^ 62) moment then Some MomentTooLate

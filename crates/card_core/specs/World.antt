@@ -37,7 +37,7 @@ times_given (loading ∷ later) slot =
     if loading.id.slot == slot then suc (times_given later slot) else times_given later slot
 
 -- A connection since it was set up: its incarnation, its line, the program that names the contracts for its cells, the
--- contracts, its judged cells, and how many of these cuts have returned.
+-- contracts, its judged cells, and the number of those cells that cuts have returned, which are the first.
 pub record Connection : Type 0 where
   pub incarnation : ℕ
   pub line : ℕ
@@ -129,12 +129,12 @@ with_verdict verdicts line verdict other =
 abbrev pub is_busy : World → Bool
 is_busy world = not (list_all is_outside world.ports)
 
--- Whether some number below this one passes the test.
+-- Whether some number below the given one passes the test.
 abbrev pub any_below : ℕ → (ℕ → Bool) → Bool
 any_below zero test = false
 any_below (suc number) test = test number || any_below number test
 
--- Whether no live id has this slot, and it was given fewer than 4294967295 times.
+-- Whether no live id has this slot, and the slot was given fewer than 4294967295 times.
 abbrev pub is_open_slot : World → ℕ → Bool
 is_open_slot world slot =
     not (list_any (λ loading. loading.id.slot == slot) world.live)

@@ -20,9 +20,9 @@ pub enum Answer {
         number: u64,
         /// The moment of arrival, in ticks.
         moment: u64,
-        /// The number that the program gave: that of a contract, counted from 1, or any other number, which names none.
+        /// The value that the program gave: the number of a contract, counted from 1, or any other number, which names none.
         value: u32,
-        /// The program that gave the number.
+        /// The program that gave the value.
         program: Id,
         verdict: Verdict,
         /// The leaving cell: tagged if the verdict is Tag, otherwise unchanged.
@@ -43,7 +43,7 @@ pub enum Answer {
     MomentTooLate,
     /// The connection's journal is full, or 2^62 cells were judged on the line.
     JournalFull,
-    /// An allocation failed. This is never the answer to a cell.
+    /// An allocation failed. No cell gets this answer: judging doesn't allocate.
     NoMemory,
 }
 
@@ -54,9 +54,9 @@ pub struct Judgement {
     pub number: u64,
     /// The moment of arrival, in ticks.
     pub moment: u64,
-    /// The program that gave the number of the contract.
+    /// The program that gave the value.
     pub program: Id,
-    /// The number that the program gave: that of a contract, counted from 1, or any other number, which names none.
+    /// The value that the program gave: the number of a contract, counted from 1, or any other number, which names none.
     pub value: u32,
     /// The number of the line, from 0.
     pub line: u16,

@@ -24,7 +24,7 @@ use gen_arena::Id;
 use line_record::{Directory, Line, Owner, Piece, Seating};
 use upc_cell::Vc;
 
-/// Loads a program into a free slot, under an id that was never given before. Any free slot may be used. Doesn't
+/// Loads a program into a free slot, under an id that was never given before. No clause says which free slot. Doesn't
 /// allocate.
 ///
 /// # Errors
@@ -72,8 +72,8 @@ pub fn retire(store: &mut Store, directory: &Directory, id: Id) -> Result<Progra
     store.remove(id).ok_or(DeskFault::NoProgram)
 }
 
-/// Returns the number of a line on which this connection may be set up. It may be any free line.
-/// Doesn't allocate.
+/// Returns the number of a free line, on which this connection may be set up. No clause says which free line. Doesn't
+/// allocate.
 ///
 /// # Errors
 ///
@@ -164,8 +164,8 @@ pub fn setup(
     }
 }
 
-/// Gives a connection another program and returns the earlier one. Its buckets and its journal are unchanged. Doesn't
-/// allocate.
+/// Gives a connection another program and returns the earlier one. The connection's buckets and journal are unchanged.
+/// Doesn't allocate.
 ///
 /// # Errors
 ///

@@ -13,7 +13,7 @@ use line_record::{Directory, Line, MOST_ENTRIES, Owner, Piece, Seating};
 use std::alloc::Global;
 use upc_cell::Vc;
 
-/// Makes `many` free lines, each with a journal of `journal` entries. Returns None if an allocation fails.
+/// Makes `many` free lines, whose journals have at most `journal` entries. Returns None if an allocation fails.
 pub(crate) fn free_lines(alloc: Global, many: usize, journal: u32) -> Option<Vec<Line>>
     requires some { 1 ≤ journal }
     requires most { journal ≤ MOST_ENTRIES }
@@ -31,7 +31,7 @@ pub(crate) fn free_lines(alloc: Global, many: usize, journal: u32) -> Option<Vec
     Some(lines)
 }
 
-/// Sets up a connection on the line of this number.
+/// Sets up a connection on the line of this number, as [`desk::setup`] does.
 pub(crate) fn setup_line(
     directory: &mut Directory,
     lines: &mut Vec<Line>,
@@ -52,7 +52,7 @@ pub(crate) fn setup_line(
     desk::setup(directory, line, number, ask)
 }
 
-/// Releases a connection from its line.
+/// Releases a connection from the line of its seating, as [`desk::release`] does.
 pub(crate) fn release_line(
     directory: &mut Directory,
     lines: &mut Vec<Line>,
@@ -69,7 +69,7 @@ pub(crate) fn release_line(
     desk::release(directory, line, vc)
 }
 
-/// Returns the journal of a connection's line.
+/// Returns a connection's journal and begins a new one on the line of its seating, as [`desk::cut`] does.
 pub(crate) fn cut_line(lines: &mut Vec<Line>, vc: Vc, seating: &Seating) -> Result<Piece, DeskFault>
     requires { seating.now.line < length lines.old.items }
     ensures { ChangesLine lines.old.items seating.now.line

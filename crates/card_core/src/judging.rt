@@ -33,7 +33,7 @@ pub fn judgement_at(
         (JudgesAt line.old seating.now named.now moment (answer_to named.now.cell result) line.new)
         (λ refused. (answer_to named.now.cell result ≡ refused) × (line.new ≡ line.old)) }
 
-    // The judgement.
+    // The fields of the judgement.
     ensures line { IfOk result (λ judged. judged.line ≡ seating.now.line) }
     ensures number { IfOk result (λ judged.
         judged.number ≡ count_of line.old.state.counts judged.verdict + 1) }
@@ -41,7 +41,7 @@ pub fn judgement_at(
     ensures value { IfOk result (λ judged. judged.value ≡ named.now.value) }
     ensures program { IfOk result (λ judged. judged.program ≡ named.now.program) }
 
-    // A connection has at most four contracts.
+    // A connection has at most four contracts, so 0 and any number above 4 name none.
     ensures unnamed { IfOk result (λ judged.
         IsNoNumber judged.value → judged.verdict ≡ Verdict.Refuse) }
 
@@ -89,7 +89,7 @@ pub fn judge_at(line: &mut Line, vc: Vc, seating: &Seating, named: &Named, momen
         line.new.state.counts ≡ counted line.old.state.counts judged.verdict) }
     ensures unchanged { judged_in_answer result ≡ None → line.new ≡ line.old }
 
-    // A connection has at most four contracts.
+    // A connection has at most four contracts, so 0 and any number above 4 name none.
     ensures unnamed { IfSome (judged_in_answer result) (λ judged.
         IsNoNumber judged.value → judged.verdict ≡ Verdict.Refuse) }
 
@@ -118,7 +118,8 @@ pub(crate) fn drop_if_long(line: &mut Line, vc: Vc, seating: &Seating, most: usi
     }
 }
 
-/// Returns whether the line serves the picked connection. The incarnations are compared too.
+/// Returns whether the line serves the picked connection. The incarnations are compared too, since the virtual connection may have
+/// been released and set up again.
 pub(crate) fn serves(line: &Line, vc: Vc, seating: &Seating) -> bool
     ensures test { result ≡ is_owned_by line.now.owner (holder vc seating.now) }
     ensures owner { IsTrue result ↔ (line.now.owner ≡ Some (holder vc seating.now)) }

@@ -1,5 +1,5 @@
-//! The serial core of an ATM cell policer: the locked sections of the card, on the parts that the caller
-//! passes, and the core that takes their steps one at a time.
+//! The serial core of an ATM cell policer. Its sections are functions on the parts of a card that the caller passes; a card
+//! with threads runs each of them under a lock. [`Core`] has all parts of a card and takes its steps one at a time.
 #![tactic(auto)]
 
 mod answer;

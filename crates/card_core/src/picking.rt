@@ -48,7 +48,7 @@ impl Named {
         self.cell
     }
 
-    /// Returns the number of a contract, counted from 1, or any other number, which names none.
+    /// Returns the value that the program gave: the number of a contract, counted from 1, or any other number, which names none.
     #[inline]
     pub fn value(&self) -> u32
         ensures { result ≡ self.now.value }
@@ -73,7 +73,7 @@ pub fn pick(directory: &Directory, vc: Vc) -> Option<Seating>
     directory.find(vc)
 }
 
-/// Runs the program of this id on the cell and returns the value that it gives. None if and only if the id isn't live.
+/// Runs the program of this id on the cell, and returns both with the program's value. None if and only if the id isn't live.
 /// Doesn't allocate.
 #[inline]
 pub fn name(store: &Store, program: Id, cell: &Cell) -> Option<Named>

@@ -53,7 +53,7 @@ pub(crate) fn is_idle_at(ports: &[Port], port: u8) -> bool
     }
 }
 
-/// Returns the cell that entered the port of this number, if there is one. It stays in its place.
+/// Returns the cell that entered the port of this number, if there is one. The port keeps the cell.
 pub(crate) fn entered_at(ports: &[Port], port: u8) -> Option<&Came>
     ensures { option_copied result ≡ came_in (slice_get ports.now port) }
 {
@@ -63,7 +63,7 @@ pub(crate) fn entered_at(ports: &[Port], port: u8) -> Option<&Came>
     }
 }
 
-/// Returns the picked cell of the port of this number, if there is one. It stays in its place.
+/// Returns the picked cell of the port of this number, if there is one. The port keeps the cell.
 pub(crate) fn picked_at(ports: &[Port], port: u8) -> Option<&Found>
     ensures { option_copied result ≡ found_in (slice_get ports.now port) }
 {

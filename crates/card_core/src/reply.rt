@@ -16,7 +16,7 @@ use line_record::{Owner, Piece};
 pub enum Reply {
     /// The port has the cell.
     Entered,
-    /// The cell's connection was found, and its program named a contract.
+    /// The cell's connection was found, and its program gave a value for the cell.
     Picked,
     /// The step doesn't fit the state of its port, or there is no such port.
     NotNow,
@@ -38,7 +38,7 @@ pub enum Reply {
     Released(Piece),
     /// The journal that the cut returned.
     Cut(Piece),
-    /// Nothing changed.
+    /// The step of the desk was refused for this reason, or found no memory. Nothing changed.
     Refused(DeskFault),
 }
 
@@ -47,7 +47,7 @@ pub enum Reply {
 pub enum PortReply {
     /// The port has the cell.
     Entered,
-    /// The cell's connection was found, and its program named a contract.
+    /// The cell's connection was found, and its program gave a value for the cell.
     Picked,
     /// The step doesn't fit the state of its port, or there is no such port.
     NotNow,

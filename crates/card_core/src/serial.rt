@@ -116,14 +116,14 @@ impl Core {
         ensures unchanged { RefusalKeeps result step self.old self.new }
         ensures reserves { StepReserves result self.old self.new }
 
-        // The steps of a cell don't allocate, and a picked cell keeps the values that the pick found.
+        // Judge doesn't allocate. A step uses what it looks up before another step can change it.
         ensures judged { (port : ℕ) → step ≡ Judge port → result ≢ Reply.Answered Answer.NoMemory }
         ensures fresh { IsNeverStale self.old result }
     {
         self.take(step)
     }
 
-    /// The step. The contract implies that its reply is never stale, and [`Core::step`] states that.
+    /// Takes one step. This contract implies that the reply is never Stale, and the contract of [`Core::step`] states it.
     fn take(&mut self, step: Step) -> Reply
         ensures follows { Follows self.old step result self.new }
         ensures unchanged { RefusalKeeps result step self.old self.new }
@@ -181,7 +181,8 @@ impl Core {
         PortReply::Entered
     }
 
-    /// Looks up the cell's connection and runs its program on the cell: the step `Pick`. The program's value names a contract.
+    /// Looks up the connection of the port's cell and runs its program on the cell: the step `Pick`. The program's value names a contract,
+    /// or none.
     pub fn pick(&mut self, port: u8) -> PortReply
         ensures follows { Follows self.old (Pick port) (reply_of result) self.new }
         ensures unchanged { RefusalKeeps (reply_of result) (Pick port) self.old self.new }
@@ -203,7 +204,7 @@ impl Core {
         }
     }
 
-    /// Judges the cell by the contract that was named: the step `Judge`.
+    /// Judges the port's cell by the contract that its program named: the step `Judge`. If the program named none, the verdict is Refuse.
     pub fn judge(&mut self, port: u8) -> PortReply
         ensures follows { Follows self.old (Judge port) (reply_of result) self.new }
         ensures unchanged { RefusalKeeps (reply_of result) (Judge port) self.old self.new }
@@ -241,7 +242,7 @@ impl Core {
         if !is_idle_at(&self.ports, port) {
             return None;
         }
-        // The port has no cell before and afterwards, and nothing reads it in between.
+        // The port isn't written: it has no cell before this call and after it, and nothing reads it in between.
         let side = self.shape.side;
         let picked = look_up_and_run(&self.store, &self.directory, side, cell, moment);
         match picked {
@@ -250,10 +251,10 @@ impl Core {
         }
     }
 
-    /// Takes all steps of a cell at a port, as [`Core::arrive`] does, for users who don't keep journals. Before them, if
-    /// the journal of the cell's connection is full or has `most` entries or more, the connection is cut, and what it
-    /// returns is dropped. A journal that stays short stays in the processor's cache. Doesn't allocate.
-    /// Returns None if the port has a cell or there is no such port. Then nothing changes.
+    /// Takes all steps of a cell at a port, as [`Core::arrive`] does, for users who don't keep journals. If the cell's
+    /// connection is found, and its journal is full or has `most` entries or more, the journal is dropped before the cell is
+    /// judged, as by a cut whose piece nobody keeps. A journal that stays short stays in the processor's cache. Doesn't
+    /// allocate. Returns None if the port has a cell or there is no such port. Then nothing changes.
     #[inline(always)]
     pub fn arrive_dropping(
         &mut self,
@@ -270,7 +271,7 @@ impl Core {
         ensures unchanged { IfNone result (self.new ≡ self.old) }
         ensures memory { IfSome result (λ decision. answer_to cell.now decision ≢ Answer.NoMemory) }
 
-        // A journal is never full, so the answer tells of a line on which 2^62 cells were judged.
+        // The cell finds room in the journal, so JournalFull means that 2^62 cells were judged on the line.
         ensures full { IfSome result (λ decision. answer_to cell.now decision ≡ Answer.JournalFull
             → IsWorn self.old (vc_of self.old.shape.side cell.now)) }
     {

@@ -16,7 +16,7 @@ pub const MOST_LINES: u64 = 4096;
 /// The greatest number of ports of a card.
 pub const MOST_PORTS: u64 = 16;
 
-/// The size of a card, and the header of its cells.
+/// The size of a card, and the side at which the headers of its cells are read.
 #[derive(Clone, Copy, Debug, PartialEq, Eq)]
 pub struct Shape {
     /// The greatest number of live programs, 1 to 1024.

@@ -17,12 +17,12 @@ pub enum Step {
         /// The moment of arrival, in ticks.
         moment: u64,
     },
-    /// The cell's connection is looked up, and its program names a contract.
+    /// The connection of the port's cell is looked up, and its program gives a value for the cell, which names a contract or none.
     Pick {
         /// The number of the port, from 0.
         port: u8,
     },
-    /// The cell is judged by the contract that was named.
+    /// The port's cell is judged by the contract that was named. If none was, the verdict is Refuse.
     Judge {
         /// The number of the port, from 0.
         port: u8,

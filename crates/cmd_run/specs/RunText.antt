@@ -1,5 +1,6 @@
--- The text of `upc run`. The first line with words opens a card. Each later one is a command, and its answer is the
--- card's reply. The state is either no card yet, or a card with its whole histories and the ids of its programs.
+-- The text of `upc run`. The first line with words opens a card. Each later line with words is a command, and its answer
+-- is the card's reply or a fault line. The state is no card yet, or a card with the whole history of each connection and
+-- the ids of its programs.
 use Rattle.std.specs.Prelude.{◌≡◌, ◌⊎◌, ℕ, ◌==◌, List, [], ◌∷◌, ◌++◌, length, flat_map, codes, Option, Some, None, MatchOption, MatchBool, slice_get}
 use Rattle.upc_cell.specs.Connection.{vc_of}
 use Rattle.upc_cell.specs.declared.vc.Vc.{Vc}
@@ -76,7 +77,7 @@ abbrev pub LoadsOctets : Card → List ℕ → List ℕ → List ℕ → Card �
 LoadsOctets before digits octets text after =
     (reading : ProgramReading) × ReadsAs octets reading × TakesReading before digits reading text after
 
--- The step of a command, if the program with this number was given. Otherwise the answer is NoProgram.
+-- The step of a command that names a program by this number, if there is such a name. Otherwise the answer is NoProgram.
 abbrev pub TakesNamed : Card → Command → ℕ → (Id → List ℕ → Card → Type 0) → List ℕ → Card → Type 0
 TakesNamed before command number TakesWith text after =
     MatchOption (program_named before.names number) (RefusesLine no_such_program before text after) (λ id. TakesWith id text after)
@@ -89,14 +90,14 @@ pub record AsksConnection (before : Card) (vc : Vc) (number : ℕ) (wanted : Lis
   pub contracts : AreContracts wanted ask.contracts.items
   pub taken : TakesCommand before (setup vc number wanted) (Setup ask) text after
 
--- If a rate has an error, it is the answer. Otherwise the step of the setup is taken.
+-- The first error of a rate is the answer. If there is none, the step of the setup is taken.
 abbrev pub SetsUpWanted : Card → Vc → ℕ → List Wanted → List ℕ → Card → Type 0
 SetsUpWanted before vc number wanted text after =
     MatchOption (first_wanted_fault wanted)
     (TakesNamed before (setup vc number wanted) number (AsksConnection before vc number wanted) text after)
     (λ fault. RefusesLine (gcra_fault fault) before text after)
 
--- The answer to a cell that has entered port 0: that of the pick if it fails, and otherwise that of the judgement.
+-- The answer to a cell that has entered port 0: that of Pick if Pick answers the cell, and otherwise that of Judge.
 abbrev pub IsAnswered : World → Answer → World → Type 0
 IsAnswered before answer after =
     WorldStep before (Pick 0) (Answered answer) after
@@ -168,7 +169,7 @@ abbrev pub RunCloses : RunWorld → List ℕ → Done → Type 0
 RunCloses None text done = (text ≡ no_card) × (done ≡ Ended)
 RunCloses (Some card) text done = (text ≡ []) × (done ≡ Whole)
 
--- Some log leads to the card, its names are those of the programs in the log, and port 0 has no cell.
+-- Some log leads to the card, the card's names are those of the programs that the log loaded, and port 0 has no cell.
 pub record IsLed (card : Card) : Type 0 where
   pub shape : Shape
   pub log : List Event

@@ -1,4 +1,4 @@
--- A card as the code stores it, and the cards that it represents.
+-- A card as the code stores it (`Held`), and the cards of the definitions (`Card`) that it represents.
 use Rattle.std.specs.Prelude.{◌≡◌, ℕ, List, ◌++◌, Option, Some, None}
 use Rattle.gen_arena.specs.declared.id.Id.{Id}
 use Rattle.card_core.specs.Agreement.{CoreAgrees, CoreView}
@@ -20,12 +20,12 @@ ShowsRun None None = Unit {0}
 ShowsRun (Some held) (Some card) = ShowsCard held card
 ShowsRun _ _ = ⊥
 
--- For each card that was represented before, this text leads to a card that is represented afterwards.
+-- From each card that was represented before, this text leads to a card that is represented afterwards.
 abbrev pub MovesBy : (Card → List ℕ → Card → Type 0) → Held → List ℕ → Held → Type 0
 MovesBy Goes held text held' = (before : Card) → IsLed before → ShowsCard held before
     → (after : Card) × ShowsCard held' after × Goes before text after
 
--- The answers grew by such a text.
+-- The answers grew by a text that moves the stored card in this way.
 abbrev pub Moves : (Card → List ℕ → Card → Type 0) → Held → Held → List ℕ → List ℕ → Type 0
 Moves Goes held held' old new = (text : List ℕ) × (new ≡ old ++ text) × MovesBy Goes held text held'
 

@@ -6,8 +6,8 @@ ghost use Rattle.cmd_run.specs.PathLaws.{PathsAreConnections};
 ghost use Rattle.cmd_run.specs.RunText.{IsRunText};
 
 /// A script has one text of `run`, although a card may choose the slot of a program and the line of a connection. No
-/// answer shows either choice. Within the lines that an input may have, no slot runs out of generations and no line is
-/// full, so no error shows the choice either.
+/// answer shows either choice. No error shows it either: an input has at most 1,000,000 lines, so no slot runs out of
+/// generations, and no line of the card judges 2^62 cells.
 pub fn a_script_has_one_text()
     ensures { (octets : List ℕ) (one other : List ℕ) (ends other_ends : TheDone)
         → IsRunText octets one ends → IsRunText octets other other_ends

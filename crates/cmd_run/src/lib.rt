@@ -1,5 +1,4 @@
-//! The dialogue with a card: `run`, which answers the lines of a script with a card's replies to the commands of its
-//! desk and to its cells.
+//! The subcommand `upc run`: one card answers the lines of a script, commands for its desk and cells, one line at a time.
 #![tactic(auto)]
 
 pub mod laws;

@@ -1,4 +1,4 @@
-//! `upc run`: a card, and the commands and cells of a script.
+//! The machine of `upc run`: it opens a card at the first line of a script, and answers the later lines by this card.
 
 ghost use Rattle.std.specs.Prelude.{IfOk};
 ghost use Rattle.text_io.specs.Serving.{IsServed};
@@ -89,8 +89,8 @@ impl Policing {
         card
     }
 
-    /// Answers a line before there is a card. It is a function of its own, so that later lines don't need the stack
-    /// space for making a card.
+    /// Answers a line while there is no card. Not inlined, so that the answers to later lines don't need the stack space
+    /// for making a card.
     #[inline(never)]
     fn answer_first(&mut self, line: &[u8], answers: &mut Vec<u8>) -> Result<Turn, AllocError>
         requires { self.old.card ≡ None }
@@ -148,8 +148,8 @@ impl Machine for Policing {
     ghost is_total = { run-total };
 }
 
-/// Answers the lines of a script. The first line with words opens a card. Each later one is a command for its desk or
-/// a cell, and its answer is the card's reply.
+/// Answers the lines of a script. The first line with words opens a card. Each later line with words is a command for the
+/// card's desk or a cell, and is answered by the card's reply or by a fault line.
 ///
 /// # Errors
 ///

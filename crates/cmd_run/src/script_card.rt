@@ -1,4 +1,4 @@
-//! The card that a script opened, and its commands.
+//! The card that a script opened, with the names of its programs. It answers the script's later lines.
 
 use arrayvec::ArrayVec;
 use bpf_code::Instr;
@@ -87,7 +87,7 @@ impl ScriptCard {
         &self.core
     }
 
-    /// Returns the number in the name of a program, or 0 if it has no name.
+    /// Returns the number in the name of a program (1 for `p1`), or 0 if the program has no name.
     pub fn number_of(&self, program: Id) -> usize
         ensures { result ≡ number_of_program self.now.names program }
     {
@@ -101,7 +101,7 @@ impl ScriptCard {
         self.core.shape().side
     }
 
-    /// Loads the program of this code.
+    /// Loads the program of this code. The contract alone uses `digits`, the word that spelled the code.
     #[inline(never)]
     fn load_code(&mut self, digits: &[u8], code: Vec<Instr>, answers: &mut Vec<u8>) -> Added
         requires { IsAccepted code.items }
@@ -116,7 +116,7 @@ impl ScriptCard {
         add_loaded(answers, self.names.count() as u64)
     }
 
-    /// Loads the program of these octets, if they spell one.
+    /// Loads the program that this word of hexadecimal digits spells. If the word spells no program, adds its fault line.
     #[inline(never)]
     fn load(&mut self, alloc: Global, digits: &[u8], answers: &mut Vec<u8>) -> Added
         ensures { OnOk result (Moves (λ before. Obeys before (load digits.now))
@@ -146,7 +146,7 @@ impl ScriptCard {
         }
     }
 
-    /// Sets up a connection with contracts whose rates may have errors.
+    /// Sets up a connection with these contracts. If a rate is out of its limits, adds the fault line of the first such rate.
     #[inline(never)]
     fn setup(
         &mut self,
@@ -237,8 +237,8 @@ impl ScriptCard {
         }
     }
 
-    /// Takes all steps of a cell at port 0, and returns its judgement, or why it wasn't judged. None if the port has a cell; before a
-    /// command it never has.
+    /// Takes all steps of a cell at port 0, and returns its judgement, or why it wasn't judged. Returns None if the port has a
+    /// cell already, which it never has between commands.
     #[inline(always)]
     fn arrive(&mut self, cell: &Cell, moment: u64) -> Option<Result<Judgement, Unjudged>>
         ensures { AnswersCell self.old cell.now moment (option_map (λ decision. answer_to cell.now decision) result) self.new }
@@ -246,8 +246,9 @@ impl ScriptCard {
         self.core.arrive(PORT, cell, moment)
     }
 
-    /// Takes all steps of a cell at port 0 and returns its answer, as [`Core::arrive_dropping`] does: a journal that is full or has `most`
-    /// entries is dropped before them. None if the port has a cell; between commands it never has.
+    /// Takes all steps of a cell at port 0, and returns its judgement, or why it wasn't judged. If the connection's journal is
+    /// full or has `most` entries or more, the journal is dropped before the cell is judged ([`Core::arrive_dropping`]).
+    /// Returns None if the port has a cell already, which it never has between commands.
     #[inline(always)]
     pub fn arrive_dropping(
         &mut self,
@@ -272,7 +273,7 @@ impl ScriptCard {
     {
         let side = self.core.shape().side;
         let vc = cell.vc_at(side);
-        // Each cell takes all its steps in one call, so port 0 has none when the next one arrives.
+        // Each cell takes all its steps in one call, so port 0 has no cell when the next cell arrives: this is never None.
         let Some(decision) = self.arrive(cell, moment) else {
             return Ok(());
         };
@@ -315,7 +316,7 @@ impl ScriptCard {
         }
     }
 
-    /// Answers a line, from its first word and the rest.
+    /// Carries out the command that the first word of a line and the rest spell. If they spell none, adds `BadLine`.
     fn answer_command(
         &mut self,
         alloc: Global,

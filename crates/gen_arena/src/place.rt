@@ -10,8 +10,8 @@ use std::alloc::{AllocError, Global};
 use std::marker::Model;
 use std_alloc::room::may_hold;
 
-/// What a slot holds once it has had a value (a slot, its place and its box have the same number): its generation, its value, and, while
-/// it is free, the number of the next free slot. If there is none, that is the number of slots.
+/// What a slot holds once it has had a value. A slot, its place and its box have the same number. `next` counts only while the slot is
+/// free: it is the number of the next free slot, or the number of slots if there is none.
 #[derive(Drop)]
 pub struct Place<T> {
     pub(crate) generation: u32,
@@ -38,7 +38,8 @@ impl<T> Place<T> {
 /// A row of places, which owns its block.
 ///
 /// A place is fresh until it is first filled. The boxes of the fresh places are blank, so making a row writes to none of
-/// its memory. A fresh place counts as an empty one that links to the place after it. The others come before it.
+/// its memory. A fresh place counts as an empty one that links to the place after it. All places that were filled come
+/// before the fresh ones.
 pub struct PlaceRow<T> {
     start: Start<Place<T>>,
     boxes: Boxes<Place<T>>,
@@ -83,7 +84,7 @@ impl<T> PlaceRow<T> {
         })
     }
 
-    /// The place of this number, if it exists and isn't fresh.
+    /// The place of this number, if there is such a place and it isn't fresh.
     pub(crate) fn get(&self, slot: u16) -> Option<&Place<T>>
         ensures found { IfSome (option_copied result) (λ place. slice_get self.now.places slot ≡ Some place) }
         ensures none { IfNone result ((place_at self.now.places slot).value ≡ None) }

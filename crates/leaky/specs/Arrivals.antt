@@ -34,7 +34,7 @@ is_passed Refuse = false
 abbrev pub charges_second : Verdict → Contract → Bool → Bool
 charges_second verdict contract clp = meets_second contract clp && is_passed verdict
 
--- The moments of the cells that charge a bucket. Whether a cell does is said by its verdict and its cell loss priority.
+-- The moments of the cells that charge a bucket: those for whose verdict and cell loss priority `charges` is true.
 abbrev pub charging_moments : (Verdict → Bool → Bool) → Contract → Buckets → List Arrival → List ℕ
 charging_moments charges contract buckets [] = []
 charging_moments charges contract buckets (arrival ∷ later) =

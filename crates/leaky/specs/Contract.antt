@@ -59,8 +59,8 @@ abbrev pub filled_if_met : Option Gcra → Bucket → ℕ → Bucket
 filled_if_met None bucket moment = bucket
 filled_if_met (Some gcra) bucket moment = filled gcra bucket moment
 
--- A cell passes if it conforms to each bucket that it meets. It has the excess verdict if it conforms to bucket 1
--- only, and is discarded otherwise.
+-- A cell passes if it conforms to each bucket that it meets. If it conforms to bucket 1 and not to bucket 2, it has the
+-- verdict `excess`. Otherwise it is discarded.
 abbrev pub verdict_under : Gcra → Option Gcra → Verdict → Buckets → ℕ → Verdict
 verdict_under peak sustained excess buckets moment =
     if conforms peak buckets.first moment then

@@ -17,7 +17,7 @@ bucket_number Sustained = 2
 abbrev pub over_limit : Gcra → Bucket → ℕ → ℕ
 over_limit gcra bucket moment = level_at bucket moment - gcra.limit
 
--- The same for a bucket that the cell may not meet. They are 0 if it doesn't.
+-- The ticks by which a bucket is above the limit, or 0 if the cell doesn't meet the bucket.
 abbrev pub over_limit_if_met : Option Gcra → Bucket → ℕ → ℕ
 over_limit_if_met None bucket moment = 0
 over_limit_if_met (Some gcra) bucket moment = over_limit gcra bucket moment
@@ -35,17 +35,17 @@ abbrev pub excess_at : Contract → Buckets → Bool → ℕ → Option Excess
 excess_at contract buckets clp moment =
     excess_under (peak_of contract) (sustained_of contract clp) buckets moment
 
--- The rate of a bucket that a cell of this CLP meets, if it meets it.
+-- The rate of this bucket, if a cell of this CLP meets the bucket.
 abbrev pub rate_met : Contract → Bool → WhichBucket → Option Gcra
 rate_met contract clp Peak = Some (peak_of contract)
 rate_met contract clp Sustained = sustained_of contract clp
 
--- This one of the two buckets.
+-- The bucket that is named, of the two.
 abbrev pub bucket_among : Buckets → WhichBucket → Bucket
 bucket_among buckets Peak = buckets.first
 bucket_among buckets Sustained = buckets.second
 
--- A cell that comes this many ticks after the moment conforms, and one that comes fewer ticks after it doesn't. They
+-- A cell that comes this many ticks after the moment conforms, and one that comes fewer ticks after it doesn't. The ticks
 -- aren't 0, so a cell at the moment doesn't conform.
 pub record IsLeastDelay (gcra : Gcra) (bucket : Bucket) (moment ticks : ℕ) : Type 0 where
   pub some : 0 < ticks

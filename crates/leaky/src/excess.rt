@@ -44,8 +44,8 @@ pub struct Excess {
 /// Returns by how much a cell of this cell loss priority at `moment`, in ticks, comes too early. None exactly if it
 /// conforms to each bucket that it meets, so that [`crate::judge`] passes it. Doesn't allocate.
 ///
-/// [`crate::judge`] changes the level only of a bucket that the cell conforms to. So a bucket to which it doesn't conform has the same excess
-/// before the verdict and after it. After Tag the first bucket is charged: with the levels after that verdict, let its level be 0.
+/// `levels` are those before the cell is judged. Discard leaves them unchanged, so the levels after that verdict give the same result. Tag
+/// charges bucket 1 and leaves bucket 2 unchanged: after that verdict, pass levels whose `first` is 0, so that bucket 2 gives the result.
 pub fn excess_at(contract: &Contract, levels: &Levels, clp: bool, moment: u64) -> Option<Excess>
     // For any buckets that the levels represent.
     ensures excess { (buckets : Buckets) → Agrees levels.now buckets → IsChargedBy buckets moment

@@ -12,8 +12,8 @@ use crate::verdict::Verdict;
 /// The last moment at which a cell can be judged, in ticks: 2^62.
 pub const LAST_MOMENT: u64 = 4611686018427387904;
 
-/// Judges a cell of this cell loss priority at `moment`, in ticks, and updates the levels. The clauses below are about cells that come
-/// in the order of their moments. Doesn't allocate.
+/// Judges a cell of this cell loss priority at `moment`, in ticks, and updates the levels. The clauses are about buckets that weren't
+/// charged after `moment`, so they are about cells that come in the order of their moments. Doesn't allocate.
 #[inline(always)]
 pub fn judge(contract: &Contract, levels: &mut Levels, clp: bool, moment: u64) -> Verdict
     requires { moment ≤ 2 ^ 62 }

@@ -11,8 +11,8 @@ use Rattle.leaky.specs.Contract.{Buckets, opening_buckets, verdict_of}
 use Rattle.leaky.specs.Arrivals.{Arrival, buckets_left}
 use Rattle.line_record.specs.declared.entry.Entry.{Entry}
 
--- A cell that arrived: its moment, its cell loss priority, the contract number that a program gave for it, and that
--- program.
+-- A cell that arrived: its moment, its cell loss priority, the value that a program gave for it, and that program. The
+-- value is the number of a contract, from 1, or names none.
 pub record NamedCell : Type 0 where
   pub moment : ℕ
   pub clp : Bool
@@ -40,7 +40,7 @@ IsNoNumber value = (value ≡ 0) ⊎ (4 < value)
 abbrev pub numbered : {X : Type 0} → List X → ℕ → Option X
 numbered items number = if number == 0 then None else slice_get items (number - 1)
 
--- The arrival that a contract sees of a cell.
+-- What a contract sees of a cell: its moment and its cell loss priority.
 abbrev pub arrival_of : NamedCell → Arrival
 arrival_of cell = record { moment = cell.moment; clp = cell.clp }
 

@@ -27,14 +27,15 @@ pub struct Seating {
 /// incarnation is given twice.
 #[derive(Debug, Drop)]
 pub struct Directory {
-    /// Every cell causes a look-up here.
+    /// The seating of each connection. Every cell causes a look-up here.
     seats: Seats,
+    /// The number of lines.
     lines: u16,
     /// The number of incarnations given so far.
     used: u64,
     /// For each line, whether some connection has it.
     held: HeldLines,
-    /// The number of connections that name a program. If it is 0, no seating has to be read.
+    /// Counts of the connections that name a program. If a program's count is 0, `names` has no seating to read.
     uses: ProgramUses,
 }
 

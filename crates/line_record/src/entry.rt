@@ -9,9 +9,9 @@ use leaky::Verdict;
 pub struct Entry {
     /// The moment of arrival, in ticks.
     pub moment: u64,
-    /// The program that gave the number.
+    /// The program that gave the value.
     pub program: Id,
-    /// The number that the program gave: that of a contract, counted from 1, or any other number, which names none.
+    /// The value that the program gave: the number of a contract, counted from 1, or any other number, which names none.
     pub value: u32,
     /// The cell loss priority on arrival.
     pub clp: bool,

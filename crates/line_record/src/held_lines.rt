@@ -16,8 +16,8 @@ const HELD: u8 = 1;
 /// For each line, numbered from 0, whether it is held.
 ///
 /// A setup gets the lowest free line, in whatever order lines were freed, so the same setups and releases give the same
-/// lines. A search from line 0 on would cost n setups n * n / 2 steps, so the lowest free line is stored. When it
-/// becomes held, `memchr` finds the next one, many lines at once.
+/// lines. A search from line 0 on would cost n setups n * n / 2 steps, so the lowest free line is stored. When that line
+/// becomes held, `memchr` finds the next free line, looking at many lines at once.
 ///
 /// A card is often full. So a bound on the free lines is stored too, and the search ends there. When the last free line
 /// becomes held, the bound is 0; when one line of a full card becomes free, the bound is just above it. So a release and
@@ -28,7 +28,7 @@ pub(crate) struct HeldLines {
     marks: Vec<u8>,
     /// The lowest free line, or the number of lines if all are held.
     lowest: u16,
-    /// No line from here on is free.
+    /// No line from this number on is free.
     above: u16,
 }
 

@@ -30,15 +30,15 @@ pub const MOST_ENTRIES: u32 = 65536;
 pub struct Line {
     // The fields that every cell uses come first, next to each other.
     owner: Option<Owner>,
-    /// The greatest number of entries of its journal.
+    /// The greatest number of entries of the journal.
     journal: u32,
-    /// Has capacity for the whole journal while the line serves a connection.
+    /// The entries of the journal. While the line serves a connection, they have capacity for a full journal.
     entries: Vec<Entry>,
     /// The state after the last judged cell.
     state: State,
-    /// Those of the connection. A free line has none.
+    /// The contracts of the connection. A free line has none.
     contracts: ArrayVec<Contract, 4>,
-    /// The state at the beginning of the journal. Its entries lead from here to `state`.
+    /// The state at the beginning of the journal, from which the entries lead to `state`.
     start: State,
 }
 
@@ -70,7 +70,7 @@ impl Line {
     ///
     /// # Errors
     ///
-    /// `NoMemory` if an allocation fails.
+    /// `NoMemory` if an allocation fails. Space for a journal is allocated later, by [`Line::prepare`] or [`Line::open`].
     pub fn new(alloc: Global, journal: u32) -> Result<Self, LineFault>
         requires some { 1 ≤ journal }
         requires most { journal ≤ MOST_ENTRIES }
@@ -338,8 +338,8 @@ impl Line {
         self.entries.len() >= most.min(self.journal as usize)
     }
 
-    /// Begins a new journal at the present state, in the memory of the old one, whose entries are dropped. Doesn't
-    /// allocate. It is [`Line::cut`] for those who keep no pieces.
+    /// Begins a new journal at the present state, in the memory of the old one, and drops the old entries. Doesn't
+    /// allocate. It replaces [`Line::cut`] for callers that keep no pieces.
     pub fn drop_journal(&mut self)
         requires { IsHeld self.old }
         ensures begun { self.new ≡ record self.old { start = self.old.state; entries = [] } }

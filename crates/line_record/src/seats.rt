@@ -12,9 +12,9 @@ use std::marker::Model;
 use upc_cell::Vc;
 use vc_table::{TableFault, VcLines};
 
-/// For each line, the connection that has it, with its seating. Every cell causes a look-up here. It reads three numbers of the
-/// table and the seat of the line, whichever connections were chosen: in a hash map with a fixed seed, connections can be
-/// chosen that all have the same hash.
+/// For each line, the connection that has it, with its seating. Every cell causes a look-up here. A look-up reads three numbers of the
+/// table and the seat of the line, whichever connections are set up. In a hash map with a fixed seed look-ups would be slow
+/// for connections that were chosen because they have the same hash.
 #[derive(Debug, Drop)]
 pub(crate) struct Seats {
     /// The line of each connection.
@@ -119,7 +119,7 @@ fn free_seats(alloc: Global, lines: u16) -> Option<Vec<Option<(Vc, Seating)>>>
     vec![in alloc; None; usize::from(lines)].ok()
 }
 
-/// Returns the seating of this line, if there is one.
+/// Returns the seating of the connection that has this line, if there is one.
 #[inline]
 fn seating_at(seats: &[Option<(Vc, Seating)>], line: u16) -> Option<Seating>
     requires { line < length seats.now }

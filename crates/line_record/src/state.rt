@@ -76,7 +76,7 @@ impl State {
             && self.counts == other.counts
     }
 
-    /// Judges a cell and updates the state.
+    /// Judges a cell by the contract of the number `value`, counted from 1, and updates the state.
     #[inline(always)]
     pub(crate) fn judge(
         &mut self,

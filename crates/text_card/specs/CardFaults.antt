@@ -1,4 +1,4 @@
--- The fault lines of a card: the part that found the error, its number and its name.
+-- The fault lines of a card: the part that found the error, and the error's number and name.
 use Rattle.std.specs.Prelude.{ℕ, List, ◌++◌, codes, Option, Some, None, option_map}
 use Rattle.card_core.specs.declared.fault.CardFault.{CardFault}
 use Rattle.card_core.specs.declared.fault.CardFault.TheVariants as card
@@ -20,7 +20,7 @@ shape_fault_line card.Ports = line (codes "fault shape 3 Ports")
 shape_fault_line card.Journal = line (codes "fault shape 4 Journal")
 shape_fault_line card.NoMemory = line (codes "fault shape 5 NoMemory")
 
--- The answer to two numbers that are no rate.
+-- The answer to a command in which two numbers are no rate.
 abbrev pub gcra_fault : GcraFault → List ℕ
 gcra_fault fault = line (codes "fault gcra " ++ gcra_fault_text fault)
 

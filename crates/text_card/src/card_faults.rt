@@ -17,14 +17,14 @@ pub fn add_no_card(answers: &mut Vec<u8>) -> Added
     add_text(answers, b"fault script 2 NoCard\n")
 }
 
-/// Adds the answer to a command with a name that no program was given: `NoProgram`, as of the desk.
+/// Adds the answer to a command with a name that no program was given: `NoProgram`, which the desk also answers.
 pub fn add_no_such_program(answers: &mut Vec<u8>) -> Added
     ensures { OnOk result (answers.new.items ≡ answers.old.items ++ no_such_program) }
 {
     add_desk_fault(answers, DeskFault::NoProgram)
 }
 
-/// Adds the answer to two numbers that are no rate.
+/// Adds the answer to a command in which two numbers are no rate.
 pub fn add_gcra_fault(answers: &mut Vec<u8>, fault: GcraFault) -> Added
     ensures { OnOk result (answers.new.items ≡ answers.old.items ++ gcra_fault fault) }
 {

@@ -34,7 +34,8 @@ fn with_paths(side: Side) -> Side
     }
 }
 
-/// Returns the side of the words after the numbers of a card: none, an interface, or an interface and `paths`.
+/// Returns the side of the words after the numbers of a card: no word, which means `uni`, an interface, or an interface and
+/// `paths`.
 fn side_of_words(line: &[u8]) -> Option<Side>
     ensures { result ≡ side_of_words (words_of line.now) }
 {

@@ -102,8 +102,8 @@ pub fn add_unjudged(answers: &mut Vec<u8>, side: Side, vc: Vc, reason: Unjudged)
     add_answer(answers, side, 0, vc, &reason.answer())
 }
 
-/// Adds the answer to a cell that arrived on this connection. The program that named its contract has a name with this
-/// number, from 1. A cell that isn't judged has no such program.
+/// Adds the answer to a cell that arrived on this connection. `number` is the number in the name of the program that named
+/// the cell's contract, 1 for `p1`. Without a verdict it isn't read.
 ///
 /// # Errors
 ///

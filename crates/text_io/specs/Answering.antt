@@ -10,7 +10,7 @@ use Rattle.text_io.specs.declared.machine.Turn.TheVariants.{GoesOn, Ends}
 abbrev pub OfEach : {World : Type 0} → Rules World → (World → Type 0) → (World → Type 0) → Type 0
 OfEach {World = World} rules shown IsSo = (world : World) → rules.is_sound world → shown world → IsSo world
 
--- From the world before, this text answers the line. It ends the run, or leads to a world that is shown afterwards.
+-- From the world before, this text answers the line. The line ends the run, or leads to a world that is shown afterwards.
 abbrev pub TurnsFrom : {World : Type 0} → Rules World → World → List ℕ → List ℕ → Turn → (World → Type 0) → Type 0
 TurnsFrom rules before line here Ends shown = rules.steps before line here None
 TurnsFrom {World = World} rules before line here GoesOn shown = (after : World) × shown after × rules.steps before line here (Some after)

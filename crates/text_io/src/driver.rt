@@ -74,7 +74,7 @@ fn answer_end<M: Machine>(
         machine.refuse(answers)?;
         return Ok(Done::Ended);
     }
-    // Without a line feed after it, a carriage return belongs to the line.
+    // A carriage return that no line feed follows belongs to the content of the line.
     match machine.answer(octets, answers)? {
         Turn::Ends => Ok(Done::Ended),
         Turn::GoesOn => machine.close(answers),
@@ -143,13 +143,13 @@ pub fn answer_lines<I: Input, O: Output, M: Machine>(
         (OfEach M.rules (M.shows machine.old) (λ start.
         Adds (IsFront (Prints M.rules 0 start (lines_of (I.rest input.old)))) (O.held output.old) (O.held output.new))) }
 
-    // If all was answered, the machine shows a world to which the lines lead, with the text that was written.
+    // After Whole the machine shows a world to which the lines lead, with the text that was written.
     ensures world { I.is_known → result ≡ Ok Done.Whole → OfEach M.rules (M.shows machine.old) (λ start.
         (text : List ℕ) × (last : M.World) × M.shows machine.new last
         × EndsAt M.rules 0 start (lines_of (I.rest input.old)) text last
         × (O.is_known → O.held output.new ≡ O.held output.old ++ text)) }
 
-    // The run reads what it answers and at most a window more.
+    // The run reads what it answers, and at most as many octets more as the window has room for.
     ensures left { I.is_known → IfOk result (λ done. OfEach M.rules (M.shows machine.old) (λ start.
         TakesEnough (λ octets. (text : List ℕ) × Prints M.rules 0 start (lines_of octets) text done) most_ahead
         (I.rest input.old) (I.rest input.new))) }

@@ -23,7 +23,8 @@ fn has_early_feed(octets: &[u8]) -> bool
     found
 }
 
-/// The number of octets searched in one step. A line `cell MOMENT HEADER` fits in, with its line feed, if the moment has at most 17 digits.
+/// The number of octets searched in one step. A line `cell MOMENT HEADER` and its line feed fit into them if the moment has at most 17
+/// digits.
 const LANES: usize = 32;
 
 /// The number of octets before the first line feed among the next `LANES`, or `LANES` if there is none.

@@ -18,8 +18,9 @@ pub enum Turn {
 
 /// A part of a program that gets one line after another and answers each.
 ///
-/// Its rules say which answers are allowed, as steps from world to world. A machine doesn't have to store its world:
-/// it shows worlds, and its answer must be allowed from each of them.
+/// Its rules say which answers are allowed, as steps from world to world. A world is the state that the rules are about,
+/// such as the whole history of a card. A machine may store less. What it stores may then stand for several worlds, which
+/// it `shows`, and its answer must be allowed from each of them.
 pub trait Machine {
     ghost World: { Type 0 };
 

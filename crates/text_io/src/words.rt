@@ -18,7 +18,7 @@ fn after_blanks(line: &[u8]) -> &[u8]
     rest
 }
 
-/// The first word of a line and the rest after it, or none if the line has no words.
+/// The first word of a line, and what follows the word and one blank. None if the line has no words.
 pub fn first_word(line: &[u8]) -> Option<(&[u8], &[u8])>
     ensures { MatchOption result
         (words_of line.now ≡ [])
@@ -34,7 +34,7 @@ pub fn first_word(line: &[u8]) -> Option<(&[u8], &[u8])>
     }
 }
 
-/// How many words a line has: none, one or more. A comment has none.
+/// How many words a line has: none, one or more. A comment counts as a line without words.
 pub enum LineWords<'a> {
     /// The line has no words or is a comment.
     Silent,

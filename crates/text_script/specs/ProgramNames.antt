@@ -1,15 +1,16 @@
--- The names of a script's programs, which are numbers from 1 in the order in which the programs were loaded.
+-- The names of a script's programs: `p1` is the first program that was loaded, `p2` the next. Here `names` is the list of
+-- their ids, in this order.
 use Rattle.std.specs.Prelude.{ℕ, zero, suc, if◌then◌else◌, List, [], ◌∷◌, Option, None, slice_get}
 use Rattle.gen_arena.specs.SameId.{is_same_id}
 use Rattle.gen_arena.specs.declared.id.Id.{Id}
 
--- The program with this number, from the ids in the order in which they were given. Numbers count from 1.
+-- The program with this number, from 1, if there is one.
 abbrev pub program_named : List Id → ℕ → Option Id
 program_named names zero = None
 program_named names (suc before) = slice_get names before
 
--- The number of the latest of these ids that is this one, if the first has the number `next`. If none is, it is
--- `found`.
+-- The number of the last place in the list that has this id, where the first place has the number `next`. Without such a
+-- place it is `found`.
 abbrev pub latest_number : Id → ℕ → ℕ → List Id → ℕ
 latest_number id found next [] = found
 latest_number id found next (here ∷ later) =

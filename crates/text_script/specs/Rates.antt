@@ -33,7 +33,7 @@ abbrev pub first_wanted_fault : List Wanted → Option GcraFault
 first_wanted_fault [] = None
 first_wanted_fault (ask ∷ later) = first_of_two (wanted_fault ask) (first_wanted_fault later)
 
--- The rate is the requested one.
+-- The rate has the requested numbers.
 abbrev pub IsRate : Rate → Gcra → Type 0
 IsRate rate gcra = (gcra.increment ≡ rate.increment) × (gcra.limit ≡ rate.limit)
 

@@ -6,8 +6,8 @@ use Rattle.upc_cell.specs.declared.vc.Vc.{Vc}
 use Rattle.text_script.specs.declared.script_words.Wanted.{Wanted}
 use Rattle.text_script.specs.ScriptWords.{with_both, number_of_digits, program_of, vc_named, wanted_of_each}
 
--- A command of a line. Programs are given by number. The octets of a program and of a cell are still a word of digits,
--- since its errors come after those of all other words.
+-- A command of a line. Programs are named by number, from 1. The octets of a program or of a cell are still a word of
+-- digits: an error in this word is reported only if all other words are right.
 pub data Command : Type 0 where
   load : List ℕ → Command
   retire : ℕ → Command
@@ -27,11 +27,11 @@ abbrev pub retire_of : List (List ℕ) → Option Command
 retire_of (program ∷ []) = option_map (λ number. retire number) (program_of program)
 retire_of _ = None
 
--- The contracts of one to four words.
+-- The contracts of one to four words. None for any other number of words, or if one of them spells no contract.
 abbrev pub contracts_of : List (List ℕ) → Option (List Wanted)
 contracts_of words = if nat_le 1 (length words) && nat_le (length words) 4 then wanted_of_each words else None
 
--- A connection and the number of a program, which two commands begin with.
+-- `VPI VCI pN`, with which the words of `setup` and of `reload` begin.
 abbrev pub connection_and_program : Side → List ℕ → List ℕ → List ℕ → Option (Vc × ℕ)
 connection_and_program side path channel program = with_both (λ vc number. (vc, number)) (vc_named side path channel) (program_of program)
 

@@ -16,11 +16,11 @@ use Rattle.text_script.specs.declared.script_words.Wanted.TheVariants.{Cbr1, Vbr
 abbrev pub with_both : {One Other Joined : Type 0} → (One → Other → Joined) → Option One → Option Other → Option Joined
 with_both join one other = option_and_then (λ first. option_map (join first) other) one
 
--- The number, if it is at most this one.
+-- The number, if it is at most `most`.
 abbrev pub up_to : ℕ → ℕ → Option ℕ
 up_to most number = if nat_le number most then Some number else None
 
--- The number that digits spell after digits with the value `high`, the highest first. None if an octet isn't a digit.
+-- The number that these digits spell after earlier digits that spell `high`. None if an octet isn't a digit.
 unfoldable pub spelled_after : ℕ → List ℕ → Option ℕ
 spelled_after high [] = Some high
 spelled_after high (octet ∷ octets) =
@@ -35,7 +35,7 @@ abbrev pub number_of_digits : List ℕ → Option ℕ
 number_of_digits [] = None
 number_of_digits (octet ∷ octets) = option_and_then (up_to most_number) (spelled_after 0 (octet ∷ octets))
 
--- The number that a word spells, if it is at most this one.
+-- The number that a word spells, if it is at most `most`.
 abbrev pub number_up_to : ℕ → List ℕ → Option ℕ
 number_up_to most word = option_and_then (up_to most) (number_of_digits word)
 
@@ -73,7 +73,7 @@ cut_at mark (octet ∷ octets) =
 abbrev pub rate_with : ℕ → ℕ → Rate
 rate_with ticks tolerance = record { increment = ticks; limit = tolerance }
 
--- The default contract, with both numbers 0, in a place that has no contract yet. It is never valid.
+-- CBR.1 with increment 0 and limit 0, which is never valid: it fills the places of a list that have no contract yet.
 abbrev pub IsBlankContract : Wanted → Type 0
 IsBlankContract wanted = wanted ≡ Cbr1 (rate_with 0 0)
 

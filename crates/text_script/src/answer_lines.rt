@@ -79,7 +79,7 @@ fn put_count(text: &mut TextFromEnd<REPLY_ROOM>, count: u64)
     text.put(b" ");
 }
 
-/// Adds the answer about a program: a word, and the name with this number.
+/// Adds the answer about a program: a word with a space after it, and the name with this number.
 #[tactic(auto, using(std::proofs::lemmas::List::append_assoc))]
 fn add_about_program(answers: &mut Vec<u8>, word: &[u8], number: u64) -> Added
     ensures { OnOk result (answers.new.items ≡ answers.old.items ++ line (word.now ++ program_name number)) }
@@ -159,6 +159,7 @@ pub fn add_tally(answers: &mut Vec<u8>, tally: Tally) -> Added
 fn tally_within(piece: &Piece) -> Tally
     ensures { result ≡ tally_of (map (λ entry. entry.verdict) piece.now.entries) }
 {
+    // This call gives the fact that the entries lead from the start to the end, so that no count at the end is the smaller one.
     let _run = piece.entries();
     let before = piece.start().counts;
     let after = piece.end().counts;
@@ -185,7 +186,8 @@ fn put_piece(text: &mut TextFromEnd<REPLY_ROOM>, piece: &Piece)
     put_count(text, piece.entries().len() as u64);
 }
 
-/// Adds the answer about a connection's journal, which was returned as this piece: a word, the connection and the piece.
+/// Adds the answer about a connection's journal, which was returned as this piece: a word with a space after it, the connection and the
+/// piece.
 #[tactic(auto, using(std::proofs::lemmas::List::append_assoc))]
 fn add_piece(answers: &mut Vec<u8>, word: &[u8], side: Side, vc: Vc, piece: &Piece) -> Added
     requires { length word.now ≤ 9 }

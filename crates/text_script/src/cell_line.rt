@@ -46,7 +46,7 @@ pub fn read_by_words(alloc: Global, side: Side, line: &[u8]) -> Result<CellLine,
     }
 }
 
-/// Reads a line whose first word is that of a cell line. The common form is read at once.
+/// Reads a line whose first word is `cell`. The common form is read at once.
 #[inline(always)]
 pub fn read_cell_line(alloc: Global, side: Side, line: &[u8]) -> Result<CellLine, AllocError>
     ensures { IfOk result (IsCellLine (command_of side (words_of line.now))) }

@@ -12,24 +12,25 @@ use arrayvec::ArrayVec;
 use text_io::first_word;
 use upc_cell::{Side, Vc};
 
-/// A command of a line. Programs are named by number, from 1. The octets of a program and of a cell are still a word,
-/// since their errors come after those of all other words. The contracts of a setup are still words: the function that
-/// carries out the command reads them with [`contracts`], so that a `Command` needs no space for four contracts.
+/// A command of a line. Programs are named by number, from 1. The octets of a program or of a cell are still a word of
+/// digits: an error in this word is reported only if all other words are right. The contracts of a setup are still words:
+/// the function that carries out the command reads them with [`contracts`], so that a `Command` needs no space for four
+/// contracts.
 #[derive(Drop)]
 pub enum Command<'a> {
-    /// Loads a program.
+    /// Loads the program that this word of digits spells.
     Load(&'a [u8]),
-    /// Retires a program.
+    /// Retires the program of this number.
     Retire(u64),
-    /// Sets up a connection with the contracts of these words.
+    /// Sets up a connection with the program of this number and the contracts of these words.
     Setup(Vc, u64, &'a [u8]),
-    /// Gives a connection another program.
+    /// Gives a connection the program of this number.
     Reload(Vc, u64),
     /// Releases a connection.
     Release(Vc),
     /// Returns a connection's journal and begins a new one.
     Cut(Vc),
-    /// A cell arrives at a moment.
+    /// At this moment, in ticks, the cell arrives that this word of digits spells.
     Cell(u64, &'a [u8]),
 }
 

@@ -11,17 +11,17 @@ use gen_arena::Id;
 use std::alloc::{AllocError, Global};
 use std::marker::Model;
 
-/// The ids of the programs by their numbers, from 1.
+/// The ids of the programs of a script, by the numbers in their names, from 1.
 #[derive(Drop)]
 pub struct Names {
     ids: Vec<Id>,
 
-    /// By slot, where its programs are in `ids`, in the order of their generations, which count from 1. So a number is
-    /// found at once, however often its slot was used.
+    /// For each slot, the places in `ids` of the programs that the slot had, in the order of their generations, from 1. So
+    /// the number of a program is found without a search, however often the slot was used.
     places: Vec<Vec<usize>>,
 
-    /// Whether `places` has every program. It has if a store gave the ids, since a store gives the generations of a slot one by one.
-    /// Otherwise `number_of` searches `ids`.
+    /// Whether `places` has every program of `ids`. That is so if `push` gets each id that one card gives, in order, since a card gives
+    /// the generations of a slot one by one. Otherwise `number_of` searches `ids`.
     is_placed: bool,
 }
 
@@ -106,7 +106,7 @@ impl Names {
     }
 }
 
-/// Puts a program's place under its slot and generation, if that generation is the slot's next. Returns whether it is.
+/// Puts a program's place under its slot and generation, if that generation is the slot's next. Returns whether the place was put.
 fn put_place(places: &mut Vec<Vec<usize>>, id: Id, place: usize) -> Result<bool, AllocError>
     ensures kept { (other : TheId) (at : ℕ) → IsPlaceOf places.old.items other at → IsPlaceOf places.new.items other at }
     ensures put { IfOk result (λ put. put ≡ true → IsPlaceOf places.new.items id place) }
@@ -142,7 +142,7 @@ fn place_of(places: &[Vec<usize>], id: Id) -> Option<usize>
     Some(of_slot[before])
 }
 
-/// Searches for the number of a program's latest name, from the last on. It is 0 if the program has none.
+/// Returns the number of a program's latest name, or 0 if the program has none. Searches the ids, from the last to the first.
 #[cold]
 fn searched_number(ids: &[Id], id: Id) -> usize
     ensures { result ≡ number_of_program ids.now id }

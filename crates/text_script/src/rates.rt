@@ -7,7 +7,7 @@ use crate::script_words::{Rate, Wanted};
 use arrayvec::ArrayVec;
 use leaky::{Contract, Gcra, GcraFault};
 
-/// Returns the bucket of a rate, if its numbers are within the limits.
+/// Returns a rate as the card takes it, if its numbers are within the limits.
 fn bucket(rate: Rate) -> Result<Gcra, GcraFault>
     ensures made { IfOk result (IsRate rate) }
     ensures sound { OnOk result (rate_fault rate ≡ None) }
@@ -16,7 +16,7 @@ fn bucket(rate: Rate) -> Result<Gcra, GcraFault>
     Gcra::new(rate.increment, rate.limit)
 }
 
-/// Returns the buckets of two rates, or the error of the first that has one.
+/// Returns two rates as the card takes them, or the error of the first that has one.
 fn two_buckets(peak: Rate, sustained: Rate) -> Result<(Gcra, Gcra), GcraFault>
     ensures peak { IfOk result (λ both. IsRate peak both.0) }
     ensures sustained { IfOk result (λ both. IsRate sustained both.1) }
@@ -26,7 +26,7 @@ fn two_buckets(peak: Rate, sustained: Rate) -> Result<(Gcra, Gcra), GcraFault>
     Ok((bucket(peak)?, bucket(sustained)?))
 }
 
-/// Returns the requested contract.
+/// Returns the requested contract, or the error of its first rate that has one.
 fn contract(wanted: Wanted) -> Result<Contract, GcraFault>
     ensures made { IfOk result (IsContract wanted) }
     ensures sound { OnOk result (wanted_fault wanted ≡ None) }

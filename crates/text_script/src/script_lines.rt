@@ -20,7 +20,7 @@ pub fn first_line(lines: &[u8]) -> Option<(&[u8], &[u8])>
     }
 }
 
-/// Returns whether the line's first word is that of a cell line.
+/// Returns whether the line is a cell line: its first word is `cell`.
 pub fn is_cell_line(line: &[u8]) -> bool
     ensures { result ≡ is_cell_line (words_of line.now) }
 {

@@ -9,7 +9,7 @@ ghost use Rattle.text_script.specs.inner.Digits.{with_digit};
 use memchr::memchr;
 use upc_cell::{Side, Vc};
 
-/// A rate as a script requests it. Its numbers may be outside all limits.
+/// A rate as a script requests it. Its numbers may be outside the limits of a rate.
 #[derive(Clone, Copy, PartialEq, Eq)]
 pub struct Rate {
     /// The time between two cells, in ticks.
@@ -27,7 +27,7 @@ pub enum Wanted {
     Vbr3(Rate, Rate),
 }
 
-/// Both numbers are 0, so the rate is never valid. It fills a place that has no contract yet.
+/// CBR.1 with increment 0 and limit 0, which is never valid. It fills the places of a list that have no contract yet.
 impl Default for Wanted {
     ghost use Rattle.text_script.specs.ScriptWords.{IsBlankContract};
 
@@ -131,7 +131,7 @@ pub fn number(word: &[u8]) -> Option<u64>
     }
 }
 
-/// Returns the number of a word, if it is at most this one.
+/// Returns the number of a word, if it is at most `most`.
 fn number_at_most(most: u16, word: &[u8]) -> Option<u16>
     ensures { result ≡ number_up_to most word.now }
 {
@@ -141,7 +141,7 @@ fn number_at_most(most: u16, word: &[u8]) -> Option<u16>
     }
 }
 
-/// Returns the number in a program's name.
+/// Returns the number in a program's name, 1 for `p1`. None if the word isn't such a name.
 pub fn program(word: &[u8]) -> Option<u64>
     ensures { result ≡ program_of word.now }
 {
@@ -191,7 +191,7 @@ fn cut(mark: u8, text: &[u8]) -> Option<(&[u8], &[u8])>
     }
 }
 
-/// Returns the rate of a word.
+/// Returns the rate of a word `INCREMENT/LIMIT`, both in ticks. None if the word has another form.
 fn one_rate(word: &[u8]) -> Option<Rate>
     ensures { result ≡ rate_of word.now }
 {
@@ -202,7 +202,7 @@ fn one_rate(word: &[u8]) -> Option<Rate>
     })
 }
 
-/// Returns two rates with a colon between them.
+/// Returns the rates of a word `PEAK:SUSTAINED`. None if the word has another form.
 fn both_rates(word: &[u8]) -> Option<(Rate, Rate)>
     ensures { (join : TheRate → TheRate → TheWanted) → option_map (λ both. join both.0 both.1) result ≡ two_rates join word.now }
 {
@@ -210,7 +210,7 @@ fn both_rates(word: &[u8]) -> Option<(Rate, Rate)>
     Some((one_rate(peak)?, one_rate(sustained)?))
 }
 
-/// Returns the contract of a word.
+/// Returns the contract of a word, such as `cbr1:10/5` or `vbr1:10/5:20/100`. None if the word has another form.
 pub fn contract(word: &[u8]) -> Option<Wanted>
     ensures { result ≡ wanted_of word.now }
 {

@@ -1,4 +1,4 @@
--- The words of cell lines.
+-- The last word of a cell line, which spells the cell.
 use Rattle.std.specs.Prelude.{◌≡◌, ◌≢◌, ℕ, List, length, Some, None}
 use Rattle.text_words.specs.Hexadecimal.{octets_of_digits, cell_of_octets}
 use Rattle.text_words.specs.declared.hexadecimal.CellWord.{CellWord}

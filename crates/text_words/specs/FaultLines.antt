@@ -1,4 +1,4 @@
--- The fault lines. Each has the part that found the error, the number and the name of the error, and its place.
+-- Fault lines: the part that found the error, the error's number and name, and for some errors a place or a length.
 use Rattle.std.specs.Prelude.{ℕ, List, ◌++◌, codes, decimal}
 
 -- The text and a line feed.

@@ -71,7 +71,7 @@ pub fn add_too_long(answers: &mut Vec<u8>) -> Added
     add_text(answers, TOO_LONG)
 }
 
-/// Appends the answer to octets that aren't a cell.
+/// Appends the answer to this number of octets, which aren't a cell.
 pub fn add_wrong_length(answers: &mut Vec<u8>, octets: usize) -> Added
     ensures { OnOk result (answers.new.items ≡ answers.old.items ++ wrong_length octets) }
 {

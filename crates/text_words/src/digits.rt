@@ -29,8 +29,8 @@ fn number_of(octet: u8) -> u8
     if letter < 6 { letter + 10 } else { 255 }
 }
 
-/// Writes the value of each digit, and returns the bitwise or of all values: it is below 16 exactly if all are
-/// digits. No step depends on an earlier octet, so the compiler can process sixteen at once.
+/// Writes the value of each digit, and returns the bitwise or of all values, which is below 16 exactly if all octets of
+/// the word are digits. No step depends on an earlier octet, so the compiler can process sixteen at once.
 #[inline(always)]
 fn read_digits(word: &[u8], numbers: &mut [u8]) -> u8
     requires { length numbers.old ≡ length word.now }
@@ -73,8 +73,8 @@ fn read_whole(word: &[u8], octets: &mut [u8; CELL_OCTETS]) -> bool
     true
 }
 
-/// The value of each digit, and 256 for every other octet. For eight octets a table is faster than reading sixteen at
-/// once.
+/// The value of each digit, and 256 for every other octet. For the eight digits of a header this table is faster than
+/// [`read_digits`].
 static NUMBERS: [u16; 256] = [
     256, 256, 256, 256, 256, 256, 256, 256, 256, 256, 256, 256, 256, 256, 256, 256, 256, 256, 256,
     256, 256, 256, 256, 256, 256, 256, 256, 256, 256, 256, 256, 256, 256, 256, 256, 256, 256, 256,
@@ -92,7 +92,7 @@ static NUMBERS: [u16; 256] = [
     256, 256, 256,
 ];
 
-/// The octet of two digits, or 256 or more if one isn't a digit.
+/// The octet of two digits. If one isn't a digit, the result is 256 or more.
 #[inline(always)]
 fn octet_of(high: u8, low: u8) -> u16
     ensures octet { result < 256 → AreDigitsOf high low result }
@@ -137,7 +137,8 @@ fn read_header(word: &[u8], octets: &mut [u8; CELL_OCTETS]) -> bool
     true
 }
 
-/// The cell of a word of hexadecimal digits, 104 for a whole cell or eight for a header; none for any other word.
+/// The cell of a word of hexadecimal digits: 104 for a whole cell, or eight for a header, whose payload is zeros. None for any
+/// other word.
 #[inline(always)]
 pub fn cell_of_digits(word: &[u8]) -> Option<Cell>
     ensures cell { IfSome result (λ cell. IsCellWord word.now (OfCell cell)) }

@@ -13,7 +13,7 @@ use std::alloc::{AllocError, Global};
 use text_io::Added;
 use upc_cell::{CELL_OCTETS, Cell};
 
-/// A word of a cell line.
+/// What the last word of a cell line spells.
 pub enum CellWord {
     /// A cell.
     OfCell(Cell),

@@ -12,7 +12,7 @@ pub record ConnectionTable : Type 0 where
 abbrev pub row_place : Vc → ℕ
 row_place vc = 4096 * (vc.vci / 4096) + vc.vpi
 
--- The place among the groups of the connection's channel by 64.
+-- The place, among the numbers of the groups, of the link to the connection's block of marks.
 abbrev pub group_place : List ℕ → Vc → ℕ
 group_place row vc = 64 * slice_index row (row_place vc) + vc.vci / 64 % 64
 
@@ -20,7 +20,7 @@ group_place row vc = 64 * slice_index row (row_place vc) + vc.vci / 64 % 64
 abbrev pub mark_place : List ℕ → List ℕ → Vc → ℕ
 mark_place row groups vc = 64 * slice_index groups (group_place row vc) + vc.vci % 64
 
--- The line of which this is the mark, if it is one's.
+-- The line of this mark: the mark minus 1. None if the mark is 0.
 abbrev pub line_of_mark : ℕ → Option ℕ
 line_of_mark zero = None
 line_of_mark (suc line) = Some line

@@ -1,4 +1,4 @@
-//! Blocks of 64 numbers, and those of them that are free.
+//! Blocks of 64 numbers, and which of the blocks are free.
 
 ghost use Rattle.std.specs.Prelude.{◌≡◌, ◌≢◌, ◌+◌, ◌*◌, ◌<◌, ◌≤◌, ℕ, ◌↔◌, length, replicate, [], ◌∷◌, slice_index, IfSome, IfErr, OnOk, IsTrue};
 ghost use Rattle.vc_table.specs.inner.Pool.{pool_of, MayGrow, IsZeros};
@@ -6,25 +6,24 @@ ghost use Rattle.vc_table.specs.inner.Pool.{pool_of, MayGrow, IsZeros};
 use crate::fault::TableFault;
 use std::alloc::Global;
 
-/// How many numbers a block has. They take two lines of a usual cache.
+/// How many numbers a block has. They take 128 octets, two lines of a usual cache.
 pub(crate) const SIZE: usize = 64;
 
 /// A row of blocks of 64 numbers. A block is known by its number, from 0. Block 0 has only zeros and is never written: a
 /// link of 0 leads there, so a look-up needs no test at each level.
 ///
-/// The free blocks form a list: each names the next one, and the last names 0. A block that is free has only zeros. So has
-/// a new one.
+/// The free blocks form a list: each names the next free block, and the last names 0. A free block has only zeros.
 #[derive(Debug, Drop)]
 pub(crate) struct Blocks {
     /// The numbers of all blocks, one block after another.
     pub(crate) entries: Vec<u16>,
-    /// For each block, the next free one after it. Only those of free blocks count.
+    /// For each free block, the next free block of the list, or 0. For other blocks the number means nothing.
     pub(crate) next: Vec<u16>,
-    /// The first free block, or 0.
+    /// The first free block, or 0 if no block is free.
     pub(crate) first: u16,
 }
 
-/// Makes block 0. Returns None if an allocation fails.
+/// Makes a row that has block 0 alone. Returns None if an allocation fails.
 pub(crate) fn new(alloc: Global) -> Option<Blocks>
     ensures { IfSome result (λ blocks. pool_of blocks
         ≡ (record { entries = replicate 64 0; next = 0 ∷ []; first = 0 })) }
@@ -38,7 +37,8 @@ pub(crate) fn new(alloc: Global) -> Option<Blocks>
     })
 }
 
-/// Makes a free block in each of the two rows that has none. Fails if an allocation fails, or if there are 65,536 blocks of a kind.
+/// Makes a free block in each of the two rows that has none. The error is `NoMemory` if an allocation fails, and `Full` if such a row
+/// has 65,536 blocks.
 pub(crate) fn ready_both(upper: &mut Blocks, lower: &mut Blocks) -> Result<(), TableFault>
     requires upper_some { 0 < length upper.old.next.items }
     requires upper_sized { length upper.old.entries.items ≡ 64 * length upper.old.next.items }
@@ -56,7 +56,7 @@ pub(crate) fn ready_both(upper: &mut Blocks, lower: &mut Blocks) -> Result<(), T
     ready(lower)
 }
 
-/// Makes a block if none is free. Fails if an allocation fails, or if there are 65,536 blocks.
+/// Makes a free block if there is none. The error is `NoMemory` if an allocation fails, and `Full` if there are 65,536 blocks.
 fn ready(blocks: &mut Blocks) -> Result<(), TableFault>
     requires some { 0 < length blocks.old.next.items }
     requires sized { length blocks.old.entries.items ≡ 64 * length blocks.old.next.items }

@@ -8,7 +8,7 @@ pub enum TableFault {
     /// The line is 65535, which a table doesn't keep.
     #[error("1 LineTooLarge")]
     LineTooLarge,
-    /// 65,535 blocks or as many groups are in use, which takes as many connections.
+    /// 65,535 blocks of marks or 65,535 groups are in use, so none is left. Each of them has a connection of its own.
     #[error("2 Full")]
     Full,
     /// An allocation failed.

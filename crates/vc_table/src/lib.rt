@@ -1,5 +1,5 @@
-//! A table from virtual connections to the numbers of their lines. A look-up is three reads, whichever connections were
-//! chosen.
+//! A table from virtual connections to the numbers of their lines. A look-up is three reads, whichever connections are in
+//! the table.
 #![tactic(auto)]
 
 mod blocks;

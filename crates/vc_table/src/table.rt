@@ -13,22 +13,22 @@ use std::alloc::Global;
 use std::marker::Model;
 use upc_cell::Vc;
 
-/// The number of places of the row: 4096 paths times sixteen.
+/// The number of places of the row: one for each of 4096 paths and each of the 16 values of a channel's upper four bits.
 const ROW: usize = 65536;
 
 /// The line of each connection, for connections at either interface.
 ///
-/// A connection's path and channel have 28 bits. The path and the upper four bits of the channel lead to a group, the next
-/// six bits of the channel there to a block of marks, and the last six bits to the connection's mark in it. Each look-up
-/// reads three numbers, whichever connections have lines, so nobody can slow it down by a choice of connections. A hash
-/// with a fixed seed can be slowed down a hundred times.
+/// A connection's path and channel have 28 bits. The path and the upper four bits of the channel lead to a group. In the
+/// group the next six bits of the channel lead to a block of marks, and in this block the last six bits lead to the
+/// connection's mark. Each look-up reads three numbers, whichever connections have lines, so nobody can slow look-ups down
+/// by a choice of connections. Look-ups by a hash with a fixed seed can be slowed down a hundred times.
 #[derive(Debug, Drop)]
 pub struct VcLines {
-    /// The group of each path and each upper four bits of a channel, or 0.
+    /// For each path and each value of a channel's upper four bits, the number of its group, or 0 if it has none.
     row: Vec<u16>,
-    /// The groups: for each 64 channels their block of marks, or 0.
+    /// The groups: for each 64 channels the number of their block of marks, or 0 if they have none.
     groups: Blocks,
-    /// The marks: a line plus 1, or 0.
+    /// The marks: for each channel the number of its line plus 1, or 0 if it has no line.
     lines: Blocks,
 }
 
@@ -69,12 +69,12 @@ impl VcLines {
         mark.checked_sub(1)
     }
 
-    /// Gives the connection this line, whether or not it has one.
+    /// Gives the connection this line, in place of the line that it has, if any.
     ///
     /// # Errors
     ///
-    /// `LineTooLarge` exactly if the line is 65535; otherwise `Full` if 65,535 blocks or as many groups are in use, which takes
-    /// as many connections, and `NoMemory` if an allocation fails. Then each connection has what it had.
+    /// `LineTooLarge` exactly if the line is 65535; otherwise `Full` if 65,535 blocks of marks or 65,535 groups are in use, which takes
+    /// at least as many connections, or `NoMemory` if an allocation fails. After an error each connection has the line that it had.
     pub fn put(&mut self, vc: Vc, line: u16) -> Result<(), TableFault>
         ensures moved { OnOk result (MovesTo self.old vc (Some line) self.new) }
         ensures unchanged { OnErr result (HasSameLines self.old self.new) }

@@ -28,7 +28,7 @@ pub record IsFound (store : List (Slot (List Instr))) (directory : DirectoryView
   pub sits : seating_at directory found.vc ≡ Some found.seating
   pub naming : IsNaming store found.seating.program came.cell found.named
 
--- The directory has no such connection, or its program isn't live.
+-- The directory has no such connection, or the connection's program isn't live.
 abbrev pub IsMissed : List (Slot (List Instr)) → DirectoryView → Vc → Answer → Type 0
 IsMissed store directory vc NoConnection = seating_at directory vc ≡ None
 IsMissed store directory vc Stale = (seating : Seating) × (seating_at directory vc ≡ Some seating) × (live_value store seating.program ≡ None)
@@ -92,7 +92,8 @@ DropsIfLong most vc seating line next =
     (IsLongFor most vc seating line × (next ≡ record line { start = line.state; entries = [] }))
     ⊎ ((¬ IsLongFor most vc seating line) × (next ≡ line))
 
--- The next line has room for an entry if it serves the connection, and the line before has as many cells counted.
+-- If the line serves the connection afterwards, its journal has room for an entry. The line's owner and state, with the
+-- counts, are unchanged.
 abbrev pub HasRoomFor : Vc → Seating → LineView → LineView → Type 0
 HasRoomFor vc seating line next =
     (next.owner ≡ Some (holder vc seating) → length next.entries < next.journal) × ((next.owner ≡ line.owner) × (next.state ≡ line.state))

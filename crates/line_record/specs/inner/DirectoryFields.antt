@@ -10,8 +10,8 @@ use Rattle.line_record.specs.inner.ProgramUses.{CountsUses}
 abbrev pub directory_of : List (Vc × Seating) → ℕ → ℕ → DirectoryView
 directory_of seatings lines used = record { seatings = seatings; lines = lines; used = used }
 
--- The invariant of a directory holds, there are as many seats as lines, the list has which lines some connection has, and
--- the table counts the uses of each program.
+-- The invariant of a directory holds, there are as many seats as lines, the list `held` says which lines have a
+-- connection, and the table `counts` counts the uses of each program.
 pub record KeepsDirectory (directory : DirectoryView) (seats : ℕ) (held : List Bool) (counts : List ℕ) : Type 0 where
   pub sized : seats ≡ directory.lines
   pub lines : KnowsLines directory held

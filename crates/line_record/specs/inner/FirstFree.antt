@@ -12,13 +12,13 @@ pub record IsFirstFree (marks : List ℕ) (start first : ℕ) : Type 0 where
   pub below : (line : ℕ) → start ≤ line → line < first → slice_index marks line ≢ 0
   pub here : first < length marks → slice_index marks first ≡ 0
 
--- Free lines are below this bound alone.
+-- Each free line is below this bound.
 pub record HasFreeBelow (marks : List ℕ) (bound : ℕ) : Type 0 where
   pub within : bound ≤ length marks
   pub held : (line : ℕ) → bound ≤ line → line < length marks → slice_index marks line ≢ 0
 
--- This is the lowest free line, or the number of lines if there is none, and free lines are below the bound alone. There
--- are at most 65535 lines.
+-- This is the lowest free line, or the number of lines if there is none, and each free line is below the bound. There are
+-- at most 65535 lines.
 pub record KnowsLowest (marks : List ℕ) (lowest bound : ℕ) : Type 0 where
   pub first : IsFirstFree marks 0 lowest
   pub above : HasFreeBelow marks bound

@@ -1,4 +1,5 @@
--- The seats of a directory: for each line, its connection with that one's seating. A table has the line of each connection.
+-- The seats of a directory: for each line, the connection that has it, with its seating. A table has the line of each
+-- connection.
 use Rattle.std.specs.Prelude.{◌≡◌, ℕ, Bool, false, Option, Some, None, List, [], ◌∷◌, slice_get}
 use Rattle.gen_arena.specs.declared.id.Id.{Id}
 use Rattle.gen_arena.specs.SameId.{is_same_id}
