@@ -1,7 +1,7 @@
 -- The headline, and the promise of a log for each judged cell. A log is the list of the steps that were taken, each with
 -- its reply, the earliest first. All definitions here are over the log alone: first the effect of one event, then the
--- events of a port, a connection and a program, then the promise, and last the headline. Returning has its first half,
--- which is about programs alone.
+-- events of a port, a connection and a program, then the promise, and last the headline. The first half of the headline is
+-- about programs alone; the module Returning defines it.
 use Rattle.std.specs.Prelude.{◌≡◌, ℕ, ◌^◌, ◌==◌, ◌≤◌, Bool, true, false, not, ◌&&◌, if◌then◌else◌, List, [], ◌∷◌, ◌++◌, map, filter, filter_map, fold, All, Option, None}
 use Rattle.upc_cell.specs.declared.vc.Vc.{Vc}
 use Rattle.bpf_code.specs.declared.instr.Instr.{Instr}

@@ -32,7 +32,7 @@ pub record NamesLivePrograms (world : World) : Type 0 where
   pub ports : (port : ℕ) (picking : Picking) → slice_get world.ports port ≡ Some (picked picking)
       → IsSome (code_in world.live picking.program)
 
--- This holds in every world that a log leads to.
+-- NamesLivePrograms holds in every world that a log leads to.
 abbrev pub NamedProgramsAreLive : Type 0
 NamedProgramsAreLive = (shape : Shape) (log : List Event) (world : World) → Leads shape log world → NamesLivePrograms world
 
@@ -44,7 +44,7 @@ pub record GivesEachIdOnce (world : World) : Type 0 where
   pub accepted : (place : ℕ) (loading : Loading) → slice_get world.loaded place ≡ Some loading
       → IsAccepted loading.code
 
--- This holds in every world that a log leads to.
+-- GivesEachIdOnce holds in every world that a log leads to.
 abbrev pub IdsAreGivenOnce : Type 0
 IdsAreGivenOnce = (shape : Shape) (log : List Event) (world : World) → Leads shape log world → GivesEachIdOnce world
 
@@ -63,7 +63,7 @@ pub record KeepsConnectionsApart (world : World) : Type 0 where
       → connection_in world.connections one ≡ Some connection → connection_in world.connections other ≡ Some another
       → connection.incarnation ≡ another.incarnation → one ≡ other
 
--- This holds in every world that a log leads to.
+-- KeepsConnectionsApart holds in every world that a log leads to.
 abbrev pub ConnectionsAreApart : Type 0
 ConnectionsAreApart = (shape : Shape) (log : List Event) (world : World) → Leads shape log world → KeepsConnectionsApart world
 
@@ -107,7 +107,7 @@ pub record AnswersAsItMay (event : Event) : Type 0 where
   pub never_stale : is_stale event.reply ≡ false
   pub memory : is_of_memory event.reply ≡ true → takes_memory event.step ≡ true
 
--- This holds for every event of a log.
+-- AnswersAsItMay holds for every event of a log.
 abbrev pub SomeAnswersNeverCome : Type 0
 SomeAnswersNeverCome = (shape : Shape) (before after : List Event) (event : Event)
     → IsLog shape (before ++ event ∷ after) → AnswersAsItMay event
@@ -133,7 +133,7 @@ pub record HasConnectionsOfLog (shape : Shape) (log : List Event) (world : World
   pub there : (vc : Vc) (ask : Ask) (since : List Event) → IsInForceSince log vc ask since
       → IsSome (connection_in world.connections vc)
 
--- This holds in every world that a log leads to.
+-- HasConnectionsOfLog holds in every world that a log leads to.
 abbrev pub ConnectionsFollowFromTheLog : Type 0
 ConnectionsFollowFromTheLog = (shape : Shape) (log : List Event) (world : World) → Leads shape log world
     → HasConnectionsOfLog shape log world

@@ -50,7 +50,7 @@ fn is_before(one: Vc, other: Vc) -> bool
     one.vpi < other.vpi || (one.vpi == other.vpi && one.vci < other.vci)
 }
 
-/// Returns the connection that was found so far, or this one if it comes after `earlier` and before that.
+/// Returns the connection `best` that was found so far, or `vc` if it comes after `earlier`, and before `best` if there is one.
 fn nearer(best: Option<Vc>, earlier: Option<Vc>, vc: Vc) -> Option<Vc>
     ensures { result ≡ nearer best earlier vc }
 {

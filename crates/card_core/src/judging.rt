@@ -74,7 +74,7 @@ pub fn judgement_at(
 }
 
 /// Judges a cell on the line of its connection, by the contract that its program named, and returns the answer with the
-/// leaving cell. Doesn't allocate. [`judgement_at`] judges the same, and copies no cell.
+/// leaving cell. Doesn't allocate. [`judgement_at`] judges in the same way, and copies no cell.
 #[inline]
 pub fn judge_at(line: &mut Line, vc: Vc, seating: &Seating, named: &Named, moment: u64) -> Answer
     // It is judged if and only if there is no reason to refuse it.

@@ -1,4 +1,4 @@
--- The dialogue with a card. Read the modules in this order:
+-- The text of `upc run`, and the card that the code stores for it. Read the modules in this order:
 pub mod RunText
 pub mod RunSide
 pub mod PathLaws

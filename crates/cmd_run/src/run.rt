@@ -1,4 +1,4 @@
-//! The machine of `upc run`: it opens a card at the first line of a script, and answers the later lines by this card.
+//! The machine of `upc run`: it opens a card at the first line with words, and passes the later lines on to this card.
 
 ghost use Rattle.std.specs.Prelude.{IfOk};
 ghost use Rattle.text_io.specs.Serving.{IsServed};

@@ -116,7 +116,8 @@ impl ScriptCard {
         add_loaded(answers, self.names.count() as u64)
     }
 
-    /// Loads the program that this word of hexadecimal digits spells. If the word spells no program, adds its fault line.
+    /// Loads the program that this word of hexadecimal digits spells. If the word spells none, adds the fault line
+    /// that says why.
     #[inline(never)]
     fn load(&mut self, alloc: Global, digits: &[u8], answers: &mut Vec<u8>) -> Added
         ensures { OnOk result (Moves (λ before. Obeys before (load digits.now))

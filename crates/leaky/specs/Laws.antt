@@ -60,7 +60,7 @@ pub record ChargesByVerdict (contract : Contract) (buckets : Buckets) (clp : Boo
       (charges_second (verdict_of contract buckets clp moment) contract clp))
   pub without : second_of contract ≡ None → after.second ≡ buckets.second
 
--- This holds for every cell.
+-- ChargesByVerdict holds for every cell.
 abbrev pub ChargesAreFillings : Type 0
 ChargesAreFillings = (contract : Contract) (buckets : Buckets) (clp : Bool) (moment : ℕ)
     → ChargesByVerdict contract buckets clp moment (buckets_after contract buckets clp moment)

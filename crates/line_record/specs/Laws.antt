@@ -56,7 +56,7 @@ EachCellIsJudged = (contracts : List Contract) (opening : ℕ → Buckets)
     → (length (judged contracts opening history cells) ≡ length cells)
     × (named_cells_of (judged contracts opening history cells) ≡ cells)
 
--- One more cell fills each bucket of the contract of this number for which the burst bound below counts it, and leaves
+-- One more cell fills each bucket of the contract of this number for which HistoriesBoundBursts counts the cell, and leaves
 -- the others unchanged.
 pub record FillsAsCounted (contract : Contract) (before after : Buckets) (number : ℕ) (cell : NamedCell) (verdict : Verdict) : Type 0 where
   pub first : Fills (peak_of contract) before.first after.first cell.moment
@@ -64,7 +64,7 @@ pub record FillsAsCounted (contract : Contract) (before after : Buckets) (number
   pub second : IfSome (second_of contract) (λ sustained. Fills sustained before.second after.second cell.moment
       ((cell.value == number) && charges_second verdict contract cell.clp))
 
--- This holds for the next cell after any history.
+-- FillsAsCounted holds for the next cell after any history.
 abbrev pub CountedCellsFill : Type 0
 CountedCellsFill = (contracts : List Contract) (opening : ℕ → Buckets)
     → (history : List NamedCell) (cell : NamedCell)

@@ -17,7 +17,7 @@ pub const LAST_INCARNATION: u64 = 4611686018427387904;
 pub struct Seating {
     /// The number of its line, from 0.
     pub line: u16,
-    /// The number of this setup, from 1, among all setups of the directory. No two setups have the same.
+    /// The number of this setup, from 1, among all setups of the directory. No two setups have the same number.
     pub incarnation: u64,
     /// The program that names the contracts for its cells.
     pub program: Id,

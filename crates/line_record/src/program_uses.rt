@@ -10,8 +10,8 @@ use std::marker::Model;
 /// the number of places.
 ///
 /// A program can be removed only if no connection names it, and to look at each connection costs as much as the card
-/// has connections. A count of 0 is enough to know. Programs can have the same place, so with any other count the
-/// connections have to be looked at.
+/// has connections. A count of 0 shows that no connection names the program. Programs can have the same place, so with any
+/// other count the connections have to be looked at.
 #[derive(Debug, Drop)]
 pub(crate) struct ProgramUses {
     counts: Vec<u16>,

@@ -1,4 +1,4 @@
--- The lines of a dialogue that are about a card. Read the modules in this order:
+-- The lines of a script and of its answers that are about a card. Read the modules in this order:
 pub mod CardLine
 pub mod CardFaults
 pub mod Replies

@@ -1,5 +1,5 @@
-//! The lines of a dialogue that are about a card: the line that opens it, the fault lines of its shape and its desk, and
-//! the answers to its cells.
+//! The lines of a script and of its answers that are about a card: the line that opens a card, the fault lines of the
+//! card's shape, rates and desk, and the answers to the card's cells.
 #![tactic(auto)]
 
 mod card_faults;

@@ -6,7 +6,7 @@ use Rattle.text_io.specs.declared.ending.Done.{Done}
 use Rattle.text_io.specs.declared.machine.Turn.{Turn}
 use Rattle.text_io.specs.declared.machine.Turn.TheVariants.{GoesOn, Ends}
 
--- This holds for each sound world that is shown.
+-- `IsSo` holds of each sound world that is shown.
 abbrev pub OfEach : {World : Type 0} → Rules World → (World → Type 0) → (World → Type 0) → Type 0
 OfEach {World = World} rules shown IsSo = (world : World) → rules.is_sound world → shown world → IsSo world
 

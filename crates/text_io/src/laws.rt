@@ -22,7 +22,7 @@ pub fn lines_have_one_text<M: Machine>()
         → (one ≡ other) × (ends ≡ other_ends) }
 {}
 
-/// The texts with which lines lead to a last world are their texts that no line ends early.
+/// Lines lead to a last world with a text exactly if the text answers these lines and the run then ends with Whole.
 pub fn whole_texts_end_at_a_world<M: Machine>()
     ensures leads { (lines : List Line) (met : ℕ) (start : M.World) (text : List ℕ)
         → Prints M.rules met start lines text Whole → (last : M.World) × EndsAt M.rules met start lines text last }

@@ -1,4 +1,5 @@
-//! The answer lines whose content needs no card: the names of programs and connections, counts, and verdicts.
+//! The answer lines whose content needs no card: the names of programs and connections, counts, and verdicts. Functions
+//! `add_..` append to the answers. Functions `put_..` write in front of what a text has, so the last part is put first.
 
 ghost use Rattle.std.specs.Prelude.{◌≡◌, ◌+◌, ◌≤◌, ◌++◌, codes, decimal, length, map, OnOk};
 ghost use Rattle.line_record.specs.Tally.{tally_of};

@@ -111,7 +111,7 @@ impl<'a> Deal<'a> {
         Ok(())
     }
 
-    /// Assigns a line whose first word is that of a cell line, word by word.
+    /// Assigns a cell line, which is read word by word.
     #[inline(never)]
     fn deal_cell_line(
         &mut self,

@@ -28,7 +28,7 @@ pub(crate) fn linked(links: &mut Vec<u16>, place: usize, blocks: &mut Blocks) ->
     free
 }
 
-/// Makes the link at this place lead nowhere. The block that it leads to has only zeros, and is free then.
+/// Makes the link at this place lead nowhere. The block that it led to, which has only zeros, becomes free.
 pub(crate) fn unlink(links: &mut Vec<u16>, place: usize, blocks: &mut Blocks)
     requires linked { IsLinked links.old.items (pool_of blocks.old) }
     requires within { place < length links.old.items }

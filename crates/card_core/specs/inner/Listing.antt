@@ -12,7 +12,7 @@ abbrev pub first_of_both : Option Vc → Vc → Vc
 first_of_both None vc = vc
 first_of_both (Some best) vc = if is_before vc best then vc else best
 
--- The connection that was found so far, or this one if it comes after the earlier one and before that.
+-- The connection `best` that was found so far, or this one if it comes after `earlier`, and before `best` if there is one.
 abbrev pub nearer : Option Vc → Option Vc → Vc → Option Vc
 nearer best earlier vc = if is_after earlier vc then Some (first_of_both best vc) else best
 
@@ -29,8 +29,9 @@ abbrev pub HasReached : Option Vc → Vc → Type 0
 HasReached None vc = ⊥
 HasReached (Some best) vc = is_before vc best ≡ false
 
--- What was found among the lines below this number: a connection of one of them that comes after the earlier one, and
--- none of them that does comes before it.
+-- What was found among the lines below this number: `best`, if there is one, is a connection of a line and comes after
+-- `earlier`. Of the connections of lines below this number that come after `earlier`, none comes before `best`; if there
+-- is no `best`, there are none.
 pub record IsNearest (lines : List LineView) (below : ℕ) (earlier best : Option Vc) : Type 0 where
   pub there : (next : Vc) → best ≡ Some next → ((number : ℕ) × ServesAt lines number next) × (is_after earlier next ≡ true)
   pub least : (number : ℕ) (vc : Vc) → number < below → ServesAt lines number vc → is_after earlier vc ≡ true → HasReached best vc

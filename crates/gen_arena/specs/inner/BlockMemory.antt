@@ -21,11 +21,12 @@ module _ (R : RattleType) where
   boxes_owned b o [] = ftrue
   boxes_owned b o (box ∷ later) = fsep (box_owned b o box) (boxes_owned b (o + type_size R) later)
 
-  -- The same, borrowed for a lifetime. A blank box lends nothing.
+  -- One box, borrowed for a lifetime. A blank box lends nothing.
   abbrev pub box_lent : ℕ → ℕ → Option R.Denot → Lft → Fml
   box_lent b o None = nothing
   box_lent b o (Some x) = shared_of R x b o
 
+  -- Adjacent boxes, borrowed for a lifetime.
   abbrev pub boxes_lent : ℕ → ℕ → List (Option R.Denot) → Lft → Fml
   boxes_lent b o [] = nothing
   boxes_lent b o (box ∷ later) = beside (box_lent b o box) (boxes_lent b (o + type_size R) later)
@@ -39,6 +40,7 @@ module _ (R : RattleType) where
   row_owned null_ptr boxes = ffalse
   row_owned (block_ptr b o) boxes = fsep (in_bounds boxes) (boxes_owned b o boxes)
 
+  -- A row of boxes that begins at this pointer, borrowed for a lifetime.
   abbrev pub row_lent : Ptr → List (Option R.Denot) → Lft → Fml
   row_lent null_ptr boxes = said ffalse
   row_lent (block_ptr b o) boxes = beside (said (in_bounds boxes)) (boxes_lent b o boxes)

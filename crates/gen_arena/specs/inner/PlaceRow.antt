@@ -21,7 +21,7 @@ module _ {T : Type 0} where
   abbrev pub fresh_place : ℕ → ℕ → Place T
   fresh_place used k = record { generation = used; next = k + 1; value = None }
 
-  -- `count` such places.
+  -- There are `count` places, and all are fresh places.
   abbrev pub AreFresh : List (Place T) → ℕ → ℕ → Type 0
   AreFresh places count used =
       (length places ≡ count) × ((k : ℕ) → k < count → place_at places k ≡ fresh_place used k)

@@ -15,13 +15,13 @@ IsProgress rules start answered printed met present =
     (later more : List ℕ) (done : Done) → Prints rules met present (lines_of later) more done
     → Prints rules 0 start (lines_of (answered ++ later)) (printed ++ more) done
 
--- And if the rest leads from the present world to another, the whole input leads to it too.
+-- If the rest leads from the present world to a last world, the whole input leads from the start to this last world.
 abbrev pub KeepsEnding : {World : Type 0} → Rules World → World → List ℕ → List ℕ → ℕ → World → Type 0
 KeepsEnding {World = World} rules start answered printed met present =
     (later more : List ℕ) (last : World) → EndsAt rules met present (lines_of later) more last
     → EndsAt rules 0 start (lines_of (answered ++ later)) (printed ++ more) last
 
--- And the present world is sound and shown.
+-- There is a present world with IsProgress and KeepsEnding. It is sound and shown.
 pub record Reaches {World : Type 0} (rules : Rules World) (start : World) (answered printed : List ℕ) (met : ℕ) (shown : World → Type 0) : Type 0 where
   pub present : World
   pub sound : rules.is_sound present
@@ -39,8 +39,9 @@ pub record Progress {World : Type 0} (rules : Rules World) (shown shown' : World
   pub gave : Held → (given : List ℕ) × (now ≡ before ++ given) × (printed ≡ given ++ waiting)
   pub reaches : OfEach rules shown (λ start. Reaches rules start answered printed met shown')
 
--- The text answers the line. It ends the run, whatever lines follow; or it leads to a sound world that is shown, and
--- any answer to the lines after it completes the text. Where those lead, the line and they lead too.
+-- The text answers the line. The line ends the run, whatever lines follow. Or the line leads to a sound world that is
+-- shown. Then this text and an answer to the lines after it answer the line and those lines, and lead to the last world to
+-- which that answer leads.
 abbrev pub PassesBy : {World : Type 0} → Rules World → ℕ → World → Line → List ℕ → Turn → (World → Type 0) → Type 0
 PassesBy rules met before line here Ends shown = (lines : List Line) → Prints rules met before (line ∷ lines) here Ended
 PassesBy {World = World} rules met before line here GoesOn shown =
@@ -50,12 +51,12 @@ PassesBy {World = World} rules met before line here GoesOn shown =
     × ((lines : List Line) (more : List ℕ) (last : World) → EndsAt rules (met + 1) after lines more last
     → EndsAt rules met before (line ∷ lines) (here ++ more) last)
 
--- The answers grew by such a text, from each world that was shown.
+-- The answers grew by a text that answers the line, from each world that was shown.
 abbrev pub Passes : {World : Type 0} → Rules World → ℕ → (World → Type 0) → Line → Turn → (World → Type 0) → List ℕ → List ℕ → Type 0
 Passes rules met shown line turn shown' old new =
     (here : List ℕ) × (new ≡ old ++ here) × OfEach rules shown (λ before. PassesBy rules met before line here turn shown')
 
--- The text answers the octets and the end of the input. If all was answered, they lead to a world that is shown.
+-- The text answers the lines of the octets and the end of the input. After Whole the lines lead to a world that is shown.
 abbrev pub Concludes : {World : Type 0} → Rules World → ℕ → (World → Type 0) → List ℕ → World → List ℕ → Done → Type 0
 Concludes {World = World} rules met shown octets before here done =
     Prints rules met before (lines_of octets) here done

@@ -1,7 +1,7 @@
 -- The waiting octets of a buffer.
 use Rattle.std.specs.Prelude.{◌≡◌, ℕ, ◌≤◌, List, length}
 
--- The positions are in order, in two buffers of this room.
+-- Both buffers have this room, and the places `start` and `end` of the waiting octets are in order and within it.
 pub record IsWindow (room : ℕ) (buffer spare : List ℕ) (start end : ℕ) : Type 0 where
   pub buffer_room : length buffer ≡ room
   pub spare_room : length spare ≡ room

@@ -1,4 +1,4 @@
--- Links to blocks. A link is the number of a block; those that are 0 lead nowhere.
+-- Links to blocks. A link is the number of a block. A link of 0 leads nowhere.
 use Rattle.std.specs.Prelude.{◌≡◌, ◌≢◌, ℕ, ◌+◌, ◌*◌, ◌<◌, ◌≤◌, List, length, slice_index}
 use Rattle.vc_table.specs.inner.Pool.{Pool}
 
@@ -8,8 +8,9 @@ pub record IsFreeBlock (links next : List ℕ) (block : ℕ) : Type 0 where
   pub within : block < length next
   pub alone : (place : ℕ) → slice_index links place ≢ block
 
--- Each link leads to a block, and no two to the same except to block 0. Block 0 and the free blocks have only zeros. The
--- first free block and those that each next one leads to are free, and no two free blocks lead to the same one.
+-- Each link is the number of a block, and no two links are the same except 0. Block 0 and the free blocks have only zeros.
+-- In the list of free blocks all are free, and none occurs twice: the first is no other's next, and no two have the same
+-- next block.
 pub record IsLinked (links : List ℕ) (pool : Pool) : Type 0 where
   pub some : 0 < length pool.next
   pub few : length pool.next ≤ 65536
@@ -25,7 +26,7 @@ pub record IsLinked (links : List ℕ) (pool : Pool) : Type 0 where
   pub once : (one other : ℕ) → IsFreeBlock links pool.next one → IsFreeBlock links pool.next other
       → slice_index pool.next one ≡ slice_index pool.next other → slice_index pool.next one ≢ 0 → one ≡ other
 
--- Below each place of the links there are the same numbers as before.
+-- At each place, the new link leads to a block with the same numbers as the block to which the old link leads.
 abbrev pub HasSameBelow : List ℕ → List ℕ → List ℕ → Type 0
 HasSameBelow old new entries = (place k : ℕ) → k < 64
     → slice_index entries (64 * slice_index new place + k) ≡ slice_index entries (64 * slice_index old place + k)

@@ -9,7 +9,8 @@ use Rattle.vc_table.specs.inner.Linked.{IsLinked}
 abbrev pub table_of : List ℕ → List ℕ → List ℕ → ConnectionTable
 table_of row groups marks = record { row = row; groups = groups; marks = marks }
 
--- The row has a place for each path and each upper four bits of a channel. It leads to the groups, and these to the marks.
+-- The row has a place for each path and each value of a channel's upper four bits. The row links to the groups, and the
+-- groups link to the blocks of marks.
 pub record KeepsTable (row : List ℕ) (groups lines : Pool) : Type 0 where
   pub rows : length row ≡ 65536
   pub upper : IsLinked row groups
