@@ -34,7 +34,7 @@ abbrev pub block_order : Section → List ℕ → Result Order RecordFault
 block_order section octets =
     if is_section_header octets then order_of_magic (big_number 4 (drop 8 octets)) else Ok section.order
 
--- A block ends where a number of four octets does.
+-- The size of a block is a multiple of four.
 abbrev pub even_block : ℕ → Result ℕ RecordFault
 even_block size = if size % 4 == 0 then Ok size else Err (OddLength size)
 
@@ -49,7 +49,7 @@ block_size section octets =
 abbrev pub section_begun : Order → ℕ → PacketTimes → Section
 section_begun order before times = record { order = order; before = before; interfaces = 0; others = 0; times = times }
 
--- The number among the interfaces of the whole file of an interface that has this one in its section, both from 0.
+-- The number of an interface among those of the whole file, by its number in its section. Both count from 0.
 abbrev pub interface_in_file : Section → ℕ → ℕ
 interface_in_file section interface = min (section.before + interface) (2 ^ 64 - 1)
 
@@ -57,7 +57,8 @@ interface_in_file section interface = min (section.before + interface) (2 ^ 64 -
 abbrev pub with_interface : Section → Section
 with_interface section = record section { interfaces = min (section.interfaces + 1) (2 ^ 64 - 1) }
 
--- The same, where the packets of the new interface are no records: its bit among the others is set. Only the first 64 have one.
+-- The same, where the packets of the new interface are no records: its bit among the others is set. Only the first 64 interfaces
+-- have a bit.
 abbrev pub with_other_interface : Section → Section
 with_other_interface section =
     record section { interfaces = min (section.interfaces + 1) (2 ^ 64 - 1); others = bit_or section.others (2 ^ section.interfaces) }
@@ -120,12 +121,11 @@ record_of_packet section block =
 abbrev pub lacks_packet : ℕ → Bool
 lacks_packet kind = kind == 4 || kind == 5 || kind == 10
 
--- Nor has one of this type, but it has a number as packets have: an entry of a journal (9), or custom data.
+-- A block of this type has no packet either, but a number, as packets have: an entry of a systemd journal (9), or custom data.
 abbrev pub is_entry : ℕ → Bool
 is_entry kind = kind == 9 || kind == 0xbad || kind == 0x40000bad
 
--- What a block of this type is that is not read: a simple packet (3), an obsolete packet (2), one without a packet, or
--- one of an unknown type.
+-- The kind of a skipped block, by its type: a simple packet (3), an obsolete packet (2), one without a packet, or one of an unknown type.
 abbrev pub unread_of_type : ℕ → Unread
 unread_of_type kind =
     if kind == 3 then SimplePacket
@@ -134,7 +134,7 @@ unread_of_type kind =
     else if is_entry kind then Entry
     else OtherBlock kind
 
--- Whether what is not read has a number, as records have. Wireshark numbers these as frames.
+-- Whether a skipped block or packet has a number, as records have. Wireshark gives a frame number to the same ones.
 abbrev pub has_number : Unread → Bool
 has_number NoPacket = false
 has_number Entry = true
@@ -143,11 +143,11 @@ has_number OldPacket = true
 has_number (OtherBlock kind) = false
 has_number OtherLinkPacket = true
 
--- How many numbers were given after it, if this many were before.
+-- How many numbers were given up to a skipped block or packet, itself included, if this many were given before it.
 abbrev pub count_past : ℕ → Unread → ℕ
 count_past count unread = if has_number unread then count + 1 else count
 
--- The section after a block of this type, and the record in it, or what it is that is passed over.
+-- The section after a block of this type, and the record in the block, or what is skipped.
 abbrev pub held_of_type : Section → Order → ℕ → List ℕ → Result (Section × Result Framed Unread) RecordFault
 held_of_type section order kind block =
     if kind == 0x0a0d0d0a then or_fault (section_of_header section order block) (λ begun. Ok (begun, Err NoPacket))
@@ -162,7 +162,7 @@ whole_block_order section block =
     if number_in_order order (drop (length block - 4) block) == length block then Ok order
     else Err (LengthsDiffer (number_in_order order (drop (length block - 4) block))))
 
--- The section after a whole block, and the record in it, or what it is.
+-- The section after a whole block, and the record in the block, or what is skipped.
 abbrev pub block_held : Section → List ℕ → Result (Section × Result Framed Unread) RecordFault
 block_held section block =
     or_fault (whole_block_order section block) (λ order. held_of_type section order (number_in_order order block) block)

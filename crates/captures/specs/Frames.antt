@@ -32,7 +32,8 @@ format_timed timing Erf = Erf
 format_timed timing (Pcap order times) = Pcap order (record times { are_read = is_of_packet timing })
 format_timed timing (PcapNg section) = PcapNg (record section { times = record section.times { are_read = is_of_packet timing } })
 
--- How many octets of a frame are read for its length: the first header of a record, the header of a packet, the beginning of a block.
+-- How many octets of a frame must be there before its length can be read: the first header of a record, the header of a packet, or the
+-- beginning of a block.
 abbrev pub head_length : Format → ℕ
 head_length Erf = 16
 head_length (Pcap order times) = 16
@@ -53,7 +54,7 @@ pcap_stamp order unit frame = number_in_order order frame * units_of_second unit
 abbrev pub pcap_time : Order → PacketTimes → List ℕ → Option ℕ
 pcap_time order times frame = option_and_then (λ unit. packet_time times (pcap_stamp order unit frame)) times.unit
 
--- How the file goes on after a whole frame, and the record in the frame, or what it is that has none.
+-- How the file goes on after a whole frame, and the record in the frame, or what is skipped.
 unfoldable pub frame_held : Format → List ℕ → Result (Format × Result Framed Unread) RecordFault
 frame_held Erf frame = Ok (Erf, Ok (record { packet = None; stamped = None; octets = frame }))
 frame_held (Pcap order times) frame = or_fault (record_in_packet (drop 16 frame)) (λ octets.

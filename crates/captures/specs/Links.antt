@@ -1,4 +1,4 @@
--- The link that a cell came by: what tells its line from each other line of a capture.
+-- The link of a cell: the physical line that it came by. Two lines of a capture differ in some part.
 use Rattle.std.specs.Prelude.{◌≡◌, ◌-◌, ◌/◌, ◌%◌, ◌==◌, ◌&&◌, if◌then◌else◌, Bool, true, false, ℕ, List, drop, Option, Some, None, Result, Ok, Err}
 use Rattle.byteorder.specs.Endian.{big_number}
 use Rattle.captures.specs.Record.{record_type}
@@ -22,14 +22,14 @@ abbrev pub IsChannelOf : List ℕ → Result (List ℕ) NoCell → Option Channe
 IsChannelOf octets (Err why) channel = channel ≡ None
 IsChannelOf octets (Ok cell) channel = FromCellPlace octets (λ place. channel ≡ channel_before octets place)
 
--- Whether two packets have the same interface, or none both.
+-- Whether two packets have the same interface, or both have none.
 abbrev pub same_packet_interface : Option ℕ → Option ℕ → Bool
 same_packet_interface None None = true
 same_packet_interface None (Some other) = false
 same_packet_interface (Some one) None = false
 same_packet_interface (Some one) (Some other) = one == other
 
--- Whether two channels are the same, or none both.
+-- Whether two channels are the same, or neither is there.
 abbrev pub same_channel : Option Channel → Option Channel → Bool
 same_channel None None = true
 same_channel None (Some other) = false

@@ -57,7 +57,7 @@ is_marked_text magic number =
     || (magic / 65536 == 0xfffe && magic % 256 == 0 && number / 65536 % 256 == 0)
     || (magic / 256 == 0xfeff00 && number / 16777216 == 0)
 
--- Why a file isn't read that begins with these two numbers and isn't one of the captures above, if that shows.
+-- Why a file isn't read that begins with these two numbers and isn't one of the captures above, if the numbers show it.
 abbrev pub fault_by : ℕ → ℕ → Option FileFault
 fault_by magic number =
     if is_gzip_magic magic then Some Gzip
@@ -84,7 +84,7 @@ is_text_octet octet = (nat_le 32 octet && nat_lt octet 127) || (nat_le 9 octet &
 abbrev pub is_text : List ℕ → Bool
 is_text = list_all is_text_octet
 
--- A text begins with 16 such octets. A record that begins so holds no cell: neither type of such a record is among them.
+-- A text begins with 16 such octets. A record with a cell doesn't begin so: the lower seven bits of its octet 8 are 3 or 7.
 abbrev pub begins_as_text : List ℕ → Bool
 begins_as_text octets = is_text (take 16 octets)
 

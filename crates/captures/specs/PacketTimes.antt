@@ -11,12 +11,12 @@ units_in_second resolution =
     else if nat_le 128 resolution && nat_lt resolution 192 then 2 ^ (resolution - 128)
     else 0
 
--- The same of a unit, one at least.
+-- How many of these units a second has, one at least.
 abbrev pub units_of_second : TimeUnit → ℕ
 units_of_second unit = max (units_in_second unit.resolution) 1
 
--- The time of a packet that counts this many units, in units of 2^-32 seconds, as a record's time is, and rounded down as that. Like there,
--- the seconds have 32 bits.
+-- The time of a packet that counts this many units, in units of 2^-32 seconds. As in the time of a record, seconds have 32 bits, and the
+-- part of a second is rounded down.
 abbrev pub time_of_stamp : TimeUnit → ℕ → ℕ
 time_of_stamp unit stamp =
     (stamp / units_of_second unit + unit.ahead) % 2 ^ 32 * 2 ^ 32 + stamp % units_of_second unit * 2 ^ 32 / units_of_second unit

@@ -29,7 +29,8 @@ abbrev pub EndsReading : Format → ℕ → List ℕ → Option Fault → Type 0
 EndsReading format at octets None = octets ≡ []
 EndsReading format at octets (Some fault) = (fault.at ≡ at) × IsRecordFault format at octets fault.reason
 
--- What is given of a frame after this many numbers, at this place: the record in it, which has the next number, or what it is and where.
+-- What is given of a frame after this many numbers, at this place: the record in it, which has the next number, or what is
+-- skipped, and its place.
 abbrev pub IsGiven : ℕ → ℕ → Result Framed Unread → Result Record SkippedBlock → Type 0
 IsGiven count at (Err unread) (Err block) = block ≡ record { what = unread; at = at }
 IsGiven count at (Err unread) (Ok record_read) = ⊥

@@ -39,14 +39,14 @@ const OPTIONS_PLACE: usize = 16;
 /// Where the packet begins in its block.
 const PACKET_PLACE: usize = 28;
 
-/// A section of a pcapng file, from its blocks so far.
+/// What the blocks so far say of a section of a pcapng file.
 #[derive(Clone, Copy, PartialEq, Eq)]
 pub struct Section {
     /// In which order the octets of its numbers come.
     pub order: Order,
     /// How many interfaces earlier sections of the file have.
     pub before: u64,
-    /// How many interfaces it has.
+    /// How many interfaces it has so far.
     pub interfaces: u64,
     /// Which of its first 64 interfaces have packets that are no records: bit N is set for interface N.
     pub others: u64,
@@ -54,18 +54,18 @@ pub struct Section {
     pub times: PacketTimes,
 }
 
-/// Why a block or a packet is skipped: what it is.
+/// The kinds of blocks and packets that are skipped.
 #[derive(Clone, Copy, PartialEq, Eq)]
 pub enum Unread {
     /// A block without a packet: a section header, the description of an interface, names, statistics or secrets.
     NoPacket,
-    /// A block without a packet that has a number as packets have: an entry of a journal, or custom data.
+    /// A block without a packet that has a number, as packets have: an entry of a systemd journal (type 9), or custom data.
     Entry,
     /// A simple packet block (type 3).
     SimplePacket,
     /// An obsolete packet block (type 2).
     OldPacket,
-    /// A block of a type that isn't known: this one.
+    /// A block of this type, which the reader doesn't know.
     OtherBlock(u32),
     /// A packet of an interface of another link type than ERF.
     OtherLinkPacket,
@@ -79,7 +79,7 @@ impl Unread {
         !matches!(self, Unread::NoPacket | Unread::OtherBlock(_))
     }
 
-    /// Returns how many numbers were given after it, if this many were before.
+    /// Returns how many numbers were given up to this block or packet, itself included, if `count` were given before it.
     pub(crate) fn count_past(self, count: u64) -> u64
         requires { count < 2 ^ 64 - 1 }
         ensures count { result ≡ numbers_past count self }
@@ -106,7 +106,7 @@ fn is_section_header(octets: &[u8]) -> bool
     BigEndian::read_u32(octets) == SECTION_HEADER
 }
 
-/// Returns the order of the numbers in a section with this byte-order magic.
+/// Returns the order of the numbers in a section. `magic` is its byte-order magic, read the highest octet first.
 fn order_by_magic(magic: u32) -> Result<Order, RecordFault>
     ensures { result ≡ order_of_magic magic }
 {
@@ -129,21 +129,21 @@ fn even(size: usize) -> Result<usize, RecordFault>
     }
 }
 
-/// Returns whether a block of this type has no packet.
+/// Returns whether blocks of this type are names (4), statistics (5) or secrets (10), which have neither a packet nor a number.
 fn has_no_packet(kind: u32) -> bool
     ensures { result ≡ lacks_packet kind }
 {
     matches!(kind, 4 | 5 | 10)
 }
 
-/// Returns whether a block of this type has no packet and yet a number.
+/// Returns whether blocks of this type are entries of a systemd journal (9) or custom data, which have no packet, but a number.
 fn is_entry(kind: u32) -> bool
     ensures { result ≡ is_entry_type kind }
 {
     matches!(kind, 9 | 0xbad | 0x4000_0bad)
 }
 
-/// Returns what a block of this type is that is not read.
+/// Returns the kind of a skipped block, by its type.
 fn unread_by_type(kind: u32) -> Unread
     ensures { result ≡ unread_of_type kind }
 {
@@ -234,7 +234,8 @@ impl Section {
         }
     }
 
-    /// Returns the section with the interface of records that this block describes.
+    /// Returns the section with one interface more, which this block describes and whose packets are records. The options of the block are
+    /// read only if the times of packets are.
     fn with_record_interface(self, block: &[u8]) -> Result<Section, RecordFault>
         requires { 20 ≤ length block.now }
         ensures { result ≡ with_interface_of_records self block.now }
@@ -282,7 +283,7 @@ impl Section {
         upper * 0x1_0000_0000 + u64::from(self.order.number_in(from_place(block, 16)))
     }
 
-    /// Returns the record in an enhanced packet block, or that its interface has none.
+    /// Returns the record in an enhanced packet block, or `OtherLinkPacket` if the packets of its interface are no records.
     fn record_in(self, block: &[u8]) -> Result<Result<LentRecord<'_>, Unread>, RecordFault>
         requires { length block.now ≤ 131072 }
         ensures record { IfOk result (λ held. record_of_packet self block.now ≡ Ok (held_of held)) }

@@ -28,12 +28,13 @@ pub enum NoCell {
     /// The cell was received or stored with an error.
     #[error("2 Errored")]
     Errored,
-    /// Fewer than 52 octets of the cell are in the record or came by the link: how many it has.
+    /// The record has this number of the cell's 52 octets: the others aren't in it, or didn't come by the link.
     #[error("3 CutShort {0}")]
     CutShort(usize),
 }
 
-/// Returns how many extension headers a record has.
+/// Returns how many extension headers a record has. The highest bit of octet 8, and then of each extension header's first octet, is set if
+/// another one follows.
 #[inline(always)]
 fn extensions_in(octets: &[u8]) -> usize
     ensures counted { HasExtensions octets.now result }
@@ -64,7 +65,8 @@ fn place_from(octets: &[u8], place: usize) -> Result<usize, NoCell>
     Ok(place)
 }
 
-/// Returns the place of the cell of a record whose type holds cells, after this many octets of multi-channel header.
+/// Returns the place of the cell of a record whose type holds cells, or why there is none. `channel` is how many octets the multi-channel
+/// header has: 4, or 0 without one.
 #[inline(always)]
 fn received_place(octets: &[u8], channel: usize) -> Result<usize, NoCell>
     requires header { 16 ≤ length octets.now }

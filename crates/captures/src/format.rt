@@ -34,14 +34,14 @@ pub enum Format {
     /// A file header of 24 octets, and then packets, each with a record. Numbers outside of the records are in this
     /// order, and this is known of the times of packets.
     Pcap(Order, PacketTimes),
-    /// Blocks, some with a record, and the section that the blocks so far are in.
+    /// Blocks, some with a record. The section is the one of the next block, as the blocks so far describe it.
     PcapNg(Section),
 }
 
 /// A record in a frame.
 #[derive(Clone, Copy)]
 pub(crate) struct LentRecord<'a> {
-    /// The interface of its packet among those of a pcapng file.
+    /// The interface of its packet among those of a pcapng file, from 0. None in a file of another format.
     pub(crate) packet: Option<u64>,
     /// The time of its packet, in units of 2^-32 seconds, if such times are read.
     pub(crate) stamped: Option<u64>,
@@ -140,7 +140,7 @@ impl Format {
         }
     }
 
-    /// Goes on after a frame, in this section of a pcapng file.
+    /// Goes on after a frame. In a pcapng file `after` is the section of the next block.
     #[inline(always)]
     pub(crate) fn go_on(&mut self, after: Option<Section>)
         ensures { self.new ≡ format_after self.old after }
@@ -150,7 +150,7 @@ impl Format {
         }
     }
 
-    /// Returns how many octets of a frame are read for its length.
+    /// Returns how many octets of a frame must be there before its length can be read.
     #[inline(always)]
     pub(crate) fn head(self) -> usize
         ensures { result ≡ head_length self }

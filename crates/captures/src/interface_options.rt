@@ -43,7 +43,7 @@ fn option_in(order: Order, code: u16, options: &[u8]) -> Option<&[u8]>
     None
 }
 
-/// Returns the resolution in the value of an option.
+/// Returns the resolution in the value of the option `if_tsresol`, or microseconds without one.
 fn resolution_in(value: Option<&[u8]>) -> u8
     ensures { result ≡ resolution_of (option_map (λ value. value.now) value.entry) }
 {
@@ -53,7 +53,7 @@ fn resolution_in(value: Option<&[u8]>) -> u8
     }
 }
 
-/// Returns the seconds in the value of an option.
+/// Returns the seconds in the value of the option `if_tsoffset`, or 0 if there is none or it has fewer than eight octets.
 fn ahead_in(order: Order, value: Option<&[u8]>) -> u64
     ensures { result ≡ ahead_of order (option_map (λ value. value.now) value.entry) }
 {
@@ -63,7 +63,7 @@ fn ahead_in(order: Order, value: Option<&[u8]>) -> u64
     }
 }
 
-/// Returns the unit of this resolution, if it is read.
+/// Returns the unit of this resolution, with the seconds to add, or `OtherResolution` if such units are too short to be read.
 fn unit_by(resolution: u8, ahead: u64) -> Result<TimeUnit, RecordFault>
     ensures { result ≡ unit_of_resolution resolution ahead }
 {

@@ -19,7 +19,7 @@ pub struct Channel {
     pub connection: u16,
 }
 
-/// What tells the line that a cell came by from each other line of a capture.
+/// The physical line that a cell came by, as its record and its packet name it. Two lines of a capture differ in some part.
 #[derive(Clone, Copy, PartialEq, Eq, Hash)]
 pub struct Link {
     /// The interface of its packet among those of a pcapng file, from 0. None in a file of another format.
@@ -54,7 +54,7 @@ pub(crate) fn channel_before(octets: &[u8], place: usize) -> Option<Channel>
     Some(channel_in(header))
 }
 
-/// Returns whether two packets have the same interface, or none both.
+/// Returns whether two packets have the same interface, or both have none.
 #[inline(always)]
 fn same_interface(one: Option<u64>, other: Option<u64>) -> bool
     ensures { result ≡ same_packet_interface one other }
@@ -66,7 +66,7 @@ fn same_interface(one: Option<u64>, other: Option<u64>) -> bool
     }
 }
 
-/// Returns whether two channels are the same, or none both.
+/// Returns whether two channels are the same, or neither is there.
 #[inline(always)]
 fn same_channel(one: Option<Channel>, other: Option<Channel>) -> bool
     ensures { result ≡ channels_same one other }

@@ -65,7 +65,7 @@ pub(crate) fn first_marks(octets: &[u8]) -> Marks
     }
 }
 
-/// Returns the marks with those of a multi-channel header.
+/// Returns the marks with those of this multi-channel header added.
 fn with_header(marks: Marks, header: u32) -> Marks
     ensures { result ≡ with_channel_marks marks header }
 {

@@ -158,7 +158,7 @@ pub fn open(octets: &[u8]) -> Opening
     open_by(BigEndian::read_u32(octets), octets)
 }
 
-/// Returns what a file is that has only these octets. It is as `open` says, but a file without octets is `Empty`.
+/// Returns what the file is that consists of these octets: what `open` says, or `Empty` if there are none.
 pub fn open_whole(octets: &[u8]) -> Opening
     ensures { result ≡ file_opening octets.now }
 {

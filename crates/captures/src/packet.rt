@@ -47,7 +47,7 @@ pub(crate) fn length_of(octets: &[u8]) -> u16
     BigEndian::read_u16(from_place(octets, 10))
 }
 
-/// Returns the record in a packet.
+/// Returns the record in a packet: as many octets as the record's header says, or the whole packet if it was cut short of that length.
 pub(crate) fn record_in_packet(packet: &[u8]) -> Result<&[u8], RecordFault>
     ensures record { IfOk result (λ octets. record_of packet.now ≡ Ok octets.now) }
     ensures fault { IfErr result (λ reason. record_of packet.now ≡ Err reason) }

@@ -90,7 +90,7 @@ impl TimeUnit {
 }
 
 impl PacketTimes {
-    /// Those of a file of this resolution, not read unless they are asked for.
+    /// Returns times in units of this resolution. They aren't read unless `Format::timed_by` asks for them.
     pub(crate) fn in_units(resolution: u8) -> PacketTimes
         ensures { result ≡ packet_times_in resolution }
     {

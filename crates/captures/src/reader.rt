@@ -44,11 +44,11 @@ pub struct SkippedBlock {
 /// What comes next in a capture.
 #[derive(PartialEq, Eq, Drop)]
 pub enum Next<'a> {
-    /// A record, and how many octets are of it and its packet or block.
+    /// A record, and how many octets it has together with its packet or block.
     Taken(Record<'a>, usize),
     /// A block without a record, and how many octets it has.
     Skipped(SkippedBlock, usize),
-    /// The beginning of a record, packet or block, or nothing: more octets are wanted.
+    /// No octets, or only the beginning of a record, packet or block: more octets are wanted.
     Unfinished,
     /// A fault: the octets begin with no record, packet or block.
     Broken(Fault),
@@ -208,7 +208,8 @@ impl Reader {
         })
     }
 
-    /// Returns the fault of a capture that ends with these octets, which are no whole record, packet or block.
+    /// Returns the fault of a capture that ends with these octets, which are no whole record, packet or block: `CutOff`, or None if there
+    /// are no octets.
     pub fn end(&self, octets: &[u8]) -> Option<Fault>
         ensures { first_frame self.now.format self.now.at octets.now ≡ None
             → EndsReading self.now.format self.now.at octets.now result }

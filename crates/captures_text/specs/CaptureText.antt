@@ -25,7 +25,7 @@ abbrev pub text_at_end : {World : Type 0} → CellRules World → World → Cell
 text_at_end rules world (Closes summary ending) = rules.closes world summary ending
 text_at_end rules world (Crosses one other) = several_line one other
 
--- How a run ends there.
+-- How a run ends at that end: early at a fault or at a cell of a second link.
 abbrev pub end_done : CellsEnd → Done
 end_done (Closes summary ending) = done_at ending
 end_done (Crosses one other) = Ended
@@ -53,7 +53,7 @@ IsRecordsText rules filter format count at world octets text done =
 abbrev pub short_fault : List ℕ → Fault
 short_fault octets = record { at = 0; reason = if is_text octets then ShortText else CutOff }
 
--- From this state of the filter and this world, the text may answer a file with these octets that is this.
+-- From this state of the filter and this world, the text may answer a file with these octets. The opening says what the file is.
 abbrev pub IsOpenedText : {World : Type 0} → CellRules World → FilterState → World → List ℕ → Opening → List ℕ → Done → Type 0
 IsOpenedText rules filter world octets (Opened format) text done =
     IsRecordsText rules filter (format_timed filter.timing format) 0 (format_start format) world (drop (format_start format) octets) text done

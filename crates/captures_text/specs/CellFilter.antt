@@ -1,4 +1,5 @@
--- Which cells of a capture count, and at which moments: those of one link whose time is not before that of an earlier one.
+-- Which cells of a capture count, and at which moments: those of one link whose time isn't before that of the capture's first cell, or of
+-- an earlier cell that counts.
 use Rattle.std.specs.Prelude.{◌≡◌, ◌-◌, nat_lt, max, if◌then◌else◌, Bool, ℕ, List, [], ◌∷◌, Option, Some, None, is_some, option_map, unwrap_or, Result, Ok, Err}
 use Rattle.captures.specs.Links.{same_link}
 use Rattle.captures.specs.Moments.{nearest_tick}
@@ -19,8 +20,8 @@ use Rattle.captures_text.specs.declared.filter.Filtered.TheVariants.{Counts, Ski
 use Rattle.captures_text.specs.declared.reading_summary.ReadingSummary.{ReadingSummary}
 
 -- The state of a filter: the nanoseconds of a tick, which time of a record counts, whether a link was asked for, the
--- link that was, or that of the first cell, the time of the first cell of any link and the latest time of a cell that
--- counts, and the records passed over.
+-- link that was, or that of the first cell, the time of the first cell of any link, the latest time of that cell and
+-- the cells that count, and the records passed over.
 pub record FilterState : Type 0 where
   pub tick : ℕ
   pub timing : TimeSource
@@ -45,7 +46,7 @@ abbrev pub filter_start : ℕ → Option Link → TimeSource → FilterState
 filter_start tick link timing =
     record { tick = tick; timing = timing; asked = is_some link; link = link; clock = None; summary = empty_summary }
 
--- A cell of the right link, where the first cell came at the one time and the latest cell at the other.
+-- A cell of the right link, where the capture's first cell came at the time `first`, and `latest` is the latest time so far.
 abbrev pub filter_at_time : FilterState → ℕ → ℕ → Record → List ℕ → Filtered × FilterState
 filter_at_time state first latest record_read cell =
     if nat_lt record_read.time latest
@@ -87,7 +88,7 @@ filter_record state record_read = filter_content (filter_marked state record_rea
 abbrev pub filter_block : FilterState → SkippedBlock → FilterState
 filter_block state block = record state { summary = with_skipped_block state.summary block }
 
--- The cells that count among a record with this number and those after it.
+-- The cells that count among a record with this number, of which the filter says this, and the records after it.
 abbrev pub captured_then : Filtered → ℕ → List CapturedCell → List CapturedCell
 captured_then (Counts moment cell) number later = record { number = number; moment = moment; cell = cell } ∷ later
 captured_then Skipped number later = later
@@ -107,7 +108,7 @@ pub data CellsEnd : Type 0 where
   -- At a cell of a second link, where none was asked for: the first link, and this one.
   Crosses : Link → Link → CellsEnd
 
--- How the cells end, if a record is this and those after it end so.
+-- How the cells end, if the filter says this of a record, and the cells of those after it end so.
 abbrev pub ends_then : Filtered → CellsEnd → CellsEnd
 ends_then (Counts moment cell) later = later
 ends_then Skipped later = later

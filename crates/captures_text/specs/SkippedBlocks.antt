@@ -11,7 +11,7 @@ use Rattle.text_words.specs.FaultLines.{line}
 abbrev pub no_blocks : BlockTallies
 no_blocks = record { simple = no_tally; obsolete = no_tally; other = no_tally; other_type = 0; other_link = no_tally }
 
--- One block more of this kind, which begins at this place. One that has no packet by its type leaves no comment. Of
+-- One block more of this kind, which begins at this place. A block that has no packet by its type isn't counted. Of
 -- blocks of unknown types the type of the first one is kept.
 abbrev pub one_more_block : BlockTallies → Unread → ℕ → BlockTallies
 one_more_block blocks NoPacket at = blocks

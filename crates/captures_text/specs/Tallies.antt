@@ -22,7 +22,7 @@ no_tally = record { count = 0; first = 0 }
 abbrev pub skipped_count : CountAndFirst → List ℕ
 skipped_count tally = codes "# " ++ decimal tally.count ++ codes " passed over: "
 
--- Its end: the number of the first of them.
+-- The end of a comment: the number of the first record.
 abbrev pub first_record_text : CountAndFirst → List ℕ
 first_record_text tally = line (codes "; first record " ++ decimal tally.first)
 

@@ -21,9 +21,9 @@ const FEW: usize = 256;
 /// How a run goes on after a step.
 #[derive(Clone, Copy, PartialEq, Eq)]
 pub(crate) enum StepOutcome {
-    /// Some octets that wait may be read.
+    /// The run goes on: there may be whole frames among the octets that wait.
     On,
-    /// More octets are wanted.
+    /// More octets have to be read first.
     Wants,
     /// The run ended.
     Ended,
@@ -42,7 +42,7 @@ fn close_at<F: CellFollower>(
     follower.close(&reading.filter.summary(), Some(fault), answers)
 }
 
-/// Answers the cells that were read and forgets them, and then answers what comes after them, if that ends the run.
+/// Answers the cells that were read and forgets them. If `stop` ends the run, answers that too.
 pub(crate) fn answer_read<F: CellFollower>(
     follower: &mut F,
     reading: &ReadingAhead,
@@ -110,7 +110,7 @@ pub(crate) fn advance<F: CellFollower>(
     queue.take_next_cells();
     if leaves_cells(with_two_threads, reading, queue) {
         match stop {
-            // The driver reads more while these cells are answered (`give_and_go_ahead`), so it must not read more first.
+            // At `Wants` the driver would read more at once. At `On` it reads while these cells are answered (`give_and_go_ahead`).
             StopReason::Wants => return Ok(StepOutcome::On),
             _ => {}
         }

@@ -9,7 +9,8 @@ use captures::Unread;
 use std::alloc::AllocError;
 use text_words::{add_numbered, add_text};
 
-/// Blocks and packets of a pcapng file that have no record for this reader, by kind. The first of each is its place, in octets from 0.
+/// Blocks and packets of a pcapng file that have no record for this reader, by kind. `first` is the place of the first one of a kind, in
+/// octets from 0.
 #[derive(Clone, Copy, PartialEq, Eq)]
 pub struct BlockTallies {
     /// Simple packets.
@@ -18,7 +19,7 @@ pub struct BlockTallies {
     pub obsolete: CountAndFirst,
     /// Blocks of unknown types.
     pub other: CountAndFirst,
-    /// The type of the first of these.
+    /// The type of the first block of an unknown type.
     pub other_type: u32,
     /// Packets of an interface of another link type.
     pub other_link: CountAndFirst,

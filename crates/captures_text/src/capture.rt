@@ -61,7 +61,7 @@ pub fn short_fault(octets: &[u8]) -> Fault
     Fault { at: 0, reason }
 }
 
-/// Answers a file that isn't read.
+/// Writes the fault line of a file that isn't read.
 fn refuse<O: Output>(alloc: Global, output: &mut O, fault: FileFault) -> Ending
     ensures done { IfOk result (λ done. done ≡ Done.Ended) }
     ensures given { O.is_known → OnOk result (O.held output.new ≡ O.held output.old ++ file_fault_line fault) }
@@ -103,8 +103,9 @@ fn close_short<O: Output, F: CellFollower>(
 /// Runs a follower over the cells of a capture that count, in bounded memory: two buffers of 524,288 octets, the cells that were read from
 /// them, and the answers to these cells.
 ///
-/// With one thread, what was read is answered before more is read. With two, records are read on one thread while the cells of those before
-/// them are answered on another. That begins after a reading that fills the window: a file fills it, and a pipe doesn't.
+/// With one thread, what was read is answered before more is read. With two, records are read on one thread while the cells of earlier ones
+/// are answered on another. The second thread is used only after a reading that fills the window, as one of a file does and one of a pipe
+/// doesn't.
 ///
 /// # Errors
 ///

@@ -2,7 +2,8 @@
 
 use upc_cell::Cell;
 
-/// A cell that counts: it is of the link that is read, and its time is not before that of an earlier one.
+/// A cell that counts: it is of the link that is read, and its time isn't before that of the capture's first cell or of an earlier cell
+/// that counts.
 #[derive(Clone, Copy, PartialEq, Eq)]
 pub struct CapturedCell {
     /// The number of its record in the capture, from 1.

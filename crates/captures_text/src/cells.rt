@@ -18,7 +18,7 @@ use text_words::{add_cell_octets, add_number, add_text};
 /// A run of `cells`.
 #[derive(Clone, Copy, Drop)]
 pub(crate) struct Cells {
-    /// Whether each cell comes after the number of its record.
+    /// Whether a comment with the number of its record comes before each cell.
     pub numbered: bool,
 }
 
@@ -46,7 +46,7 @@ fn add_record_comment(answers: &mut Vec<u8>, number: u64) -> Added
     Ok(())
 }
 
-/// Appends the line of a cell that counts, after the number of its record if that is asked for.
+/// Appends the line of a cell that counts, after the comment with the number of its record if `numbered`.
 #[tactic(auto, using(std::proofs::lemmas::List::append_assoc))]
 fn add_captured(answers: &mut Vec<u8>, numbered: bool, captured: &CapturedCell) -> Added
     ensures { OnOk result (answers.new.items ≡ answers.old.items ++ captured_line numbered captured.now) }

@@ -31,7 +31,7 @@ pub fn done_at(ending: Option<Fault>) -> Done
     }
 }
 
-/// Answers the end of the input, and writes the last answers. Octets that still wait are no whole frame: the capture was cut off.
+/// Answers the end of the input, and writes the last answers. If octets still wait, they are no whole frame: the capture was cut off.
 fn finish<O: Output, F: CellFollower>(
     output: &mut O,
     follower: &F,
@@ -90,7 +90,7 @@ pub(crate) fn follow_on<R: Threads, I: Input + Send, O: Output, F: CellFollower 
     ensures written { O.failures output.new ≡ write_failures result (O.failures output.old) }
 {
     answers_each_cell(follower);
-    // The second thread starts only after a reading that fills the window, so with two threads one reading may fill it.
+    // With two threads a reading may fill the window: the second thread is used only after one that did.
     let most = if with_two_threads {
         WINDOW_ROOM
     } else {

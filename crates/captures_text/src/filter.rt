@@ -21,7 +21,7 @@ pub enum Filtered<'a> {
 }
 
 /// Decides for each record of a capture whether its cell counts. If a link was asked for, its cells count, otherwise those of the first
-/// cell's link. A cell with a time before that of an earlier one does not count.
+/// cell's link. A cell doesn't count if its time is before that of the capture's first cell or of an earlier cell that counts.
 #[derive(Clone, Copy, Drop)]
 pub struct CellFilter {
     ticks: Ticks,
@@ -37,7 +37,7 @@ pub struct CellFilter {
 }
 
 /// The part of a filter that usual records (`Reader::is_usual`) need, once the link is known. They change only the clock. The caller keeps
-/// the clock in a variable, so that it stays in registers. It is no `CellFollower`, which answers cells.
+/// the clock in a variable, so that it stays in registers.
 #[derive(Clone, Copy)]
 pub(crate) struct LinkClock {
     ticks: Ticks,

@@ -8,7 +8,7 @@ use captures::Marks;
 use std::alloc::AllocError;
 use text_words::{add_number, add_text};
 
-/// Records with marks, by mark.
+/// How many records have each mark, and the first of them.
 #[derive(Clone, Copy, PartialEq, Eq)]
 pub struct MarkTallies {
     /// Records were lost before them.

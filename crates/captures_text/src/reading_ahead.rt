@@ -17,7 +17,7 @@ use upc_cell::CELL_OCTETS;
 /// The room of the window, in octets. A frame has at most 131,072.
 pub const WINDOW_ROOM: usize = 524_288;
 
-/// One thread reads at most this number of octets at once: they stay in the second cache of the processor, and what is made of them too.
+/// One thread reads at most this number of octets at once: they and the cells that are made of them stay in the processor's second cache.
 pub const READING_OCTETS: usize = 131_072;
 
 /// The octets of a usual record: a header of 16 octets, and a cell.
@@ -41,7 +41,7 @@ pub(crate) enum StopReason {
 struct Farther {
     reader: Reader,
     clock: Clock,
-    /// How many octets they have.
+    /// How many octets these records have.
     place: usize,
 }
 
@@ -139,7 +139,8 @@ impl ReadingAhead {
         }
     }
 
-    /// Reads the next frame among the octets that wait, and appends its cell to the others if it counts. None if the reading goes on.
+    /// Reads the next frame among the octets that wait, and appends its cell to the others if the cell counts. Returns None if the
+    /// reading goes on.
     #[inline(always)]
     fn step(
         &mut self,
@@ -195,7 +196,7 @@ impl ReadingAhead {
     }
 
     /// Reads the whole frames among the octets that wait, and appends the cells that count to the others. It stops at what ends a run,
-    /// and after a cell if there are `most` or more then.
+    /// and after a cell with which `cells` has `most` or more.
     pub(crate) fn read(
         &mut self,
         cells: &mut Vec<CapturedCell>,

@@ -1,4 +1,4 @@
-//! Counts of what a run passed over, and of records with marks. The comments at the end of a text say them.
+//! Counts of what a run passed over, and of records with marks, for the comments at the end of a text.
 
 ghost use Rattle.std.specs.Prelude.{◌≡◌, ◌++◌, OnOk};
 ghost use Rattle.captures_text.specs.ReadingSummaries.{empty_summary, other_type_line, other_type_lines, summary_lines, reason_lines, with_marked, with_other_type, with_skipped_block, without_cell};
@@ -16,15 +16,15 @@ const TYPES: usize = 128;
 /// The records that were passed over, by reason; blocks and packets without a record, which were skipped; and records with marks.
 #[derive(Clone, Copy, PartialEq, Eq)]
 pub struct ReadingSummary {
-    /// They are of a type that holds no cell: those of each type, at the place of its number.
+    /// Records of the types that hold no cell. Those of type N are at place N.
     pub other_types: [CountAndFirst; TYPES],
-    /// They were received or stored with an error.
+    /// Records of cells that were received or stored with an error.
     pub errored: CountAndFirst,
-    /// They have fewer than 52 octets of a cell.
+    /// Records with fewer than 52 octets of a cell.
     pub cut_short: CountAndFirst,
-    /// Their time is before that of an earlier cell.
+    /// Records whose time is before that of an earlier cell.
     pub back: CountAndFirst,
-    /// They are of another link than the one that was asked for.
+    /// Records of another link than the one that was asked for.
     pub other_link: CountAndFirst,
     /// Blocks and packets of a pcapng file that have no record for this reader.
     pub blocks: BlockTallies,

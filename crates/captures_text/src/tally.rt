@@ -41,7 +41,7 @@ impl CountAndFirst {
     }
 }
 
-/// Appends how many records were passed over.
+/// Appends the beginning of a comment: how many records, blocks or packets were passed over.
 #[tactic(auto, using(std::proofs::lemmas::List::append_assoc))]
 pub(crate) fn add_count(answers: &mut Vec<u8>, tally: CountAndFirst) -> Added
     ensures { OnOk result (answers.new.items ≡ answers.old.items ++ skipped_count tally) }
@@ -51,7 +51,7 @@ pub(crate) fn add_count(answers: &mut Vec<u8>, tally: CountAndFirst) -> Added
     add_text(answers, b" passed over: ")
 }
 
-/// Appends which record is the first of those that were passed over.
+/// Appends the end of a comment: the number of the first record.
 pub(crate) fn add_first(answers: &mut Vec<u8>, tally: CountAndFirst) -> Added
     ensures { OnOk result (answers.new.items ≡ answers.old.items ++ first_record_text tally) }
 {

@@ -28,7 +28,8 @@ impl Ticks {
         }
     }
 
-    /// Returns how many whole ticks there are in this many nanoseconds, or one less. The clause says only that it isn't more.
+    /// Returns how many whole ticks there are in this many nanoseconds, or one less. The clause says only that it isn't
+    /// more, so `whole` adds what may lack.
     #[inline(always)]
     fn estimate(self, nanoseconds: u64) -> u64
         ensures { result * self.tick.nanoseconds ≤ nanoseconds }

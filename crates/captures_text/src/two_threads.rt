@@ -15,8 +15,8 @@ use std::alloc::AllocError;
 use std::thread::{Threads, join_mut};
 use text_io::{Input, Output, RunFault, Turn, give_answers};
 
-/// Reads more octets and the frames among them on one thread, and answers cells that were read before on another. Returns what comes after
-/// those that were read, and whether the run goes on after those that were answered.
+/// Reads more octets and the frames among them on one thread, and answers cells that were read before on another. Returns why the reading
+/// stopped, or None at the end of the input, and whether the run goes on after the cells that were answered.
 fn read_beside<R: Threads, I: Input + Send, F: CellFollower + Send>(
     rt: &R,
     input: &mut I,

@@ -19,12 +19,12 @@ may_name count (RetK k) = is_contract_number count k
 may_name count RetA = true
 may_name count _ = false
 
--- Whether no instruction of a code may.
+-- Whether no instruction of a code may return such a number.
 abbrev pub names_no_contract : List Instr → ℕ → Bool
 names_no_contract [] count = true
 names_no_contract (i ∷ code) count = if may_name count i then false else names_no_contract code count
 
--- Whether a code names none of one contract, of two, of three, and of four.
+-- For one, two, three and four contracts: whether a code names none of them.
 abbrev pub names_none : List Instr → NamesNone
 names_none code = record {
   one = names_no_contract code 1;
@@ -33,7 +33,7 @@ names_none code = record {
   four = names_no_contract code 4;
 }
 
--- Whether it names none of this many. A connection has one to four.
+-- Whether the code names none of this many contracts. A connection has one to four.
 abbrev pub names_none_of : NamesNone → ℕ → Bool
 names_none_of none count =
     if count == 1 then none.one else (if count == 2 then none.two else (if count == 3 then none.three else ((count == 4) && none.four)))

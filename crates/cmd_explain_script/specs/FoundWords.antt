@@ -3,7 +3,7 @@ use Rattle.std.specs.Prelude.{◌≡◌, ℕ, ◌+◌, ◌-◌, Bool, false, ◌
 use Rattle.text_io.specs.Words.{is_blank, words_of}
 use Rattle.cmd_explain_script.specs.declared.found_words.FoundWord.{FoundWord}
 
--- How many octets the word has that these octets begin with.
+-- How many octets the word at the beginning of these octets has.
 abbrev pub word_size : List ℕ → ℕ
 word_size [] = 0
 word_size (octet ∷ rest) = if is_blank octet then 0 else 1 + word_size rest

@@ -16,6 +16,6 @@ abbrev pub loaded_codes : RunWorld → List (List Instr)
 loaded_codes None = []
 loaded_codes (Some card) = codes_in_order card.world.loaded
 
--- Of each of them, which contracts it names.
+-- Of each of them, for how many contracts of a connection it names none.
 abbrev pub loaded_programs : RunWorld → List NamesNone
 loaded_programs run = map names_none (loaded_codes run)

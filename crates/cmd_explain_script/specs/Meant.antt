@@ -8,7 +8,7 @@ abbrev pub is_swapped : List ℕ → List ℕ → Bool
 is_swapped (octet ∷ next ∷ rest) (other ∷ after ∷ more) = (octet == after) && ((next == other) && bytes_eq rest more)
 is_swapped _ _ = false
 
--- Whether one octet is added, dropped or changed between two words, or two neighbours are exchanged, or nothing.
+-- Whether two words are equal, or differ by one octet that is added, dropped or changed, or by two neighbours that are exchanged.
 abbrev pub is_near : List ℕ → List ℕ → Bool
 is_near [] [] = true
 is_near [] (octet ∷ rest) = length rest == 0

@@ -8,7 +8,7 @@ use Rattle.cmd_explain_script.specs.declared.script_faults.ScriptFault.TheVarian
 abbrev pub is_fault_line : List ℕ → Bool
 is_fault_line answer = bytes_eq (take 6 answer) (codes "fault ")
 
--- How the lines begin of faults of the line's words.
+-- The beginnings of fault lines about a line's words.
 abbrev pub word_faults : List (List ℕ × ScriptFault)
 word_faults =
     (codes "fault script 1 ", fault.BadLine) ∷ (codes "fault script 2 ", fault.NoCard) ∷ (codes "fault script 3 ", fault.BadHex)
@@ -16,7 +16,7 @@ word_faults =
     ∷ (codes "fault shape 3 ", fault.ManyPorts) ∷ (codes "fault shape 4 ", fault.LongJournal)
     ∷ (codes "fault gcra 1 ", fault.ZeroIncrement) ∷ (codes "fault gcra 2 ", fault.LargeRate) ∷ []
 
--- How the lines begin of faults of a program's octets.
+-- The beginnings of fault lines about a program's octets.
 abbrev pub code_faults : List (List ℕ × ScriptFault)
 code_faults =
     (codes "fault decode 1 ", fault.Ragged) ∷ (codes "fault decode 2 ", fault.UnknownCode) ∷ (codes "fault verify 1 ", fault.NoInstruction)
@@ -24,7 +24,7 @@ code_faults =
     ∷ (codes "fault verify 5 ", fault.BadShift) ∷ (codes "fault verify 6 ", fault.JumpOutside) ∷ (codes "fault verify 7 ", fault.NoReturn)
     ∷ (codes "fault verify 8 ", fault.Unwritten) ∷ []
 
--- How the lines begin of faults of the desk.
+-- The beginnings of the desk's fault lines.
 abbrev pub desk_faults : List (List ℕ × ScriptFault)
 desk_faults =
     (codes "fault desk 1 ", fault.NoProgram) ∷ (codes "fault desk 2 ", fault.NoConnection) ∷ (codes "fault desk 3 ", fault.Taken)
@@ -32,7 +32,7 @@ desk_faults =
     ∷ (codes "fault desk 7 ", fault.Exhausted) ∷ (codes "fault desk 8 ", fault.BadContracts) ∷ (codes "fault desk 9 ", fault.Busy)
     ∷ (codes "fault desk 11 ", fault.StaleLine) ∷ []
 
--- How the lines begin of cells that aren't judged.
+-- The beginnings of fault lines about cells that aren't judged.
 abbrev pub cell_faults : List (List ℕ × ScriptFault)
 cell_faults =
     (codes "fault arrive 1 ", fault.CellUnknown) ∷ (codes "fault arrive 2 ", fault.CellReleased) ∷ (codes "fault arrive 3 ", fault.CellStale)

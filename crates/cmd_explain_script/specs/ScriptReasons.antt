@@ -22,7 +22,7 @@ abbrev pub has_bad_bucket : Option Wanted → Bool
 has_bad_bucket None = false
 has_bad_bucket (Some wanted) = is_some (first_wanted_fault (wanted ∷ []))
 
--- The place of the first of these words that is a contract with a bad bucket, if the first of them has this place.
+-- The place of the first of these words that is a contract with a bad bucket. The first of the words has this place.
 abbrev pub bad_contract : List ℕ → ℕ → List FoundWord → ℕ
 bad_contract content place [] = place
 bad_contract content place (word ∷ words) =
@@ -186,7 +186,7 @@ fault_explanation faulty side number content words found =
     place_words number (column_of (blamed_word side content words found))
     ++ line (fault_sentence side content words found ++ follows_text faulty found)
 
--- The explanation of a fault line, on a card of this side or before there is one, after a line with a fault or without.
+-- The explanation of a fault line, on a card of this side or before there is one. `faulty` says whether an earlier line has a fault.
 abbrev pub script_explanation : Bool → Option Side → ℕ → List ℕ → List ℕ → List ℕ
 script_explanation faulty side number content answer =
     fault_explanation faulty side number content (found_words content) (explained_fault answer)

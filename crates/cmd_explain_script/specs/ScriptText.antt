@@ -27,7 +27,8 @@ abbrev pub one_line_more : ℕ → ℕ
 one_line_more met = min (met + 1) 18446744073709551615
 
 -- The text for a line of this number with this answer of `run`, on a card of this side or before there is one, after these programs
--- were loaded and a line had a fault or none had: the fault line and its explanation, or for an answer without a fault perhaps a hint.
+-- were loaded: the fault line and its explanation, or for an answer without a fault perhaps a hint. `faulty` says whether an earlier line
+-- had a fault.
 abbrev pub explained : List NamesNone → Bool → Option Side → ℕ → List ℕ → List ℕ → List ℕ
 explained programs faulty side number content answer =
     if is_fault_line answer then answer ++ script_explanation faulty side number content answer else setup_hint programs number content

@@ -5,10 +5,10 @@ ghost use Rattle.cmd_explain_script.specs.ContractNumbers.{may_name, names_no_co
 
 use bpf_code::Instr;
 
-/// Whether a program names none of one contract, of two, of three, and of four. A connection has one to four.
+/// Whether a program names no contract of a connection that has one, two, three or four.
 #[derive(Clone, Copy)]
 pub struct NamesNone {
-    /// No return names a contract if there is one.
+    /// No return names a contract if there is one contract.
     pub one: bool,
     /// No return names a contract if there are two.
     pub two: bool,
@@ -18,7 +18,7 @@ pub struct NamesNone {
     pub four: bool,
 }
 
-/// Returns whether an instruction may return the number of one of this many contracts.
+/// Returns whether an instruction may return a number from 1 to `count`: that of a contract, if a connection has this many.
 fn may_name(count: u32, instr: Instr) -> bool
     ensures { result ≡ may_name count instr }
 {
@@ -29,7 +29,7 @@ fn may_name(count: u32, instr: Instr) -> bool
     }
 }
 
-/// Returns whether no instruction of a code may.
+/// Returns whether no instruction of a code may return such a number.
 fn names_no_contract(code: &[Instr], count: u32) -> bool
     ensures { result ≡ names_no_contract code.now count }
 {
@@ -43,7 +43,7 @@ fn names_no_contract(code: &[Instr], count: u32) -> bool
     true
 }
 
-/// Returns which contracts a code names.
+/// Returns for one, two, three and four contracts whether a code names none of them.
 pub(crate) fn names_none(code: &[Instr]) -> NamesNone
     ensures { result ≡ names_none code.now }
 {

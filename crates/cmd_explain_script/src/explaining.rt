@@ -39,7 +39,8 @@ fn add_no_fault(answers: &mut Vec<u8>, met: usize) -> Result<(), AllocError>
     add_text(answers, b"\n")
 }
 
-/// Appends the text for a line of this number with this answer, after these programs were loaded and a line had a fault or none had.
+/// Appends the text for a line of this number with this answer, after these programs were loaded. `faulty` says whether an earlier line had
+/// a fault.
 #[tactic(auto, using(std::proofs::lemmas::List::append_assoc))]
 fn add_explained(
     alloc: Global,
@@ -68,14 +69,14 @@ fn one_line_more(met: usize) -> usize
     met.saturating_add(1)
 }
 
-/// Returns whether a line had a fault, after one with this answer.
+/// Returns whether any line so far had a fault, the last one, which has this answer, included.
 fn is_faulty_after(faulty: bool, answer: &[u8]) -> bool
     ensures { result ≡ (faulty || is_fault_line answer.now) }
 {
     faulty || is_fault_line(answer)
 }
 
-/// The machine of `run`, with what explanations need beside.
+/// The machine of `upc run`, with what explanations need besides.
 #[derive(Drop)]
 struct Explaining {
     alloc: Global,
@@ -84,7 +85,7 @@ struct Explaining {
     met: usize,
     /// Whether one of them had a fault.
     faulty: bool,
-    /// Which contracts each program names, in the order of the programs' names.
+    /// Of each loaded program for how many contracts it names none, in the order of the programs' names.
     programs: Vec<NamesNone>,
 }
 

@@ -23,7 +23,7 @@ fn blank(octet: u8) -> bool
     octet == b' ' || octet == b'\t'
 }
 
-/// Returns how many octets the word has that a text begins with.
+/// Returns how many octets the word at the beginning of a text has.
 fn word_size(text: &[u8]) -> usize
     ensures { result ≡ word_size text.now }
 {
@@ -39,7 +39,7 @@ fn word_size(text: &[u8]) -> usize
     size
 }
 
-/// Adds the word that begins with the first octet of a text, if one does.
+/// Adds the word that begins with the first octet of a text, if one does. `inside` says that the octet before the text belongs to a word.
 fn add_word(words: &mut Vec<FoundWord>, column: usize, inside: bool, text: &[u8]) -> Added
     ensures { OnOk result (words.new.items ≡ words.old.items ++ word_here column inside text.now) }
 {

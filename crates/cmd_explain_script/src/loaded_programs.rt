@@ -51,7 +51,7 @@ fn load_digits(side: Side, line: &[u8]) -> Option<&[u8]>
     }
 }
 
-/// Returns the digits of the program that a line loads, if this is the answer to it.
+/// Returns the digits of the program that a line with this answer loaded, if it loaded one.
 fn loaded_digits<'a>(side: Option<Side>, line: &'a [u8], answer: &[u8]) -> Option<&'a [u8]>
     ensures { option_map (λ digits. digits.now) result ≡ loaded_digits side line.entry.now answer.now }
 {
@@ -67,7 +67,7 @@ fn loaded_digits<'a>(side: Option<Side>, line: &'a [u8], answer: &[u8]) -> Optio
     }
 }
 
-/// Returns which contracts the program of these digits names, if they spell one.
+/// Returns for how many contracts the program of these digits names none, if the digits spell a program.
 fn program_of_digits(alloc: Global, digits: &[u8]) -> Result<Option<NamesNone>, AllocError>
     ensures { (octets : List ℕ) (code : List TheInstr) → octets_of_digits digits.now ≡ Some octets → SpellsCode octets code
         → IfOk result (λ found. found ≡ Some (names_none code)) }
@@ -82,7 +82,7 @@ fn program_of_digits(alloc: Global, digits: &[u8]) -> Result<Option<NamesNone>, 
     }
 }
 
-/// Adds the program of these digits, if they spell one.
+/// Adds what is kept of the program of these digits, if they spell one.
 fn add_program(alloc: Global, programs: &mut Vec<NamesNone>, digits: &[u8]) -> Added
     ensures { OnOk result (ProgramsAfter (Some digits.now) programs.old.items programs.new.items) }
 {
@@ -95,7 +95,8 @@ fn add_program(alloc: Global, programs: &mut Vec<NamesNone>, digits: &[u8]) -> A
     }
 }
 
-/// Adds the program that a line loads, if this is the answer to it on a card of this side or before there is one.
+/// Adds what is kept of the program that a line loads, if it loads one. `answer` is the answer to the line, and `side` is that of the card,
+/// or None before there is a card.
 pub(crate) fn add_loaded(
     alloc: Global,
     programs: &mut Vec<NamesNone>,

@@ -21,14 +21,14 @@ fn is_swapped(word: &[u8], other: &[u8]) -> bool
     }
 }
 
-/// Returns whether two words that begin with different octets are near.
+/// Returns whether two words that begin with different octets are near. `rest` and `more` are the words without these octets.
 fn differs_once(word: &[u8], rest: &[u8], other: &[u8], more: &[u8]) -> bool
     ensures { result ≡ (bytes_eq rest.now more.now || (bytes_eq rest.now other.now || (bytes_eq word.now more.now || is_swapped word.now other.now))) }
 {
     rest == more || (rest == other || (word == more || is_swapped(word, other)))
 }
 
-/// Returns whether one octet is added, dropped or changed between two words, or two neighbours are exchanged, or nothing.
+/// Returns whether two words are equal, or differ by one octet that is added, dropped or changed, or by two neighbours that are exchanged.
 pub fn is_near(word: &[u8], other: &[u8]) -> bool
     ensures { result ≡ is_near word.now other.now }
 {

@@ -32,7 +32,8 @@ fn has_bad_bucket(wanted: Option<Wanted>) -> bool
     }
 }
 
-/// Returns the place of the first of these words that is a contract with a bad bucket, if the first of them has this place.
+/// Returns the place in a line, from 0, of the first contract with a bad bucket. `words` are those from place 4 on, where contracts begin
+/// in a setup.
 fn bad_contract(line: &[u8], words: &[FoundWord]) -> usize
     ensures { result ≡ bad_contract line.now 4 words.now }
 {
@@ -378,7 +379,8 @@ fn add_fault_explanation(
     Ok(())
 }
 
-/// Appends the explanation of a fault line, on a card of this side or before there is one, after a line with a fault or without.
+/// Appends the explanation of a fault line, on a card of this side or before there is one. `faulty` says whether an earlier line has a
+/// fault.
 pub(crate) fn add_script_explanation(
     alloc: Global,
     answers: &mut Vec<u8>,

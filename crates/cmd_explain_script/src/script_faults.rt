@@ -82,7 +82,7 @@ pub enum ScriptFault {
     JournalFull,
 }
 
-/// How the lines begin of faults of the line's words.
+/// The beginnings of fault lines about a line's words.
 pub(crate) const WORD_FAULTS: [(&[u8], ScriptFault); 10] = [
     (b"fault script 1 ", ScriptFault::BadLine),
     (b"fault script 2 ", ScriptFault::NoCard),
@@ -96,7 +96,7 @@ pub(crate) const WORD_FAULTS: [(&[u8], ScriptFault); 10] = [
     (b"fault gcra 2 ", ScriptFault::LargeRate),
 ];
 
-/// How the lines begin of faults of a program's octets.
+/// The beginnings of fault lines about a program's octets.
 pub(crate) const CODE_FAULTS: [(&[u8], ScriptFault); 10] = [
     (b"fault decode 1 ", ScriptFault::Ragged),
     (b"fault decode 2 ", ScriptFault::UnknownCode),
@@ -110,7 +110,7 @@ pub(crate) const CODE_FAULTS: [(&[u8], ScriptFault); 10] = [
     (b"fault verify 8 ", ScriptFault::Unwritten),
 ];
 
-/// How the lines begin of faults of the desk.
+/// The beginnings of the desk's fault lines.
 pub(crate) const DESK_FAULTS: [(&[u8], ScriptFault); 10] = [
     (b"fault desk 1 ", ScriptFault::NoProgram),
     (b"fault desk 2 ", ScriptFault::NoConnection),
@@ -124,7 +124,7 @@ pub(crate) const DESK_FAULTS: [(&[u8], ScriptFault); 10] = [
     (b"fault desk 11 ", ScriptFault::StaleLine),
 ];
 
-/// How the lines begin of cells that aren't judged.
+/// The beginnings of fault lines about cells that aren't judged.
 pub(crate) const CELL_FAULTS: [(&[u8], ScriptFault); 6] = [
     (b"fault arrive 1 ", ScriptFault::CellUnknown),
     (b"fault arrive 2 ", ScriptFault::CellReleased),

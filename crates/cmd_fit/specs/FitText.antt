@@ -51,11 +51,11 @@ limit_columns fit = (decimal fit.cells ++ codes "\t") ++ ((decimal fit.limit ++ 
 abbrev pub fit_line : Side → Bool → FlowFit → List ℕ
 fit_line side valued fit = connection_columns side fit.flow.vc ++ (value_column valued fit.flow.value ++ limit_columns fit)
 
--- The number by which flows are in order of path, channel and value: the last has 32 bits, and the second 16.
+-- The number that orders flows by path, channel and value. A value has 32 bits, and a channel 16.
 abbrev pub flow_key : Flow → ℕ
 flow_key flow = 4294967296 * (65536 * flow.vc.vpi + flow.vc.vci) + flow.value
 
--- These states in order, with more of them put where they belong.
+-- These ordered states, with others put where they belong.
 abbrev pub put_in_order : List (ℕ × FlowFit) → List FlowFit → List (ℕ × FlowFit)
 put_in_order ordered [] = ordered
 put_in_order ordered (fit ∷ fits) = put_in_order (insert_entry nat_cmp ordered (flow_key fit.flow) fit) fits

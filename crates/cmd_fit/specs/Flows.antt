@@ -1,4 +1,4 @@
--- Which cells have one line of `fit`: those of a connection and, if rules are given, of one value.
+-- Which cells share a line of `fit`: those of a connection and, if rules are given, of one value.
 use Rattle.std.specs.Prelude.{ℕ, ◌%◌, ◌^◌, Bool, ◌&&◌, ◌==◌, List, Option, Some, None}
 use Rattle.rules_text.specs.DecisionsRead.{rules_decide}
 use Rattle.rules_text.specs.RulesRead.{RulesRead}

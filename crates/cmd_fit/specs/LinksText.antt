@@ -26,7 +26,7 @@ use Rattle.cmd_fit.specs.declared.link_tally.LinkTally.{LinkTally}
 abbrev pub last_digit : ℕ → ℕ
 last_digit number = 48 + number % 10
 
--- Nine decimal digits.
+-- The last nine decimal digits of a number.
 abbrev pub nine_digits : ℕ → List ℕ
 nine_digits number =
     last_digit (number / 100000000) ∷ last_digit (number / 10000000) ∷ last_digit (number / 1000000)
@@ -65,7 +65,7 @@ left_out_count tally = codes "# " ++ (decimal tally.count ++ codes " of links af
 abbrev pub left_out_line : CountAndFirst → List ℕ
 left_out_line tally = if tally.count == 0 then [] else left_out_count tally ++ first_record_text tally
 
--- The text after records in this state, where the reading ended so.
+-- The text after records that led to this state. `ending` is the fault at which the reading ended, if there is one.
 abbrev pub links_lines : LinksState → Option Fault → List ℕ
 links_lines state ending =
     links_heading ++ (flat_map link_line state.rows ++ (left_out_line state.left_out ++ closing_lines state.summary ending))
@@ -76,7 +76,7 @@ IsLinksFrom state format count at octets text done =
     (frames : List (Result Record SkippedBlock)) × (ending : Option Fault) × IsReading format count at octets frames ending
     × (text ≡ links_lines (links_after state frames) ending) × (done ≡ done_at ending)
 
--- The text answers a file with these octets that is this.
+-- The text answers a file with these octets. The opening says what the file is.
 abbrev pub IsLinksOpened : List ℕ → Opening → List ℕ → Done → Type 0
 IsLinksOpened octets (Opened format) text done = IsLinksFrom no_links format 0 (format_start format) (drop (format_start format) octets) text done
 IsLinksOpened octets Undecided text done = (text ≡ links_lines no_links (Some (short_fault octets))) × (done ≡ Ended)

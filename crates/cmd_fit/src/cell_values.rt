@@ -17,7 +17,8 @@ use upc_cell::Cell;
 pub(crate) struct CellValues {
     /// The rules.
     pub rules: Rules,
-    /// Their program, so that the time of a cell doesn't grow with rules that can't hold. There is none if it would be too long.
+    /// Their program. It runs in place of the rules, so that the time of a cell doesn't grow with rules that can't hold. None if its code
+    /// would be too long.
     pub program: Option<Program>,
     ghost gives: { IfSome program (GivesValues (rules_read rules)) } by { Prim.hlevel props },
 }

@@ -56,7 +56,7 @@ fn cell_value(values: &Option<CellValues>, cell: &Cell) -> u32
 #[derive(Drop)]
 pub(crate) struct FitRun {
     alloc: Global,
-    /// In ticks.
+    /// The increment of each bucket, in ticks.
     increment: u64,
     /// The side at which headers are read.
     side: Side,
@@ -170,9 +170,9 @@ fn fit_cells<R: Threads, I: Input + Send, O: Output>(
     )
 }
 
-/// Answers a capture by the least limit of each of its connections, in ticks, under which all its cells conform to one
-/// bucket of this increment, in ticks: what is called the observed cell delay variation. A line for each connection, in
-/// order of path and channel, has its path, its channel, the number of its cells, the limit, and the number of the
+/// Answers a capture by a table. For each connection it has the least limit, in ticks, under which all cells of the
+/// connection conform to one bucket of the choice's increment: the observed cell delay variation. A line for each
+/// connection, in order of path and channel, has its path, its channel, the number of its cells, the limit, and the number of the
 /// first record whose cell needs that limit. `upc-lab cells` writes the same cells at the same moments. Headers are
 /// read at the side of the choice, which also says whether connections are virtual channels or paths. If a cell loss
 /// priority is asked for, a line is about the cells that have it, and the others count for nothing.
@@ -182,10 +182,10 @@ fn fit_cells<R: Threads, I: Input + Send, O: Output>(
 /// values. Cells with the value 0, which a card refuses, have a line too. A text with a fault is answered by the fault,
 /// and nothing is read.
 ///
-/// A cell of a 65,536th connection, or of a 65,536th line if rules are given, ends the run, and so does one after which 64 bits don't hold the number
-/// of its line's cells or the ticks in the bucket. If no link is asked for, a cell of a second link ends the run. Comments say how many records were
-/// passed over and why. Memory is bounded: that of [`follow_cells`], at most some 60 MB with 65,535 lines, less than one MB with a few hundred, and
-/// the rules with their code.
+/// The run ends at a cell of a 65,536th connection, or of a 65,536th line if rules are given, and at a cell after which 64 bits don't hold
+/// the number of its line's cells or the ticks in its bucket. If no link is asked for, a cell of a second link ends the run. Comments say
+/// how many records were passed over and why. Memory is bounded: that of [`follow_cells`], at most some 60 MB with 65,535 lines, less than
+/// one MB with a few hundred, and the rules with their code.
 ///
 /// With `threads` above 1, records are read on one thread while the cells of earlier ones are answered on another, as
 /// in [`follow_cells`]. The output is the same as with one.

@@ -90,7 +90,7 @@ fn add_fit_line(
     add_limit(answers, fit)
 }
 
-/// Returns the number by which a flow is in order.
+/// Returns the number that orders flows by path, channel and value.
 pub(crate) fn key_of(flow: Flow) -> u64
     ensures key { result ≡ flow_key flow }
     ensures small { IsSmall flow }

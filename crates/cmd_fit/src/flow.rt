@@ -1,8 +1,8 @@
-//! Which cells have one line.
+//! Which cells share a line of `fit`.
 
 use upc_cell::Vc;
 
-/// The cells that have one line: those of a connection and, if rules are given, of one value.
+/// What the cells of one line have in common: their connection and, if rules are given, their value.
 #[derive(Clone, Copy, PartialEq, Eq)]
 pub struct Flow {
     /// The connection.

@@ -1,4 +1,4 @@
-//! The least limit of the cells that have one line.
+//! The least limit of the cells of one line.
 
 ghost use Rattle.std.specs.Prelude.{◌≡◌, Some, None, if◌then◌else◌};
 ghost use Rattle.cmd_fit.specs.Fits.{fit_after, is_in_64_bits, no_cells};

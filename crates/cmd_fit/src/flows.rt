@@ -20,7 +20,8 @@ const MOST_FLOWS: usize = 65535;
 
 /// The states of the flows that have cells, in the order of their first cells. Contracts see the list of them. A map in
 /// the order of keys leads from a flow to the place of its state. So a cell costs a few dozen comparisons at most,
-/// whatever connections a sender chooses; those of a map by hashes, whose seed is fixed, could be chosen to collide.
+/// whatever connections a sender chooses. In a map by hashes, whose seed is fixed, a sender could choose connections that
+/// collide.
 #[derive(Drop)]
 pub(crate) struct Flows {
     /// The place of each flow's state, by the flow's key.

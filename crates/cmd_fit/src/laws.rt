@@ -10,7 +10,7 @@ pub fn fits_are_least()
     ensures { FitsAreLeast }
 {}
 
-/// The cells of a class alone, without a class, have the states of the class.
+/// A run for a class ends in the same states as a run for all classes over the cells of the class alone.
 pub fn classes_are_alone()
     ensures { ClassesAreAlone }
 {}

@@ -15,14 +15,14 @@ use indexmap::IndexMap;
 use std::alloc::AllocError;
 use text_words::{add_number, add_numbered, add_text};
 
-/// Returns the last decimal digit of a number.
+/// Returns the last decimal digit of a number, in ASCII.
 fn last_digit(number: u64) -> u8
     ensures { result ≡ digit_of number }
 {
     48 + (number % 10) as u8
 }
 
-/// Appends nine decimal digits.
+/// Appends the last nine decimal digits of a number.
 fn add_nine_digits(answers: &mut Vec<u8>, number: u64) -> Result<(), AllocError>
     ensures { OnOk result (answers.new.items ≡ answers.old.items ++ nine_digits number) }
 {
@@ -40,7 +40,7 @@ fn add_nine_digits(answers: &mut Vec<u8>, number: u64) -> Result<(), AllocError>
     add_text(answers, &digits)
 }
 
-/// Appends the seconds of this many nanoseconds.
+/// Appends this many nanoseconds in seconds, with nine decimal places.
 #[tactic(auto, using(std::proofs::lemmas::List::append_assoc))]
 fn add_seconds(answers: &mut Vec<u8>, nanoseconds: u64) -> Result<(), AllocError>
     ensures { OnOk result (answers.new.items ≡ answers.old.items ++ seconds_word nanoseconds) }
@@ -50,7 +50,7 @@ fn add_seconds(answers: &mut Vec<u8>, nanoseconds: u64) -> Result<(), AllocError
     add_nine_digits(answers, nanoseconds % 1_000_000_000)
 }
 
-/// Returns a time in nanoseconds.
+/// Returns a time, in units of 2^-32 seconds, to the nearest nanosecond.
 fn nanoseconds_of(time: u64) -> u64
     ensures { result ≡ nearest_tick time 1 }
 {
@@ -155,7 +155,7 @@ fn add_left_out(answers: &mut Vec<u8>, tally: CountAndFirst) -> Result<(), Alloc
     add_first_left_out(answers, tally)
 }
 
-/// Appends the text after all records, where the reading ended so.
+/// Appends the text after all records. `ending` is the fault at which the reading ended, if there is one.
 #[tactic(auto, using(std::proofs::lemmas::List::append_assoc))]
 pub(crate) fn add_links(
     answers: &mut Vec<u8>,

@@ -10,7 +10,7 @@ use captures_text::{CountAndFirst, ReadingSummary};
 use indexmap::IndexMap;
 use std::alloc::{AllocError, Global};
 
-/// How many links have a row.
+/// How many links may have a row.
 const MOST_LINKS: usize = 4096;
 
 /// The links of the records so far, and what was passed over.
@@ -31,7 +31,7 @@ fn tally_in(rows: &IndexMap<Link, LinkTally>, link: Link) -> Option<LinkTally>
     rows.get(&link).copied()
 }
 
-/// Puts this in the row of a link, or into a row at the end.
+/// Sets what is known of a link: in its row, or in a new row at the end.
 fn put(rows: &mut IndexMap<Link, LinkTally>, link: Link, tally: LinkTally) -> Result<(), AllocError>
     ensures { OnOk result (rows.new.entries ≡ with_row link tally rows.old.entries) }
 {
@@ -53,7 +53,7 @@ fn tally_with(rows: &IndexMap<Link, LinkTally>, record_read: &Record<'_>) -> Opt
 }
 
 impl LinkTable {
-    /// Returns that there is no link.
+    /// Makes a table without links.
     pub(crate) fn new(alloc: Global) -> LinkTable
         ensures { links_state result ≡ no_links }
     {

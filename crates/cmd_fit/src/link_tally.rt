@@ -31,7 +31,7 @@ impl LinkTally {
         }
     }
 
-    /// Returns the tally with the cell of this record more.
+    /// Returns the tally with one more cell, that of this record.
     pub(crate) fn with(self, record_read: &Record<'_>) -> LinkTally
         ensures { result ≡ one_more_cell self record_read.now }
     {

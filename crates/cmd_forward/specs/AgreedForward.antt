@@ -7,7 +7,7 @@ use Rattle.cmd_forward.specs.ForwardText.{IsSetupForwarded, MayBeSetupForwarded}
 use Rattle.cmd_forward.specs.Reporting.{ReportedTexts}
 use Rattle.cmd_forward.specs.declared.others.Others.{Others}
 
--- The same as at the tick that is agreed; or nothing is written, and the report is the answer about two ticks that differ.
+-- What is written and reported at the tick that is agreed; or nothing is written, and the report is the answer about two ticks that differ.
 abbrev pub ForwardsAsAgreed : (ℕ → ReportedTexts) → Result ℕ (ℕ × ℕ) → ReportedTexts
 ForwardsAsAgreed IsTextAt (Ok tick) octets text report done = IsTextAt tick octets text report done
 ForwardsAsAgreed IsTextAt (Err (named, asked)) octets text report done = (text ≡ []) × (report ≡ ticks_differ named asked) × (done ≡ Ended)

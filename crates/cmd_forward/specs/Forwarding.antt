@@ -29,8 +29,9 @@ pub record ForwardState (World : Type 0) : Type 0 where
   pub filter : FilterState
   pub world : World
 
--- From this world, what is written of a record with this number and these octets that is this to the filter, and the
--- next state, of which this is the filter's; or the report with which the run ends: at a cell of a second link.
+-- From this world, what is written of a record with this number and these octets, where the filter says this of the
+-- record and is in this state afterwards. `next` is the state of the run afterwards; or, at a cell of a second link,
+-- the report with which the run ends.
 abbrev pub WritesFiltered : {World : Type 0} → JudgeRules World → Others → World → ℕ → List ℕ → Filtered → FilterState
     → List ℕ → Result (ForwardState World) (List ℕ) → Type 0
 WritesFiltered {World = World} rules others world number octets (Counts moment cell) filter here next =
@@ -65,7 +66,7 @@ abbrev pub ForwardsOctets : {World : Type 0} → JudgeRules World → Others →
 ForwardsOctets rules others state format count at octets text report done =
     (frames : List FrameRead) × (ending : Option Fault) × AreFrames format count at octets frames ending × Forwards rules others state frames ending text report done
 
--- The same of a file with these octets that is this.
+-- The same of a file with these octets. The opening says what the file is.
 abbrev pub ForwardsOpened : {World : Type 0} → JudgeRules World → Others → ForwardState World → List ℕ → Opening → List ℕ → List ℕ → Done → Type 0
 ForwardsOpened rules others state octets (Opened format) text report done =
     ForwardsOctets rules others state format 0 (format_start format) (drop (format_start format) octets) text report done

@@ -1,4 +1,4 @@
-//! The records of a capture that go on, at the tick that is agreed.
+//! The records of a capture that go on, at the tick on which the setup script and the options agree.
 
 ghost use Rattle.std.specs.Prelude.{◌≡◌, ◌++◌, IfOk, OnOk, OnErr, Err, option_map};
 ghost use Rattle.text_io.specs.Serving.{IsServed};

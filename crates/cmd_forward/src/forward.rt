@@ -26,11 +26,11 @@ fn report_faults(report: &mut Vec<u8>, text: &[u8]) -> Ending
 }
 
 /// Forwards the cells of a capture by a card that a setup script opens. `times` has for each line of the script its time in nanoseconds
-/// from moment 0 on, or None. It writes the records whose cells pass or are tagged, as records of an ERF file, each as the capture has
+/// from moment 0 on, or None. The records whose cells pass or are tagged are written as records of an ERF file, each as the capture has
 /// it, but with cell loss priority 1 if its cell is tagged. Cells count, and have their moments, as in `upc-lab cells`. Records
-/// without a cell that counts go on as `others` says. What is said at the end is appended to the report: what `police`
-/// prints after its lines about cells, and before it the lines of commands. A script with a fault is explained in the
-/// report, and nothing is written. docs/LAB.md has the format.
+/// without a cell that counts go on as `others` says. At the end the lines of commands are appended to the report, and
+/// then what `police` prints after its lines about cells. A script with a fault is explained in the report, and nothing
+/// is written. docs/LAB.md has the format.
 ///
 /// Memory is bounded: that of the card, and that of [`forward_cells`].
 ///
@@ -67,11 +67,12 @@ pub fn forward_capture<I: Input, O: Output>(
     }
 }
 
-/// The same by a setup script that may name files of rules. `texts` are the octets of these files, in the order of
-/// [`files_read`](cmd_police::files_read). If a text has a fault, the report is its fault line, and the line of the script that names it.
+/// Forwards the cells of a capture, as [`forward_capture`] does, by a setup script that may name files of rules and times. `texts` are the
+/// octets of these files, in the order of [`files_read`](cmd_police::files_read). If a text has a fault, the report is its fault line, and
+/// where the script names it.
 ///
-/// Memory is that of [`forward_capture`], the script with the programs of its rules in hexadecimal digits, and what one text of rules is
-/// compiled in.
+/// Memory is that of [`forward_capture`], the script with the programs of its rules in hexadecimal digits, and what compiling one text of
+/// rules takes.
 ///
 /// # Errors
 ///

@@ -7,8 +7,8 @@ pub fn what_was_forwarded_conforms()
     ensures { WhatWasForwardedConforms }
 {}
 
-/// A setup script, times of its lines and a capture have one output and one report. On two threads, and however the input is cut, `forward`
-/// writes that output.
+/// A setup script, times of its lines and a capture have one output and one report. So `forward` writes that output, however the input is
+/// cut.
 pub fn a_forwarded_capture_has_one_output()
     ensures { ForwardedOnce }
 {}

@@ -92,7 +92,7 @@ pub(crate) fn add_cell_record(written: &mut Vec<u8>, onward: Onward, octets: &[u
     }
 }
 
-/// Appends what is written of another record.
+/// Appends what is written of a record without a cell that counts.
 pub(crate) fn add_other_record(written: &mut Vec<u8>, others: Others, octets: &[u8]) -> Added
     requires { 16 ≤ length octets.now }
     ensures { OnOk result (written.new.items ≡ written.old.items ++ other_written others octets.now) }

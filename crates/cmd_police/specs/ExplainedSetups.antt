@@ -1,5 +1,5 @@
--- The text of `upc-lab explain --setup` for a setup script with files of rules: the faults that `police` would find, or
--- the hints and that there is none; and the hints as comments.
+-- The text of `upc-lab explain --setup` for a setup script with files of rules: the faults that `police` would find; or,
+-- without one, the hints and a line that says so. And the hints as comments.
 use Rattle.std.specs.Prelude.{◌≡◌, ◌⊎◌, ℕ, Bool, eqb, if◌then◌else◌, List, [], ◌∷◌, ◌++◌, codes, Option}
 use Rattle.std.specs.List.{starts_with}
 use Rattle.cmd_rules.specs.AsmText.{whole_line}

@@ -48,7 +48,7 @@ has_room_left Unopened = false
 has_room_left (Opened free most) = nat_lt 0 free
 has_room_left Over = false
 
--- These names, after that of a line, if it names rules. Without room there is none in its place.
+-- These names, after that of a line, if it names rules. Without room None is in place of the name.
 abbrev pub with_file : Bool → Option (List ℕ) → List (Option (List ℕ)) → List (Option (List ℕ))
 with_file room None files = files
 with_file room (Some name) files = (if room then Some name else None) ∷ files

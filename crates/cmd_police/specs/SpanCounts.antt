@@ -28,7 +28,7 @@ pub record TimeSpan : Type 0 where
 abbrev pub ticks_of_span : ℕ → ℕ → ℕ
 ticks_of_span nanoseconds tick = max (nanoseconds / tick) 1
 
--- The moment at which the span begins that has this moment. Spans follow one another from moment 0 on.
+-- The moment at which the span of this moment begins. Spans follow one another from moment 0 on.
 abbrev pub begin_of_span : ℕ → ℕ → ℕ
 begin_of_span ticks moment = moment - moment % ticks
 

@@ -119,7 +119,7 @@ moment_of_time tick time = time / tick + (if time % tick == 0 then 0 else 1)
 abbrev pub waiting_line : ℕ → List ℕ → List WaitingCommand
 waiting_line moment content = if is_silent (words_of content) then [] else (record { moment = moment; content = content }) ∷ []
 
--- The lines after the first time, which wait.
+-- The lines from the first one with a time on, which wait.
 abbrev pub waiting_at : ℕ → List (Option ℕ) → List Line → List WaitingCommand
 waiting_at tick [] lines = []
 waiting_at tick (time ∷ times) [] = []

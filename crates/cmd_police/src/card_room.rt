@@ -31,7 +31,7 @@ pub enum CardRoom {
         /// How many programs it has room for at first.
         most: u64,
     },
-    /// A line before it ended the run.
+    /// An earlier line ended the run.
     Over,
 }
 
@@ -48,7 +48,7 @@ fn room_of_shape(shape: Option<Shape>) -> CardRoom
     }
 }
 
-/// Returns the room before and after the first line with words.
+/// Returns the room after a line before which no card is open. The first line with words opens one or ends the run.
 fn room_after_opening(line: &[u8]) -> CardRoom
     ensures { result ≡ room_after CardRoom.Unopened line.now }
 {
@@ -115,7 +115,7 @@ fn is_over(met: usize, octets: usize) -> bool
     met >= MOST_SCRIPT_LINES || octets > MOST_LINE_OCTETS
 }
 
-/// Appends the name that a line has, if any, or none in its place if there is no room.
+/// Appends the name of the file that a line names, if it names one; or None in place of the name, if there is no room.
 fn add_file(
     alloc: Global,
     files: &mut Vec<Option<Vec<u8>>>,

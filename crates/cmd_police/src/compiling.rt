@@ -89,7 +89,7 @@ fn digits_of(alloc: Global, octets: &[u8]) -> Result<String, AllocError>
     Ok(hex::encode(alloc, octets)?)
 }
 
-/// Returns the octets of a code in digits, which are read again as the code.
+/// Returns the octets of a code in hexadecimal digits, from which the code is read again when the line is carried out.
 fn program_digits(alloc: Global, code: &[Instr]) -> Result<String, AllocError>
     ensures digits { IfOk result (λ digits. string_bytes digits ≡ program_digits code.now) }
     ensures read_again { OnOk result (IsReadAgain code.now) }

@@ -100,7 +100,7 @@ fn add_all_counts(
         → OnOk result (answers.new.items ≡ answers.old.items ++ counts_lines world) }
 {
     let mut earlier = None;
-    // The connections with a smaller number have their lines.
+    // The connections with a smaller number have their lines already.
     let mut least = 0;
     while let Some(vc) = core.next_vc(earlier) {
         let number = order_number(vc);

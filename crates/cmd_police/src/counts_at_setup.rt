@@ -66,7 +66,7 @@ impl CountsAtSetup {
         Ok(())
     }
 
-    /// Records what the line of this connection had counted when it was set up: now. If there is no such connection, nothing changes.
+    /// Records what the line of this connection has counted now, just after the setup. If there is no such connection, nothing changes.
     pub(crate) fn record_setup(&mut self, core: &Core, vc: Option<Vc>) -> Result<(), AllocError>
         ensures { OnOk result ((world : World) → CoreAgrees core.now world → NotesSetup world vc self.old.counts.items self.new.counts.items) }
     {

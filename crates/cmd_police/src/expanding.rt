@@ -14,7 +14,7 @@ use std::alloc::{AllocError, Global};
 use text_io::Added;
 use text_words::add_text;
 
-/// What a setup script leads to.
+/// What compiling the rules that a setup script names leads to.
 #[derive(Drop)]
 pub(crate) enum Expanded {
     /// The script itself, which names no rules.

@@ -52,9 +52,9 @@ fn setup_explanation(
     }
 }
 
-/// Writes what `police` would find wrong in a setup script that may name files of rules and times, or its hints and
-/// that it has no fault. `texts` are the octets of these files, in the order of [`files_read`](crate::files_read). The
-/// run is Ended if there is a fault, and Whole if there is none. docs/LAB.md has the format.
+/// Writes what `police` would find wrong in a setup script that may name files of rules and times; or, if nothing is wrong, the hints about
+/// it and a line that says so. `texts` are the octets of these files, in the order of [`files_read`](crate::files_read). The run is Ended
+/// if there is a fault, and Whole if there is none. docs/LAB.md has the format.
 ///
 /// # Errors
 ///
@@ -103,7 +103,7 @@ fn comments_of_hints(alloc: Global, text: &[u8]) -> Result<Vec<u8>, AllocError>
 }
 
 /// Returns the hints about a setup script without a fault as comments, where `texts` are those of [`explain_setup`].
-/// One with a fault has none.
+/// A script with a fault has none.
 ///
 /// # Errors
 ///

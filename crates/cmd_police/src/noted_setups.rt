@@ -55,7 +55,7 @@ fn connection_to_set_up(core: &Core, line: &[u8]) -> Option<Vc>
     }
 }
 
-/// Carries out a line. If it set up a connection, what the line of the card had counted then is recorded.
+/// Carries out a line of a script. If that sets up a connection, records what the connection's line of the card had counted by then.
 pub(crate) fn answer_and_record(
     alloc: Global,
     card: &mut ScriptCard,
@@ -71,7 +71,7 @@ pub(crate) fn answer_and_record(
     at_setup.record_setup(card.core(), vc)
 }
 
-/// A run of `run`, with what the lines of its card had counted when their connections were set up.
+/// A run of `upc run`, with what the lines of its card had counted when their connections were set up.
 #[derive(Drop)]
 pub(crate) struct NotedSetups {
     run: Policing,

@@ -53,8 +53,8 @@ fn numbered<T: Copy>(items: &[T], number: u32) -> Option<T>
     items.get(number as usize - 1).copied()
 }
 
-/// Returns the levels of a contract that explain a cell's excess, after the cell and by its verdict: a tagged cell conformed to bucket 1,
-/// and filled it.
+/// Returns the levels by which the excess of a cell that didn't pass is found. `levels` are those after the cell. They are those before it,
+/// too, unless it was tagged: then it conformed to bucket 1 and filled it, so bucket 1 counts as empty.
 fn levels_to_explain(verdict: Verdict, levels: Levels) -> Levels
     ensures first { result.first ≡ first_met verdict levels.first }
     ensures second { result.second ≡ levels.second }
@@ -68,7 +68,7 @@ fn levels_to_explain(verdict: Verdict, levels: Levels) -> Levels
     }
 }
 
-/// Returns by how much a cell came too early that was judged so on this line, and didn't pass. The line is as the cell left it.
+/// Returns by how much a cell came too early that was judged on this line and didn't pass. The line is as the cell left it.
 fn excess_left(line: &Line, judged: &Judgement, clp: bool) -> Option<Excess>
     ensures { (connection : Connection) → IsKeptOnLine connection line.now → line.now.state.last ≤ judged.now.moment
         → result ≡ excess_left connection judged.now.value judged.now.verdict clp judged.now.moment }
@@ -79,8 +79,8 @@ fn excess_left(line: &Line, judged: &Judgement, clp: bool) -> Option<Excess>
     excess_at(&contract, &met, clp, judged.moment)
 }
 
-/// Returns by how much a cell came too early that arrived with this answer. Only the line of a cell that didn't pass is read, and only
-/// after the cell: what a cell doesn't conform to it doesn't change.
+/// Returns by how much a cell with this answer came too early. Its line is read only if it didn't pass, and as the cell left the line: a
+/// cell changes no bucket to which it doesn't conform.
 fn excess_of(
     core: &Core,
     vc: Vc,
@@ -101,7 +101,8 @@ fn excess_of(
     excess_left(line, judged, clp)
 }
 
-/// Appends the text for a cell that arrived with this answer. Returns whether the heading is written then. The card is as the cell left it.
+/// Appends the text for a cell that arrived with this answer. Returns whether the heading was written, now or before. The card is as the
+/// cell left it.
 #[inline(always)]
 fn add_cell(
     answers: &mut Vec<u8>,
@@ -170,7 +171,7 @@ pub struct PoliceChoice {
 pub(crate) struct PoliceRun {
     /// Which cells have lines.
     lines: LineChoice,
-    /// The rules that these show, if they do.
+    /// The rules that these lines show, if they show rules.
     rules: Option<LoadedRules>,
     /// How long a tick is.
     tick: Tick,
@@ -247,11 +248,12 @@ fn spans_of(alloc: Global, side: Side, scope: PoliceScope, tick: Tick) -> Spans
     Spans::new(alloc, side, length)
 }
 
-/// Polices the cells of a capture by a card that a setup script opens, whose lines have these times, one for each. Lines with a time are
-/// carried out before the first cell at or after it. A script with a fault is explained, and nothing is policed. Cells
-/// count, and have their moments, as in `upc-lab cells`. Long journals are dropped, so that any number of cells is judged.
-/// A table has the counts of each connection. If rules are given, the line of each cell shows the one that gave it its value. If spans are asked for, so have lines for each span of time, after the last of its cells.
-/// docs/LAB.md has the format.
+/// Polices the cells of a capture by a card that a setup script opens. `times` has for each line of the script its time in nanoseconds from
+/// moment 0 on, or None. A line with a time is carried out before the first cell at or after that time. A script with a fault is explained,
+/// and nothing is policed. Cells count, and have their moments, as in `upc-lab cells`. Long journals are dropped, so that any number of
+/// cells is judged. If rules are given, the line of each cell shows the rule that gave the cell its value. If spans are asked for, lines
+/// after the last cell of each span have the counts of each connection in that span. At the end a table has the counts of each connection
+/// since its setup. docs/LAB.md has the format.
 ///
 /// With more than one thread, records are read on one thread while the cells of earlier ones are judged on another, as in
 /// [`follow_cells`]. The output is the same.

@@ -33,12 +33,12 @@ pub struct PolicedCard {
     answers: Vec<u8>,
 }
 
-/// What a setup script leads to.
+/// The card that a setup script opens, or its fault.
 #[derive(Drop)]
 pub enum OpenedCard {
     /// It has a fault, which this text explains.
     Faulty(Vec<u8>),
-    /// A card.
+    /// The card, before the first cell.
     Ready(PolicedCard),
 }
 
@@ -97,8 +97,8 @@ impl PolicedCard {
     }
 }
 
-/// Carries out a setup script up to its first line with a time, and returns the card that it opens. `times` has for each line its time in
-/// nanoseconds from moment 0 on, or None. The report names the tick.
+/// Carries out the lines of a setup script before the first one with a time, and returns the card that it opens. `times` has for each line
+/// its time in nanoseconds from moment 0 on, or None. The report names the tick.
 ///
 /// # Errors
 ///

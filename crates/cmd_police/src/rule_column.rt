@@ -90,7 +90,7 @@ fn end_with_rule(answers: &mut Vec<u8>, loaded: &LoadedRules, number: usize, cel
     Ok(())
 }
 
-/// Ends the line of a cell. If rules are shown, it has the one that gave the cell its value.
+/// Ends the line of a cell. If rules are shown, the line has the rule that gave the cell its value.
 pub(crate) fn end_line(
     answers: &mut Vec<u8>,
     rules: &Option<LoadedRules>,

@@ -15,7 +15,7 @@ use cmd_run::ScriptCard;
 use std::alloc::{AllocError, Global};
 use text_io::{Done, ReaderInput, WriterOutput, answer_lines};
 
-/// What a setup script leads to.
+/// What carrying out the lines of a setup script before the first one with a time leads to.
 #[derive(Drop)]
 pub(crate) enum SetUp {
     /// It has faults, which this text explains.
@@ -97,7 +97,7 @@ fn card_of(alloc: Global, script: &[u8]) -> Result<(ScriptCard, CountsAtSetup), 
     }
 }
 
-/// Carries out a setup script up to its first time. The commands after it wait.
+/// Carries out the lines of a setup script before the first one with a time. The others wait.
 pub(crate) fn set_up(
     alloc: Global,
     script: &[u8],

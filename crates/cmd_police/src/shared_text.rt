@@ -33,7 +33,7 @@ impl SharedText {
     ///
     /// # Errors
     ///
-    /// `AllocError` if it has as many lines as can be counted.
+    /// `AllocError` if as many lines share the text as can be counted.
     pub fn share(&self) -> Result<SharedText, AllocError>
         ensures { IfOk result (λ text. octets_of_text text ≡ octets_of_text self.now) }
     {

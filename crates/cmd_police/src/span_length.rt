@@ -23,7 +23,7 @@ impl SpanLength {
         }
     }
 
-    /// Returns the moment at which the span begins that has this moment.
+    /// Returns the moment at which the span of this moment begins.
     pub(crate) fn begin_of(self, moment: u64) -> u64
         ensures { result ≡ begin_of_span self.ticks moment }
     {

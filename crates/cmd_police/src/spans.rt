@@ -14,7 +14,7 @@ use std::alloc::{AllocError, Global};
 use std::collections::BTreeMap;
 use upc_cell::{Cell, Side};
 
-/// The spans of time of a run. Memory is that of the rows of one span, of which a connection has one.
+/// The spans of time of a run. Only the rows of the present span take memory: at most one for each connection.
 #[derive(Drop)]
 pub(crate) struct Spans {
     /// The side of the card.

@@ -24,8 +24,8 @@ use text_script::{Command, add_tally, read_command};
 use text_words::{add_bad_line, add_number, add_text};
 use upc_cell::{Cell, Side, Vc};
 
-/// A journal that has this number of entries is dropped before the next cell of its connection. Nothing printed depends on it. So few entries
-/// of each connection stay in the processor's cache.
+/// A journal that has this number of entries is dropped before the next cell of its connection. The number is small, so that journals stay
+/// in the processor's cache. Nothing printed depends on it.
 const JOURNAL_DROPPED_AT: usize = 64;
 
 /// A card, and the commands that wait for their moments.
@@ -56,7 +56,8 @@ fn is_taken_under_traffic(line: &[u8]) -> bool
     }
 }
 
-/// Appends the answer to a command that ends no journal, so to each but `release` and `cut`.
+/// Appends the answer to a line other than `release` and `cut`, which end a journal. A line that isn't taken while cells arrive is
+/// `BadLine`.
 fn answer_other(
     alloc: Global,
     card: &mut ScriptCard,
@@ -233,8 +234,9 @@ impl TimedCard {
         }
     }
 
-    /// Takes all steps of a cell at the port and returns its answer. A long journal of its connection is dropped first, so that it is never
-    /// full. Returns None if the port has a cell; between cells it never has.
+    /// Takes all steps of a cell at port 0 and returns its answer. A long journal of its connection is dropped before the cell is judged,
+    /// so that a journal is full only if 2^62 cells were judged on its line. Returns None if the port has a cell; between cells it never
+    /// has.
     #[inline(always)]
     pub(crate) fn arrive(&mut self, cell: &Cell, moment: u64) -> Option<Result<Judgement, Unjudged>>
         ensures arrives { ArrivesWithRoom self.old.card.core cell.now moment (option_map (λ decision. answer_to cell.now decision) result) self.new.card.core }

@@ -116,7 +116,7 @@ fn falls_below(own: Option<u64>, before: Option<u64>) -> bool
     }
 }
 
-/// Appends octets, with blanks in place of the first of them.
+/// Appends octets, with blanks in place of the first `many` of them.
 fn add_blanked(made: &mut Vec<u8>, many: usize, octets: &[u8]) -> Result<(), AllocError>
     requires { many ≤ length octets.now }
     ensures { OnOk result (made.new.items ≡ made.old.items ++ with_blanks many octets.now) }
@@ -126,7 +126,7 @@ fn add_blanked(made: &mut Vec<u8>, many: usize, octets: &[u8]) -> Result<(), All
     made.extend_from_slice(&octets[many..])
 }
 
-/// Appends a line with this time without it.
+/// Appends a line, with blanks in place of `at` and its time if it names one.
 fn add_without_time(made: &mut Vec<u8>, own: Option<u64>, octets: &[u8]) -> Result<(), AllocError>
     ensures { OnOk result (made.new.items ≡ made.old.items ++ without_time own octets.now) }
 {

@@ -35,7 +35,7 @@ impl<'a, 'l, S: Ledgers> Promise<Result<BusyPort<S>, AllocError>> for AnswersTo<
 /// A port's thread.
 type Running<'a, 'l, S> = PromisedHandle<Result<BusyPort<S>, AllocError>, AnswersTo<'a, 'l>>;
 
-/// What has run: the ports with the answers to their cells, the texts of the desk, and the desk.
+/// What is left when all threads have ended: the ports with the answers to their cells, the texts of the desk, and the desk.
 #[derive(Drop)]
 pub struct AtOnce<S: Ledgers> {
     pub ports: Vec<BusyPort<S>>,

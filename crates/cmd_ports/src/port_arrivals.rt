@@ -16,8 +16,8 @@ use text_io::Added;
 use text_script::{CellLine, read_cell_line};
 use upc_cell::Side;
 
-/// Lets the cell of a line arrive, and returns what is stored of it and its answer. Returns None only for a line without
-/// a cell; a port gets no such line.
+/// Lets the cell of a line arrive, and returns what is stored of the cell and its answer. Returns None only for a line
+/// without a cell; a port gets no such line.
 fn arrive_from<S: Ledgers, G: Gate, R: Wait>(
     rt: &R,
     alloc: Global,

@@ -219,7 +219,7 @@ pub fn run_ports_with<G: Gate + Sync, R: Threads + Wait + Sync, I: Input, O: Out
     output: &mut O,
     gate: &G,
 ) -> Ending
-    // One answer for each line; which of its possible answers is left open.
+    // Each line has one answer. Which of the answers that it may have is left open.
     ensures { IsServed IsPortsText I.Input input.old input.new O.Output output.old output.new result }
 {
     let mut script = Script::new(alloc);

@@ -1,4 +1,5 @@
-//! The answers that aren't printed yet. They are printed in the script's order, so each answerer's first is its next.
+//! The answers that aren't printed yet. They are printed in the script's order, so the next answer of a port or of the desk is its first
+//! one here.
 
 ghost use Rattle.std.specs.Prelude.{◌≡◌, ◌∷◌, [], IfOk, MatchOption, map};
 ghost use Rattle.cmd_ports.specs.inner.Rest.{unprinted};

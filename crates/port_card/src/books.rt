@@ -1,4 +1,5 @@
-//! The sums by verdict. Each is counted in two ledgers, that of the lines and that of the seats.
+//! The sums by verdict. Each is counted in two ledgers, that of the lines and that of the seats. A ledger is a sum with parts in several
+//! places: the shares of all lines, or of all seats, add up to the total in its book.
 
 ghost use Rattle.std.specs.Prelude.{◌≡◌, ◌+◌, ◌<◌, ◌≤◌, ◌^◌, ◌↔◌, IsTrue};
 
@@ -132,8 +133,8 @@ impl<L: Ledger, M: Ledger> Pair<L, M> {
         self.count += 1;
     }
 
-    /// Changes nothing. Shows that one seat has counted at most as many cells as all seats together. Only the ledger
-    /// knows this; so a tally has room if the card's sum has.
+    /// Changes nothing. Shows that one seat has counted at most as many cells as all seats together. So a seat's tally has
+    /// room if the card's sum has.
     fn bound(&mut self, seat: &mut Share<M>)
         ensures same { self.new ≡ self.old }
         ensures seat { (seat.new.parts ≡ seat.old.parts) × (seat.new.amount ≡ seat.old.amount) }

@@ -1,4 +1,4 @@
-//! A hook between the look-up and the judgement of a cell. It has no contract: a card promises the same at any gate.
+//! A hook between the look-up and the judgement of a cell. It has no contract: a card promises as much with any gate.
 
 /// A hook between the look-up and the judgement of a cell. A test uses it to make a port wait for another thread. At
 /// that time the port holds only the read lock of the programs.

@@ -18,7 +18,8 @@ ReportsRun message IsText I input O output output' E errors errors' (Ok done) =
     (report : List ℕ) × Adds (λ text. IsText (I.rest input) text report done) (O.held output) (O.held output') × WritesMessage E errors errors' report
 ReportsRun message IsText I input O output output' E errors errors' (Err fault) = WritesMessage E errors errors' (message fault)
 
--- The effect of a run with these texts and reports, or these if it fails, and its exit status.
+-- The effect of a run, and its exit status. After a run `IsText` holds of output and report. After a failed one the output is a prefix
+-- of a text by `MayBeText`.
 pub record CarriesForward {Source Sink Errors : Type 0} (message : RunFault → List ℕ) (IsText MayBeText : ReportedTexts) (I : InputView Source)
     (input input' : Source) (O : OutputView Sink) (output output' : Sink) (E : OutputView Errors) (errors errors' : Errors) (status : ℕ) : Type 0 where
   pub ended : Result Done RunFault

@@ -40,7 +40,7 @@ IsLabText lab.Trace = IsTraceText
 IsLabText lab.Size = IsSizesText
 IsLabText lab.Links = IsLinksText
 
--- What becomes of other records.
+-- What becomes of records without a cell that counts, as the option `--others` of `forward` says.
 abbrev pub others_asked : Bool → Others
 others_asked others = if others then Pass else Drop
 
@@ -57,7 +57,7 @@ octets_if_named (Some name) read = Some read
 abbrev pub rules_asked : FitOptions → List ℕ → Option (List ℕ)
 rules_asked options read = octets_if_named options.rules read
 
--- What the texts are of which these are programs.
+-- The kinds of the old and the new text. `Programs` says which of them are programs; any other is rules.
 abbrev pub kinds_asked : Programs → TextKinds
 kinds_asked which.Neither = record { old = Rules; new = Rules }
 kinds_asked which.Old = record { old = Program; new = Rules }

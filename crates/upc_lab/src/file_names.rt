@@ -20,7 +20,7 @@ use text_io::Added;
 /// The length limit of a name, in octets, above that of any name that the system takes.
 const ROOM: usize = 4096;
 
-/// Returns whether these words are this one alone.
+/// Returns whether there is exactly one word, and it is this one.
 fn is_only(words: &[String], shown: &str) -> bool
     ensures { result ≡ is_only shown.now (map string_bytes words.now) }
 {
@@ -30,7 +30,7 @@ fn is_only(words: &[String], shown: &str) -> bool
     }
 }
 
-/// Returns whether a word is shown as this.
+/// Returns whether a word of the command line is shown as this.
 fn is_shown_as(alloc: Global, word: &[u8], shown: &str) -> Result<bool, AllocError>
     ensures { IfOk result (λ is. is ≡ bytes_eq (shown_word word.now) shown.now) }
 {

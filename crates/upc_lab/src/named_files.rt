@@ -47,7 +47,7 @@ pub struct NamedFiles {
 }
 
 impl NamedFiles {
-    /// Returns that there are no files.
+    /// Returns the files of words that name none.
     fn none(alloc: Global) -> NamedFiles
         ensures script { result.script.items ≡ [] }
         ensures rules { result.rules.items ≡ [] }
@@ -231,7 +231,7 @@ fn read_rules<R: Files + AllocGlobal>(
     octets_or_message(rt.alloc(), path.as_bytes(), read_text(rt, path))
 }
 
-/// Returns the octets of a file of rules. It is read unless it was read before, for a line with the same name.
+/// Returns the octets of a file of rules. The file is read unless it was read before, for a line with the same name.
 fn rules_once<'a, R: Files + AllocGlobal>(
     rt: &R,
     setup: &str,
@@ -330,7 +330,7 @@ fn read_setup<R: Files + AllocGlobal>(rt: &R, name: &[u8]) -> Result<NamedFiles,
     })
 }
 
-/// Returns that a name is longer than the system takes.
+/// Returns the message about a name that is longer than the system takes.
 fn too_long(alloc: Global, shown: &str) -> Unreadable
     ensures { IsUnreadable shown.now result }
 {

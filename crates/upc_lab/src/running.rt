@@ -23,7 +23,7 @@ use text_io::{Ending, Output};
 /// How many threads may work at once where no option says so.
 const THREADS: usize = 2;
 
-/// Returns what becomes of other records.
+/// Returns what becomes of records without a cell that counts, as the option `--others` of `forward` says.
 pub(crate) fn others_asked(others: bool) -> Others
     ensures { result ≡ others_asked others }
 {

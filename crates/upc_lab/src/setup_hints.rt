@@ -28,7 +28,7 @@ struct NamesMet<'a> {
 }
 
 impl<'a> NamesMet<'a> {
-    /// Returns that no name was met.
+    /// Makes a set without names.
     fn none(alloc: Global) -> NamesMet<'a>
         ensures { HasNames result [] }
     {
@@ -67,7 +67,7 @@ fn add_hints_after_name(alloc: Global, hints: &mut Vec<u8>, name: &[u8], text: &
     add_hints_about(alloc, hints, &front, text)
 }
 
-/// Appends the hints about a file of rules, unless it isn't read, or its name was met before.
+/// Appends the hints about a file of rules, if it is read and its name wasn't met before.
 fn add_file_hints<'a>(
     alloc: Global,
     hints: &mut Vec<u8>,

@@ -84,7 +84,7 @@ pub record ReadsCells (before : ReadingAhead) (how : StopReason) (after : Readin
   pub leads : (more : List ℕ) (later : List CapturedCell) (end : CellsEnd) → ComesAfter after how more later end
       → HasCellsFrom before (before.window ++ more) (fresh ++ later) end
 
--- The reading goes on, or is what was read before this comes.
+-- The reading goes on, or stops for this reason.
 abbrev pub StepsTo : ReadingAhead → ReadingAhead → List CapturedCell → List CapturedCell → Option StopReason → Type 0
 StepsTo first after old new None = ReadsSoFar first after old new
 StepsTo first after old new (Some how) = ReadsCells first how after old new
