@@ -79,7 +79,7 @@ fn inverse_named(name: &[u8]) -> Option<Test>
     found_in(name, &INVERSES)
 }
 
-/// Reads the operands of a mnemonic of a load or a store. Returns None for any other mnemonic.
+/// Reads the operands of a mnemonic of a load or a store. Returns None for any other mnemonic or other operands.
 #[tactic(auto, unfolding(crate::specs::inner::Reading::moved_in))]
 fn moved(name: &[u8], text: &[u8]) -> Option<Instr>
     ensures { MatchOption result (moved_in name.now (tokens_in text.now) ≡ None)

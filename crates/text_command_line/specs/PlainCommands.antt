@@ -26,8 +26,8 @@ is_plain_subcommand known command =
 abbrev pub is_taken : App → Text → Bool
 is_taken app name = is_empty (kinds_in app (name ∷ [])) && is_empty (kinds_in app (name ∷ codes "--" ∷ []))
 
--- Beside help and the version the command has only subcommands without arguments. Each of these is a row, and the name of each row has no
--- error.
+-- Beside help and the version the command has only subcommands without arguments. Each of these is a row, and the command accepts the name
+-- of each row.
 abbrev pub is_plain_command : {Meaning : Type 0} → App → List (Text × Meaning) → Bool
 is_plain_command app table =
     is_simple_and_free app

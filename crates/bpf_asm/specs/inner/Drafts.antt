@@ -19,8 +19,8 @@ use Rattle.bpf_asm.specs.declared.statement.LentStatement.TheVariants.{Plain, Ju
 use Rattle.bpf_code.specs.declared.instr.Instr.{Instr}
 use Rattle.bpf_code.specs.declared.instr.Instr.TheVariants.{Jump, Branch}
 
--- What `find` knows of names are the places of the labels in the lines, and `places` is the number of statements, which is
--- the next place. No label occurs twice.
+-- For each label in the lines `find` has its place, and for no other name. `places` is the number of statements, which is the
+-- next place. No label occurs twice.
 pub record AgreesWith (lines : List SourceLine) (find : List ℕ → Option ℕ) (places : ℕ) : Type 0 where
   pub counted : places ≡ length (statements_of lines)
   pub once : EachLabelOnce lines
