@@ -14,9 +14,9 @@
  *    and write if the pointer is to no const.
  *  - Memory that a call may write is borrowed by that argument alone: it overlaps none of the others, and no other
  *    thread reads or writes it before the call returns. Memory that a call may only read is not changed before that.
- *  - Calls that the list below marks with "memory" allocate by malloc and realloc and free by free, all of one
- *    allocator, whose blocks are aligned for every type of at most 16 octets. They are called from no signal handler,
- *    nor from the child that a process with threads forked.
+ *  - Calls of the sections marked (memory) allocate by malloc and realloc and free by free, all of one allocator, whose
+ *    blocks are aligned for every type of at most 16 octets. They are called from no signal handler, nor from the child
+ *    that a process with threads forked.
  *
  *  - A upc_program and a upc_card are all zeros, or as these calls left them.
  *
@@ -318,7 +318,7 @@ void upc_program_free(upc_program *program);
 
 /* A card with programs and connections, which judges each cell on the connection that its header names; or none: all
  * zeros are none, as in `upc_card c = {0, 0};`. As with a upc_program, only these calls fill it, it has no second copy,
- * it is freed before it is gone, and it may be moved. A card serves one caller at a time. For more, give each thread a
+ * it may be moved, and its owner frees it before its memory goes out of scope. A card serves one caller at a time. For more, give each thread a
  * card of its own, with a part of the connections, as in examples/c/threads.c. */
 typedef struct upc_card {
 	uint32_t live;

@@ -12,8 +12,8 @@ statements_of lines = filter_map (λ line. line.statement) lines
 abbrev pub HasLabel : List SourceLine → ℕ → List ℕ → Type 0
 HasLabel lines at label = (line : SourceLine) × (slice_get lines at ≡ Some line) × (line.label ≡ Some label)
 
--- A label names the place whose number is that of the instruction lines before it. So a label alone on its line names
--- the next instruction.
+-- A label names the place whose number is how many instruction lines come before the label. So a label alone on its line
+-- names the next instruction.
 pub record NamesPlace (lines : List SourceLine) (label : List ℕ) (place : ℕ) : Type 0 where
   pub before : List SourceLine
   pub here : SourceLine

@@ -1,3 +1,5 @@
+-- Sources of assembly and listings. Read SourceLines, Tokens, Numbers, StatementSpelling, Grammar, Labels, Meaning, Faults and
+-- Listing in this order.
 pub mod Faults
 pub mod Grammar
 pub mod Labels

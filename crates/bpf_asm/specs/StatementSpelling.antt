@@ -71,7 +71,7 @@ one_sided (mnemonic ∷ more) by target =
     (text mnemonic ∷ text (codes " ") ∷ operand by ++ text (codes ", ") ∷ label target ∷ []) ∷ one_sided more by target
 
 -- The spellings of a statement, one line for each row of the instruction table. The first spelling is the one in
--- listings.
+-- listings. A jump or a branch is spelled with labels: with offsets, or a branch without any label, it has no spelling.
 unfoldable pub spellings : Statement → List (List Part)
 spellings (plain (LoadAbs size k)) = (text (load_name size) ∷ text (codes " [") ∷ num k ∷ text (codes "]") ∷ []) ∷ []
 spellings (plain (LoadInd size k)) = (text (load_name size) ∷ text (codes " [x+") ∷ num k ∷ text (codes "]") ∷ []) ∷ []

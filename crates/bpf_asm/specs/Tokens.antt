@@ -17,13 +17,13 @@ pub data Token : Type 0 where
 abbrev pub is_word : ℕ → Bool
 is_word octet = is_digit octet || (nat_le 65 octet && nat_le octet 90) || (nat_le 97 octet && nat_le octet 122) || octet == 95
 
--- Whether the piece is a run of octets of words.
+-- Whether the piece is a run of octets of words. Its first octet decides: any other piece is a single octet.
 abbrev pub is_run : List ℕ → Bool
 is_run [] = false
 is_run (octet ∷ rest) = is_word octet
 
--- The pieces after one more octet in front. An octet of a word joins the run that follows; any other octet is a piece
--- of its own.
+-- The pieces of a line with one more octet in front. An octet of a word joins the run that follows; any other octet is a
+-- piece of its own.
 abbrev pub joined : ℕ → List (List ℕ) → List (List ℕ)
 joined octet [] = (octet ∷ []) ∷ []
 joined octet (piece ∷ pieces) = if is_word octet && is_run piece then (octet ∷ piece) ∷ pieces else (octet ∷ []) ∷ piece ∷ pieces
@@ -64,7 +64,7 @@ abbrev pub has_faulty : List Token → Bool
 has_faulty [] = false
 has_faulty (token ∷ tokens) = is_faulty token || has_faulty tokens
 
--- The tokens after one more in front: `#` before `-` and a number becomes `#` and 2^32 minus the number, modulo 2^32.
+-- These tokens with one more in front: `#` before `-` and a number becomes `#` and 2^32 minus the number, modulo 2^32.
 abbrev pub signed_after : Token → List Token → List Token
 signed_after (mark hash) (mark minus ∷ number value ∷ tokens) =
     if hash == 35 && minus == 45 then mark hash ∷ number ((2 ^ 32 - value) % 2 ^ 32) ∷ tokens else mark hash ∷ mark minus ∷ number value ∷ tokens

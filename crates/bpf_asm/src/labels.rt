@@ -15,7 +15,7 @@ pub(crate) struct Labels<'a> {
     pub places: BTreeMap<(u64, &'a [u8]), usize>,
 }
 
-/// A number below this one leaves room for one more octet.
+/// 2^56: 64 bits have room for a number below this and one more octet.
 const LOW_OCTETS: u64 = 72057594037927936;
 
 /// Returns the last eight octets of a name as one number.

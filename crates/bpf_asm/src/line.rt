@@ -81,14 +81,14 @@ fn line_of(text: &[u8]) -> Option<LentLine<'_>>
     })
 }
 
-/// Reads a line, or returns the fault of its own.
+/// Reads a line, or returns the fault that it has by itself.
 pub(crate) fn read_line(line: &[u8]) -> Result<LentLine<'_>, AsmKind>
     ensures spelled { IfOk result (λ lent. IsSourceLine line.now (line_seen lent)) }
     ensures fault { IfErr result (λ kind. (before : List SourceLine) → IsLineFault before line.now kind) }
 {
     match line_of(line) {
         Some(lent) => Ok(lent),
-        // A line of the grammar has no bad number, so only other lines are searched for one.
+        // A line of the grammar has no bad number, so only other lines are searched for a bad number.
         None if bad_number(line) => Err(AsmKind::BadNumber),
         None => Err(AsmKind::BadLine),
     }

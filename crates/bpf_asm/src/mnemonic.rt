@@ -79,7 +79,7 @@ fn inverse_named(name: &[u8]) -> Option<Test>
     found_in(name, &INVERSES)
 }
 
-/// Reads the operands of a mnemonic of a load or a store.
+/// Reads the operands of a mnemonic of a load or a store. Returns None for any other mnemonic or other operands.
 #[tactic(auto, unfolding(crate::specs::inner::Reading::moved_in))]
 fn moved(name: &[u8], text: &[u8]) -> Option<Instr>
     ensures { MatchOption result (moved_in name.now (tokens_in text.now) ≡ None)
@@ -112,7 +112,7 @@ fn moved(name: &[u8], text: &[u8]) -> Option<Instr>
     None
 }
 
-/// Returns an instruction without operands, if no token is left.
+/// Returns an instruction that takes no operands, if no token is left.
 fn alone(instr: Instr, text: &[u8]) -> Option<LentStatement<'_>>
     ensures { MatchOption result (ended (plain instr) (tokens_in text.now) ≡ None)
         (λ c. ended (plain instr) (tokens_in text.now) ≡ Some (statement_seen c)) }
@@ -124,7 +124,7 @@ fn alone(instr: Instr, text: &[u8]) -> Option<LentStatement<'_>>
     }
 }
 
-/// Reads the operands of the other mnemonics.
+/// Reads the operands of `neg`, `ja`, `jmp`, `ret`, `tax` and `txa`.
 #[tactic(auto, unfolding(crate::specs::inner::Reading::other_in))]
 fn other<'a>(name: &[u8], text: &'a [u8]) -> Option<LentStatement<'a>>
     ensures { MatchOption result (other_in name.now (tokens_in text.entry.now) ≡ None)

@@ -1,4 +1,5 @@
-//! Operands and their parts, taken from the front of a text. Each function returns the rest of the text.
+//! Operands and their parts, taken from the front of a text. Each function `after_..` returns the rest of the text, or None if the text
+//! doesn't begin with that part.
 
 ghost use Rattle.std.specs.Prelude.{◌≡◌, ◌≢◌, ◌-◌, ◌%◌, ◌^◌, ℕ, true, MatchOption};
 ghost use Rattle.bpf_asm.specs.inner.Reading.{cut_constant, cut_length, cut_mark, cut_name, cut_number, cut_operand, cut_target, cut_value, cut_word, is_ended};

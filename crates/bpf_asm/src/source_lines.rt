@@ -6,7 +6,7 @@ ghost use Rattle.bpf_asm.specs.inner.Feeds.{no_feed};
 
 use text_io::{before_return, first_feed};
 
-/// Returns the number of octets before the first line feed.
+/// Returns the number of octets before the first line feed, or of all octets if there is none.
 #[inline(always)]
 fn line_len(text: &[u8]) -> usize
     ensures within { result ≤ length text.now }
@@ -19,7 +19,7 @@ fn line_len(text: &[u8]) -> usize
     }
 }
 
-/// Returns the first line of a text and the rest.
+/// Returns the first line of a text, without its end, and the rest of the text. None if the text is empty.
 pub fn next_line(text: &[u8]) -> Option<(&[u8], &[u8])>
     ensures lines { MatchOption result (source_lines text.now ≡ [])
         (λ found. source_lines text.now ≡ found.0.now ∷ source_lines found.1.now) }

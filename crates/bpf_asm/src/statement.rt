@@ -1,4 +1,4 @@
-//! Statements: the forms of operands after each mnemonic.
+//! Statements: the forms of operands after each mnemonic. In comments `the end` means that no token is left before the comment of the line.
 
 ghost use Rattle.std.specs.Prelude.{◌≡◌, true, MatchBool, MatchOption};
 ghost use Rattle.bpf_asm.specs.inner.Reading.{absolute_in, arithmetic_in, bracket_in, branch_in, constant_in, header_in, indexed_in, inverse_in, jump_in, length_in, load_index, load_word, packet, return_in, scratch_in};
@@ -19,7 +19,7 @@ pub(crate) enum LentStatement<'a> {
     Plain(Instr),
     /// A jump to a label.
     Jump(&'a [u8]),
-    /// A branch with the label of each side. A side without one continues at the next instruction.
+    /// A branch with the label of each side. A side without a label continues at the next instruction.
     Branch {
         test: Test,
         by: By,
@@ -84,7 +84,7 @@ pub(crate) fn header(text: &[u8]) -> Option<u32>
     if at_end(rest) { Some(k) } else { None }
 }
 
-/// Returns whether there is `#len` and the end.
+/// Returns whether the text has `#len` and the end.
 fn packet_length(text: &[u8]) -> bool
     ensures { MatchBool result (length_in (tokens_in text.now) ≡ Some true) (length_in (tokens_in text.now) ≡ None) }
 {

@@ -24,8 +24,8 @@ pub(crate) struct Unresolved<'a> {
     pub statement: LentStatement<'a>,
 }
 
-/// What was read so far. The draft keeps nothing of a line without label and instruction, and only the code of
-/// an instruction without labels.
+/// What was read so far. The draft keeps nothing of a line without label and instruction. Of an instruction without labels
+/// it keeps only the [`Instr`].
 #[derive(Drop)]
 pub(crate) struct Draft<'a> {
     /// The instructions, with offsets of 0 in those with labels.

@@ -1,3 +1,5 @@
+-- Instructions and the octets that spell them. Read Table, Fields, OctetSpelling, Decoding, Encoding, Widths and EarlierTable in
+-- this order. Flow, Operands and Scratch are for the crates that use this one.
 pub mod Decoding
 pub mod EarlierTable
 pub mod Encoding

@@ -24,7 +24,7 @@ abbrev pub SpellsCode : List ℕ → List Instr → Type 0
 SpellsCode octets [] = octets ≡ []
 SpellsCode octets (i ∷ code) = Spells (take 8 octets) i × SpellsCode (drop 8 octets) code
 
--- The same, and each field that an instruction doesn't use is 0.
+-- Octets spell a code plainly if they spell it and each field that an instruction doesn't use is 0.
 abbrev pub SpellsPlainly : List ℕ → List Instr → Type 0
 SpellsPlainly octets [] = octets ≡ []
 SpellsPlainly octets (i ∷ code) = Spells (take 8 octets) i × UnusedAreZero (take 8 octets) i × SpellsPlainly (drop 8 octets) code
@@ -33,7 +33,7 @@ SpellsPlainly octets (i ∷ code) = Spells (take 8 octets) i × UnusedAreZero (t
 abbrev pub eight_at : List ℕ → ℕ → List ℕ
 eight_at octets place = take 8 (drop (8 * place) octets)
 
--- The eight octets at this place spell no instruction, all before do, and this code is in them.
+-- The eight octets at this place are the first that spell no instruction, and their first two are the number `code`.
 pub record IsFirstUnknown (octets : List ℕ) (place code : ℕ) : Type 0 where
   pub within : 8 * place + 8 ≤ length octets
   pub there : instr_code (eight_at octets place) ≡ code

@@ -26,8 +26,8 @@ pub enum DecodeFault {
     /// The number of octets is not a multiple of 8.
     #[error("1 Ragged")]
     Ragged,
-    /// The first eight octets that spell no instruction: their place, in instructions from 0, and the code in the
-    /// first two.
+    /// The first eight octets that spell no instruction: their place, in instructions from 0, and the number in the
+    /// first two of them.
     #[error("2 UnknownCode {at} {code:04x}")]
     UnknownCode { at: usize, code: u16 },
     /// An allocation failed.
@@ -35,7 +35,7 @@ pub enum DecodeFault {
     NoMemory,
 }
 
-/// Decodes arithmetic and branches, by the instruction table.
+/// Decodes arithmetic and branches, by the instruction table. Returns None for any other code.
 fn operation(octets: &[u8; 8]) -> Option<Instr>
     ensures spelled { IfSome result (λ i. Spells octets.now i) }
     ensures no_arithmetic { IfNone result ((op : Op) (by : By) → code_of (Instr.Alu op by) ≢ instr_code octets.now) }
@@ -79,7 +79,7 @@ fn operation(octets: &[u8; 8]) -> Option<Instr>
     })
 }
 
-/// Decodes any instruction, by the instruction table.
+/// Decodes any instruction, by the instruction table. Returns None for a code that isn't in it.
 fn instruction(octets: &[u8; 8]) -> Option<Instr>
     ensures spelled { IfSome result (λ i. Spells octets.now i) }
     ensures no_row { IfNone result ((i : Instr) → code_of i ≢ instr_code octets.now) }
@@ -128,13 +128,13 @@ pub fn decode_one(octets: &[u8; 8]) -> Result<Instr, u16>
 ///
 /// # Errors
 ///
-/// `Ragged` if the number of octets is not a multiple of 8. Otherwise `UnknownCode` for the first eight octets that
-/// spell no instruction, or `NoMemory` in its place.
+/// `Ragged` if the number of octets is not a multiple of 8. Otherwise `NoMemory` if the allocation fails, whatever the
+/// octets are. Otherwise `UnknownCode` for the first eight octets that spell no instruction.
 pub fn decode(alloc: Global, octets: &[u8]) -> Result<Vec<Instr>, DecodeFault>
     ensures code { IfOk result (λ code. SpellsCode octets.now code.items) }
     ensures fault { IfErr result (IsDecodeFault octets.now) }
 
-    // Each case fixes the result, except that NoMemory may replace the last two.
+    // Each of these three clauses fixes the result, except that NoMemory may replace that of the last two.
     ensures ragged { 0 < length octets.now % 8 → result ≡ Err DecodeFault.Ragged }
     ensures unknown { (at code : ℕ) → length octets.now % 8 ≡ 0 → IsFirstUnknown octets.now at code →
         (result ≡ Err (DecodeFault.UnknownCode at code)) ⊎ (result ≡ Err DecodeFault.NoMemory) }

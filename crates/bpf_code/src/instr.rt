@@ -68,7 +68,7 @@ pub enum By {
 pub enum Instr {
     /// `ld [k]`, `ldh [k]`, `ldb [k]`: loads the octets of the packet from offset `k` into A, big-endian.
     LoadAbs { size: Size, k: u32 },
-    /// `ld [x+k]`, `ldh [x+k]`, `ldb [x+k]`: the same from offset X + `k`; the sum doesn't wrap.
+    /// `ld [x+k]`, `ldh [x+k]`, `ldb [x+k]`: loads the octets from offset X + `k` into A, big-endian. The sum doesn't wrap.
     LoadInd { size: Size, k: u32 },
     /// `ld #k`: A becomes `k`.
     LoadImm(u32),

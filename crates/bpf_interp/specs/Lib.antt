@@ -1,3 +1,5 @@
+-- The machine that runs a program on a packet. Read State, Packet, ScratchMemory, Arithmetic, Operand, Tests, Step, Value, Runs
+-- and Registers in this order.
 pub mod Arithmetic
 pub mod ScratchMemory
 pub mod Operand

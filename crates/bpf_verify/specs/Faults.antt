@@ -37,8 +37,8 @@ IsUnwrittenAt code place word =
     Reads code word place × ((passed : List ℕ) × IsPath code passed place × (¬ Any (Stores code word) passed))
 
 -- The fault is that of the first part of the check that fails. The parts, in order: the number of instructions; the
--- first instruction that isn't sound by itself; the return at the end; the first read of a word that some path to it
--- doesn't store.
+-- first instruction that isn't sound by itself; the return at the end; the first read of a word that some path to the
+-- read doesn't store.
 abbrev pub FailsFirst : List Instr → Fault → Type 0
 FailsFirst code Empty = length code ≡ 0
 FailsFirst code TooLong = 4096 < length code

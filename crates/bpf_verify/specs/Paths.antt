@@ -12,8 +12,8 @@ Reads code word place = (i : Instr) × IsInstrAt code place i × ReadsWord i wor
 abbrev pub Stores : List Instr → ℕ → ℕ → Type 0
 Stores code word place = (i : Instr) × IsInstrAt code place i × StoresWord i word
 
--- A path from place 0 to this place. The list has the places that it passed, the latest first; each leads to the next
--- in one step.
+-- A path from place 0 to this place. The list has the places that the path passed before this one, the latest first. In
+-- the order of execution each place is a successor of the one before.
 abbrev pub IsPath : List Instr → List ℕ → ℕ → Type 0
 IsPath code [] place = place ≡ 0
 IsPath code (latest ∷ passed) place = IsPath code passed latest × IsSuccessor code latest place

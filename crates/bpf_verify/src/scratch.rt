@@ -1,7 +1,7 @@
 //! The scratch words that every path to a place stores.
 //!
-//! Each place has a mask of the words that every path to it stores; without a known path the mask has all words. Jumps
-//! go forward, so when the check reaches a place, its mask accounts for every path to it.
+//! Each place has a mask with a bit for each scratch word that every path to the place stores. As long as the check knows no
+//! path to the place, all bits are set. Jumps go forward, so when the check reaches a place, every path has narrowed its mask.
 
 ghost use Rattle.std.specs.Prelude.{◌≡◌, ◌≢◌, ℕ, ◌+◌, ◌<◌, ◌≤◌, ◌↔◌, length, min, slice_index, IfSome, IfNone, Some};
 ghost use Rattle.std.specs.Int.{bit_at};
@@ -14,10 +14,10 @@ use bpf_code::Instr;
 /// One place more than the longest program has, so that each place has a next one.
 pub(crate) const MASK_PLACES: usize = MOST_INSTRUCTIONS + 1;
 
-/// The number of places of a short program, with one more.
+/// The number of masks for a short code. A short code has fewer instructions, so that each place has a next one.
 pub(crate) const SHORT_PLACES: usize = 256;
 
-/// Returns the word that an instruction reads and a mask lacks.
+/// Returns the word that an instruction reads and a mask lacks, if there is one.
 pub(crate) fn unwritten_word(instr: Instr, mask: u16) -> Option<u32>
     requires { (word : ℕ) → ReadsWord instr word → word < 16 }
     ensures none { IfNone result ((word : ℕ) → ReadsWord instr word → bit_at mask word ≡ 1) }
@@ -29,7 +29,7 @@ pub(crate) fn unwritten_word(instr: Instr, mask: u16) -> Option<u32>
     }
 }
 
-/// Returns a mask with the word that an instruction stores.
+/// Returns a mask, with the word that an instruction stores added to it.
 pub(crate) fn with_stored(instr: Instr, mask: u16) -> u16
     requires { (word : ℕ) → StoresWord instr word → word < 16 }
     ensures stored { (word : ℕ) → StoresWord instr word → bit_at result word ≡ 1 }
@@ -41,8 +41,8 @@ pub(crate) fn with_stored(instr: Instr, mask: u16) -> u16
     }
 }
 
-/// Hands the mask after an instruction to its successors; a return has none. Returns the new mask of the next
-/// place, since a processor is slow to read what it has just written.
+/// Hands the mask after an instruction to its successors; a return has none. Returns the new mask of the place
+/// `at + 1`, so that the caller needn't read it: a processor is slow to read what it has just written.
 pub(crate) fn pass_on(written: &mut [u16], at: usize, instr: Instr, mask: u16) -> u16
     requires place { at + 1 < length written.old }
     requires within { (next : ℕ) → LeadsTo at instr next → next < length written.old }
@@ -72,8 +72,8 @@ pub(crate) fn pass_on(written: &mut [u16], at: usize, instr: Instr, mask: u16) -
     }
 }
 
-/// Keeps, at the place after this many skipped instructions, the words that one more path to it stores too. Returns
-/// them.
+/// Narrows the mask of the place to which a jump over this many instructions leads: it keeps only the words that are
+/// also in `mask`, that of one more path to the place. Returns the narrowed mask.
 fn narrow(written: &mut [u16], at: usize, skipped: u32, mask: u16) -> u16
     requires { at + 1 + skipped < length written.old }
     ensures place { (place word : ℕ) → place ≡ at + 1 + skipped
@@ -89,7 +89,7 @@ fn narrow(written: &mut [u16], at: usize, skipped: u32, mask: u16) -> u16
     narrowed
 }
 
-/// Returns the scratch word that an instruction reads.
+/// Returns the scratch word that an instruction reads, if it reads one.
 fn word_read(instr: Instr) -> Option<u32>
     ensures { (word : ℕ) → ReadsWord instr word ↔ (result ≡ Some word) }
 {
@@ -99,7 +99,7 @@ fn word_read(instr: Instr) -> Option<u32>
     }
 }
 
-/// Returns the scratch word that an instruction stores.
+/// Returns the scratch word that an instruction stores, if it stores one.
 fn word_stored(instr: Instr) -> Option<u32>
     ensures { (word : ℕ) → StoresWord instr word ↔ (result ≡ Some word) }
 {

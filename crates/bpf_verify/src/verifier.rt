@@ -47,7 +47,7 @@ pub fn first_fault(code: &[Instr]) -> Option<Fault>
 }
 
 /// Returns the fault that comes first in a code of 1 to 4096 instructions, if it has one. A short code has masks of 512
-/// octets, since writing 8 KiB takes longer than checking it.
+/// octets, since to write the 8 KiB of a long one would take longer than to check a short code.
 fn first_in_order(code: &[Instr]) -> Option<Fault>
     requires { IsSized code.now }
     ensures none { IfNone result (IsAccepted code.now) }
@@ -73,7 +73,8 @@ fn first_in_short(code: &[Instr]) -> Option<Fault>
     first_among(code, &mut written)
 }
 
-/// Returns the fault that comes first in a code of any length up to 4096, if it has one. It isn't inlined either.
+/// Returns the fault that comes first in a code of any length up to 4096, if it has one. Not inlined, for the same reason as
+/// [`first_in_short`].
 #[inline(never)]
 fn first_in_long(code: &[Instr]) -> Option<Fault>
     requires { IsSized code.now }
@@ -85,8 +86,8 @@ fn first_in_long(code: &[Instr]) -> Option<Fault>
 }
 
 /// Returns the fault that comes first in a code, if it has one. One pass looks for the faults of each instruction by
-/// itself and for reads of unwritten words, so that a processor does both at a time. The masks have every word, and there
-/// is one more of them than instructions.
+/// itself and for reads of unwritten words, so that a processor does both at a time. At the call each mask has every word,
+/// and there are more masks than instructions.
 fn first_among(code: &[Instr], written: &mut [u16]) -> Option<Fault>
     requires sized { IsSized code.now }
     requires room { length code.now < length written.old }
@@ -113,7 +114,7 @@ fn first_among(code: &[Instr], written: &mut [u16]) -> Option<Fault>
 }
 
 /// Returns the fault that comes first in a code whose first unwritten read is known: that read, unless an
-/// instruction has a fault by itself, or the last is not a return.
+/// instruction has a fault by itself, or the last instruction is not a return.
 #[inline(never)]
 fn unwritten_or_earlier(code: &[Instr], at: usize, word: u32) -> Fault
     requires sized { IsSized code.now }

@@ -26,7 +26,8 @@ pub record ProgramTexts : Type 1 where
 abbrev pub ProgramWorld : Type 0
 ProgramWorld = Option (List Instr)
 
--- The answer to a program is its text, and the program is the next world. A refusal ends the run with its line.
+-- The answer to a program is a text that `texts.first` allows, and the program is the next world. A refusal ends the run
+-- with its fault line.
 abbrev pub IsProgramAnswer : ProgramTexts → ProgramReading → List ℕ → Option ProgramWorld → Type 0
 IsProgramAnswer texts (is_program code) text next = texts.first code text × (next ≡ Some (Some code))
 IsProgramAnswer texts (is_refused fault) text next = EndsBy fault text next
@@ -58,7 +59,7 @@ abbrev pub after_turn : List Instr → Turn → Option ProgramWorld
 after_turn code GoesOn = Some (Some code)
 after_turn code Ends = None
 
--- The answer to a line, and the next world (none if the line ends the run).
+-- The answer to a line, and the next world, or None if the line ends the run.
 abbrev pub ProgramSteps : ProgramTexts → ProgramWorld → List ℕ → List ℕ → Option ProgramWorld → Type 0
 ProgramSteps texts None content text next = FirstLine texts content text next
 ProgramSteps texts (Some code) content text next = (turn : Turn) × LaterLine texts code content text turn × (next ≡ after_turn code turn)
@@ -73,7 +74,7 @@ abbrev pub IsSoundWorld : ProgramWorld → Type 0
 IsSoundWorld None = Unit {0}
 IsSoundWorld (Some code) = IsAccepted code
 
--- The rules of such a subcommand.
+-- The rules of a subcommand that answers by these texts.
 abbrev pub program_rules : ProgramTexts → Rules ProgramWorld
 program_rules texts = record { steps = ProgramSteps texts; closes = ProgramCloses; too_long = too_long; is_sound = IsSoundWorld }
 

@@ -1,4 +1,4 @@
--- Lines after a program that are cells, each answered by a relation of the cell and its text.
+-- Lines after a program that are cells. A relation, `Prints`, says which texts may answer a cell.
 use Rattle.std.specs.Prelude.{◌≡◌, ℕ, ◌==◌, List, [], ◌∷◌, ◌++◌, length, codes, decimal, MatchOption, MatchBool}
 use Rattle.bpf_code.specs.declared.instr.Instr.{Instr}
 use Rattle.text_io.specs.declared.machine.Turn.TheVariants.{GoesOn}

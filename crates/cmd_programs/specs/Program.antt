@@ -20,7 +20,7 @@ abbrev pub ChecksAs : List Instr → ProgramReading → Type 0
 ChecksAs code (is_program accepted) = IsAccepted code × (accepted ≡ code)
 ChecksAs code (is_refused text) = (fault : Fault) × FailsFirst code fault × (text ≡ verify_fault fault)
 
--- Octets that spell a code are read as that code is checked. Other octets are refused with the line of their error.
+-- Octets that spell a code are a program or refused, as that code is. Other octets are refused with the line of their error.
 abbrev pub ReadsAs : List ℕ → ProgramReading → Type 0
 ReadsAs octets reading =
     ((code : List Instr) × SpellsCode octets code × ChecksAs code reading)

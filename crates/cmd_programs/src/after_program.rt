@@ -18,7 +18,7 @@ use text_words::{add_bad_hex, add_bad_line, add_too_long, octets_of_word};
 
 /// What a subcommand does with a program.
 ///
-/// `texts` says which answers are allowed, and `code` which program a value is for.
+/// `texts` says which answers are allowed, and `code` which program an implementor holds.
 pub trait ProgramUser: Drop {
     ghost use Rattle.std.specs.Prelude.{List, ◌≡◌, IfOk};
     ghost use Rattle.bpf_code.specs.declared.instr.Instr.{Instr as TheInstr};
@@ -49,7 +49,7 @@ pub trait ProgramUser: Drop {
     ghost is_total: { AnswersAlways texts };
 }
 
-/// Reads a program line of one word and answers it. Returns none if there is an error.
+/// Reads a program line of one word and answers it. Returns None if the line has an error.
 #[inline(always)]
 fn take_word<U: ProgramUser>(
     alloc: Global,

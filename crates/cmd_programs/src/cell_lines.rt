@@ -17,7 +17,7 @@ use upc_cell::Cell;
 
 /// What a subcommand does with a program and cells.
 ///
-/// `prints` relates a code and a cell to the texts that answer the cell, and `code` says which program a value is for.
+/// `prints` relates a code and a cell to the texts that answer the cell, and `code` says which program an implementor holds.
 pub trait CellUser: Drop {
     ghost use Rattle.std.specs.Prelude.{List, ℕ, ◌≡◌, IfOk, OnOk};
     ghost use Rattle.bpf_code.specs.declared.instr.Instr.{Instr as TheInstr};
@@ -75,7 +75,7 @@ fn answer_digits<C: CellUser>(alloc: Global, user: &C, line: &[u8], answers: &mu
     }
 }
 
-/// A program whose later lines are cells.
+/// The [`ProgramUser`] whose later lines are cells, which `user` answers.
 #[derive(Drop)]
 pub struct OnCells<C> {
     user: C,

@@ -18,7 +18,7 @@ use text_words::TOO_LONG;
 /// The maximum number of octets of a source.
 pub const MOST_SOURCE_OCTETS: u32 = 1048576;
 
-/// Assembles a source: the code that it means, or its error.
+/// Assembles a source: returns the code that the source means, or its error.
 ///
 /// # Errors
 ///

@@ -29,7 +29,7 @@ fn add_unknown_code(answers: &mut Vec<u8>, at: usize, code: u16) -> Added
     Ok(())
 }
 
-/// Appends the answer to octets that aren't a code. The contract excludes NoMemory.
+/// Appends the answer to octets that aren't a code. For `NoMemory`, which has no line, it appends nothing and fails.
 pub fn add_decode_fault(answers: &mut Vec<u8>, fault: DecodeFault) -> Added
     ensures { fault ≢ DecodeFault.NoMemory →
         OnOk result (answers.new.items ≡ answers.old.items ++ decode_fault fault) }
@@ -41,7 +41,7 @@ pub fn add_decode_fault(answers: &mut Vec<u8>, fault: DecodeFault) -> Added
     }
 }
 
-/// Appends the answer to a read of a scratch word that some path doesn't write before.
+/// Appends the answer to a read of a scratch word that some path to the read doesn't store.
 fn add_unwritten(answers: &mut Vec<u8>, at: usize, word: u32) -> Added
     ensures { OnOk result
         (answers.new.items ≡ answers.old.items ++ verify_fault (Fault.Unwritten at word)) }

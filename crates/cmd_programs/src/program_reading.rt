@@ -10,9 +10,9 @@ use bpf_code::{DecodeFault, Instr, decode};
 use bpf_verify::first_fault;
 use std::alloc::{AllocError, Global};
 
-/// Checks a code and returns it. If the code is refused, returns none and appends the line of its first error. The caller
-/// makes the program where it is used ([`of_accepted`](bpf_verify::Program::of_accepted)): a program is copied at each
-/// return.
+/// Checks a code and returns it. If the code is refused, returns None and appends the line of its first error. The result is
+/// the code, since each return of a program copies 4 KiB: the caller makes the program where the program is used
+/// ([`of_accepted`](bpf_verify::Program::of_accepted)).
 pub fn check_code(code: Vec<Instr>, answers: &mut Vec<u8>) -> Result<Option<Vec<Instr>>, AllocError>
     ensures found { IfOk result (λ found. Finds (ChecksAs code.items) (option_map (λ code. code.items) found)
         answers.old.items answers.new.items) }
@@ -27,7 +27,7 @@ pub fn check_code(code: Vec<Instr>, answers: &mut Vec<u8>) -> Result<Option<Vec<
     }
 }
 
-/// Decodes and checks these octets and returns their code. If there is an error, returns none and appends its line.
+/// Decodes and checks these octets and returns their code. If there is an error, returns None and appends its line.
 pub fn read_code(
     alloc: Global,
     octets: &[u8],

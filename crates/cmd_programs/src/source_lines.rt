@@ -5,7 +5,7 @@ ghost use Rattle.bpf_asm.specs.SourceLines.{source_lines};
 
 use bpf_asm::next_line;
 
-/// Returns the first line of a text. It is empty if there is none.
+/// Returns the first line of a text, or no octets if the text is empty.
 pub fn first_line(text: &[u8]) -> &[u8]
     ensures { result.now ≡ get_or (source_lines text.now) 0 [] }
 {
@@ -15,7 +15,7 @@ pub fn first_line(text: &[u8]) -> &[u8]
     }
 }
 
-/// Returns the text after its first line, if there is one.
+/// Returns the text after its first line. An empty text stays empty.
 fn after_line(text: &[u8]) -> &[u8]
     ensures { source_lines result.now ≡ drop 1 (source_lines text.now) }
 {

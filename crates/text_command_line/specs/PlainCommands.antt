@@ -1,4 +1,4 @@
--- Commands of which every line is read as the names of a table say.
+-- Commands whose words are read as the names of a table say, whatever the words are.
 use Rattle.std.specs.Prelude.{◌&&◌, ◌||◌, Bool, List, [], ◌∷◌, codes, is_some, not}
 use Rattle.std.specs.List.{list_all}
 use Rattle.std.specs.Str.{bytes_eq}
@@ -26,7 +26,8 @@ is_plain_subcommand known command =
 abbrev pub is_taken : App → Text → Bool
 is_taken app name = is_empty (kinds_in app (name ∷ [])) && is_empty (kinds_in app (name ∷ codes "--" ∷ []))
 
--- The command has only help and the version beside subcommands without arguments, each of which is a row, and takes the name of each row.
+-- Beside help and the version the command has only subcommands without arguments. Each of these is a row, and the command accepts the name
+-- of each row.
 abbrev pub is_plain_command : {Meaning : Type 0} → App → List (Text × Meaning) → Bool
 is_plain_command app table =
     is_simple_and_free app

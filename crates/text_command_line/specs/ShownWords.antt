@@ -3,12 +3,12 @@ use Rattle.std.specs.Prelude.{ℕ, nat_lt, if◌then◌else◌, ◌<◌, List, [
 use Rattle.std.specs.Char.{is_control}
 use Rattle.std.specs.Str.Lossy.{utf8_lossy}
 
--- There is such a word, and it has more octets than this.
+-- There is a word, and it has more than `most` octets.
 abbrev pub IsLonger : ℕ → Option (List ℕ) → Type 0
 IsLonger most None = ⊥
 IsLonger most (Some word) = most < length word
 
--- No command line has as many words.
+-- Each command line has fewer words than this.
 abbrev pub most_words : ℕ
 most_words = 18446744073709551615
 

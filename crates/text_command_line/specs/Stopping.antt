@@ -10,7 +10,7 @@ use Rattle.text_command_line.specs.declared.stop.Stop.TheVariants.{Help, Words, 
 abbrev pub IsRequest : ErrorKind → Type 0
 IsRequest kind = (kind ≡ DisplayHelp) ⊎ (kind ≡ DisplayVersion)
 
--- The kind is no such request.
+-- The kind is a request neither for help nor for the version.
 abbrev pub IsMistake : ErrorKind → Type 0
 IsMistake kind = (kind ≢ DisplayHelp) × (kind ≢ DisplayVersion)
 
@@ -18,7 +18,7 @@ IsMistake kind = (kind ≢ DisplayHelp) × (kind ≢ DisplayVersion)
 abbrev pub AsksHelp : Kinds → Type 0
 AsksHelp kinds = (kind : ErrorKind) × IsAmong kind kinds × IsRequest kind
 
--- They have an error other than such a request.
+-- The words with these kinds of error have an error that is no such request.
 abbrev pub IsFaulty : Kinds → Type 0
 IsFaulty kinds = (kind : ErrorKind) × IsAmong kind kinds × IsMistake kind
 

@@ -10,7 +10,7 @@ use Rattle.text_command_line.specs.declared.subcommands.Row.{Row}
 unfoldable pub with_name : App → Text → App
 with_name app name = with_subcommand app (new_shape name)
 
--- The command without its subcommands. It has a version, and may want one of them.
+-- The command without its subcommands. It has a version, and words without a subcommand may be an error.
 abbrev pub bare_app : Text → Bool → App
 bare_app name wants_one = on_top (λ top. record top { has_version = true; subcommand_required = wants_one }) (new_app name)
 
@@ -35,12 +35,12 @@ abbrev pub NamesRow : {Meaning : Type 0} → List (Text × Meaning) → List Tex
 NamesRow table words meaning =
     (name : Text) × (rest : List Text) × (words ≡ name ∷ rest) × (meaning_in table name ≡ Some meaning) × IsEnd rest
 
--- The words name this row, or no row and there are none.
+-- The words are the name of a row that means this, and nothing more. Or no word is left, and there is no row.
 abbrev pub NamesIn : {Meaning : Type 0} → List (Text × Meaning) → List Text → Option Meaning → Type 0
 NamesIn table words None = IsEnd words
 NamesIn table words (Some meaning) = NamesRow table words meaning
 
--- This is the row of the subcommand in the words, or none if there is none.
+-- This is what the row of the subcommand with this name means, or None if there is no name.
 abbrev pub IsRowIn : {Meaning : Type 0} → List (Text × Meaning) → Option Text → Option Meaning → Type 0
 IsRowIn table name found =
     MatchOption name (found ≡ None) (λ text. IsSomeAnd found (λ meaning. meaning_in table text ≡ Some meaning))

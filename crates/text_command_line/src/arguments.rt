@@ -21,7 +21,7 @@ use std::alloc::{AllocError, Global};
 pub enum Form {
     /// A word that isn't an option.
     Word,
-    /// An option with a value, `--NAME VALUE`. This is what help calls the value.
+    /// An option with a value, `--NAME VALUE`. The text is what help calls the value.
     Valued(&'static str),
     /// An option without a value, `--NAME`. What is read as its value is `true` if it is given, and `false` otherwise.
     Flag,
@@ -32,7 +32,7 @@ pub enum Form {
 pub struct Argument {
     /// Its name.
     pub name: &'static str,
-    /// Whether it is an option, and whether that has a value.
+    /// Whether it is an option, and whether the option has a value.
     pub form: Form,
     /// Its value if it isn't given.
     pub default: Option<&'static str>,
@@ -162,7 +162,7 @@ fn arg_of<'a>(alloc: Global, argument: &Argument) -> Arg<'a>
     }
 }
 
-/// Copies the values of these arguments.
+/// Copies the values of these arguments out of what `clap` found.
 #[tactic(auto, using(std::proofs::lemmas::List::append_assoc))]
 fn copied(
     alloc: Global,

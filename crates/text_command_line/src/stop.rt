@@ -18,8 +18,8 @@ pub enum Stop {
     NoMemory,
 }
 
-/// Returns why an error of `clap` gives no choice: it asks for help or the version, a word is wrong, or an allocation failed. The text is
-/// clap's.
+/// Returns why an error of `clap` gives no choice: the words ask for help or the version, a word is wrong, or an allocation failed. The
+/// text is clap's.
 pub(crate) fn stop_for(alloc: Global, error: Error) -> Stop
     ensures { IsStopFor (kind_of error) result }
 {

@@ -36,8 +36,8 @@ fn shown(alloc: Global, octets: &[u8]) -> Result<String, AllocError>
     Ok(word)
 }
 
-/// Returns the word of this number as it is shown. None if there is no such word. A word that is too long is shown as
-/// U+FFFD.
+/// Returns the word of this number as it is shown, or None if there is no such word. A word over [`ROOM`] octets is shown
+/// as U+FFFD.
 fn word_at<C: CommandLine>(
     alloc: Global,
     line: &C,

@@ -8,14 +8,14 @@ use Rattle.text_command_line.specs.declared.choice.Choice.{Choice}
 use Rattle.text_command_line.specs.declared.choice.Choice.TheVariants.{Check, Eval, Run, Ports}
 use Rattle.text_io.specs.declared.ending.Done.{Done}
 
--- The output for a whole input, and how the run ends. For `ports`, IsPortsText doesn't fix every answer.
+-- The output for a whole input, and how the run ends. For `ports` an input may have several outputs.
 abbrev pub IsTextOf : Choice → List ℕ → List ℕ → Done → Type 0
 IsTextOf Check = IsCheckText
 IsTextOf Eval = IsEvalText
 IsTextOf Run = IsRunText
 IsTextOf Ports = IsPortsText
 
--- The subcommands whose output the definition fixes. For `ports` it leaves open the answers to cells.
+-- The subcommands for which the definition allows one output for an input. For `ports` a line may have several answers.
 abbrev pub HasOneText : Choice → Type 0
 HasOneText Ports = ⊥
 HasOneText _ = ⊤

@@ -15,7 +15,8 @@ pub use text_command_line::{Choice, Stop, choose, status};
 use text_command_line::{OfProcess, awaited, words_after_name};
 use text_io::{ReaderInput, WriterOutput};
 
-/// Where the program begins: reads its words, and does what they ask for.
+/// Where the program begins: reads its words, and does what they ask for. If the input is a terminal, first says on standard
+/// error what it waits for.
 fn main(rt: HostRuntime) -> ExitCode {
     let chosen = match words_after_name(rt.alloc(), &OfProcess(&rt)) {
         Ok(words) => choose(rt.alloc(), words),

@@ -30,7 +30,7 @@ pub record IsPolicedCell (before after : UpcCard) (cell : List ℕ) (moment : �
   pub arrives : ArrivesAtCard before after cell moment
       (Judged answer.line answer.number answer.moment answer.value (id_of answer.program) verdict leaving)
 
--- The error for C if the cell wasn't judged, or None if it was.
+-- The error for C if the cell wasn't judged, or None if the cell was judged.
 abbrev pub reason_of_answer : Answer → Option UpcFault
 reason_of_answer (Judged line number moment value program verdict cell) = None
 reason_of_answer NoConnection = Some (plain_fault 8 1 0)

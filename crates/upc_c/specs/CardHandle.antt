@@ -27,8 +27,8 @@ pub record IsShapeIn (card : UpcCard) (shape : Shape) : Type 0 where
   pub had : card_in card ≡ Some core
   pub same : shape ≡ core.shape
 
--- There is a card before and after, and it took the step with this reply. Its core is the one after the step, and after
--- a refusal it is as `RefusalKeeps` states.
+-- There is a card before and after, and it took the step with this reply: the core after is one that the step leads to. If
+-- the step was refused, what is unchanged is as `RefusalKeeps` states.
 pub record CardTakes (before after : UpcCard) (step : Step) (reply : Reply) : Type 0 where
   pub old : CoreView
   pub new : CoreView

@@ -47,7 +47,7 @@ abbrev pub HasCounted : UpcCard → ℕ → ℕ → UpcCounts → Type 0
 HasCounted card path channel counts =
     OfConnection card path channel (λ world connection. counts ≡ counts_for_c (tally_of (world.verdicts connection.line)))
 
--- The card has no connection of this path and channel.
+-- There is a card, and in no world that its core agrees with is there a connection of this path and channel.
 pub record IsMissing (card : UpcCard) (path channel : ℕ) : Type 0 where
   pub vc : Vc
   pub numbers : IsVc card path channel vc
@@ -55,8 +55,8 @@ pub record IsMissing (card : UpcCard) (path channel : ℕ) : Type 0 where
   pub had : card_in card ≡ Some core
   pub none : (world : World) → CoreAgrees core world → connection_in world.connections vc ≡ None
 
--- The error of a read of the connection: there is no card; then, the card's side has no such path; then, it has no such
--- connection.
+-- The error of a read of the connection: there is no card; then, the card's side has no such path; then, the card has no
+-- such connection.
 abbrev pub IsLookUpFault : UpcCard → ℕ → ℕ → UpcFault → Type 0
 IsLookUpFault card path channel fault =
     ((card_in card ≡ None) × (fault ≡ card_missing))

@@ -33,7 +33,7 @@ card_fault_for_c Ports = plain_fault 9 3 0
 card_fault_for_c Journal = plain_fault 9 4 0
 card_fault_for_c NoMemory = out_of_memory
 
--- The error if no card was made: the side is unknown; else the first number is out of its limits; or an allocation
+-- The error if no card was made: the side is unknown; else that of the first number out of its limits; or an allocation
 -- failed.
 abbrev pub IsNoCard : UpcShape → UpcFault → Type 0
 IsNoCard given fault =

@@ -1,3 +1,4 @@
+-- The calls of the library for C. Read the modules in this order:
 pub mod Faults
 pub mod GivenContract
 pub mod Judging

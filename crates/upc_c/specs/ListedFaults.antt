@@ -1,5 +1,6 @@
 -- The faults that a card reports. A card of this library does all steps of a cell in one call, so no port has a cell
--- between two calls. A card in threads may report more: that it is busy, or that what a cell was looked up for is gone.
+-- between two calls. A card in threads may report more: that it is busy, or that the connection or the program that was
+-- looked up for a cell is gone.
 use Rattle.std.specs.Prelude.{ℕ, Bool, true, false, List, IsTrue}
 use Rattle.card_core.specs.declared.answer.Answer.{Answer}
 use Rattle.card_core.specs.declared.answer.Answer.TheVariants.{NoConnection as UnknownCell, MomentBack, MomentTooLate, JournalFull}

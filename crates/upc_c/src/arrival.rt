@@ -46,7 +46,7 @@ pub struct UpcAnswer {
     pub line: u16,
 }
 
-/// Returns the error for C if a cell isn't judged.
+/// Returns the error for C of a cell that isn't judged for this reason.
 fn unjudged_fault_for_c(reason: Unjudged) -> UpcFault
     ensures fault { reason_of_answer (unjudged_answer reason) ≡ Some result }
     ensures numbered { IsNumbered result }
@@ -121,7 +121,7 @@ pub(crate) fn police(core: &mut Core, octets: &mut [u8], moment: u64) -> ForC<Up
     })
 }
 
-/// Returns the error of a cell of these octets if there is no card.
+/// Returns the error of an arrival without a card: the octets are no cell, or there is no card.
 pub(crate) fn fault_without_card(octets: &[u8]) -> UpcFault
     ensures fault { IsCellFault octets.now result ⊎ ((length octets.now ≡ 52) × (result ≡ card_missing)) }
     ensures memory { result ≢ out_of_memory }

@@ -18,7 +18,7 @@ use std::alloc::Global;
 use upc_cell::CELL_OCTETS;
 
 /// Returns where the cell with this number begins and ends in a buffer of `length` octets in which a cell begins every
-/// `stride` octets. What is after the end of the buffer is cut off.
+/// `stride` octets. A cell that goes beyond the end of the buffer ends there.
 #[inline(always)]
 fn bounds_of(number: usize, stride: usize, length: usize) -> (usize, usize)
     ensures start { result.0 ≡ min (number * stride) length }
@@ -58,7 +58,8 @@ fn police_number(
     police(core, &mut octets[start..end], moment)
 }
 
-/// Judges the cells in the buffer in order on the core, up to the first that it refuses.
+/// Judges the cells in the buffer in order on the core, up to the first that the core refuses. Writes the number of judged
+/// cells to `done`.
 fn police_each(
     core: &mut Core,
     octets: &mut [u8],
@@ -132,7 +133,7 @@ fn police_on(
 /// Judges a cell for each of the moments, one after another, as that many calls of `upc_card_arrive` do: a cell begins
 /// every `stride` octets, the first at the front of the buffer, and its answer has the place of its moment. Stops at the
 /// first cell that can't be judged; a cell with the verdict Refuse is judged. Writes the number of judged cells to `done`.
-/// Returns 256 times the kind of the error plus its number, or 0.
+/// Returns the result of the error, or 0.
 #[unsafe(no_mangle)]
 pub extern "C" fn upc_card_arrive_many(
     alloc: Global,

@@ -9,7 +9,7 @@ use crate::fault::{OF_A_BURST, UpcFault, fault_at, report, report_success};
 use leaky::{BtFault, burst_tolerance};
 
 /// Writes the burst tolerance in ticks for a maximum burst size of `mbs` cells. `ts` is the increment of the
-/// sustainable cell rate, `tp` that of the peak cell rate. Returns the result of the error, or 0.
+/// sustainable cell rate and `tp` that of the peak cell rate, both in ticks. Returns the result of the error, or 0.
 #[unsafe(no_mangle)]
 pub extern "C" fn upc_burst_tolerance(
     mbs: u64,

@@ -15,7 +15,7 @@ use upc_cell::{Cell, CellFault, Side};
 #[repr(C)]
 #[derive(Clone, Copy, Debug)]
 pub struct UpcFields {
-    /// The virtual path identifier: 0 to 255 at the user network interface, otherwise 0 to 4095.
+    /// The virtual path identifier: 0 to 255 at the user network interface, 0 to 4095 between nodes of the network.
     pub vpi: u16,
     /// The virtual channel identifier.
     pub vci: u16,

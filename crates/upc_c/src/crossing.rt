@@ -4,7 +4,7 @@ use crate::card::UpcCard;
 use crate::program::UpcProgram;
 use std::marker::Send;
 
-/// Takes only values that may go to another thread.
+/// Does nothing, and compiles only for values that may go to another thread.
 fn crosses<T: Send>(_: &T) {}
 
 /// A program may be made on one thread and used on another: this compiles only if that is proved of its type.

@@ -12,7 +12,7 @@ use crate::fault::{UpcFault, report, report_success};
 use crate::meter::{UpcLevels, check_meter};
 use leaky::{Contract, Levels, excess_at};
 
-/// A bucket that a cell doesn't conform to, and by how much the cell comes too early for it.
+/// The first bucket that a cell meets and doesn't conform to, and by how much the cell comes too early for that bucket.
 #[repr(C)]
 #[derive(Clone, Copy, Debug)]
 pub struct UpcExcess {

@@ -12,7 +12,7 @@ ghost use Rattle.upc_c.specs.inner.Numbered.{IsNumbered};
 #[repr(C)]
 #[derive(Clone, Copy, Debug)]
 pub struct UpcFault {
-    /// The part that found the error: the call itself, decoding, the assembler, and so on.
+    /// The part that found the error: the call itself, decoding, the assembler, and so on. 0 if there is no error.
     pub kind: u32,
     /// The number of the error among those of its kind, from 1.
     pub number: u32,
@@ -31,11 +31,12 @@ pub struct UpcFault {
 /// What a call from C finds, or its error.
 pub(crate) type ForC<T> = Result<T, UpcFault>;
 
-/// The errors of the call itself: an allocation failed, the buffer is too small, the kind of the contract is unknown,
-/// the levels are too late, the side is unknown, and so on.
+/// The kind of the errors of the call itself: an allocation failed, the buffer is too small, the kind of the contract is unknown,
+/// the levels are too late, the side is unknown, and so on. This constant and those below have the numbers of `enum upc_kind` in
+/// `include/upc.h`.
 pub(crate) const OF_THE_CALL: u32 = 1;
 
-/// The error of octets that are no cell. Each constant from here on is a kind, with the number that `enum upc_kind` of `include/upc.h` has.
+/// The kind of the error of octets that are no cell.
 pub(crate) const OF_A_CELL: u32 = 2;
 
 pub(crate) const OF_DECODING: u32 = 3;
@@ -54,7 +55,7 @@ pub(crate) const OF_A_SHAPE: u32 = 9;
 
 pub(crate) const OF_THE_DESK: u32 = 10;
 
-/// The errors of texts of rules.
+/// The kind of the errors of texts of rules.
 pub(crate) const OF_RULES: u32 = 11;
 
 /// No error.

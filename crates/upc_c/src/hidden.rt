@@ -11,8 +11,8 @@ use std::alloc::{Allocator, Global};
 use std::marker::Model;
 use std::ptr::null_mut;
 
-/// The pointer and the allocator of a box, or of none. `HiddenProgram` and `HiddenCard` are these two words for C, which
-/// takes no struct with a type parameter.
+/// The pointer and the allocator of a box, or of no box. No export takes a struct with a type parameter, so `HiddenProgram` and
+/// `HiddenCard` are the same two words for C.
 pub(crate) struct Hidden<T, A: Allocator = Global> {
     at: *mut T,
     alloc: A,
@@ -36,7 +36,7 @@ impl<T, A: Allocator> Hidden<T, A> {
         Hidden { at, alloc }
     }
 
-    /// Makes the box again, if there is one.
+    /// Makes the box again. There has to be a value.
     pub(crate) fn into_box(self) -> Box<T, A>
         requires { self.value ≢ None }
         ensures { self.value ≡ Some result.value }
@@ -45,7 +45,7 @@ impl<T, A: Allocator> Hidden<T, A> {
         unsafe { Box::from_raw(alloc, at) }
     }
 
-    /// Makes one without a box.
+    /// Makes a hidden value without a box.
     pub(crate) fn none(alloc: A) -> Hidden<T, A>
         ensures { result.value ≡ None }
     {

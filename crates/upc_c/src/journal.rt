@@ -37,7 +37,7 @@ pub struct UpcJournal {
     pub after: UpcCounts,
 }
 
-/// The step that returns a journal.
+/// Which of the two steps returns the journal.
 #[derive(Clone, Copy)]
 pub(crate) enum HandOut {
     /// `Release`: the connection ends.
@@ -57,7 +57,7 @@ fn journal_for_c(piece: &Piece) -> UpcJournal
     }
 }
 
-/// Takes the step.
+/// Takes the step that `when` names, and returns the journal.
 fn hand_out(core: &mut Core, vc: Vc, when: HandOut) -> Result<Piece, DeskFault>
     ensures follows { Follows core.old (step_of when vc) (replied when result) core.new }
     ensures unchanged { RefusalKeeps (replied when result) (step_of when vc) core.old core.new }
@@ -68,7 +68,7 @@ fn hand_out(core: &mut Core, vc: Vc, when: HandOut) -> Result<Piece, DeskFault>
     }
 }
 
-/// Takes the step if the journal has at most `most` cells.
+/// Takes the step on a connection whose journal has at most `most` cells, so that the returned journal has no more.
 fn hand_out_short(core: &mut Core, vc: Vc, when: HandOut, most: usize) -> Result<Piece, DeskFault>
     requires reached { IsReachedCore core.old }
     requires short { IsShortIn core.old vc most }
@@ -94,7 +94,7 @@ fn too_many(core: &Core, vc: Vc, most: usize) -> Option<usize>
     Some(state.entries)
 }
 
-/// Takes the step on the card, if the journal has at most `most` cells.
+/// Takes the step on the card, if the journal has at most `most` cells. Otherwise the card is unchanged.
 fn hand_out_on(alloc: Global, card: &mut UpcCard, vc: Vc, when: HandOut, most: usize) -> ForC<Piece>
     ensures handed { IfOk result (λ piece. CardTakes card.old card.new (step_of when vc) (handing_reply when piece)) }
     ensures fits { IfOk result (λ piece. length piece.entries ≤ most) }
@@ -118,7 +118,7 @@ fn hand_out_on(alloc: Global, card: &mut UpcCard, vc: Vc, when: HandOut, most: u
     }
 }
 
-/// Takes the step on this path and channel, and writes the journal's entries to the buffer.
+/// Takes the step on this path and channel, and writes the journal's entries to the buffer and the rest to `journal`.
 fn hand_out_to(
     alloc: Global,
     card: &mut UpcCard,

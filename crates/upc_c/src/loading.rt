@@ -35,8 +35,8 @@ fn load_on(alloc: Global, card: &mut UpcCard, program: Program) -> ForC<Id>
     }
 }
 
-/// Loads the program that the octets spell, and writes its id, which no other program ever has. Returns the result of
-/// the error, or 0.
+/// Loads the program that the octets spell, and writes its id, which no other program of the card ever has. Returns the
+/// result of the error, or 0.
 #[unsafe(no_mangle)]
 pub extern "C" fn upc_card_load(
     alloc: Global,

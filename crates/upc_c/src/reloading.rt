@@ -67,8 +67,8 @@ pub extern "C" fn upc_card_retire(
     }
 }
 
-/// Gives the connection on this path and channel another program, and writes the id of the earlier one. Its buckets and
-/// its journal are unchanged. Returns the result of the error, or 0.
+/// Gives the connection on this path and channel another program, and writes the id of the earlier program. The connection's
+/// buckets and its journal are unchanged. Returns the result of the error, or 0.
 #[unsafe(no_mangle)]
 pub extern "C" fn upc_card_reload(
     alloc: Global,

@@ -29,8 +29,8 @@ fn compiled(alloc: Global, rules: &[u8]) -> Result<Vec<u8>, UpcFault>
     }
 }
 
-/// Writes the octets of the program that a text of rules is compiled to to the buffer, and their number. The check
-/// accepts the program, and it gives each cell the value of the rules. Returns the result of the error, or 0.
+/// Compiles a text of rules: writes the octets of its program to the buffer, and their number to `count`. The check accepts
+/// the program, and the program gives each cell the value of the rules. Returns the result of the error, or 0.
 #[unsafe(no_mangle)]
 pub extern "C" fn upc_rules_compile(
     alloc: Global,

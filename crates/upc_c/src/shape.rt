@@ -13,7 +13,8 @@ use upc_cell::Side;
 #[repr(C)]
 #[derive(Clone, Copy, Debug)]
 pub struct UpcShape {
-    /// 0 for cells at the user network interface, 1 for cells between nodes of the network.
+    /// Where the header of its cells is read: 0 at the user network interface, 1 between nodes of the network. 2 and 3 are the same two
+    /// interfaces, on a card whose connections are virtual paths.
     pub side: u32,
     /// The greatest number of programs, 1 to 1024.
     pub programs: u64,

@@ -92,7 +92,7 @@ fn state_for_c(state: &ConnectionState) -> UpcState
     }
 }
 
-/// Writes the state to the buffer and beside it.
+/// Writes the contracts and levels of the state to the buffer, and the rest of the state to `written`.
 fn write_state(state: &ConnectionState, room: &mut [UpcMeter], written: &mut UpcState) -> ForC<()>
     requires { HasLevelsForEach state.now }
     ensures written { IfOk result (λ _. IsWrittenState state.now room.old room.new written.new) }
@@ -145,7 +145,7 @@ pub(crate) fn state_on(
 }
 
 /// Writes the contracts of the connection on this path and channel with their levels to the front of the buffer, and the
-/// rest of its state beside it. Returns the result of the error, or 0.
+/// rest of its state to `state`. Returns the result of the error, or 0.
 #[unsafe(no_mangle)]
 pub extern "C" fn upc_card_state(
     alloc: Global,

@@ -19,8 +19,8 @@ use Rattle.bpf_asm.specs.declared.statement.LentStatement.TheVariants.{Plain, Ju
 use Rattle.bpf_code.specs.declared.instr.Instr.{Instr}
 use Rattle.bpf_code.specs.declared.instr.Instr.TheVariants.{Jump, Branch}
 
--- The places of names are those of the labels in the lines, and the next place is the number of statements. No label
--- occurs twice.
+-- For each label in the lines `find` has its place, and for no other name. `places` is the number of statements, which is the
+-- next place. No label occurs twice.
 pub record AgreesWith (lines : List SourceLine) (find : List ℕ → Option ℕ) (places : ℕ) : Type 0 where
   pub counted : places ≡ length (statements_of lines)
   pub once : EachLabelOnce lines
@@ -74,8 +74,8 @@ pub record IsDraft (lines : List SourceLine) (code : List Instr) (unresolved : L
   pub forms : code ≡ first_forms all
   pub labelled : unresolved ≡ filter is_unresolved all
 
--- In a draft of these lines the labels of some first instructions are resolved. The others are still drafted, and these
--- are those of them that have labels.
+-- In a draft of these lines the labels of the first instructions, `front`, are resolved. Those of the others, `back`, are not
+-- yet, and `unresolved` has the instructions of `back` with labels.
 pub record IsResolvedTo (lines : List SourceLine) (code : List Instr) (unresolved : List Unresolved) : Type 0 where
   pub front : List Unresolved
   pub back : List Unresolved
@@ -128,14 +128,14 @@ pub record AddsLine (lines : List SourceLine) (draft : Draft) (octets : List ℕ
   pub spelled : IsSourceLine octets line
   pub drafts : Drafts (lines ++ line ∷ []) draft
 
--- This many lines of the source were read, parsed as these, and these are left.
+-- The first `count` lines of the source were read and parse as `lines`; the lines `left` are not read yet.
 pub record IsReadTo (source left : List (List ℕ)) (lines : List SourceLine) (count : ℕ) : Type 0 where
   pub done : List (List ℕ)
   pub split : source ≡ done ++ left
   pub spelled : AreLines done lines
   pub counted : count ≡ length done
 
--- The draft is that of this many lines of the source, and these are left.
+-- The draft is that of the first `count` lines of the source; the lines `left` are not read yet.
 pub record IsDraftTo (source left : List (List ℕ)) (draft : Draft) (count : ℕ) : Type 0 where
   pub lines : List SourceLine
   pub read : IsReadTo source left lines count

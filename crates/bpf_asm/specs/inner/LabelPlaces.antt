@@ -6,7 +6,8 @@ use Rattle.std.specs.Ordering.{nat_cmp, ordering_then}
 use Rattle.std.specs.Cmp.Lexicographic.{slice_cmp}
 use Rattle.bpf_asm.specs.declared.labels.Labels.{Labels}
 
--- The number of the last eight octets, if these octets come after some with this number.
+-- These octets come after others, the last eight of which make `number`. The result is what the last eight of all of them
+-- make, big-endian.
 unfoldable pub number_after : ℕ → List ℕ → ℕ
 number_after number [] = number
 number_after number (octet ∷ rest) = number_after (number % 2 ^ 56 * 256 + octet) rest

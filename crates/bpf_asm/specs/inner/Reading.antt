@@ -1,5 +1,6 @@
 -- Reading a statement from the tokens of a line: the inverse of the table of spellings, as the lemmas `reads_back` and
--- `reads_true` prove.
+-- `reads_true` prove. A name `cut_..` takes tokens from the front and has those that are left; a name `.._in` has what all of
+-- the tokens spell, so no token is left.
 use Rattle.std.specs.Prelude.{◌≡◌, ℕ, Bool, true, false, ◌==◌, if◌then◌else◌, List, [], ◌∷◌, Option, Some, None, codes}
 use Rattle.std.specs.Option.{option_and_then, option_map_or}
 use Rattle.std.specs.Str.{bytes_eq}
@@ -194,11 +195,11 @@ inverse_rows = (codes "jne", Eq) ∷ (codes "jneq", Eq) ∷ (codes "jlt", Ge) �
 unfoldable pub inverse_of : List ℕ → Option Test
 inverse_of octets = table_entry octets inverse_rows
 
--- The form of a mnemonic with M[k].
+-- The form of a mnemonic whose operand is M[k].
 abbrev pub scratch_form : (ℕ → Statement) → List Token → Option Statement
 scratch_form statement ts = scratch_in ts >>= (λ k. Some (statement k))
 
--- The loads and stores of a mnemonic.
+-- The forms of the mnemonics of loads and stores.
 abbrev pub moved_forms : List (List ℕ × (List Token → Option Statement))
 moved_forms =
     (codes "ld", load_word)
@@ -209,7 +210,7 @@ moved_forms =
     ∷ (codes "st", scratch_form (λ k. plain (Store k)))
     ∷ (codes "stx", scratch_form (λ k. plain (StoreX k))) ∷ []
 
--- The other instructions of a mnemonic.
+-- The forms of the mnemonics that are neither of loads and stores nor of arithmetic and branches.
 abbrev pub other_forms : List (List ℕ × (List Token → Option Statement))
 other_forms =
     (codes "neg", ended (plain Neg))
@@ -223,23 +224,23 @@ other_forms =
 abbrev pub form_in : List (List ℕ × (List Token → Option Statement)) → List ℕ → List Token → Option Statement
 form_in forms octets ts = table_entry octets forms >>= (λ form. form ts)
 
--- The loads and stores.
+-- The statement of a mnemonic of a load or a store.
 unfoldable pub moved_in : List ℕ → List Token → Option Statement
 moved_in octets ts = form_in moved_forms octets ts
 
--- The other instructions.
+-- The statement of a mnemonic of `other_forms`.
 unfoldable pub other_in : List ℕ → List Token → Option Statement
 other_in octets ts = form_in other_forms octets ts
 
--- All but branches and arithmetic.
+-- The statement of a mnemonic, unless it is one of branches or of arithmetic.
 abbrev pub form_of : List ℕ → List Token → Option Statement
 form_of octets ts = or_else (moved_in octets ts) (other_in octets ts)
 
--- All but arithmetic and the branches that jump if the test is true.
+-- The statement of a mnemonic, unless it is one of arithmetic or of branches that jump if the test is true.
 abbrev pub inverse_or : List ℕ → List Token → Option Statement
 inverse_or octets ts = option_map_or (λ test. inverse_in test ts) (inverse_of octets) (form_of octets ts)
 
--- All but arithmetic.
+-- The statement of a mnemonic, unless it is one of arithmetic.
 abbrev pub branch_or : List ℕ → List Token → Option Statement
 branch_or octets ts = option_map_or (λ test. branch_in test ts) (branch_named octets) (inverse_or octets ts)
 

@@ -18,7 +18,7 @@ use Rattle.upc_c.specs.declared.fault.UpcFault.{UpcFault}
 use Rattle.upc_c.specs.declared.journal.HandOut.{HandOut}
 use Rattle.upc_c.specs.declared.journal.HandOut.TheVariants.{AtEnd, GoingOn}
 
--- The step.
+-- The step that returns the journal.
 abbrev pub step_of : HandOut → Vc → Step
 step_of AtEnd vc = Release vc
 step_of GoingOn vc = Cut vc
@@ -28,7 +28,7 @@ abbrev pub handing_reply : HandOut → PieceView → Reply
 handing_reply AtEnd piece = Released piece
 handing_reply GoingOn piece = CutOff piece
 
--- The reply, from the result of the call.
+-- The reply to the step, from the result of the core's call.
 abbrev pub replied : HandOut → Result PieceView DeskFault → Reply
 replied AtEnd returned = release_reply returned
 replied GoingOn returned = cut_reply returned
@@ -38,7 +38,7 @@ abbrev pub IsLongerIn : CoreView → Vc → ℕ → ℕ → Type 0
 IsLongerIn core vc most cells = (most < cells)
     × ((world : World) → CoreAgrees core world → HasConnection world vc (λ connection. length (kept_cells connection) ≡ cells))
 
--- In each world that the core agrees with, the journal of such a connection has at most this many cells.
+-- In each world that the core agrees with, the connection is not set up, or its journal has at most `most` cells.
 pub record IsShortIn (core : CoreView) (vc : Vc) (most : ℕ) : Type 0 where
   pub few : (world : World) → CoreAgrees core world → (connection : Connection)
       → connection_in world.connections vc ≡ Some connection → length (kept_cells connection) ≤ most

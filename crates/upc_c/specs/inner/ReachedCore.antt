@@ -19,6 +19,6 @@ pub record Reaching (core : CoreView) : Type 0 where
   pub idle : IsIdlePort world
   pub quiet : is_busy world ≡ false
 
--- There is such a log.
+-- Some log has led to a world that the core agrees with. The brackets `∥ ∥₁` leave open which log.
 abbrev pub IsReachedCore : CoreView → Type 0
 IsReachedCore core = ∥ Reaching core ∥₁

@@ -43,7 +43,7 @@ pub record AreMetersOf (contracts : List Contract) (levels : List Levels) (befor
       → slice_get levels place ≡ Some its → slice_get room place ≡ Some (meter_for_c contract its)
   pub rest : (place : ℕ) → count ≤ place → slice_get room place ≡ slice_get before place
 
--- The state was written to the buffer and beside it.
+-- The contracts and levels of the state are in the buffer, and `written` is the rest of the state.
 pub record IsWrittenState (state : ConnectionState) (before room : List UpcMeter) (written : UpcState) : Type 0 where
   pub fits : length state.contracts.items ≤ length before
   pub meters : AreMetersOf state.contracts.items state.state.levels.items before room (length state.contracts.items)

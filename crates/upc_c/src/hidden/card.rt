@@ -26,11 +26,11 @@ impl Model for HiddenCard {
     ghost also_owns = { λ h. owned_for_c the_row h.alloc h.at h.core };
 }
 
-// It may move to another thread, since its box may.
+// A card may move to another thread, since its box may.
 unsafe impl Send for HiddenCard {}
 
 impl HiddenCard {
-    /// Makes it for C.
+    /// Hides the type of a core from C.
     pub(crate) fn of(hidden: Hidden<Core>) -> HiddenCard
         ensures { result.core ≡ hidden.value }
     {
@@ -41,7 +41,7 @@ impl HiddenCard {
         }
     }
 
-    /// Takes it back.
+    /// Takes the core back, with its type.
     pub(crate) fn into_hidden(self) -> Hidden<Core>
         ensures { result.value ≡ self.core }
     {

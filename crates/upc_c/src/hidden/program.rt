@@ -26,11 +26,11 @@ impl Model for HiddenProgram {
     ghost also_owns = { λ h. owned_for_c the_row h.alloc h.at h.code };
 }
 
-// It may move to another thread, since its box may.
+// A program may move to another thread, since its box may.
 unsafe impl Send for HiddenProgram {}
 
 impl HiddenProgram {
-    /// Makes it for C.
+    /// Hides the type of a program from C.
     pub(crate) fn of(hidden: Hidden<Program>) -> HiddenProgram
         ensures { result.code ≡ hidden.value }
     {
@@ -41,7 +41,7 @@ impl HiddenProgram {
         }
     }
 
-    /// Takes it back.
+    /// Takes the program back, with its type.
     pub(crate) fn into_hidden(self) -> Hidden<Program>
         ensures { result.value ≡ self.code }
     {
