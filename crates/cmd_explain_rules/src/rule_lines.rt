@@ -34,7 +34,7 @@ fn begins_with_close(octets: &[u8]) -> bool
     }
 }
 
-/// Returns whether a line of rules that ends at a place has a fault of this kind at another, where this rest of the text follows.
+/// Returns whether a fault is one of a line of rules that ends at `end`. `rest` is the text after the line.
 fn has_fault(kind: RuleFaultKind, fault: TextPlace, end: TextPlace, rest: &[u8]) -> bool
     ensures { result ≡ has_fault kind fault end (rule_lines rest.now) }
 {

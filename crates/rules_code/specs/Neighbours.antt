@@ -21,7 +21,7 @@ abbrev pub single_of : PlainTest → Option Single
 single_of (plain.Among part first others) = single_in part part.mask first others.items
 single_of _ = None
 
--- Whether the first has one number, and its bits are above those of the second in the same octets.
+-- Whether the first is a comparison with one number, and its bits are above those of the second in the same octets.
 abbrev pub are_neighbours : Single → Single → Bool
 are_neighbours high low =
     is_same_load high.part low.part

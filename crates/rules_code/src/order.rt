@@ -1,4 +1,4 @@
-//! Spans in order.
+//! Sorts spans, and joins those that overlap or are adjacent.
 
 ghost use Rattle.std.specs.Prelude.{◌≡◌, [], ◌∷◌, length, IfOk, OnOk};
 ghost use Rattle.std.specs.List.Sorted.{IsPermutation, IsNonDecreasingBy};
@@ -39,7 +39,7 @@ fn put(spans: &mut VecDeque<Span>, span: Span) -> Result<(), AllocError>
     join(spans, span)
 }
 
-/// Joins spans of which none ends before those in front of it, from the last to the first.
+/// Joins spans that are sorted by their highest numbers, from the last to the first.
 fn joined_spans(alloc: Global, sorted: &[Span]) -> Result<Vec<Span>, AllocError>
     ensures { IfOk result (λ ordered. ordered.items ≡ joined_spans sorted.now) }
 {

@@ -120,7 +120,7 @@ pub(crate) enum Made {
     Unknown,
 }
 
-/// The same bits, if there are 32.
+/// These bits as a word, if there are 32.
 fn word_of(bits: &[Bit]) -> Option<[Bit; 32]>
     ensures { IfSome result (λ word. word ≡ bits.now) }
 {

@@ -14,7 +14,7 @@ use crate::walk::meetings;
 use std::alloc::{AllocError, Global};
 use std::collections::BTreeSet;
 
-/// The first numbers of meetings.
+/// The numbers that the first diagram gives in these meetings.
 fn ones(alloc: Global, meetings: &[Meeting]) -> Result<BTreeSet<u32>, AllocError>
     ensures { IfOk result (λ numbers. (number : ℕ) → contains nat_cmp numbers number ≡ has_one meetings.now number) }
 {

@@ -47,7 +47,8 @@ line_holds side None cell = false
 abbrev pub holds_of : Rules → ℕ → List ℕ → Bool
 holds_of rules place cell = nat_le (passed_before rules place cell) 0 && line_holds rules.side (slice_get rules.lines.items place) cell
 
--- The places are those that a function, which gives a place one more than it, gives the cells of which a test holds.
+-- The function gives a cell one more than the place of a line, or 0. The places are those of the lines that it gives the cells of which a
+-- test holds.
 pub record AreTaken (number : List ℕ → ℕ) (holds : List ℕ → Bool) (places : List ℕ) : Type 0 where
   pub each : (cell : List ℕ) → IsCell cell → holds cell ≡ true → (place : ℕ) → number cell ≡ suc place → Contains places place
   pub only : All (λ place. (cell : List ℕ) × IsCell cell × (holds cell ≡ true) × (number cell ≡ suc place)) places
