@@ -33,7 +33,7 @@ line_holding begin [] kind fault = (begin, [])
 line_holding begin (line ∷ lines) kind fault =
     if has_fault kind fault (place_past begin line) lines then (begin, line) else line_holding (place_past begin line) lines kind fault
 
--- How many octets a line of rules has up to the end of so many of its source lines.
+-- How many octets the first `source_lines` source lines of a line of rules have.
 abbrev pub octets_before : ℕ → List ℕ → ℕ
 octets_before source_lines [] = 0
 octets_before source_lines (octet ∷ rest) =

@@ -67,7 +67,7 @@ pub(crate) fn line_holding(text: &[u8], kind: RuleFaultKind, fault: TextPlace) -
     (begin, &[])
 }
 
-/// Returns how many octets a line of rules has up to the end of so many of its source lines.
+/// Returns how many octets the first `source_lines` source lines of a line of rules have.
 fn octets_before(line: &[u8], source_lines: usize) -> usize
     ensures before { result ≡ octets_before source_lines line.now }
     ensures within { result ≤ length line.now }

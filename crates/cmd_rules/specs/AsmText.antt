@@ -78,6 +78,6 @@ PrintsAsm text answer done = ((made : CodeWithPlaces) × PrintsAsmCode text answ
 abbrev pub IsAsmText : List ℕ → List ℕ → Done → Type 0
 IsAsmText = IsAnswerBy PrintsAsm
 
--- The same, but that the code of any rules may be reported as too long.
+-- As `IsAsmText`, but the code of any rules may be reported as too long.
 abbrev pub MayBeAsmText : List ℕ → List ℕ → Done → Type 0
 MayBeAsmText = MayBeAnswerBy PrintsAsm

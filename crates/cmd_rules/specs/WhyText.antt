@@ -154,7 +154,7 @@ rules_of_why octets = gathered most_rules_octets (rules_before (lines_of octets)
 abbrev pub IsWhyText : Bool → List ℕ → List ℕ → Done → Type 0
 IsWhyText counts octets answer done = AnswersBy (PrintsDecisions counts (lines_after (lines_of octets))) (rules_of_why octets) answer done
 
--- The same, but that the code of any rules may be reported as too long. Every input has such an output, so if a device fails,
--- what was written is the beginning of one.
+-- As `IsWhyText`, but the code of any rules may be reported as too long. Every input has such an output, so if a device fails, what was
+-- written is the beginning of one.
 abbrev pub MayBeWhyText : Bool → List ℕ → List ℕ → Done → Type 0
 MayBeWhyText counts octets answer done = IsWhyText counts octets answer done ⊎ (AreRulesOf (rules_of_why octets) × PrintsLongCode answer done)

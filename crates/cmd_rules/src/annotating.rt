@@ -154,7 +154,7 @@ fn add_comment_if(answers: &mut Vec<u8>, comment: &Comment, left: usize) -> Resu
     Ok(())
 }
 
-/// Appends the comment of `otherwise`, if this many instructions are left before it.
+/// Appends the comment of `otherwise`, if one instruction is left.
 fn add_otherwise(answers: &mut Vec<u8>, left: usize) -> Result<(), AllocError>
     ensures { OnOk result (answers.new.items ≡ answers.old.items ++ otherwise_comment left) }
 {

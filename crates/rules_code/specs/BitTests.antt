@@ -15,7 +15,8 @@ bits_in mask unit span =
     if (span.low == 0) && nat_lt span.high unit then Some (record { bits = mask; set = false }) else (
     if nat_lt 0 span.low && (nat_le span.low unit && nat_le mask span.high) then Some (record { bits = mask; set = true }) else None)
 
--- The same, for a mask that is a multiple of its lowest bit, as every mask of 32 bits is.
+-- The test of bits that is equivalent to a comparison of masked bits with a span, if the mask is a multiple of its lowest bit, as every
+-- mask of 32 bits is.
 abbrev pub bits_from : ℕ → ℕ → Span → Option BitTest
 bits_from mask unit span = if mask % unit == 0 then bits_in mask unit span else None
 

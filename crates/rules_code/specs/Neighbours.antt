@@ -58,7 +58,7 @@ IsSingle single (plain.Among part first others) =
     (part.size ≡ single.part.size) × (part.at ≡ single.part.at) × (part.mask ≡ Some single.mask) × (first ≡ single.span) × (others.items ≡ [])
 IsSingle single _ = ⊥
 
--- The first of these operands is this test, and the others are as this says.
+-- The first of these operands is this test, and the others are as the condition says.
 abbrev pub BeginsWith : PlainTest → (List PlainTest → Type 0) → List PlainTest → Type 0
 BeginsWith test AreOthers [] = ⊥
 BeginsWith test AreOthers (operand ∷ others) = (operand ≡ test) × AreOthers others

@@ -64,7 +64,7 @@ fn sorted(alloc: Global, first: Span, others: &[Span]) -> Result<Vec<Span>, Allo
     Ok(spans)
 }
 
-/// The same numbers in order, in as few spans as there can be: overlapping and adjacent spans become one, and empty ones
+/// Returns spans with the numbers of these, in order and as few as there can be: overlapping and adjacent spans become one, and empty ones
 /// disappear.
 pub fn in_order(alloc: Global, first: Span, others: &[Span]) -> Result<Vec<Span>, AllocError>
     ensures { IfOk result (λ ordered. IsOrderOf (first ∷ others.now) ordered.items) }

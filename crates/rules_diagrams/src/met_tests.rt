@@ -217,7 +217,7 @@ fn compared(
 ///
 /// # Errors
 ///
-/// As [`Diagrams::choose`] has them.
+/// Those of [`Diagrams::choose`].
 #[cycle(met)]
 #[tactic(auto, using(crate::proofs::Nodes::keeps_both, crate::proofs::Nodes::keeps_itself))]
 pub(crate) fn met(diagrams: &mut Diagrams, side: Side, test: &Test) -> Drawn

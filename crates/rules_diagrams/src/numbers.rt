@@ -29,7 +29,7 @@ fn ones(alloc: Global, meetings: &[Meeting]) -> Result<BTreeSet<u32>, AllocError
 ///
 /// # Errors
 ///
-/// As [`meetings`] has them.
+/// Those of [`meetings`].
 pub(crate) fn numbers(
     alloc: Global,
     diagrams: &Diagrams,

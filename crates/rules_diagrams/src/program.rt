@@ -153,7 +153,7 @@ fn diagram_from(
     }
 }
 
-/// Tells the diagram from a place on, if there are contents.
+/// Makes the diagram from a place on with these contents, if there are any, and adds it to those that are told.
 #[tactic(auto, using(crate::proofs::Nodes::keeps_itself))]
 fn tell(
     alloc: Global,
@@ -181,7 +181,7 @@ fn tell(
     Ok(())
 }
 
-/// Tells the diagrams from a place on, with each of the contents that are reached there.
+/// Makes the diagrams from a place on, one for each of the contents that are reached there.
 fn tell_place(
     alloc: Global,
     diagrams: &mut Diagrams,
@@ -204,7 +204,7 @@ fn tell_place(
     Ok(())
 }
 
-/// Tells the diagrams of all contents that are reached, from the last place to the first.
+/// Makes the diagrams of all contents that are reached, from the last place to the first.
 fn tell_all(
     alloc: Global,
     diagrams: &mut Diagrams,

@@ -59,7 +59,7 @@ impl Diagrams {
     ///
     /// # Errors
     ///
-    /// As [`choose`](Self::choose) has them.
+    /// Those of [`choose`](Self::choose).
     #[tactic(auto, using(crate::proofs::Nodes::keeps_both, crate::proofs::Nodes::keeps_itself))]
     pub(crate) fn span(&mut self, bits: Bits, mask: u32, reach: Interval) -> Drawn
         requires width { bits.width ≤ 32 }

@@ -116,7 +116,7 @@ fn of_none(test: Test) -> Diagram
 ///
 /// # Errors
 ///
-/// As [`Diagrams::choose`] has them.
+/// Those of [`Diagrams::choose`].
 pub(crate) fn test_shown(diagrams: &mut Diagrams, test: Test, bits: &[Bit], k: u32) -> Drawn
     ensures keeps { Keeps diagrams.old diagrams.new }
     ensures shows { IfOk result (GivesTruth diagrams.new (λ cell. test_of test (word_number bits.now cell) k)) }

@@ -44,7 +44,7 @@ closes_block around (octet ∷ rest) = not around.comment && (octet == 125)
 abbrev pub ends_rule_line : Enclosing → ℕ → List ℕ → Bool
 ends_rule_line around octet rest = is_line_end around octet || closes_block (around_next around octet) rest
 
--- Lines, the first of which begins with this octet.
+-- These lines, with this octet put before the first.
 abbrev pub first_begun_with : ℕ → List (List ℕ) → List (List ℕ)
 first_begun_with octet [] = (octet ∷ []) ∷ []
 first_begun_with octet (line ∷ lines) = (octet ∷ line) ∷ lines
@@ -74,7 +74,7 @@ line_begin number = record { line = number; column = 1 }
 abbrev pub place_next : TextPlace → ℕ → TextPlace
 place_next place octet = if octet == 10 then line_begin (place.line + 1) else record place { column = place.column + 1 }
 
--- The place after octets of which the first is at this place.
+-- The place after the last of these octets. The first is at this place.
 unfoldable pub place_past : TextPlace → List ℕ → TextPlace
 place_past place [] = place
 place_past place (octet ∷ rest) = place_past (place_next place octet) rest

@@ -182,7 +182,7 @@ HeadFits context (unequal_head subject) = SubjectFits context subject
 HeadFits context (path_head path) = path ≤ most_of_field context.side vpi_field
 
 abbrev mutual
-  -- The numbers of a unit fit their fields, and with this many parentheses and blocks open at most 64 will be.
+  -- The numbers of a unit fit their fields. `deep` parentheses and blocks are open before the unit, and in it never more than 64.
   pub UnitFits : LineContext → ℕ → UnitForm → Type 0
   UnitFits context deep (word_unit test) = Unit {0}
   UnitFits context deep (order_unit subject order k) = SubjectFits context subject × (k ≤ most_of_field context.side subject.field)

@@ -22,7 +22,7 @@ use Rattle.rules_diagrams.specs.declared.unused.Unused.{Unused}
 abbrev pub first_inside : List Diagram → Diagram
 first_inside inside = first_diagram (Leaf 1) inside
 
--- The diagram of the block around this many.
+-- The diagram with this index, where 0 is that of the innermost block. Beyond the last block it is that of all cells.
 abbrev pub inside_at : List Diagram → ℕ → Diagram
 inside_at inside zero = first_inside inside
 inside_at [] (suc most) = Leaf 1

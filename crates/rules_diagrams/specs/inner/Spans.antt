@@ -6,7 +6,7 @@ use Rattle.rules_diagrams.specs.declared.diagram.Node.{Node}
 use Rattle.rules_diagrams.specs.declared.span.Bits.{Bits}
 use Rattle.rules_diagrams.specs.declared.span.Interval.{Interval}
 
--- The number that this many bits of a cell from one on are, the first highest.
+-- The number that `width` bits of a cell are, from the bit `bit` on, the first highest.
 unfoldable pub bits_number : ℕ → ℕ → ℕ → ℕ
 bits_number cell bit width = cell / 2 ^ (416 - (bit + width)) % 2 ^ width
 
