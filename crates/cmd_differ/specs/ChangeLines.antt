@@ -63,7 +63,7 @@ abbrev pub source_begin : List RulePlace → Option ℕ → RulePlace
 source_begin begins None = record { line = 0; column = None }
 source_begin begins (Some place) = begin_at begins place
 
--- Whether lines of rules begin at the same place of their texts. Of some only the line is known.
+-- Whether lines of rules begin at the same place of their texts. Both have the same source line, and the same column or none.
 abbrev pub is_same_begin : RulePlace → RulePlace → Bool
 is_same_begin one other = (one.line == other.line) && option_eq ◌==◌ one.column other.column
 
@@ -73,7 +73,8 @@ is_one_line (side_rules old) (side_rules new) was is = is_same_begin (source_beg
 is_one_line (side_rules old) (side_program code) was is = false
 is_one_line (side_program code) new was is = false
 
--- Whether a case has a line: if its values differ, and with `lines` also if what decides does.
+-- Whether a case has a line. It has one if its values differ; with `lines` also if they agree, unless lines of rules that begin at one
+-- place decide on both sides.
 abbrev pub is_listed : Bool → SideRead → SideRead → Case → Bool
 is_listed lines old new case = not (case.old.value == case.new.value) || (lines && not (is_one_line old new case.old.line case.new.line))
 

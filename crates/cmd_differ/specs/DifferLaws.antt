@@ -32,7 +32,7 @@ pub record HasChangeLine (was is : SideRead) (one other : Decision) (answer cell
   pub not_greater : octets_number least ≤ octets_number cell
   pub printed : answer ≡ before ++ (change_text was is one other least ++ after)
 
--- Unless nothing is said, what both texts decide for a cell to which they give two values has its line.
+-- If the finding is conclusive, what both texts decide for a cell to which they give two values has its line.
 abbrev pub EachCellThatDiffersHasItsLine : Type 0
 EachCellThatDiffersHasItsLine = (kinds : TextKinds) (lines : Bool) (old octets answer : List ℕ) (was is : SideRead) (finding : Finding)
     → IsDifferText kinds lines old octets answer finding → IsConclusive finding → IsSideOf kinds.old old was → IsSideOf kinds.new octets is

@@ -28,11 +28,11 @@ use Rattle.cmd_differ.specs.declared.kinds.TextKinds.{TextKinds}
 abbrev pub old_mark : List ℕ
 old_mark = codes "old: "
 
--- What precedes that of the new one.
+-- What precedes the fault line of the new text.
 abbrev pub new_mark : List ℕ
 new_mark = codes "new: "
 
--- The answer is the fault of a text that was found, after this mark; otherwise the text is over the limit.
+-- The answer, after this mark, is the fault of the text that was found. If none was found, it is that the text is over the limit.
 abbrev pub PrintsFaultAfter : List ℕ → Option (List ℕ) → List ℕ → Type 0
 PrintsFaultAfter mark found answer = MatchOption found (answer ≡ mark ++ too_long)
     (λ text. (fault : RuleFault) × (placed_rules_in text ≡ Err fault) × (answer ≡ mark ++ rule_fault fault))
@@ -41,7 +41,8 @@ PrintsFaultAfter mark found answer = MatchOption found (answer ≡ mark ++ too_l
 abbrev pub FindsText : Option (List ℕ) → PlacedRulesRead → Type 0
 FindsText found placed_rules = (text : List ℕ) × (found ≡ Some text) × (placed_rules_in text ≡ Ok placed_rules)
 
--- The answer is the fault of a text with a program that was found, after this mark; otherwise the text is over the limit.
+-- The answer, after this mark, is the fault of the text with a program that was found. If none was found, it is that the text is over the
+-- limit.
 abbrev pub PrintsProgramFault : List ℕ → Option (List ℕ) → List ℕ → Type 0
 PrintsProgramFault mark found answer = MatchOption found (answer ≡ mark ++ too_long)
     (λ text. (fault : List ℕ) × ReadsProgramText text (is_refused fault) × (answer ≡ mark ++ fault))

@@ -6,7 +6,7 @@ use Rattle.text_io.specs.declared.ending.RunFault.{RunFault}
 use Rattle.cmd_differ.specs.declared.finding.Finding.{Finding}
 use Rattle.cmd_differ.specs.declared.finding.Finding.TheVariants.{Nothing, Something, Faulty, Undecided}
 
--- How the run ends: where nothing was found, it is a whole answer.
+-- How the run ends: `Whole` if nothing was found, and `Ended` after any other finding.
 abbrev pub finding_done : Finding → Done
 finding_done Nothing = Whole
 finding_done Something = Ended

@@ -18,7 +18,7 @@ abbrev pub TwoTextsHaveOneAnswer : Type 0
 TwoTextsHaveOneAnswer = (kinds : TextKinds) (lines : Bool) (old octets answer other : List ℕ) (finding also : Finding)
     → IsDifferText kinds lines old octets answer finding → IsDifferText kinds lines old octets other also → IsDecisive finding → IsDecisive also → (answer ≡ other) × (finding ≡ also)
 
--- Two answers of `unused` to the same text are.
+-- Two answers of `unused` to the same text are the same octets, with the same finding.
 abbrev pub ATextHasOneAnswer : Type 0
 ATextHasOneAnswer = (octets answer other : List ℕ) (finding also : Finding) → IsUnusedText octets answer finding → IsUnusedText octets other also
     → IsDecisive finding → IsDecisive also → (answer ≡ other) × (finding ≡ also)

@@ -27,7 +27,7 @@ pub record NamesUnused (placed_rules : PlacedRulesRead) (answer : List ℕ) : Ty
   pub never : All (λ (one : Unused). NeverDecides placed_rules.rules one.place) named
   pub each : (place : ℕ) → IsRuleRead placed_rules.rules place → NeverDecides placed_rules.rules place → HasPlace named place
 
--- Unless nothing is said, exactly the rules that decide no cell are named.
+-- If the finding is conclusive, exactly the rules that decide no cell are named.
 abbrev pub ExactlyTheUnusedAreNamed : Type 0
 ExactlyTheUnusedAreNamed = (octets answer : List ℕ) (placed_rules : PlacedRulesRead) (finding : Finding) → IsUnusedText octets answer finding → IsConclusive finding
     → placed_rules_in octets ≡ Ok placed_rules → NamesUnused placed_rules answer

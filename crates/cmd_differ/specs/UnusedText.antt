@@ -43,7 +43,7 @@ abbrev pub unused_lines : List RulePlace → List Unused → List ℕ
 unused_lines begins [] = []
 unused_lines begins (one ∷ more) = unused_line begins one.place one.takers.items ++ unused_lines begins more
 
--- The answer that says that there is none.
+-- The answer if every rule decides some cell.
 abbrev pub all_decide : List ℕ
 all_decide = codes "every rule decides some cell\n"
 
@@ -52,7 +52,7 @@ abbrev pub unused_text : List RulePlace → List Unused → List ℕ
 unused_text begins [] = all_decide
 unused_text begins (one ∷ more) = unused_lines begins (one ∷ more)
 
--- Whether there is one.
+-- What is found: something, if some rule decides no cell.
 abbrev pub unused_finding : List Unused → Finding
 unused_finding [] = Nothing
 unused_finding (one ∷ more) = Something

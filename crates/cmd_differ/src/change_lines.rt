@@ -1,4 +1,4 @@
-//! The lines of cases.
+//! The lines that `upc-lab differ` prints, one for each case that it lists.
 
 ghost use Rattle.std.specs.Prelude.{◌≡◌, ◌++◌, codes, OnOk};
 ghost use Rattle.hex.specs.Hex.{encode_lower};
@@ -183,7 +183,8 @@ fn is_one_line(old: &SideText, new: &SideText, was: Option<usize>, is: Option<us
     }
 }
 
-/// Whether a case has a line: if its values differ, and with `lines` also if they agree and not one line of rules decides on both sides.
+/// Whether a case has a line. It has one if its values differ; with `lines` also if they agree, unless lines of rules that begin at one
+/// place decide on both sides.
 fn is_listed(lines: bool, old: &SideText, new: &SideText, case: &Case) -> bool
     ensures { result ≡ is_listed lines (side_read old.now) (side_read new.now) case.now }
 {

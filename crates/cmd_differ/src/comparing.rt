@@ -99,12 +99,11 @@ fn add_differ(
     add_comparison(alloc, answers, lines, &was, &changed)
 }
 
-/// Compares two texts, the old one and the whole input: what they decide differently for some cell. Each is rules or a
-/// program in hexadecimal, by its kind. The answer says that they give each cell the same value, or lists each two
-/// lines of rules, or values of a program, that give a cell two values, with the least cell that they decide, in the
-/// order of these cells. With `lines` it also lists those whose values agree, unless they are lines of rules that begin
-/// at one place. A text with a fault is answered by the fault, and a program that isn't followed by the place of the
-/// instruction at which it isn't. docs/RULES.md has the format.
+/// Compares two texts: the old one, and the new one, which is the whole input. Each is rules or a program in hexadecimal, by its kind. The
+/// answer says that both give each cell the same value; or it lists each pair of decisions with different values that some cell gets, with
+/// the least such cell, in the order of these cells. A decision is a line of rules, or a value of a program. With `lines` the answer also
+/// lists pairs whose values agree, unless both are lines of rules that begin at one place. The answer to a text with a fault is the fault.
+/// If a program can't be followed, the answer is the place of the instruction at which that fails. docs/RULES.md has the format.
 ///
 /// # Errors
 ///

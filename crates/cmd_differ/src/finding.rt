@@ -1,4 +1,4 @@
-//! What was found of texts of rules.
+//! What a comparison or a search found, and how its run ends.
 
 ghost use Rattle.std.specs.Prelude.{◌≡◌};
 ghost use Rattle.cmd_differ.specs.Findings.{ended_by, finding_done};
@@ -8,9 +8,9 @@ use text_io::{Done, Ending, RunFault};
 /// What `unused` found of one text of rules, or `differ` of two texts, each of rules or with a program.
 #[derive(Clone, Copy, PartialEq, Eq)]
 pub enum Finding {
-    /// Both texts give each cell the same value; each rule decides some cell.
+    /// `differ`: both texts give each cell the same value. `unused`: each rule decides some cell.
     Nothing,
-    /// They give some cell two values; some rule decides no cell.
+    /// `differ`: the texts give some cell two values. `unused`: some rule decides no cell.
     Something,
     /// A text has a fault.
     Faulty,
@@ -28,7 +28,7 @@ pub(crate) fn done_of(finding: Finding) -> Done
     }
 }
 
-/// How a run with this result ends: where nothing was found, it is a whole answer.
+/// How a run with this result ends: `Whole` if nothing was found, and `Ended` after any other finding.
 pub fn ended_by(found: Result<Finding, RunFault>) -> Ending
     ensures { result ≡ ended_by found }
 {

@@ -1,6 +1,6 @@
-//! What the texts are that are compared.
+//! The kinds of the texts that are compared.
 
-/// What a text is.
+/// What is in a text.
 #[derive(Clone, Copy, PartialEq, Eq)]
 pub enum TextKind {
     /// Rules.
@@ -9,7 +9,7 @@ pub enum TextKind {
     Program,
 }
 
-/// What the two texts of a comparison are.
+/// The kinds of the two texts of a comparison.
 #[derive(Clone, Copy, PartialEq, Eq)]
 pub struct TextKinds {
     /// The text before the change.

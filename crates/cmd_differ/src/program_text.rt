@@ -40,7 +40,7 @@ fn spoken_line(text: &[u8]) -> Option<(&[u8], &[u8])>
     None
 }
 
-/// The word of a text that has one line with words, and one word in it. `Silent` if no line has words; `Several` if there are more.
+/// The word of a text that has one line with words, and in it one word. `Silent` if no line has words, `Several` if there are more words.
 fn only_word(text: &[u8]) -> LineWords<'_>
     ensures { IsOnlyWord (spoken_lines (source_lines text.now)) result }
 {
@@ -53,7 +53,7 @@ fn only_word(text: &[u8]) -> LineWords<'_>
     }
 }
 
-/// The program of a word, or none, and the fault is appended.
+/// The program of a word. If the word has a fault, appends the fault and returns none.
 fn program_of_word(
     alloc: Global,
     word: &[u8],
@@ -70,7 +70,7 @@ fn program_of_word(
     }
 }
 
-/// The program in a text, or none, and the fault is appended.
+/// The program in a text. If the text has a fault, appends the fault and returns none.
 pub(crate) fn program_in(
     alloc: Global,
     text: &[u8],

@@ -1,4 +1,4 @@
-//! The reading of texts.
+//! Reads the texts that are compared or searched, or appends their faults.
 
 ghost use Rattle.std.specs.Prelude.{◌≡◌, ◌++◌, IfOk, None, OnOk, Some, option_map};
 ghost use Rattle.text_io.specs.Gathered.{gathered};
@@ -72,7 +72,7 @@ fn add_too_long_of(answers: &mut Vec<u8>, which: Which) -> Result<(), AllocError
     add_too_long(answers)
 }
 
-/// Reads a text of the input, or appends its fault. None was found if it is over the limit.
+/// Reads a text of the input, or appends its fault. `found` is None if the text is over the limit.
 pub(crate) fn read_found(
     alloc: Global,
     which: Which,

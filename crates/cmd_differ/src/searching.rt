@@ -42,7 +42,7 @@ fn add_searched(
     Ok(finding_of(unused))
 }
 
-/// Appends what the rules are found to be, or that it isn't decided.
+/// Appends the rules that decide no cell, or that there is none, or that nothing is decided.
 fn add_search(
     alloc: Global,
     answers: &mut Vec<u8>,

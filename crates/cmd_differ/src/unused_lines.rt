@@ -1,4 +1,4 @@
-//! The lines of rules that decide no cell.
+//! The lines that `upc-lab unused` prints, one for each rule that decides no cell.
 
 ghost use Rattle.std.specs.Prelude.{◌≡◌, ◌++◌, Some, OnOk};
 ghost use Rattle.cmd_differ.specs.UnusedText.{more_rules_text, rule_text, taken_by_text, takers_text, unused_line, unused_lines, unused_text};

@@ -1,4 +1,4 @@
--- What is wrong in a line by itself: a word that is no number, or tokens outside the grammar.
+-- What is wrong in a line of a source, whatever the other lines are: a word that is no number, or tokens outside the grammar.
 use Rattle.std.specs.Prelude.{ℕ, Bool, false, ◌&&◌, if◌then◌else◌, List, [], ◌∷◌, ◌++◌, codes, slice_get, Option, Some, None}
 use Rattle.std.specs.Option.{is_none, is_some}
 use Rattle.bpf_asm.specs.Numbers.{number_of_word}
@@ -17,7 +17,7 @@ abbrev pub is_bad_number : List ℕ → Bool
 is_bad_number [] = false
 is_bad_number (octet ∷ rest) = is_digit octet && is_none (number_of_word (octet ∷ rest))
 
--- The first of these tokens that is no number.
+-- The first of these tokens that begins with a digit and spells no number.
 abbrev pub first_bad_number : List ℕ → List FoundWord → Option FoundWord
 first_bad_number text [] = None
 first_bad_number text (token ∷ tokens) = if is_bad_number (word_octets text token) then Some token else first_bad_number text tokens

@@ -12,7 +12,7 @@ use Rattle.cmd_explain_script.specs.Places.{place_words}
 use Rattle.cmd_explain_script.specs.declared.found_words.FoundWord.{FoundWord}
 use Rattle.text_words.specs.FaultLines.{line}
 
--- The place of the instruction that the fault is about, in a code of this many. `Empty` is about none.
+-- The place of the instruction that the fault is about, in a code of `size` instructions. `Empty` is about none.
 abbrev pub fault_place : ℕ → Fault → ℕ
 fault_place size fault.Empty = 0
 fault_place size fault.TooLong = 4096

@@ -58,7 +58,7 @@ IsExplainedBy RulesText octets text done =
 abbrev pub IsWholeExplanation : List ℕ → List ℕ → Done → Type 0
 IsWholeExplanation = IsExplainedBy IsRulesExplained
 
--- The same, but that the code of any rules may be reported as too long. Every input has such an output, so if a device fails, what was
--- written is the beginning of one.
+-- As `IsWholeExplanation`, but the code of any rules may be reported as too long. Every input has such an output, so if a device fails,
+-- what was written is the beginning of one.
 abbrev pub IsExplainText : List ℕ → List ℕ → Done → Type 0
 IsExplainText = IsExplainedBy MayBeRulesExplained

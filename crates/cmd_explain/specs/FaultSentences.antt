@@ -9,8 +9,8 @@ use Rattle.text_io.specs.declared.ending.Done.{Done}
 use Rattle.text_io.specs.declared.ending.Done.TheVariants.{Ended}
 use Rattle.text_words.specs.FaultLines.{line, too_long}
 
--- The family, the number and the name of each fault, and its sentence. In it `%` stands for the first number of the fault line, and `@` for
--- the second.
+-- The family, the number and the name of each fault, and its sentence. In a sentence `%` stands for the first number of the fault line, and
+-- `@` for the second.
 abbrev pub fault_sentences : List (List ℕ × List ℕ)
 fault_sentences =
     (codes "file 1 Gzip", codes "gzip compressed this file: pass it through gunzip first")
@@ -56,7 +56,7 @@ meant_octet first second octet = if octet == 37 then first else if octet == 64 t
 abbrev pub with_numbers : List ℕ → List ℕ → List ℕ → List ℕ
 with_numbers first second sentence = flat_map (meant_octet first second) sentence
 
--- The sentence with its numbers, or where there is a sentence for the fault.
+-- The sentence with its numbers. If there is none, it is said which inputs of `explain` have one for the fault.
 abbrev pub sentence_text : Option (List ℕ) → List ℕ → List ℕ → List ℕ
 sentence_text None first second = codes "the script, the source or the rules themselves have a sentence for it: explain them"
 sentence_text (Some sentence) first second = with_numbers first second sentence

@@ -84,7 +84,7 @@ fitting text [] tokens = 0
 fitting text (one ∷ slots) [] = 0
 fitting text (one ∷ slots) (token ∷ tokens) = if fits_slot one (word_octets text token) then 1 + fitting text slots tokens else 0
 
--- How many of the first tokens fit one of these shapes, that which most of them fit.
+-- The length of the longest prefix of the tokens that fits one of these shapes.
 abbrev pub most_fitting : List ℕ → List Shape → List FoundWord → ℕ
 most_fitting text [] tokens = 0
 most_fitting text (one ∷ shapes) tokens = max (fitting text (slots_of one) tokens) (most_fitting text shapes tokens)

@@ -28,8 +28,8 @@ abbrev pub takes_label : Option Form → Bool
 takes_label (Some form.Jump) = true
 takes_label _ = false
 
--- The first label operand of these tokens that has the fault. A label operand comes after a comma, or after `ja`; `after` says whether
--- the token before these is one of them.
+-- The first label operand of these tokens that has the fault. A label operand comes after a comma, or after `ja`; `after` says whether the
+-- token before these is a comma or `ja`.
 abbrev pub failing_operand : List (List ℕ) → AsmFault → List ℕ → List ℕ → Bool → List FoundWord → Option FoundWord
 failing_operand lines fault numbers text after [] = None
 failing_operand lines fault numbers text after (token ∷ tokens) =

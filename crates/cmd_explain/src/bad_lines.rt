@@ -1,4 +1,4 @@
-//! What is wrong in a line by itself.
+//! What is wrong in a line of a source, whatever the other lines are.
 
 ghost use Rattle.std.specs.Prelude.{◌≡◌, ◌++◌, OnOk, option_map, slice_get};
 ghost use Rattle.bpf_asm.specs.Numbers.{number_of_word};

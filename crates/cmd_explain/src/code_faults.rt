@@ -18,7 +18,7 @@ use std::alloc::{AllocError, Global};
 use text_io::Added;
 use text_words::{add_number, add_text};
 
-/// Returns the place of the instruction that the fault is about, in a code of this many.
+/// Returns the place of the instruction that the fault is about, in a code of `size` instructions. 0 for `Empty`, which is about none.
 fn fault_place(size: usize, fault: Fault) -> usize
     ensures { result ≡ fault_place size fault }
 {
@@ -63,7 +63,7 @@ fn add_scratch_name(answers: &mut Vec<u8>, word: u32) -> Added
     add_text(answers, b"]")
 }
 
-/// Appends that a path, which follows, does not store a scratch word.
+/// Appends that no instruction of a path stores a scratch word. The lines of the path follow this sentence.
 #[tactic(auto, using(std::proofs::lemmas::List::append_assoc))]
 fn add_unwritten(answers: &mut Vec<u8>, word: u32) -> Added
     ensures { OnOk result (answers.new.items ≡ answers.old.items ++ unwritten_sentence word) }

@@ -1,4 +1,5 @@
-//! `upc-lab explain`: the fault of a source, with its line and column and a sentence about it.
+//! The entry of `upc-lab explain`. The first line of the input says what the input is. A source of assembly is explained here; a text of
+//! rules, a script and fault lines are passed on (`explain_rules`, `explain_script`, `explain_fault_lines`).
 
 ghost use Rattle.std.specs.Prelude.{IfOk};
 ghost use Rattle.text_io.specs.Devices.{Adds};
@@ -39,7 +40,7 @@ fn explain_code(alloc: Global, source: &[u8], code: &[Instr], answers: &mut Vec<
     }
 }
 
-/// The program that explains a source.
+/// The answerer that explains a source.
 struct Sources;
 
 impl Answerer for Sources {

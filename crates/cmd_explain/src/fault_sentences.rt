@@ -16,8 +16,8 @@ use text_words::{TOO_LONG, add_text};
 /// The maximum number of octets of fault lines.
 const MOST_FAULT_OCTETS: u32 = 1048576;
 
-/// The family, the number and the name of each fault, and its sentence. In it `%` stands for the first number of the
-/// fault line, and `@` for the second.
+/// The family, the number and the name of each fault, and its sentence. In a sentence `%` stands for the first number of the fault line,
+/// and `@` for the second.
 const FAULT_SENTENCES: [(&[u8], &[u8]); 34] = [
     (
         b"file 1 Gzip",
@@ -279,7 +279,7 @@ fn add_explained_lines(alloc: Global, answers: &mut Vec<u8>, text: &[u8]) -> Add
     Ok(())
 }
 
-/// The program that explains fault lines.
+/// The answerer that explains fault lines.
 struct Faults;
 
 impl Answerer for Faults {

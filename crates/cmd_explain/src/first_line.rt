@@ -47,7 +47,7 @@ pub struct LookedAt<I> {
     alloc: Global,
     /// Octets that were read from the input.
     front: Vec<u8>,
-    /// How many of them were given on.
+    /// How many of these octets were passed on by `take`.
     given: usize,
     /// The input that is read.
     pub input: I,
@@ -56,7 +56,7 @@ pub struct LookedAt<I> {
 impl<I> LookedAt<I> {
     ghost use Rattle.std.specs.Prelude.{◌≡◌, []};
 
-    /// Makes an input of this one, of which nothing was looked at.
+    /// Wraps an input, of which nothing was looked at yet.
     // no edit: it puts its arguments together
     pub fn new(alloc: Global, input: I) -> LookedAt<I>
         ensures front { result.front.items ≡ [] }

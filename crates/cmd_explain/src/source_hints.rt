@@ -36,7 +36,8 @@ fn is_past_cell(instr: Instr) -> bool
     }
 }
 
-/// Returns the token of such an instruction that is wrong.
+/// Returns the wrong token of an instruction that loads from outside of each cell: its offset, or the mnemonic of a load of a header's
+/// length.
 fn hinted_token(
     alloc: Global,
     instr: Instr,

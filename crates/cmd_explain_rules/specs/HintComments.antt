@@ -1,4 +1,4 @@
--- The hints about a text of rules that a run has beside its answer, each after the same octets.
+-- The hints about a text of rules that a run prints beside its answer. Each hint is a line that begins with the same octets (`front`).
 use Rattle.std.specs.Prelude.{◌≡◌, ◌⊎◌, ℕ, List, [], ◌++◌, codes, Option, MatchOption, Result, Ok, Err}
 use Rattle.cmd_explain_rules.specs.RuleHints.{AreRuleHints}
 use Rattle.cmd_explain_rules.specs.declared.hint_comments.Comments.{Comments}
@@ -29,7 +29,7 @@ comment_front = codes "# "
 abbrev pub no_memory_comment : List ℕ
 no_memory_comment = comment_front ++ codes "hint: not decided: out of memory\n"
 
--- What is said of the comments.
+-- The text of the comments, or that no memory was left for them.
 abbrev pub text_of_comments : Comments → List ℕ
 text_of_comments (Made text) = text.items
 text_of_comments NoMemory = no_memory_comment

@@ -66,11 +66,11 @@ abbrev pub meant_text : Option (List ℕ) → List ℕ → List ℕ
 meant_text None other = codes "; " ++ other
 meant_text (Some word) other = perhaps_text (Some word)
 
--- What is said of an unknown word at a place, where this name is near it, if one is.
+-- What is said of an unknown word at a place. `named` is a name of the text that is near the word, if there is one.
 unfoldable pub near_text : Spot → List ℕ → Option (List ℕ) → List ℕ
 near_text spot word named = meant_text (either_word named (near_word spot.place word rule_words)) (expected spot.defines spot.place)
 
--- The sentence about a word that is unknown, where this name is near it, if one is.
+-- The sentence about a word that is unknown. `named` is a name of the text that is near the word, if there is one.
 abbrev pub unknown_word_sentence : Spot → List ℕ → Option (List ℕ) → List ℕ
 unknown_word_sentence spot word named =
     quoted word ++ (codes " is no word of rules, and no line before gives it as a name" ++ near_text spot word named)

@@ -36,12 +36,13 @@ near_given place word text (first ∷ second ∷ words) =
     then Some (rule_word_octets text second)
     else None
 
--- The first of two words that may be there.
+-- The first of two words, or the second if there is no first.
 abbrev pub either_word : Option (List ℕ) → Option (List ℕ) → Option (List ℕ)
 either_word None other = other
 either_word (Some word) other = Some word
 
--- The first such name that these lines give before a fault at this place. The first of them begins at the other place.
+-- The first name that these lines give before a fault, that may come at a place, and that is near a word. The first of these lines begins
+-- at `begin`.
 abbrev pub near_name : Place → List ℕ → TextPlace → TextPlace → List (List ℕ) → Option (List ℕ)
 near_name place word fault begin [] = None
 near_name place word fault begin (line ∷ lines) =

@@ -51,14 +51,14 @@ start_reason part.Define = codes "names are given before the first rule or block
 start_reason (part.Field about.Gfc) = unit_reason (part.Field about.Gfc)
 start_reason _ = expected false here.Start
 
--- Why a token doesn't come after a unit of a test or a number of a list, or this.
+-- Why a token doesn't come after a unit of a test or a number of a list, or `other`.
 abbrev pub joining_reason : List ℕ → List ℕ → List ℕ
 joining_reason octets other =
     if bytes_eq octets (codes "-") then codes "a range is written with `..`, as in `32..127`" else (
     if bytes_eq octets (codes "&") then codes "tests are joined by `and` or `&&`; a mask comes right after a field" else (
     if bytes_eq octets (codes "|") then codes "tests are joined by `or` or `||`" else other))
 
--- Why a token isn't in a list, or this.
+-- Why a token isn't in a list, or `other`.
 abbrev pub listing_reason : Part → List ℕ → List ℕ
 listing_reason part.LeftBrace other = codes "a list has no braces, as in `vci 1, 2`"
 listing_reason _ other = other
@@ -107,7 +107,7 @@ abbrev pub too_large_words : Part → List ℕ
 too_large_words part.Name = codes " means a number that doesn't fit here; "
 too_large_words _ = codes " doesn't fit here; "
 
--- Which octets may begin where a size comes first.
+-- Which offsets may come after `octet`, `half` or `word`.
 abbrev pub offsets : Subject → List ℕ
 offsets (about.Octets size.Octet) = codes "`octet` takes an offset of 0 to 51"
 offsets (about.Octets size.Half) = codes "`half` takes an offset of 0 to 50"

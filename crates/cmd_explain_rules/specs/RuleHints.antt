@@ -15,7 +15,7 @@ use Rattle.text_words.specs.FaultLines.{line}
 abbrev pub rule_line_words : List RulePlace → ℕ → List ℕ
 rule_line_words begins place = decider_text begins (Some place)
 
--- What comes before a rule that these follow.
+-- What comes before a rule of a list that these follow.
 abbrev pub separator : List ℕ → List ℕ
 separator [] = codes " and "
 separator (place ∷ more) = codes ", "
@@ -30,7 +30,7 @@ rules_after_first begins room [] = []
 rules_after_first begins room (place ∷ more) =
     if room == 0 then left_out (length (place ∷ more)) else separator more ++ (rule_line_words begins place ++ rules_after_first begins (room - 1) more)
 
--- That one rule takes the cells, or that these others do too.
+-- That one rule takes the cells, or that several do. These are the rules after the first.
 abbrev pub takes_words : List ℕ → List ℕ
 takes_words [] = codes " takes its cells"
 takes_words (place ∷ more) = codes " take its cells"
@@ -39,7 +39,7 @@ takes_words (place ∷ more) = codes " take its cells"
 abbrev pub rule_list : List RulePlace → ℕ → List ℕ → List ℕ
 rule_list begins first more = rule_line_words begins first ++ rules_after_first begins 7 more
 
--- That they take the cells of a rule.
+-- That a rule decides no cell, and which rules take its cells.
 abbrev pub decides_no_cell_words : List RulePlace → ℕ → List ℕ → List ℕ
 decides_no_cell_words begins first more = codes "this rule decides no cell; " ++ (rule_list begins first more ++ takes_words more)
 
@@ -65,10 +65,10 @@ pub record AreAllHints (front : List ℕ) (placed_rules : PlacedRulesRead) (text
   pub are_unused : AreUnused rules unused
   pub hints : text ≡ rule_hints front placed_rules.begins unused
 
--- That nothing is claimed, since too much would have to be looked at.
+-- That nothing is decided, since the search would take too much work.
 abbrev pub undecided_hint : List ℕ
 undecided_hint = codes "hint: not decided: too many cases\n"
 
--- The hints about rules, each after these octets, or that nothing is claimed.
+-- The hints about rules, each after these octets, or that nothing is decided.
 abbrev pub AreRuleHints : List ℕ → PlacedRulesRead → List ℕ → Type 0
 AreRuleHints front placed_rules text = AreAllHints front placed_rules text ⊎ (text ≡ front ++ undecided_hint)

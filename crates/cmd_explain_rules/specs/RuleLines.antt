@@ -20,20 +20,20 @@ begins_with_close [] = false
 begins_with_close (octet ∷ rest) = octet == 125
 
 -- Whether a line of rules that ends at this place has a fault of this kind at that one, where these lines follow. The last line has each
--- that no line before it has. A line that ends too early before a `}` has its fault at the `}`, which begins the next line.
+-- fault that no line before it has. A line that ends too early before a `}` has its fault at the `}`, which begins the next line.
 abbrev pub has_fault : RuleFaultKind → TextPlace → TextPlace → List (List ℕ) → Bool
 has_fault kind fault end [] = true
 has_fault kind.BadLine fault end (next ∷ lines) = comes_before fault end || (begins_with_close next && not (comes_before end fault))
 has_fault _ fault end (next ∷ lines) = comes_before fault end
 
--- The line of rules that has a fault of this kind at this place, after the place where it begins. The first of these lines begins at the
--- first place.
+-- The line of rules that has a fault of this kind at this place, and before it the place where the line begins. The first of these lines
+-- begins at `begin`.
 abbrev pub line_holding : TextPlace → List (List ℕ) → RuleFaultKind → TextPlace → TextPlace × List ℕ
 line_holding begin [] kind fault = (begin, [])
 line_holding begin (line ∷ lines) kind fault =
     if has_fault kind fault (place_past begin line) lines then (begin, line) else line_holding (place_past begin line) lines kind fault
 
--- How many octets a line of rules has up to the end of so many of its source lines.
+-- How many octets the first `source_lines` source lines of a line of rules have.
 abbrev pub octets_before : ℕ → List ℕ → ℕ
 octets_before source_lines [] = 0
 octets_before source_lines (octet ∷ rest) =

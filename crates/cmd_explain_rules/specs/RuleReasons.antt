@@ -59,7 +59,7 @@ abbrev pub too_long_sentence : Place → List ℕ
 too_long_sentence here.NewName = codes "a name means at most 4096 tokens, and a text gives at most 4096 names"
 too_long_sentence _ = codes "a test has at most 4096 comparisons and words, and names add at most 262144 tokens to a text"
 
--- The sentence about a name that this line gives.
+-- The sentence about a name that the source line of this number gives.
 abbrev pub given_sentence : List ℕ → ℕ → List ℕ
 given_sentence name number = quoted name ++ (codes " is given by line " ++ (decimal number ++ codes "; a name is given once"))
 
@@ -102,7 +102,7 @@ part_blamed (Some word) = word.part
 abbrev pub place_of_fault : RuleFault → TextPlace
 place_of_fault fault = record { line = fault.line; column = fault.column }
 
--- What is added where a token doesn't fit, or the line ends, and so many parentheses are open.
+-- What is added where a token doesn't fit, or the line ends too early, while this many parentheses are open.
 abbrev pub inside_words : RuleFaultKind → ℕ → List ℕ
 inside_words kind.BadLine depth = if nat_lt 0 depth then codes "; a `(` is open here" else []
 inside_words _ depth = []
@@ -116,7 +116,7 @@ placed_explanation lines fault column content words =
     (part_blamed (word_at column words))
     ++ inside_words fault.kind (depth_before column 0 words))
 
--- The explanation of a fault on this line of rules, after the place where it begins.
+-- The explanation of a fault on a line of rules. `held` is the place where the line begins, and the line.
 abbrev pub explanation_within : List (List ℕ) → RuleFault → TextPlace × List ℕ → List ℕ
 explanation_within lines fault held =
     placed_explanation lines fault (column_within held.1 held.0 (place_of_fault fault)) held.1 (words_found held.1)

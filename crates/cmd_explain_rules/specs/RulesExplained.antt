@@ -58,7 +58,7 @@ ExplainsRules text answer done =
 abbrev pub IsRulesExplained : List ℕ → List ℕ → Done → Type 0
 IsRulesExplained = IsAnswerBy ExplainsRules
 
--- The same, but that the code of any rules may be reported as too long. Every text has such an answer, so if a device fails, what was
+-- As `ExplainsRules`, but the code of any rules may be reported as too long. Every text has such an answer, so if a device fails, what was
 -- written is the beginning of one.
 abbrev pub MayExplain : List ℕ → List ℕ → Done → Type 0
 MayExplain text answer done =

@@ -25,7 +25,8 @@ takes_list here.Low = true
 takes_list here.Channel = true
 takes_list _ = false
 
--- What comes after a number or a name: one where a test may begin, another where a number of a list comes, and elsewhere the same.
+-- What comes after a number or a name at a place: `of_test` where a test may begin, `of_list` where a number of a list may come, and
+-- anywhere else what was to come at the place itself.
 abbrev pub after_value : Place → Place → Place → Place
 after_value place of_test of_list = if takes_test place then of_test else if takes_list place then of_list else place
 
@@ -111,7 +112,7 @@ spot_after spot token = record {
 abbrev pub first_spot : Spot
 first_spot = record { place = here.Start; subject = about.Vpi; defines = false }
 
--- The place of the token at a column, or of the end of the line, after these tokens.
+-- What may come at a column, where this may come before these tokens. The tokens in earlier columns decide.
 abbrev pub spot_from : ℕ → Spot → List RuleWord → Spot
 spot_from column spot [] = spot
 spot_from column spot (word ∷ words) =

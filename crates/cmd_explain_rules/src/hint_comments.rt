@@ -1,4 +1,4 @@
-//! The hints about a text of rules that a run has beside its answer, each after the same octets.
+//! The hints about a text of rules that a run prints beside its answer. Each hint is a line that begins with the same octets (`front`).
 
 ghost use Rattle.std.specs.Prelude.{◌≡◌, OnOk, option_map};
 ghost use Rattle.rules_text.specs.TextOfRules.{placed_rules_in};
@@ -14,9 +14,9 @@ use std::alloc::{AllocError, Global};
 /// The hints about rules as comments.
 #[derive(Drop)]
 pub enum Comments {
-    /// These were made.
+    /// The comments, a line each.
     Made(Vec<u8>),
-    /// No memory was left for them.
+    /// An allocation failed, so there are none.
     NoMemory,
 }
 
@@ -53,8 +53,8 @@ fn add_hints_on(
     }
 }
 
-/// Appends the hints about a text of rules, each after these octets. A text with a fault or over its limit has none. If too much would have
-/// to be looked at, only this is said.
+/// Appends the hints about a text of rules, each after these octets. A text with a fault or over its limit has none. If the search would
+/// take too much work, one hint says that nothing is decided.
 ///
 /// # Errors
 ///
@@ -73,7 +73,7 @@ pub fn add_hints_about(
     add_hints_on(alloc, answers, front, octets)
 }
 
-/// Returns the comments about a text that was found.
+/// Returns the comments about a text. `found` is None if the text is over the limit.
 pub(crate) fn comments_found(alloc: Global, found: &Option<Vec<u8>>) -> Comments
     ensures { MayBeCommentsFound (option_map (λ text. text.items) found.now) (text_of_comments result) }
 {

@@ -13,7 +13,7 @@ use std::alloc::{AllocError, Global};
 use text_io::{Done, Ending, Input, Output, RunFault, gather, give_last};
 use text_words::add_too_long;
 
-/// Answers a text within the limit, or one over it.
+/// Answers a text. `found` is None if the text is over the limit.
 fn answer_found(
     alloc: Global,
     found: &Option<Vec<u8>>,

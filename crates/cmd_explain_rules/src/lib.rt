@@ -1,4 +1,4 @@
-//! What is wrong in a text of rules, what would be right, and hints about rules that decide no cell.
+//! Explains texts of rules: what is wrong, what would be right, and which rules decide no cell.
 #![tactic(auto)]
 
 mod hint_comments;

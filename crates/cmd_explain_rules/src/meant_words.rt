@@ -112,7 +112,7 @@ fn near_word(place: Place, word: &[u8]) -> Option<&'static [u8]>
     near_among(place, word, &WORDS)
 }
 
-/// Appends what is said of a word that is unknown: the word that was perhaps meant, or this.
+/// Appends what is said of a word that is unknown: the word that was perhaps meant, or `other` if there is none.
 #[tactic(auto, using(std::proofs::lemmas::List::append_assoc))]
 fn add_meant(answers: &mut Vec<u8>, meant: Option<&[u8]>, other: &[u8]) -> Result<(), AllocError>
     ensures { OnOk result (answers.new.items ≡ answers.old.items ++ meant_text (option_map (λ near. near.now) meant.entry) other.now) }
@@ -126,7 +126,7 @@ fn add_meant(answers: &mut Vec<u8>, meant: Option<&[u8]>, other: &[u8]) -> Resul
     }
 }
 
-/// Returns the first of two words that may be there.
+/// Returns the first of two words, or the second if there is no first.
 fn either_word<'a>(named: Option<&'a [u8]>, other: Option<&'static [u8]>) -> Option<&'a [u8]>
     ensures { option_map (λ word. word.now) result
         ≡ either_word (option_map (λ name. name.now) named.entry) (option_map (λ near. near.now) other.entry) }
@@ -137,7 +137,8 @@ fn either_word<'a>(named: Option<&'a [u8]>, other: Option<&'static [u8]>) -> Opt
     }
 }
 
-/// Appends the word that was perhaps meant, or what may come at a place. This name is near the word, if one is.
+/// Appends the word that was perhaps meant, or what may come at a place. `named` is a name of the text that is near the word, if there is
+/// one.
 #[tactic(auto, unfolding(crate::specs::MeantWords::near_text))]
 fn add_near(
     answers: &mut Vec<u8>,
@@ -154,7 +155,7 @@ fn add_near(
     )
 }
 
-/// Appends the sentence about a word that is unknown. This name is near it, if one is.
+/// Appends the sentence about a word that is unknown. `named` is a name of the text that is near the word, if there is one.
 #[tactic(auto, using(std::proofs::lemmas::List::append_assoc))]
 pub(crate) fn add_unknown(
     answers: &mut Vec<u8>,

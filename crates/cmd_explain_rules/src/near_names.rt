@@ -71,7 +71,7 @@ fn near_in_line<'a>(
     Ok(near_given(place, word, line, &words))
 }
 
-/// Returns the first such name that a text gives before a fault at this place.
+/// Returns the first name that a text gives before a fault, that may come at a place, and that is near a word.
 pub(crate) fn near_name<'a>(
     alloc: Global,
     place: Place,

@@ -111,7 +111,7 @@ impl Part {
         }
     }
 
-    /// Returns why a token isn't in a list, or this.
+    /// Returns why a token isn't in a list, or `other`.
     fn listing_reason(self, other: &'static [u8]) -> &'static [u8]
         ensures { result.now ≡ listing_reason self other.now }
     {
@@ -132,7 +132,7 @@ impl Part {
     }
 }
 
-/// Returns why a token doesn't come after a unit of a test or a number of a list, or this.
+/// Returns why a token doesn't come after a unit of a test or a number of a list, or `other`.
 fn joining_reason(octets: &[u8], other: &'static [u8]) -> &'static [u8]
     ensures { result.now ≡ joining_reason octets.now other.now }
 {
@@ -185,7 +185,7 @@ impl Subject {
         }
     }
 
-    /// Returns which octets may begin where a size comes first, in words.
+    /// Returns which offsets may come after `octet`, `half` or `word`, in words.
     pub(crate) fn offsets(self) -> &'static [u8]
         ensures { result.now ≡ offsets self }
     {

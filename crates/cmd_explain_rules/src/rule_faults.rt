@@ -87,7 +87,8 @@ fn add_outside(answers: &mut Vec<u8>, spot: Spot) -> Added
     add_text(answers, spot.subject.offsets())
 }
 
-/// Returns the sentence about a parenthesis or a block without its other end.
+/// Returns the sentence about a parenthesis or a block without its other end. `depth` is how many parentheses are open where the test of
+/// the line ends.
 fn unbalanced_sentence(part: Part, depth: usize) -> &'static [u8]
     ensures { result.now ≡ unbalanced_sentence part depth }
 {
@@ -116,7 +117,7 @@ fn too_long_sentence(spot: Spot) -> &'static [u8]
     }
 }
 
-/// Appends the sentence about a name that this line gives.
+/// Appends the sentence about a name that the source line of this number gives.
 #[tactic(auto, using(std::proofs::lemmas::List::append_assoc))]
 fn add_given(answers: &mut Vec<u8>, name: &[u8], number: usize) -> Added
     ensures { OnOk result (answers.new.items ≡ answers.old.items ++ given_sentence name.now number) }
@@ -157,7 +158,8 @@ fn place_of_fault(fault: RuleFault) -> TextPlace
     }
 }
 
-/// Appends the sentence about a fault of this kind at this place, on a line with this content and these tokens, at this token of these octets.
+/// Appends the sentence about a fault. `content` is the line of rules that has it, and `words` are its tokens. `spot`, `octets` and `part`
+/// are of the token at the fault.
 fn add_sentence(
     alloc: Global,
     answers: &mut Vec<u8>,
@@ -233,7 +235,7 @@ fn part_blamed(word: Option<RuleWord>) -> Part
     }
 }
 
-/// Appends that a parenthesis is open where a token doesn't fit, or where the line ends, if so many are.
+/// Appends that a parenthesis is open, where a token doesn't fit or the line ends too early, if `depth` isn't 0.
 fn add_inside(answers: &mut Vec<u8>, kind: RuleFaultKind, depth: usize) -> Added
     ensures { OnOk result (answers.new.items ≡ answers.old.items ++ inside_words kind depth) }
 {

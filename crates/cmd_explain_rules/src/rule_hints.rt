@@ -13,7 +13,7 @@ use rules_text::{PlacedRules, RulePlace};
 use std::alloc::{AllocError, Global};
 use text_words::{add_number, add_text};
 
-/// How many rules are named after the first.
+/// The most rules that a hint names after the first.
 const MOST_NAMED: usize = 7;
 
 /// Appends where the rule at a place begins.
@@ -27,7 +27,7 @@ fn add_rule_name(
     add_decider(answers, begins, Some(place))
 }
 
-/// Returns what comes before a rule that these follow.
+/// Returns what comes before a rule of a list that these follow: ` and ` before the last, otherwise a comma.
 fn separator(more: &[usize]) -> &'static [u8]
     ensures { result.now ≡ separator more.now }
 {
@@ -83,7 +83,7 @@ fn add_rules_after_first(
     Ok(())
 }
 
-/// Returns that one rule takes the cells, or that these others do too.
+/// Returns that one rule takes the cells, or that several do. `more` are the rules after the first.
 fn takes_words(more: &[usize]) -> &'static [u8]
     ensures { result.now ≡ takes_words more.now }
 {
@@ -199,7 +199,7 @@ fn add_searched(
     Ok(())
 }
 
-/// Appends that nothing is claimed, after these octets.
+/// Appends that nothing is decided, after these octets.
 #[tactic(auto, using(std::proofs::lemmas::List::append_assoc))]
 fn add_undecided(answers: &mut Vec<u8>, front: &[u8]) -> Result<(), AllocError>
     ensures { OnOk result (answers.new.items ≡ answers.old.items ++ (front.now ++ undecided_hint)) }
@@ -208,7 +208,7 @@ fn add_undecided(answers: &mut Vec<u8>, front: &[u8]) -> Result<(), AllocError>
     add_text(answers, b"hint: not decided: too many cases\n")
 }
 
-/// Appends the hints about rules, each after these octets, or that nothing is claimed.
+/// Appends the hints about rules, each after these octets, or that nothing is decided.
 pub(crate) fn add_rule_hints(
     alloc: Global,
     answers: &mut Vec<u8>,

@@ -34,7 +34,7 @@ fn begins_with_close(octets: &[u8]) -> bool
     }
 }
 
-/// Returns whether a line of rules that ends at a place has a fault of this kind at another, where this rest of the text follows.
+/// Returns whether a fault is one of a line of rules that ends at `end`. `rest` is the text after the line.
 fn has_fault(kind: RuleFaultKind, fault: TextPlace, end: TextPlace, rest: &[u8]) -> bool
     ensures { result ≡ has_fault kind fault end (rule_lines rest.now) }
 {
@@ -67,7 +67,7 @@ pub(crate) fn line_holding(text: &[u8], kind: RuleFaultKind, fault: TextPlace) -
     (begin, &[])
 }
 
-/// Returns how many octets a line of rules has up to the end of so many of its source lines.
+/// Returns how many octets the first `source_lines` source lines of a line of rules have.
 fn octets_before(line: &[u8], source_lines: usize) -> usize
     ensures before { result ≡ octets_before source_lines line.now }
     ensures within { result ≤ length line.now }

@@ -131,7 +131,7 @@ pub(crate) fn explain_text(
     }
 }
 
-/// The program that explains a text of rules.
+/// The answerer that explains a text of rules.
 struct Rules;
 
 impl Answerer for Rules {

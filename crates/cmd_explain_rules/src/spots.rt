@@ -24,7 +24,7 @@ pub enum Place {
     Mask,
     /// After a mask: a sign or a number.
     Sign,
-    /// The number after `<` and its like.
+    /// The number after `<`, `<=`, `>` or `>=`.
     Constant,
     /// After the first number of a range.
     Dots,
@@ -50,7 +50,7 @@ pub enum Place {
     NewName,
     /// `=` after a new name.
     Equal,
-    /// What a new name means.
+    /// What a new name means: a test or a list, after the `=` of `define`.
     Body,
 }
 
@@ -82,7 +82,8 @@ pub(crate) fn takes_list(place: Place) -> bool
     )
 }
 
-/// Returns what comes after a number or a name: one where a test may begin, another where a number of a list comes, and elsewhere the same.
+/// Returns what comes after a number or a name at a place: `of_test` where a test may begin, `of_list` where a number of a list may come,
+/// and anywhere else what was to come at the place itself.
 fn after_value(place: Place, of_test: Place, of_list: Place) -> Place
     ensures { result ≡ after_value place of_test of_list }
 {
@@ -205,7 +206,7 @@ fn spot_after(spot: Spot, part: Part) -> Spot
     }
 }
 
-/// Returns the place of the token at a column, or of the end of the line.
+/// Returns what may come at a column, by the tokens before it.
 pub(crate) fn spot_before(column: usize, words: &[RuleWord]) -> Spot
     ensures { result ≡ spot_from column first_spot words.now }
 {

@@ -9,7 +9,7 @@ use bpf_code::Size;
 use rules_cells::Field;
 use rules_text::{Sign, Token};
 
-/// What numbers are compared with, or octets begin at.
+/// What numbers are compared with. Of octets it is their size, by which an offset is judged too.
 #[derive(Clone, Copy)]
 pub enum Subject {
     /// `gfc`

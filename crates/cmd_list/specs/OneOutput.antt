@@ -1,4 +1,4 @@
--- What it means that an output is fixed.
+-- What it means that an input has one output.
 use Rattle.std.specs.Prelude.{◌≡◌, ℕ, List}
 use Rattle.text_io.specs.declared.ending.Done.{Done}
 

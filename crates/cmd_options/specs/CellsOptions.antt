@@ -22,7 +22,7 @@ link_rule = argument_rule (codes "link") true None false
 abbrev pub time_rule : Rule
 time_rule = argument_rule (codes "time") true (Some (codes "record")) false
 
--- The command `upc-lab cells`: these options, the option `--record`, and that for help, which every command has.
+-- The command `upc-lab cells` has the options `--tick`, `--link`, `--time` and `--record`. Like every command it also has `--help`.
 unfoldable pub cells_app : App
 cells_app = app_with_rules (codes "upc-lab cells") (tick_rule ∷ link_rule ∷ time_rule ∷ flag_rule (codes "record") ∷ [])
 

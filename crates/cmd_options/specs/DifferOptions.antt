@@ -11,8 +11,8 @@ use Rattle.cmd_options.specs.declared.differ.DifferOptions.{DifferOptions}
 use Rattle.cmd_options.specs.declared.programs.Programs.{Programs}
 use Rattle.cmd_options.specs.declared.programs.Programs.TheVariants as which
 
--- The command `upc-lab differ`: the argument OLD, which must be given, the options `--lines LINES`, whose value is changed if it isn't given,
--- and `--program WHICH`, and that for help, which every command has.
+-- The command `upc-lab differ` has the argument OLD, which must be given, and the options `--lines LINES` (changed if it isn't given) and
+-- `--program WHICH`. Like every command it also has `--help`.
 unfoldable pub differ_app : App
 differ_app = app_with_rules (codes "upc-lab differ") (argument_rule (codes "OLD") false None true
     ∷ argument_rule (codes "lines") true (Some (codes "changed")) false ∷ argument_rule (codes "program") true None false ∷ [])

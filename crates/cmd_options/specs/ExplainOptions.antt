@@ -8,7 +8,7 @@ use Rattle.text_command_line.specs.CommandLines.{argument_value}
 use Rattle.cmd_options.specs.OptionValues.{asked_file_of}
 use Rattle.cmd_options.specs.declared.explain.ExplainOptions.{ExplainOptions}
 
--- The command `upc-lab explain`: the option `--setup SETUP`, and that for help, which every command has.
+-- The command `upc-lab explain` has the option `--setup SETUP`. Like every command it also has `--help`.
 unfoldable pub explain_app : App
 explain_app = app_with_rules (codes "upc-lab explain") (argument_rule (codes "setup") true None false ∷ [])
 

@@ -13,8 +13,8 @@ use Rattle.cmd_options.specs.OptionValues.{asked_clp_of, asked_file_of, fit_incr
 use Rattle.cmd_options.specs.declared.fit.FitOptions.{FitOptions}
 use Rattle.upc_cell.specs.declared.side.Side.{Side}
 
--- The command `upc-lab fit`: the option `--increment T`, which must be given, those of `cells` but `--record`, the options `--side SIDE`,
--- whose value is uni if it isn't given, `--paths`, `--clp CLP` and `--rules FILE`, and that for help, which every command has.
+-- The command `upc-lab fit` has the option `--increment T`, which must be given, the options `--tick`, `--link` and `--time` of `cells`,
+-- and `--side SIDE` (uni if it isn't given), `--paths`, `--clp CLP` and `--rules FILE`. Like every command it also has `--help`.
 unfoldable pub fit_app : App
 fit_app = app_with_rules (codes "upc-lab fit") (argument_rule (codes "increment") true None true ∷ tick_rule ∷ link_rule ∷ time_rule
     ∷ argument_rule (codes "side") true (Some (codes "uni")) false ∷ flag_rule (codes "paths") ∷ argument_rule (codes "clp") true None false

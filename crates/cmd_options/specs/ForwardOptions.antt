@@ -12,8 +12,8 @@ use Rattle.cmd_options.specs.OptionValues.{asked_tick_of, file_name_of, others_o
 use Rattle.cmd_options.specs.PoliceOptions.{asked_tick_rule, setup_rule}
 use Rattle.cmd_options.specs.declared.forward.ForwardOptions.{ForwardOptions}
 
--- The command `upc-lab forward`: the argument of `police`, its options `--tick` and `--link`, the option `--others OTHERS`, whose value is
--- pass if it isn't given, and that for help, which every command has.
+-- The command `upc-lab forward` has the argument SETUP and the options `--tick` and `--link` of `police`, and `--others OTHERS` (pass if it
+-- isn't given). Like every command it also has `--help`.
 unfoldable pub forward_app : App
 forward_app =
     app_with_rules (codes "upc-lab forward") (setup_rule ∷ asked_tick_rule ∷ link_rule ∷ argument_rule (codes "others") true (Some (codes "pass")) false ∷ [])

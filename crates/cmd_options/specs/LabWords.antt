@@ -75,7 +75,7 @@ AsksLab words (Forward options) = (begun_by words ≡ Some own.Forward) × Asks 
 AsksLab words (Differ options) = (begun_by words ≡ Some own.Differ) × Asks differ_app differ_asked (drop 1 words) (differ_asked_by options)
 AsksLab words (Explain options) = (begun_by words ≡ Some own.Explain) × Asks explain_app explain_asked (drop 1 words) (explain_asked_by options)
 
--- The Stops that the words of such a subcommand may give, or those of any other words.
+-- The Stops that words may give which begin with the name of this subcommand with options, or with no such name.
 abbrev pub IsStopOf : Option WithOptions → List Text → Stop → Type 0
 IsStopOf None words stop = StopsAt (lab_faults_in words) stop
 IsStopOf (Some own.Why) words stop = IsOptionStop why_app why_asked (drop 1 words) stop

@@ -14,7 +14,7 @@ channel_with port connection = record { port = port; connection = connection }
 abbrev pub plain_link : Option ℕ → ℕ → Link
 plain_link packet interface = record { packet = packet; interface = interface; channel = None }
 
--- The same with a channel.
+-- The link of a packet's interface, if the file has those, a card's interface and a channel.
 abbrev pub channel_link : Option ℕ → ℕ → Channel → Link
 channel_link packet interface channel = record { packet = packet; interface = interface; channel = Some channel }
 

@@ -11,7 +11,7 @@ use Rattle.upc_cell.specs.declared.side.Side.{Side}
 use Rattle.upc_cell.specs.declared.side.Side.TheVariants.{Uni, Nni, UniPaths, NniPaths}
 use Rattle.text_script.specs.ScriptWords.{number_up_to}
 
--- What a word names that is one of two, each here before what it names.
+-- What a word names: `named` if it is the word `first`, `other` if it is the word `second`, and nothing if it is any other word.
 abbrev pub one_of_two : {Named : Type 0} → Text → Named → Text → Named → Text → Option Named
 one_of_two first named second other word = if bytes_eq word first then Some named else if bytes_eq word second then Some other else None
 

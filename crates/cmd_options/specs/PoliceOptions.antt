@@ -21,9 +21,9 @@ setup_rule = argument_rule (codes "SETUP") false None true
 abbrev pub asked_tick_rule : Rule
 asked_tick_rule = argument_rule (codes "tick") true None false
 
--- The command `upc-lab police`: this argument and this option, the options `--link` and `--time` of `cells`, the options `--lines LINES`,
--- whose value is all if it isn't given, `--every TIME`, without which no spans are written, `--why`, and `--threads N`, whose value is 2 if it
--- isn't given, and that for help, which every command has.
+-- The command `upc-lab police` has the argument SETUP and the options `--tick`, `--link` and `--time` (the last two are those of `cells`),
+-- `--lines LINES` (all if it isn't given), `--every TIME` (no spans are written if it isn't given), `--why`, and `--threads N` (2 if it
+-- isn't given). Like every command it also has `--help`.
 unfoldable pub police_app : App
 police_app = app_with_rules (codes "upc-lab police") (setup_rule ∷ asked_tick_rule ∷ link_rule ∷ time_rule
     ∷ argument_rule (codes "lines") true (Some (codes "all")) false ∷ argument_rule (codes "every") true None false ∷ flag_rule (codes "why")

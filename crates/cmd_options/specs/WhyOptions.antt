@@ -7,7 +7,7 @@ use Rattle.text_command_line.specs.CommandLines.{argument_value}
 use Rattle.cmd_options.specs.OptionValues.{is_given}
 use Rattle.cmd_options.specs.declared.why.WhyOptions.{WhyOptions}
 
--- The command `upc-lab why`: the option `--count`, and that for help, which every command has.
+-- The command `upc-lab why` has the option `--count`. Like every command it also has `--help`.
 unfoldable pub why_app : App
 why_app = app_with_rules (codes "upc-lab why") (flag_rule (codes "count") ∷ [])
 

@@ -66,7 +66,7 @@ const LAB: Program = Program {
     wants_one: true,
 };
 
-/// Its subcommands. One with options has a command of its own in place of a subcommand here.
+/// The subcommands of `upc-lab`. One with options has a command of its own, which reads its words; its row here only lists it in the help.
 const SUBCOMMANDS: [Row<Option<Subcommand>>; 14] = [
     Row {
         name: "rules",
@@ -154,9 +154,9 @@ const SUBCOMMANDS: [Row<Option<Subcommand>>; 14] = [
     },
 ];
 
-/// Reads the words after the program's name: the name of a subcommand with options and these, or the name of another
-/// subcommand. The forms of help that `clap` has request help. Any other word, any further word and no word is an
-/// error. As everywhere in `clap`, `--` ends the options and isn't a word itself, so it may be last.
+/// Reads the words after the program's name: the name of a subcommand, and its options if it has any. The forms of help that `clap` has
+/// request help. Any other word, any further word and no word is an error. As everywhere in `clap`, `--` ends the options and isn't a word
+/// itself, so it may be last.
 pub fn choose(alloc: Global, words: Vec<String>) -> Result<Asked, Stop>
     ensures asked { IfOk result (AsksLab (map string_bytes words.items)) }
     // Words that begin with no name of a subcommand with options are read without an error if and only if clap finds none in them.

@@ -78,7 +78,7 @@ pub(crate) fn help_on(words: &[String]) -> Option<WithOptions> {
     }
 }
 
-/// Replaces the help on such a subcommand by its own, which lists its options.
+/// Replaces the short help on a subcommand with options by the subcommand's own help, which lists its options. Any other `Stop` stays.
 pub(crate) fn with_options_shown(alloc: Global, subject: Option<WithOptions>, stop: Stop) -> Stop
     ensures alike { (kinds : Kinds) → StopsAt kinds stop → StopsAt kinds result }
     ensures memory { stop ≡ Stop.NoMemory → result ≡ Stop.NoMemory }

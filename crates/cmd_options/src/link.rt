@@ -76,7 +76,7 @@ fn link_in(word: &[u8]) -> Option<Link>
     }
 }
 
-/// Returns the link that the value of `--link` spells, or none without that option. None if the value is wrong.
+/// Returns the link that the value of `--link` spells, or `Some(None)` without that option. None if the value is wrong.
 pub(crate) fn link_of(values: &[Value]) -> Option<Option<Link>>
     ensures { result ≡ link_asked (text_named (texts_of values.now) (codes "link")) }
 {

@@ -119,7 +119,7 @@ pub(crate) fn tick_of(values: &[Value]) -> Option<Tick>
     Tick::new(nanoseconds)
 }
 
-/// Returns the tick that the value of `--tick` spells, if it is given and has one. None if it is no tick.
+/// Returns the tick that the value of `--tick` spells, or `Some(None)` without that option. None if the value is no tick.
 pub(crate) fn asked_tick_of(values: &[Value]) -> Option<Option<Tick>>
     ensures { option_map (λ tick. option_map (λ it. it.nanoseconds) tick) result ≡ asked_tick_of (text_named (texts_of values.now) (codes "tick")) }
 {
@@ -140,7 +140,8 @@ pub(crate) fn timing_of(values: &[Value]) -> Option<TimeSource>
     }
 }
 
-/// Returns the nanoseconds of a span that the value of `--every` spells, if it is given and has some. None if it is no time, or 0.
+/// Returns the nanoseconds of a span that the value of `--every` spells, or `Some(None)` without that option. None if the value is no time,
+/// or 0.
 pub(crate) fn every_of(values: &[Value]) -> Option<Option<u64>>
     ensures { result ≡ every_of (text_named (texts_of values.now) (codes "every")) }
 {
@@ -202,7 +203,8 @@ fn clp_named(word: &str) -> Option<u8>
     }
 }
 
-/// Returns the cell loss priority that the value of `--clp` names, if it is given. None if it names none.
+/// Returns the cell loss priority that the value of `--clp` names, or `Some(None)` without that option. None if the value is neither 0 nor
+/// 1.
 pub(crate) fn asked_clp_of(values: &[Value]) -> Option<Option<u8>>
     ensures { result ≡ asked_clp_of (text_named (texts_of values.now) (codes "clp")) }
 {
@@ -233,7 +235,7 @@ pub(crate) fn old_name_of(values: &[Value]) -> Option<&str>
     file_named(text_of(values, "OLD")?)
 }
 
-/// Returns the name of the file with rules, if one is given. None if it is empty.
+/// Returns the name of the file with rules, or `Some(None)` if none is given. None if the name is empty.
 pub(crate) fn rules_name_of(values: &[Value]) -> Option<Option<&str>>
     ensures { option_map (λ name. option_map (λ it. it.now) name) result ≡ asked_file_of (text_named (texts_of values.now) (codes "rules")) }
 {
@@ -243,7 +245,7 @@ pub(crate) fn rules_name_of(values: &[Value]) -> Option<Option<&str>>
     Some(Some(file_named(word)?))
 }
 
-/// Returns the name of the file with a setup script to explain, if one is given. None if it is empty.
+/// Returns the name of the file with a setup script to explain, or `Some(None)` if none is given. None if the name is empty.
 pub(crate) fn explained_name_of(values: &[Value]) -> Option<Option<&str>>
     ensures { option_map (λ name. option_map (λ it. it.now) name) result ≡ asked_file_of (text_named (texts_of values.now) (codes "setup")) }
 {
@@ -253,7 +255,7 @@ pub(crate) fn explained_name_of(values: &[Value]) -> Option<Option<&str>>
     Some(Some(file_named(word)?))
 }
 
-/// Returns a text of its own, if there is one.
+/// Returns a copy of a text, if there is one.
 pub(crate) fn owned(alloc: Global, text: Option<&str>) -> Result<Option<String>, AllocError>
     ensures { IfOk result (λ owned. option_map (λ it. string_bytes it) owned ≡ option_map (λ it. it.now) text.entry) }
 {
@@ -331,7 +333,7 @@ pub(crate) fn is_why_given(values: &[Value]) -> bool
     is_given(values, "why")
 }
 
-/// Returns why the words give no options: a value is wrong, and this message says which and what is right.
+/// Returns why the words give no options: a value is wrong, and the message says which one, and what is right.
 fn wrong_value(alloc: Global, message: &str) -> Stop
     ensures { IsWrongValue result }
 {

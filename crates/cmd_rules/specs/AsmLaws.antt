@@ -11,6 +11,6 @@ pub record IsCheckedAlike (text answer : List ℕ) (made : CodeWithPlaces) : Typ
   pub checked : PrintsSource answer (accepted_text made.placed.code.items) Whole
   pub compiled : PrintsRules text (accepted_text made.placed.code.items) Whole
 
--- For every text and answer.
+-- For every text, and every answer of `upc-lab asm` to it that is a source.
 abbrev pub SourcesAreCheckedAlike : Type 0
 SourcesAreCheckedAlike = (text answer : List ℕ) (made : CodeWithPlaces) → PrintsAsmCode text answer made → IsCheckedAlike text answer made

@@ -19,7 +19,7 @@ use Rattle.cmd_rules.specs.RulesAnswers.{IsAnswerBy, MayBeAnswerBy, PrintsFault}
 abbrev pub whole_line : Line → List ℕ
 whole_line line = if line.ended then line.octets ++ codes "\n" else line.octets
 
--- Lines, the first of which is at this place, each after what is put before it.
+-- These lines, each after what `put` gives for its place. The first of them is at this place.
 abbrev pub lines_with : (ℕ → List ℕ) → ℕ → List Line → List ℕ
 lines_with put place [] = []
 lines_with put place (line ∷ lines) = put place ++ (whole_line line ++ lines_with put (place + 1) lines)
@@ -78,6 +78,6 @@ PrintsAsm text answer done = ((made : CodeWithPlaces) × PrintsAsmCode text answ
 abbrev pub IsAsmText : List ℕ → List ℕ → Done → Type 0
 IsAsmText = IsAnswerBy PrintsAsm
 
--- The same, but that the code of any rules may be reported as too long.
+-- As `IsAsmText`, but the code of any rules may be reported as too long.
 abbrev pub MayBeAsmText : List ℕ → List ℕ → Done → Type 0
 MayBeAsmText = MayBeAnswerBy PrintsAsm

@@ -1,4 +1,4 @@
--- The subcommands of `upc-lab`. Read the modules in this order:
+-- The subcommands `rules`, `asm` and `why` of `upc-lab`. Read the modules in this order:
 pub mod RuleFaults
 pub mod RuleBegins
 pub mod RulesAnswers

@@ -41,7 +41,7 @@ AreRulesOf found = (text : List ℕ) × (rules : RulesRead) × (found ≡ Some t
 abbrev pub AreRules : List ℕ → Type 0
 AreRules octets = AreRulesOf (gathered most_rules_octets octets)
 
--- The same, but that the code of any rules may be reported as too long. Every input has such an output, so if a device fails,
--- what was written is the beginning of one.
+-- As `IsAnswerBy`, but the code of any rules may be reported as too long. Every input has such an output, so if a device fails, what was
+-- written is the beginning of one.
 abbrev pub MayBeAnswerBy : (List ℕ → List ℕ → Done → Type 0) → List ℕ → List ℕ → Done → Type 0
 MayBeAnswerBy prints octets answer done = IsAnswerBy prints octets answer done ⊎ (AreRules octets × PrintsLongCode answer done)

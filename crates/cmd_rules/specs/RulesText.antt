@@ -21,6 +21,6 @@ PrintsRules text answer done =
 abbrev pub IsRulesText : List ℕ → List ℕ → Done → Type 0
 IsRulesText = IsAnswerBy PrintsRules
 
--- The same, but that the code of any rules may be reported as too long.
+-- As `IsRulesText`, but the code of any rules may be reported as too long.
 abbrev pub MayBeRulesText : List ℕ → List ℕ → Done → Type 0
 MayBeRulesText = MayBeAnswerBy PrintsRules

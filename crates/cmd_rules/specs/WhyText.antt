@@ -89,12 +89,13 @@ cell_words_read [] = Err bad_line
 cell_words_read (word ∷ []) = cell_word_read (octets_of_digits word)
 cell_words_read (word ∷ other ∷ words) = cell_if_word (word_of_cell_line (word ∷ other ∷ words))
 
--- The cell of a line after the line `cells`, or the answer to a line without one. That of a line without words and of a comment is empty.
+-- The cell of a line after the line `cells`, or the answer to a line without one. The answer to a line without words, and to a comment, is
+-- empty.
 abbrev pub cell_line_read : List (List ℕ) → Result (List ℕ) (List ℕ)
 cell_line_read words = if is_silent words then Err [] else cell_words_read words
 
 -- What the answers depend on: the rules, whether cells are counted, and the places of the rules that decided the cells so far, the last
--- cell's first. They stay as they are but for these.
+-- cell's first. Only these places change.
 pub record WhyWorld : Type 0 where
   pub placed_rules : PlacedRulesRead
   pub counts : Bool
@@ -153,7 +154,7 @@ rules_of_why octets = gathered most_rules_octets (rules_before (lines_of octets)
 abbrev pub IsWhyText : Bool → List ℕ → List ℕ → Done → Type 0
 IsWhyText counts octets answer done = AnswersBy (PrintsDecisions counts (lines_after (lines_of octets))) (rules_of_why octets) answer done
 
--- The same, but that the code of any rules may be reported as too long. Every input has such an output, so if a device fails,
--- what was written is the beginning of one.
+-- As `IsWhyText`, but the code of any rules may be reported as too long. Every input has such an output, so if a device fails, what was
+-- written is the beginning of one.
 abbrev pub MayBeWhyText : Bool → List ℕ → List ℕ → Done → Type 0
 MayBeWhyText counts octets answer done = IsWhyText counts octets answer done ⊎ (AreRulesOf (rules_of_why octets) × PrintsLongCode answer done)

@@ -19,7 +19,7 @@ use text_words::add_text;
 /// The comment of a line of rules, and how many instructions the code has from that line's first on.
 #[derive(Drop)]
 pub(crate) struct Comment {
-    /// The number of instructions.
+    /// The number of instructions from the first of the line to the last of the code.
     pub size: usize,
     /// The comment line.
     pub text: Vec<u8>,
@@ -86,7 +86,7 @@ fn rule_comment(alloc: Global, line: &[u8], begin: RulePlace) -> Result<Vec<u8>,
     Ok(text)
 }
 
-/// How many instructions the code has from the line of rules at a place on, or from the last return.
+/// How many instructions the code has from the line of rules with index `place` on; 1 if there is no such line, which is the last return.
 fn start_from_end_at(starts_from_end: &[usize], place: usize) -> usize
     ensures { result ≡ next_start_from_end (drop place starts_from_end.now) }
 {
@@ -96,7 +96,8 @@ fn start_from_end_at(starts_from_end: &[usize], place: usize) -> usize
     }
 }
 
-/// What is left of a text after this many lines. So many were passed over where `rest` begins: the search goes on there, if it can.
+/// What is left of a text after its first `before` lines. `rest` is what is left after the first `passed`: the search begins there, unless
+/// that is too far.
 fn rest_after<'t>(text: &'t [u8], rest: &'t [u8], passed: usize, before: usize) -> &'t [u8]
     requires { source_lines rest.now ≡ drop passed (source_lines text.now) }
     ensures { source_lines result.now ≡ drop before (source_lines text.now) }
@@ -143,7 +144,7 @@ fn comments_of(
     Ok(comments)
 }
 
-/// Appends a comment, if this many instructions are left where its line's code begins.
+/// Appends a comment, if the code of its line begins where `left` instructions are left.
 fn add_comment_if(answers: &mut Vec<u8>, comment: &Comment, left: usize) -> Result<(), AllocError>
     ensures { OnOk result (answers.new.items ≡ answers.old.items ++ comment_if left comment.now) }
 {
@@ -153,7 +154,7 @@ fn add_comment_if(answers: &mut Vec<u8>, comment: &Comment, left: usize) -> Resu
     Ok(())
 }
 
-/// Appends the comment of `otherwise`, if this many instructions are left before it.
+/// Appends the comment of `otherwise`, if one instruction is left.
 fn add_otherwise(answers: &mut Vec<u8>, left: usize) -> Result<(), AllocError>
     ensures { OnOk result (answers.new.items ≡ answers.old.items ++ otherwise_comment left) }
 {

@@ -15,7 +15,7 @@ use rules_text::{CodeWithPlaces, compile_with_places};
 use std::alloc::{AllocError, Global};
 use text_io::{Done, Ending, Input, Output};
 
-/// Appends the source of a code of rules. `JumpOutside` isn't met: an accepted code has no such jump.
+/// Appends the source of a code of rules. `listing` fails only for lack of memory, since no jump of an accepted code leaves it.
 fn add_source(
     alloc: Global,
     answers: &mut Vec<u8>,
@@ -54,7 +54,7 @@ pub(crate) fn answer_by_source(
 ///
 /// # Errors
 ///
-/// As [`crate::compile_rules`] has them.
+/// See [`text_io::RunFault`].
 pub fn assemble_rules<I: Input, O: Output>(alloc: Global, input: &mut I, output: &mut O) -> Ending
     ensures served { IsServed MayBeAsmText I.Input input.old input.new O.Output output.old output.new result }
     ensures printed { I.is_known → O.is_known → IfOk result (λ done.

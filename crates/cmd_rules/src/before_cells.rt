@@ -53,7 +53,8 @@ fn is_last_cells_line(line: &[u8]) -> bool
     line.len() <= MOST_LINE_OCTETS && says_cells(line)
 }
 
-/// Reads the next octet, or nothing at the end of the input. More isn't read, since what comes after the line `cells` isn't taken here.
+/// Reads the next octet, or nothing at the end of the input. It reads no more than one, since what comes after the line `cells` has to stay
+/// in the input.
 fn next_octet<I: Input>(input: &mut I) -> Result<Option<u8>, RunFault>
     ensures octet { I.is_known → IfOk result (λ found. TakesOctet found (I.rest input.old) (I.rest input.new)) }
     ensures reading { I.failures input.new ≡ read_failures result (I.failures input.old) }
@@ -67,8 +68,8 @@ fn next_octet<I: Input>(input: &mut I) -> Result<Option<u8>, RunFault>
     }
 }
 
-/// Whether a text is over the limit, if its last line begins at a place: the lines before it are, or they are with it
-/// and it is too long for the line `cells`.
+/// Whether a text is over the limit, whatever follows. Its last line begins at `start`. The lines before that are over the limit; or the
+/// whole text is, and its last line is too long to be the line `cells`.
 fn is_over(octets: usize, start: usize) -> bool
     ensures over { result ≡ true → (most_rules_octets < start) ⊎ ((most_rules_octets < octets) × (MOST_LINE_OCTETS < octets - start)) }
     ensures lines { result ≡ false → start ≤ most_rules_octets }
@@ -78,7 +79,8 @@ fn is_over(octets: usize, start: usize) -> bool
         || (octets > MOST_RULES_OCTETS as usize && octets.saturating_sub(start) > MOST_LINE_OCTETS)
 }
 
-/// The text of the rules of an input that was read to its end. Its last line begins at a place.
+/// The text of the rules of an input that was read to its end: all of it, but without its last line if that is the line `cells`. The last
+/// line begins at `start`.
 fn text_at_end(text: Vec<u8>, start: usize) -> Vec<u8>
     requires { IsUpTo text.items start }
     ensures { HasRulesBefore text.items result.items [] }
@@ -101,7 +103,7 @@ fn within_limit(text: Vec<u8>) -> Option<Vec<u8>>
     Some(text)
 }
 
-/// Puts an octet after a text whose last line begins at a place. Returns where the last line begins then.
+/// Appends an octet to a text whose last line begins at `start`. Returns where the last line begins then.
 fn put_octet(text: &mut Vec<u8>, start: usize, octet: u8) -> Result<usize, AllocError>
     requires up_to { IsUpTo text.old.items start }
     requires rules { octet ≡ 10 → is_cells_line (record { octets = drop start text.old.items; ended = true }) ≡ false }
@@ -116,8 +118,8 @@ fn put_octet(text: &mut Vec<u8>, start: usize, octet: u8) -> Result<usize, Alloc
     }
 }
 
-/// Reads the text of rules: the lines before the line `cells`, which is read too, or all lines if there is none. Returns none once the text
-/// is over the limit.
+/// Reads the text of rules: the lines before the line `cells`, or the whole input if it has no such line. The line `cells` is read too, and
+/// nothing after it. Returns none once the text is over the limit.
 ///
 /// # Errors
 ///

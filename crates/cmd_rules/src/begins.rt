@@ -1,4 +1,4 @@
-//! Where lines of rules begin, as it is printed.
+//! Prints where lines of rules begin.
 
 ghost use Rattle.std.specs.Prelude.{◌≡◌, ◌++◌, OnOk};
 ghost use Rattle.cmd_rules.specs.CountText.{decider_text};

@@ -16,7 +16,7 @@ use text_io::{Done, Ending, Input, Output};
 ///
 /// # Errors
 ///
-/// An allocation failed.
+/// `AllocError` if an allocation failed.
 pub fn answer_by_octets(
     alloc: Global,
     text: &[u8],

@@ -21,7 +21,7 @@ pub(crate) struct Counts {
     pub otherwise: u64,
 }
 
-/// Appends counts of 0 until one is at this place.
+/// Appends counts of 0 until there is one with index `place`.
 fn reach(counts: &mut Vec<u64>, place: usize) -> Result<(), AllocError>
     ensures within { OnOk result (place < length counts.new.items) }
     ensures same { OnOk result ((at : ℕ) → get_or counts.new.items at 0 ≡ get_or counts.old.items at 0) }

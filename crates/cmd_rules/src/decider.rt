@@ -1,5 +1,5 @@
-//! Which line of rules decides a cell. Most rules are compiled for that, with their places as their values, so the time of a cell doesn't
-//! grow with rules that can't hold.
+//! Finds the line of rules that decides a cell. For that the rules are compiled, with their places as their values: the program jumps over
+//! blocks whose test doesn't hold. If it would be too long, the lines are tried one by one.
 
 ghost use Rattle.std.specs.Prelude.{◌≡◌, ◌<◌, ◌^◌, ℕ, suc, length, Ok, IfOk, IfErr, IfSome, OnOk, slice_get};
 ghost use Rattle.bpf_interp.specs.Value.{Value};
@@ -80,7 +80,7 @@ fn places_program(alloc: Global, rules: Rules) -> Result<Option<Program>, AllocE
     }
 }
 
-/// Compiles the rules of a text so. Returns none if that can't be done.
+/// Compiles the rules of a text with their places as their values. Returns none if that code is too long, or if the text has a fault.
 fn places_of_text(alloc: Global, text: &[u8]) -> Result<Option<Program>, AllocError>
     ensures { IfOk result (λ found. IfSome found (λ program. (rules : RulesRead) × (rules_in text.now ≡ Ok rules) × GivesPlaces rules program)) }
 {
@@ -130,7 +130,7 @@ fn decision_by_place(rules: &Rules, number: u32) -> Decision
     }
 }
 
-/// Octets of this number are a cell, by the type of octets.
+/// 52 octets are a cell. The function does nothing; its contract is a fact that the contract of `value_on` needs.
 fn is_cell(octets: &[u8])
     requires { length octets.now ≡ 52 }
     ensures { IsCell octets.now }
@@ -150,7 +150,7 @@ pub fn value_on(program: &Program, cell: &Cell) -> u32
 /// Decides cells by the rules of a text.
 #[derive(Drop)]
 pub struct Decider {
-    /// The rules, and the source lines that they are written in.
+    /// The rules, and where their lines begin in the text.
     pub placed_rules: PlacedRules,
     /// A program that gives the place of the line that decides a cell, counted from 1. There is none if it would be too long.
     pub places: Option<Program>,
@@ -158,7 +158,7 @@ pub struct Decider {
 }
 
 impl Decider {
-    /// Reads a text of rules, whose code may be too long.
+    /// Reads a text of rules. Their code may have more than 4096 instructions.
     ///
     /// # Errors
     ///
@@ -182,7 +182,7 @@ impl Decider {
     ///
     /// # Errors
     ///
-    /// As `compile_text` has them, since a text of rules is one that can be compiled.
+    /// Those of `compile_text`: rules that can't be compiled are refused here, although cells are decided without their code.
     #[tactic(auto, using(crate::proofs::Places::has_code))]
     pub(crate) fn new(alloc: Global, text: &[u8]) -> Result<Decider, RuleFault>
         ensures rules { IfOk result (λ decider. placed_rules_in text.now ≡ Ok (placed_rules_read decider.placed_rules)) }

@@ -31,7 +31,7 @@ use text_words::{
 };
 use upc_cell::Cell;
 
-/// A cell that a line has, or none if the line has its answer already.
+/// The cell of a line. None if the line has no cell; then its answer, which may be empty, was appended.
 type CellRead = Result<Option<Cell>, AllocError>;
 
 /// Appends the value of a cell, and ends the answer's line.
@@ -70,7 +70,7 @@ fn cell_in_word(alloc: Global, word: &[u8], answers: &mut Vec<u8>) -> CellRead
     Ok(None)
 }
 
-/// Returns whether a word is that of a moment.
+/// Returns whether a word may be a moment: it has only decimal digits.
 fn is_moment(word: &[u8]) -> bool
     ensures { result ≡ is_moment word.now }
 {
@@ -232,10 +232,10 @@ fn counts_if(alloc: Global, count: bool) -> Option<Counts>
     None
 }
 
-/// Answers an input. The lines before the line `cells` are a text of rules, within its limits; docs/RULES.md has it.
-/// Each line after it has a cell, alone or as a script has it, and its answer is the line of the rule that decides it,
-/// and its value. If cells are counted they have no answer, and at the end each rule has a line with the number of
-/// cells that it decided. A text with a fault is answered by the fault.
+/// Answers an input. The lines before the line `cells` are a text of rules, within its limits; docs/RULES.md has it. Each line after it has
+/// a cell, as a hexadecimal word alone or as `cell MOMENT CELL`. Its answer is the line of the rule that decides the cell, and the cell's
+/// value. With `count` cells have no answers; at the end each rule, and `otherwise`, has a line with the number of cells that it decided. A
+/// text with a fault is answered by the fault.
 ///
 /// # Errors
 ///

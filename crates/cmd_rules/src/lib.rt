@@ -1,4 +1,5 @@
-//! The subcommands of `upc-lab`: `rules` compiles a text of rules, and `why` says which of them decides each cell.
+//! Three subcommands of `upc-lab` for texts of rules: `rules` prints the octets of their program, `asm` prints it as a source of assembly,
+//! and `why` says which rule decides each cell.
 #![tactic(auto)]
 
 mod annotating;

@@ -12,7 +12,7 @@ abbrev pub is_coarse_rate : Option SizedRate → Bool
 is_coarse_rate None = false
 is_coarse_rate (Some rate) = rate.coarse
 
--- One of the rates is.
+-- One of the rates is above the one asked for by more than one percent.
 abbrev pub is_coarse : Sizes → Bool
 is_coarse sizes = sizes.peak.coarse || is_coarse_rate sizes.sustained
 

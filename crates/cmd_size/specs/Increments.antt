@@ -1,5 +1,5 @@
--- The increment of a rate, and the rate that an increment polices. A tick and other times are in nanoseconds. All numbers are
--- exact: what a sender sends is counted in billionths of a unit, of which he sends `units_of` in a nanosecond.
+-- The increment of a rate, and the rate that an increment polices. A tick and other times are in nanoseconds. All numbers are exact: what a
+-- sender sends is counted in billionths of a unit (a cell or a bit), and a sender sends `units_of` of these in a nanosecond.
 use Rattle.std.specs.Prelude.{ℕ, ◌+◌, ◌-◌, ◌*◌, ◌/◌, ◌<◌, ◌≤◌, Bool, nat_lt}
 use Rattle.cmd_size.specs.CellRates.{units_of, units_per_cell}
 use Rattle.cmd_size.specs.declared.figures.CellRate.{CellRate}
@@ -12,7 +12,7 @@ one_second = 1000000000
 abbrev pub sent_in : CellRate → ℕ → ℕ
 sent_in rate time = time * units_of rate
 
--- One cell.
+-- One cell, in billionths of a unit.
 abbrev pub one_cell : CellRate → ℕ
 one_cell rate = one_second * units_per_cell rate
 
@@ -26,7 +26,7 @@ pub record IsGreatest (rate : CellRate) (tick increment : ℕ) : Type 0 where
   pub fast : IsFastEnough rate tick increment
   pub slow : one_cell rate < sent_in rate ((increment + 1) * tick)
 
--- The increment of a rate above 0: one cell takes so long, in ticks, rounded down.
+-- The increment of a rate above 0: the time of one cell in ticks, rounded down.
 abbrev pub increment_of : CellRate → ℕ → ℕ
 increment_of rate tick = one_cell rate / sent_in rate tick
 

@@ -30,7 +30,7 @@ IsScriptContract None peak None asked = asked ≡ wanted.Cbr1 (script_rate peak)
 IsScriptContract (Some figures) peak (Some sustained) asked = asked ≡ script_vbr figures.kind (script_rate peak) (script_rate sustained)
 IsScriptContract _ peak _ asked = ⊥
 
--- In what is printed of a contract `setup` reads the same kind and buckets, and finds no fault in their numbers.
+-- `setup` reads the printed contract as one of the same kind with the same buckets, and finds no fault in its numbers.
 abbrev pub SetupTakesContracts : Type 0
 SetupTakesContracts = (figures : Figures) (sizes : Sizes) → sizes_of figures ≡ Ok sizes
     → (asked : Wanted) × (wanted_of (contract_text figures sizes) ≡ Some asked)

@@ -21,7 +21,7 @@ ends_in unit word = bytes_eq (drop (length word - length unit) word) unit
 abbrev pub without_last : ℕ → List ℕ → List ℕ
 without_last count word = take (length word - count) word
 
--- This number of units, each of `scale` smaller ones. It is at most 2^64 - 1.
+-- The smaller units of this number of units, each of which has `scale`. They are at most 2^64 - 1.
 abbrev pub in_smaller : ℕ → List ℕ → Option ℕ
 in_smaller scale digits = option_and_then (λ count. up_to most_number (count * scale)) (number_of_digits digits)
 

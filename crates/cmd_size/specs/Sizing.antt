@@ -12,7 +12,7 @@ use Rattle.cmd_size.specs.declared.figures.Sustained.{Sustained}
 use Rattle.cmd_size.specs.declared.sizing.SizedRate.{SizedRate}
 use Rattle.cmd_size.specs.declared.sizing.Sizes.{Sizes}
 
--- What follows from the value, or the fault.
+-- What `next` makes of the value, or the fault.
 abbrev pub followed : {A B : Type 0} → Result A SizeFault → (A → Result B SizeFault) → Result B SizeFault
 followed (Ok value) next = next value
 followed (Err fault) next = Err fault

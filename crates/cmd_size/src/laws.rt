@@ -9,12 +9,12 @@ pub fn senders_on_time_lose_nothing()
     ensures { SendersOnTimeLoseNothing }
 {}
 
-/// Nor does such a sender at the peak rate, for a burst of up to `mbs` cells, in the bucket of the sustained rate.
+/// Such a sender at the peak rate loses no cell of a burst of up to `mbs` cells in the bucket of the sustained rate.
 pub fn bursts_on_time_lose_nothing()
     ensures { BurstsOnTimeLoseNothing }
 {}
 
-/// In what is printed of a contract `setup` of `upc run` reads the same kind and buckets, and finds no fault in their numbers.
+/// `setup` of `upc run` reads the printed contract as one of the same kind with the same buckets, and finds no fault in its numbers.
 pub fn setup_takes_contracts()
     ensures { SetupTakesContracts }
 {}

@@ -146,7 +146,7 @@ fn add_advised(answers: &mut Vec<u8>, tick: Option<u64>) -> Added
     }
 }
 
-/// Appends a tick if a rate is coarse.
+/// Appends the tick that is advised, if a rate is coarse.
 #[tactic(auto, using(std::proofs::lemmas::List::append_assoc))]
 fn add_advice(answers: &mut Vec<u8>, figures: Figures, sizes: Sizes) -> Added
     ensures { OnOk result (answers.new.items ≡ answers.old.items ++ advice_text figures sizes) }

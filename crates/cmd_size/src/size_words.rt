@@ -11,7 +11,7 @@ use memchr::memchr;
 use text_io::first_word;
 use text_script::number;
 
-/// Returns a number of units, each of this number of smaller ones.
+/// Returns how many smaller units a number of units has, of which each has `scale`. None if the word is no number, or above 2^64 - 1.
 fn in_units(digits: &[u8], scale: u64) -> Option<u64>
     ensures { result ≡ in_smaller scale digits.now }
 {
@@ -49,7 +49,7 @@ fn cut_at_point(text: &[u8]) -> Option<(&[u8], &[u8])>
     }
 }
 
-/// Weight, in millionths, of the last decimal.
+/// Returns what the last of so many decimals counts, in millionths.
 fn millionths_of_last(decimals: usize) -> u64
     requires { decimals ≤ 6 }
     ensures { result ≡ 10 ^ (6 - decimals) }

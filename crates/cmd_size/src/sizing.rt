@@ -26,7 +26,7 @@ pub struct SizedRate {
     /// By how much that rate, before it is rounded, is above the rate asked for: in hundredths of a percent of the rate
     /// asked for, rounded down.
     pub distance: u64,
-    /// Whether it is above it by more than one percent.
+    /// Whether that rate is above the rate asked for by more than one percent.
     pub coarse: bool,
 }
 

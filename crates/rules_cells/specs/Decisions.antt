@@ -25,8 +25,8 @@ passed_after side (Block test) zero cell = if is_met side test cell then 0 else 
 passed_after side (Block test) (suc passed) cell = suc (suc passed)
 passed_after side End passed cell = passed - 1
 
--- What lines decide, if the first of them has this place and the line before them didn't decide. `found` is the value that the
--- first line gives.
+-- What lines decide, where the first of them has this place and gives this value, if it gives one. If it gives none, the lines after it
+-- decide.
 abbrev pub decision_by : Option ℕ → ℕ → Decision → Decision
 decision_by None place later = later
 decision_by (Some value) place later = record { line = Some place; value = value }
@@ -68,6 +68,6 @@ pub record IsFirstDecision (rules : Rules) (cell : List ℕ) (decision : Decisio
       → IsEarlier place decision.line → is_met rules.side test cell ≡ false
   pub others : decision.line ≡ None → decision.value ≡ rules.otherwise
 
--- For all rules and cells.
+-- For all rules and cells, the first rule whose test holds decides.
 abbrev pub TheFirstRuleDecides : Type 0
 TheFirstRuleDecides = (rules : Rules) (cell : List ℕ) → IsFirstDecision rules cell (decision_of rules cell)

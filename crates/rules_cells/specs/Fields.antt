@@ -17,7 +17,7 @@ pub record IsCell (cell : List ℕ) : Type 0 where
   pub whole : length cell ≡ 52
   pub octets : (place : ℕ) → slice_index cell place < 256
 
--- The number of a cell, its header read at this side.
+-- The number that a field has in a cell, the header read at this side.
 abbrev pub number_in : Side → Field → List ℕ → ℕ
 number_in side Gfc cell = gfc_of cell
 number_in side Vpi cell = vpi_at side cell

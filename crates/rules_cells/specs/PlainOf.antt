@@ -1,5 +1,5 @@
--- The test on the numbers in a packet that a test of cells becomes. A field of the header is compared where it is in the
--- word of the header: the bits of the word that the field has are kept, and the numbers are multiplied in place of a shift.
+-- The test of masked octets that a test of cells becomes. A field of the header is compared inside the header's word, its first four
+-- octets: a mask keeps the bits of the field, and the numbers are shifted to the field's place, by multiplication.
 use Rattle.std.specs.Prelude.{◌≡◌, ℕ, ◌-◌, ◌*◌, ◌%◌, ◌^◌, ◌==◌, min, nat_le, bit_and, if◌then◌else◌, List, [], ◌∷◌, map, Option, Some, None}
 use Rattle.std.specs.Global.{Vec}
 use Rattle.bpf_code.specs.declared.instr.Size.{Size}
@@ -33,7 +33,7 @@ most_of side Pti = Some 7
 most_of side Clp = Some 1
 most_of side (Octets octets) = None
 
--- What a field's lowest bit counts in the word of the header.
+-- The lowest bit of a field as a number in the header's word.
 abbrev pub unit_of : Field → ℕ
 unit_of Gfc = 268435456
 unit_of Vpi = 1048576
@@ -42,39 +42,41 @@ unit_of Pti = 2
 unit_of Clp = 1
 unit_of (Octets octets) = 1
 
--- A number in its place in the word, modulo 2^32.
+-- A field's number, shifted to the place of the field in the header's word, modulo 2^32.
 abbrev pub in_place : ℕ → ℕ → ℕ
 in_place unit number = (number * unit) % 2 ^ 32
 
--- The mask of a number in its place.
+-- The mask of a field in the header's word: of the field's bits those that a mask keeps, or all of them.
 abbrev pub placed_mask : Option ℕ → ℕ → Option ℕ → Option ℕ
 placed_mask None unit mask = mask
 placed_mask (Some most) unit None = Some (in_place unit most)
 placed_mask (Some most) unit (Some mask) = Some (in_place unit (bit_and mask most))
 
--- A span in its place. What the field can't have is cut off; if nothing is left, the span is empty.
+-- A span of a field's numbers, shifted to the place of the field. Numbers that the field can't have are cut off; if none is left, the span
+-- is empty.
 abbrev pub placed_span : Option ℕ → ℕ → Span → Span
 placed_span None unit span = span
 placed_span (Some most) unit span =
     if nat_le span.low most then record { low = in_place unit span.low; high = in_place unit (min span.high most) } else record { low = 1; high = 0 }
 
--- The octets that a field is in.
+-- How many octets a field is read from: the header's word, or the octets themselves.
 abbrev pub size_of : Field → Size
 size_of (Octets octets) = octets.size
 size_of _ = Word
 
--- The offset of the first of them.
+-- The offset of the first of these octets.
 abbrev pub at_of : Field → ℕ
 at_of (Octets octets) = octets.at
 at_of _ = 0
 
--- The part is the field, with a mask if there is one.
+-- The part is the masked octets in which the field is, of which a mask may keep some bits.
 pub record IsPartOf (side : Side) (field : Field) (mask : Option ℕ) (part : Part) : Type 0 where
   pub size_is : part.size ≡ size_of field
   pub at_is : part.at ≡ at_of field
   pub mask_is : part.mask ≡ placed_mask (most_of side field) (unit_of field) mask
 
--- The test is that the field is in one of these spans: the part that it is is compared with the spans in their places.
+-- The test is that the field is in one of these spans: the masked octets of the field are compared with the spans, shifted to the field's
+-- place.
 pub record IsAmongOf (side : Side) (field : Field) (mask : Option ℕ) (spans : List Span) (test : PlainTest) : Type 0 where
   pub part : Part
   pub first : Span
@@ -87,20 +89,20 @@ pub record IsAmongOf (side : Side) (field : Field) (mask : Option ℕ) (spans : 
 abbrev pub span_of_one : ℕ → Span
 span_of_one k = record { low = k; high = k }
 
--- The span of the numbers less than one.
+-- The span of the numbers less than this one. It is empty for 0.
 abbrev pub span_below : ℕ → Span
 span_below k = if k == 0 then record { low = 1; high = 0 } else record { low = 0; high = k - 1 }
 
--- The span of the numbers up to one.
+-- The span of the numbers up to this one.
 abbrev pub span_up_to : ℕ → Span
 span_up_to k = record { low = 0; high = k }
 
--- The first of these tests is as this says, and the others are as that says.
+-- The first of these tests is as the first condition says, and the others are as the second says.
 abbrev pub IsFirst : (PlainTest → Type 0) → (List PlainTest → Type 0) → List PlainTest → Type 0
 IsFirst Is Are [] = ⊥
 IsFirst Is Are (test ∷ more) = Is test × Are more
 
--- The test is that one of these holds.
+-- The test is that at least one of these holds.
 pub record IsAnyOf (tests : List PlainTest) (test : PlainTest) : Type 0 where
   pub parts : Vec PlainTest
   pub test_is : test ≡ plain.AnyOf parts
@@ -126,7 +128,7 @@ IsCompareOf side field mask (AtLeast k) test = IsNotOf (IsAmongOf side field mas
 IsCompareOf side field mask (In first others) test = IsListOf side field mask (first ∷ others.items) test
 
 abbrev mutual
-  -- The test that a test of cells becomes. Where each of several holds, comparisons of neighbouring bits are one.
+  -- The test that a test of cells becomes. In the test that each of several holds, two comparisons of neighbouring bits become one.
   pub IsPlainOf : Side → Test → PlainTest → Type 0
   IsPlainOf side asked.Any test = test ≡ plain.Always
   IsPlainOf side asked.Oam test = IsAmongOf side Pti (Some 6) (span_of_one 4 ∷ []) test

@@ -15,7 +15,7 @@ use rules_code::{CodeFault, Line, PlacedCode, generate, generate_placed};
 use std::alloc::{AllocError, Global};
 use upc_cell::Side;
 
-/// The lines that lines of rules become.
+/// The lines of tests on octets that lines of rules become.
 fn lines_of(alloc: Global, side: Side, lines: &[RuleLine]) -> Result<Vec<Line>, AllocError>
     ensures { IfOk result (λ plain. ArePlainLines side lines.now plain.items) }
 {
@@ -50,7 +50,7 @@ pub fn compile(alloc: Global, rules: &Rules) -> Result<Vec<Instr>, CodeFault>
 ///
 /// # Errors
 ///
-/// As [`compile`] has them.
+/// Those of [`compile`].
 pub fn compile_placed(alloc: Global, rules: &Rules) -> Result<PlacedCode, CodeFault>
     ensures accepted { IfOk result (λ placed. IsAccepted placed.code.items) }
     ensures value { IfOk result (λ placed. FollowsRules rules.now placed.code.items) }

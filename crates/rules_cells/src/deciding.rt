@@ -21,7 +21,7 @@ use upc_cell::{Cell, Side};
 /// What rules decide for a cell.
 #[derive(Clone, Copy, PartialEq, Eq)]
 pub struct Decision {
-    /// The place of the rule that decides among the lines of rules, counted from 0; none if no rule does.
+    /// The rule that decides: its index among the lines of rules, counted from 0. None if no rule decides.
     pub line: Option<usize>,
     /// The value of the cell.
     pub value: u32,
@@ -39,7 +39,7 @@ fn octets_number(octets: Octets, cell: &Cell) -> u32
     }
 }
 
-/// The number of a cell, its header read at this side.
+/// The number that a field has in a cell, the header read at this side.
 fn number_in(side: Side, field: Field, cell: &Cell) -> u32
     ensures { result ≡ number_in side field cell.now }
 {
@@ -97,7 +97,7 @@ fn is_so(relation: &Relation, number: u32) -> bool
     }
 }
 
-/// Whether a test holds of a cell, its header read at this side.
+/// Whether a test holds of a cell, the cell's header read at this side.
 #[cycle(is_met)]
 fn is_met(side: Side, test: &Test, cell: &Cell) -> bool
     ensures { result ≡ is_met side test.now cell.now }
@@ -130,7 +130,7 @@ fn all_are_met(side: Side, tests: &[Test], cell: &Cell) -> bool
     true
 }
 
-/// Whether one of these tests holds of a cell.
+/// Whether at least one of these tests holds of a cell.
 #[cycle(is_met)]
 fn one_is_met(side: Side, tests: &[Test], cell: &Cell) -> bool
     ensures { result ≡ some_is_met side tests.now cell.now }
@@ -143,7 +143,7 @@ fn one_is_met(side: Side, tests: &[Test], cell: &Cell) -> bool
     false
 }
 
-/// The value that a line gives, where this many blocks are passed over.
+/// The value that a line gives, where this many blocks are passed over. None if the line gives no value.
 fn value_given(side: Side, line: &RuleLine, passed: usize, cell: &Cell) -> Option<u32>
     ensures { result ≡ value_given side line.now passed cell.now }
 {
@@ -153,7 +153,7 @@ fn value_given(side: Side, line: &RuleLine, passed: usize, cell: &Cell) -> Optio
     }
 }
 
-/// How many blocks are passed over after a line.
+/// How many blocks are passed over after a line, where `passed` are passed over before it.
 fn passed_after(side: Side, line: &RuleLine, passed: usize, cell: &Cell) -> usize
     requires { passed < 2 ^ 63 }
     ensures passed { result ≡ passed_after side line.now passed cell.now }
@@ -195,8 +195,8 @@ fn decided(side: Side, lines: &[RuleLine], otherwise: u32, cell: &Cell) -> Decis
     }
 }
 
-/// Decides a cell by rules: returns the line that decides it, and its value. Time grows with the length of the rules, and no memory is
-/// taken.
+/// Decides a cell by rules: returns the line that decides it, and its value. Its time grows with the length of the rules, and it allocates
+/// nothing.
 pub fn decide(rules: &Rules, cell: &Cell) -> Decision
     ensures { result ≡ decision_of rules.now cell.now }
 {

@@ -28,6 +28,6 @@ pub enum Field {
     Pti,
     /// Cell loss priority.
     Clp,
-    /// Some octets.
+    /// One, two or four octets from an offset on.
     Octets(Octets),
 }

@@ -1,4 +1,4 @@
-//! The tests on the numbers in a packet that tests of cells become.
+//! Turns tests of cells into tests of masked octets (`PlainTest`).
 
 ghost use Rattle.std.specs.Global.{Vec};
 ghost use Rattle.std.specs.Prelude.{◌≡◌, List, Some, [], ◌∷◌, ◌++◌, map, IfOk, OnOk};
@@ -18,7 +18,7 @@ use rules_code::{Line, Part, PlainTest, Span, all_of, comparison_test, in_order}
 use std::alloc::{AllocError, Global};
 use upc_cell::Side;
 
-/// The largest number of a field of the header.
+/// The largest number of a field of the header. None for octets.
 fn most_of(side: Side, field: Field) -> Option<u32>
     ensures { result ≡ most_of side field }
 {
@@ -32,7 +32,7 @@ fn most_of(side: Side, field: Field) -> Option<u32>
     }
 }
 
-/// What a field's lowest bit counts in the word of the header.
+/// The lowest bit of a field as a number, where the four octets of the header are read as one word. 1 for octets.
 fn unit_of(field: Field) -> u32
     ensures { result ≡ unit_of field }
 {
@@ -45,14 +45,14 @@ fn unit_of(field: Field) -> u32
     }
 }
 
-/// A number in its place in the word, modulo 2^32.
+/// A field's number, shifted to the place of the field in the header's word. What doesn't fit in 32 bits is cut off.
 fn in_place(unit: u32, number: u32) -> u32
     ensures { result ≡ in_place unit number }
 {
     number.wrapping_mul(unit)
 }
 
-/// The mask of a number in its place.
+/// The mask of a field in the header's word: of the field's bits those that `mask` keeps, or all of them. For octets it is `mask` itself.
 fn placed_mask(most: Option<u32>, unit: u32, mask: Option<u32>) -> Option<u32>
     ensures { result ≡ placed_mask most unit mask }
 {
@@ -65,7 +65,8 @@ fn placed_mask(most: Option<u32>, unit: u32, mask: Option<u32>) -> Option<u32>
     }
 }
 
-/// A span in its place.
+/// A span of a field's numbers, shifted to the place of the field in the header's word. Numbers that the field can't have are cut off; if
+/// none is left, the span is empty (1 to 0).
 fn placed_span(most: Option<u32>, unit: u32, span: Span) -> Span
     ensures { result ≡ placed_span most unit span }
 {
@@ -84,7 +85,7 @@ fn placed_span(most: Option<u32>, unit: u32, span: Span) -> Span
     }
 }
 
-/// The part that a field is, with a mask if there is one.
+/// The masked octets in which a field is.
 fn part_of(side: Side, field: Field, mask: Option<u32>) -> Part
     ensures { IsPartOf side field mask result }
 {
@@ -103,7 +104,7 @@ fn part_of(side: Side, field: Field, mask: Option<u32>) -> Part
     }
 }
 
-/// Spans in their places.
+/// Spans of a field's numbers, each shifted to the place of the field.
 fn placed_spans(
     alloc: Global,
     most: Option<u32>,
@@ -138,7 +139,7 @@ fn among(
     Ok(test)
 }
 
-/// The test that a field is in this span. It isn't inlined, as [`compared`] isn't.
+/// The test that a field is in this span. It isn't inlined, for the same reason as [`compared`].
 #[inline(never)]
 fn within(
     alloc: Global,
@@ -159,7 +160,7 @@ fn span_of_one(k: u32) -> Span
     Span { low: k, high: k }
 }
 
-/// The span of the numbers less than one.
+/// The span of the numbers less than `k`, which is empty (1 to 0) if `k` is 0.
 fn span_below(k: u32) -> Span
     ensures { result ≡ span_below k }
 {
@@ -205,7 +206,8 @@ fn listed(
     Ok(test)
 }
 
-/// The test of a field that is compared. It isn't inlined: `plain_of` calls itself, and each of its frames would have room for this.
+/// The test that compares a field as a relation says. It isn't inlined: `plain_of` is recursive, and each of its frames would have room for
+/// this function's variables.
 #[inline(never)]
 fn compared(
     alloc: Global,
@@ -236,8 +238,8 @@ fn compared(
     }
 }
 
-/// The test that a test of cells becomes. For a test in a test it is called again by the functions below it: each keeps only what its own
-/// kind of test needs on the stack.
+/// The test of masked octets that a test of cells becomes. For tests inside a test the functions below call it again; there is one for each
+/// kind of test, so that a frame holds only what that kind needs.
 #[cycle(plain_of)]
 fn plain_of(alloc: Global, side: Side, test: &Test) -> Result<PlainTest, AllocError>
     ensures { IfOk result (IsPlainOf side test.now) }
@@ -278,7 +280,7 @@ fn all_plain(alloc: Global, side: Side, tests: &[Test]) -> Result<PlainTest, All
     Ok(test)
 }
 
-/// The test that one of these tests of cells holds.
+/// The test that at least one of these tests of cells holds.
 #[cycle(plain_of)]
 #[inline(never)]
 fn any_plain(alloc: Global, side: Side, tests: &[Test]) -> Result<PlainTest, AllocError>
@@ -287,7 +289,7 @@ fn any_plain(alloc: Global, side: Side, tests: &[Test]) -> Result<PlainTest, All
     Ok(PlainTest::AnyOf(plain_tests(alloc, side, tests)?))
 }
 
-/// Adds a test after others. It isn't inlined, as [`compared`] isn't.
+/// Adds a test after others. It isn't inlined, for the same reason as [`compared`].
 #[inline(never)]
 fn add_plain(plain: &mut Vec<PlainTest>, test: PlainTest) -> Result<(), AllocError>
     ensures { OnOk result (plain.new.items ≡ plain.old.items ++ test ∷ []) }

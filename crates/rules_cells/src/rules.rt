@@ -6,7 +6,7 @@ use upc_cell::Side;
 /// A line: a rule, the head of a block, or its end. Lines are tried in order.
 #[derive(Drop)]
 pub enum RuleLine {
-    /// Where the test holds, the value is this.
+    /// A rule: a cell of which the test holds has this value.
     Rule {
         /// The test.
         test: Test,

@@ -13,7 +13,7 @@ pub enum Test {
     Oam,
     /// A cell of user data: the payload type is 0 to 3.
     User,
-    /// A number of the cell, of which a mask may keep some bits, compared.
+    /// A comparison of a number of the cell, of which a mask may keep some bits.
     Compare {
         /// The number.
         field: Field,
@@ -22,10 +22,10 @@ pub enum Test {
         /// What it is compared with.
         relation: Relation,
     },
-    /// The test doesn't hold.
+    /// This test doesn't hold.
     Not(Box<Test>),
     /// Each of these tests holds.
     AllOf(Vec<Test>),
-    /// One of these tests holds.
+    /// At least one of these tests holds.
     AnyOf(Vec<Test>),
 }

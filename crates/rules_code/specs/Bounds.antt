@@ -1,4 +1,4 @@
--- Comparisons with one bound, of the bits of octets from some bit upwards: they are comparisons of the octets, without a mask.
+-- Comparisons of the upper bits of octets with one bound. They become comparisons of the octets themselves, without a mask.
 use Rattle.std.specs.Prelude.{◌≡◌, ℕ, ◌+◌, ◌-◌, ◌%◌, ◌^◌, min, Bool, true, false, ◌==◌, ◌&&◌, nat_le, nat_lt, if◌then◌else◌, List, [], ◌∷◌, Option, Some, None, MatchOption, MatchBool}
 use Rattle.std.specs.Global.{Vec}
 use Rattle.bpf_code.specs.declared.instr.Size.{Size}
@@ -17,16 +17,16 @@ most_in Word = 4294967295
 most_in Half = 65535
 most_in Octet = 255
 
--- Whether a mask keeps the bits of these octets from some bit upwards, all of them.
+-- Whether a mask keeps all bits of these octets from some bit upwards, and no lower bit.
 abbrev pub is_upper : Size → ℕ → Bool
 is_upper size mask = nat_le mask (most_in size) && (most_in size - mask + 1 == lowest_bit mask)
 
--- The largest number that has the same bits from a bit upwards, where that bit counts this.
+-- The largest number whose bits from `unit` upwards are those of this number. `unit` is a power of 2.
 abbrev pub last_alike : ℕ → ℕ → ℕ
 last_alike unit number = min (number - number % unit + (unit - 1)) (2 ^ 32 - 1)
 
--- The bound that a comparison of masked bits with a span has, where the lowest bit of the mask counts this: an upper one, if the
--- span begins at 0; a lower one, if it ends with the largest number. Tests of bits and of one number have none.
+-- The bound of a comparison of masked bits with a span, if it has one: an upper bound if the span begins at 0, a lower one if the span ends
+-- with the largest number. `unit` is the lowest bit of the mask. Tests of bits and of one number have none.
 abbrev pub bound_in : ℕ → ℕ → Span → Option BoundTest
 bound_in mask unit span =
     if (span.low == 0) && nat_le unit span.high then Some (record { most = last_alike unit span.high; within = true }) else (

@@ -7,8 +7,8 @@ use Rattle.bpf_code.specs.declared.instr.Instr.TheVariants.{Jump, Branch}
 use Rattle.bpf_code.specs.declared.instr.Test.{Test}
 use Rattle.rules_code.specs.declared.draft.Ways.{Ways}
 
--- A code, with the label where a test begins in it, and labels that lead on as the labels of its two sides do, and may
--- be nearer.
+-- A code with the labels of a test in it: where the test begins, and for each of its sides the label that was asked for, or a nearer one
+-- whose `ja` leads there.
 pub record Tested : Type 0 where
   pub code : List Instr
   pub ways : Ways

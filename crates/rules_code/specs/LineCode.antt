@@ -14,8 +14,8 @@ known_after_line (Rule test value) held = (known_after test held).unmet
 known_after_line (Block test) held = (known_after test held).met
 known_after_line End held = None
 
--- A code, the label where lines begin in it, and the labels after the ends of the blocks that those lines leave, that of
--- the first end first.
+-- A code, the label where lines begin in it, and the labels after the ends of blocks whose heads aren't among those lines. The label after
+-- the first end is first.
 pub record Coded : Type 0 where
   pub code : List Instr
   pub entry : ℕ
@@ -26,7 +26,7 @@ abbrev pub first_after : List ℕ → ℕ
 first_after [] = 1
 first_after (label ∷ more) = label
 
--- The labels after the others.
+-- The labels after the other ends.
 abbrev pub later_after : List ℕ → List ℕ
 later_after [] = []
 later_after (label ∷ more) = more

@@ -11,6 +11,7 @@ starts_where_held [] held otherwise = []
 starts_where_held (line ∷ lines) held otherwise =
     length (lines_coded (line ∷ lines) held otherwise).code ∷ starts_where_held lines (known_after_line line held) otherwise
 
--- The same from the beginning.
+-- For each line the number of instructions from the first of its own to the last of the code. These are all lines, so nothing is known of A
+-- at the first.
 abbrev pub line_starts_from_end : List Line → ℕ → List ℕ
 line_starts_from_end lines otherwise = starts_where_held lines None otherwise

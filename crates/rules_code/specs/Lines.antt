@@ -4,9 +4,9 @@ use Rattle.rules_code.specs.PlainTests.{holds}
 use Rattle.rules_code.specs.declared.lines.Line.{Line}
 use Rattle.rules_code.specs.declared.lines.Line.TheVariants.{Rule, Block, End}
 
--- The value of lines on a packet, after this many blocks that don't hold were entered and not yet left. A rule whose
--- test holds gives its value. Where the test of a block doesn't hold, its lines up to its end are passed over. If no rule
--- gives a value, it is the last argument but one.
+-- The value of lines on a packet, after this many blocks whose test doesn't hold were entered and not yet left. A rule whose test holds
+-- gives its value. Where the test of a block doesn't hold, its lines up to its end are passed over. If no rule gives a value, it is
+-- `otherwise`.
 abbrev pub value_from : List Line → ℕ → ℕ → List ℕ → ℕ
 value_from [] skipped otherwise packet = otherwise
 value_from (Rule test value ∷ rest) zero otherwise packet =

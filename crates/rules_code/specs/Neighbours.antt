@@ -21,7 +21,7 @@ abbrev pub single_of : PlainTest → Option Single
 single_of (plain.Among part first others) = single_in part part.mask first others.items
 single_of _ = None
 
--- Whether the first has one number, and its bits are above those of the second in the same octets.
+-- Whether the first is a comparison with one number, and its bits are above those of the second in the same octets.
 abbrev pub are_neighbours : Single → Single → Bool
 are_neighbours high low =
     is_same_load high.part low.part
@@ -58,7 +58,7 @@ IsSingle single (plain.Among part first others) =
     (part.size ≡ single.part.size) × (part.at ≡ single.part.at) × (part.mask ≡ Some single.mask) × (first ≡ single.span) × (others.items ≡ [])
 IsSingle single _ = ⊥
 
--- The first of these operands is this test, and the others are as this says.
+-- The first of these operands is this test, and the others are as the condition says.
 abbrev pub BeginsWith : PlainTest → (List PlainTest → Type 0) → List PlainTest → Type 0
 BeginsWith test AreOthers [] = ⊥
 BeginsWith test AreOthers (operand ∷ others) = (operand ≡ test) × AreOthers others

@@ -12,7 +12,7 @@ abbrev pub kept_bits : Option ℕ → ℕ → ℕ
 kept_bits None number = number
 kept_bits (Some mask) number = bit_and number mask
 
--- The number in the packet.
+-- The number that a part has in a packet.
 abbrev pub number_of : Part → List ℕ → ℕ
 number_of part packet = kept_bits part.mask (big_number (octets_loaded part.size) (drop part.at packet))
 

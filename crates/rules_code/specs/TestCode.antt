@@ -30,7 +30,7 @@ is_same_load one other = (octets_loaded one.size == octets_loaded other.size) &&
 abbrev pub is_same_part : Part → Part → Bool
 is_same_part one other = is_same_load one other && is_same_mask one.mask other.mask
 
--- Whether the register A, which holds this if anything is known of it, holds the part.
+-- Whether the register A is known to hold the part. `held` is what A holds, if that is known.
 abbrev pub is_held : Option Part → Part → Bool
 is_held None part = false
 is_held (Some held) part = is_same_part held part
@@ -41,7 +41,7 @@ is_covered None other = true
 is_covered (Some mask) None = false
 is_covered (Some mask) (Some other) = bit_and mask other == other
 
--- Whether A holds octets in which each bit of the part is as it is in the packet.
+-- Whether A is known to hold the octets of the part, and in them each bit that the part's mask keeps.
 abbrev pub is_loaded : Option Part → Part → Bool
 is_loaded None part = false
 is_loaded (Some held) part = is_same_load held part && is_covered held.mask part.mask
@@ -50,7 +50,7 @@ is_loaded (Some held) part = is_same_load held part && is_covered held.mask part
 abbrev pub whole_of : Part → Part
 whole_of part = record { size = part.size; at = part.at; mask = None; inside = part.inside }
 
--- What A holds at a test of bits of the part: what it held, if the bits are among that, and otherwise the octets.
+-- What A holds at a test of bits of the part: what it held before, if these bits are in it, and otherwise the octets, which are loaded.
 abbrev pub held_for_bits : Option Part → Part → Option Part
 held_for_bits held part = if is_loaded held part then held else Some (whole_of part)
 
@@ -59,17 +59,17 @@ abbrev pub held_to_compare : Option BitTest → Option Part → Part → Option 
 held_to_compare None held part = Some part
 held_to_compare (Some bits) held part = held_for_bits held part
 
--- What is known of A where two ways join that leave this in it.
+-- What is known of A where two paths join. Each says what A holds at its end, if that is known.
 abbrev pub known_at_join : Option Part → Option Part → Option Part
 known_at_join None other = None
 known_at_join (Some one) None = None
 known_at_join (Some one) (Some other) = if is_same_part one other then Some one else None
 
--- What is known of A after a test, its two sides changed over.
+-- What is known of A after a test, with its two sides swapped.
 abbrev pub turned_known : KnownOnBranches → KnownOnBranches
 turned_known known = record { met = known.unmet; unmet = known.met }
 
--- What is known of A after an operand of a chain: first where the chain goes on, then where it ends. A chain of `and` goes on
+-- What is known of A after an operand of a chain: as `met` where the chain goes on, as `unmet` where it ends. A chain of `and` goes on
 -- where an operand is met, one of `or` where it isn't: `on` is that outcome.
 abbrev pub turned_known_unless : Bool → KnownOnBranches → KnownOnBranches
 turned_known_unless true known = known
@@ -111,7 +111,7 @@ loaded held part code =
     if is_held held part then code else (
     if is_loaded held part then masked part.mask code else LoadAbs part.size part.at ∷ masked part.mask code)
 
--- The two sides changed over.
+-- The same code, with the two sides swapped.
 abbrev pub turned : Tested → Tested
 turned t = record { code = t.code; ways = record { entry = t.ways.entry; met = t.ways.unmet; unmet = t.ways.met } }
 
@@ -126,7 +126,7 @@ bounded_from upper lower = record {
 abbrev pub with_lower : ℕ → Tested → Tested
 with_lower low upper = bounded_from upper (branched Ge low upper.code upper.ways.entry upper.ways.unmet)
 
--- Whether no number with bits of this mask is above this one. Nothing is known of a number without a mask.
+-- Whether no number that this mask keeps is above this one. False without a mask, as nothing is known then.
 abbrev pub is_top : Option ℕ → ℕ → Bool
 is_top None high = false
 is_top (Some mask) high = nat_le mask high

@@ -5,7 +5,7 @@ ghost use Rattle.rules_code.specs.BitTests.{lowest_bit, bits_from, bits_in, bits
 
 use crate::packet_part::Span;
 
-/// A test of bits of a number, which definitions of the generated code name.
+/// A test of bits of a number. It is public because definitions name it.
 #[derive(Clone, Copy)]
 pub struct BitTest {
     /// The bits.
@@ -14,14 +14,14 @@ pub struct BitTest {
     pub set: bool,
 }
 
-/// What the lowest bit of a mask counts.
+/// The lowest bit of a mask as a number: a power of 2.
 pub(crate) fn lowest_bit(mask: u32) -> u32
     ensures { result ≡ lowest_bit mask }
 {
     1u32 << (mask.trailing_zeros() % 32)
 }
 
-/// The equivalent bit test, if there is one. `unit` is the lowest bit of the mask.
+/// The bit test that is equivalent to a comparison of masked bits with a span, if there is one. `unit` is the lowest bit of the mask.
 fn bits_in(mask: u32, unit: u32, span: Span) -> Option<BitTest>
     ensures { result ≡ bits_in mask unit span }
 {
@@ -40,7 +40,7 @@ fn bits_in(mask: u32, unit: u32, span: Span) -> Option<BitTest>
     }
 }
 
-/// The equivalent bit test, if there is one.
+/// The bit test that is equivalent to a comparison of masked bits with a span, if there is one.
 fn bits_from(mask: u32, span: Span) -> Option<BitTest>
     ensures { result ≡ bits_from mask (lowest_bit mask) span }
 {

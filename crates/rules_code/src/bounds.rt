@@ -1,4 +1,4 @@
-//! Comparisons with one bound, of the bits of octets from some bit upwards.
+//! Comparisons of the upper bits of octets with one bound. They become comparisons of the octets themselves, which need no mask.
 
 ghost use Rattle.std.specs.Prelude.{◌≡◌, IfOk};
 ghost use Rattle.rules_code.specs.BitTests.{lowest_bit};
@@ -11,7 +11,7 @@ use crate::plain_test::PlainTest;
 use bpf_code::Size;
 use std::alloc::{AllocError, Global};
 
-/// A comparison of octets with one bound, which definitions of tests name.
+/// A comparison of octets with one bound. It is public because definitions name it.
 #[derive(Clone, Copy)]
 pub struct BoundTest {
     /// The bound.
@@ -31,7 +31,7 @@ fn most_in(size: Size) -> u32
     }
 }
 
-/// Whether a mask keeps the bits of these octets from some bit upwards, all of them.
+/// Whether a mask keeps all bits of these octets from some bit upwards, and no lower bit.
 fn is_upper(size: Size, mask: u32) -> bool
     ensures { result ≡ is_upper size mask }
 {
@@ -39,7 +39,7 @@ fn is_upper(size: Size, mask: u32) -> bool
     mask <= most && u64::from(most - mask) + 1 == u64::from(lowest_bit(mask))
 }
 
-/// The largest number that has the same bits from the lowest bit of a mask upwards.
+/// The largest number whose bits from the lowest bit of a mask upwards are those of `number`.
 fn last_alike(mask: u32, number: u32) -> u32
     ensures { result ≡ last_alike (lowest_bit mask) number }
 {
@@ -47,7 +47,8 @@ fn last_alike(mask: u32, number: u32) -> u32
     (number - number % unit).saturating_add(unit - 1)
 }
 
-/// The bound that a comparison of masked bits with a span has.
+/// The bound of a comparison of masked bits with a span, if it has one: an upper bound if the span begins at 0, a lower one if the span
+/// ends with the largest number.
 fn bound_in(mask: u32, span: Span) -> Option<BoundTest>
     ensures { result ≡ bound_in mask (lowest_bit mask) span }
 {
@@ -114,8 +115,8 @@ fn bounded(alloc: Global, part: Part, bound: BoundTest) -> Result<PlainTest, All
     Ok(test)
 }
 
-/// The test that a part is in one of these spans. One bound on upper bits needs no mask: no octet of a packet is more than
-/// 255.
+/// The test that a part is in one of these spans. Where the mask keeps the upper bits and there is one bound, the octets are compared
+/// without the mask: the lower bits decide nothing.
 pub fn comparison_test(
     alloc: Global,
     part: Part,

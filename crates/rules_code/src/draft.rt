@@ -12,7 +12,8 @@ use std::marker::Model;
 /// The most instructions that a draft has room for, so that `ja` can name every label.
 const ROOM: usize = 0xffff_ffff;
 
-/// The farthest label that a branch names. Its offsets have 8 bits, and each `ja` that is put in front takes one.
+/// The largest distance of a label that a branch names, in instructions. Offsets of a branch have 8 bits; the rest up to 255 is room for
+/// the `ja`s that come between.
 const FAR: usize = 250;
 
 /// A code that is made from its end to its front. Contracts see the list of its instructions.
@@ -33,7 +34,7 @@ impl Model for Draft {
     ghost invariant = { λ d. length d.reversed.items < 2 ^ 32 };
 }
 
-/// The labels of a test, which definitions of the generated code name: where it begins, and where its two sides lead.
+/// The labels of a test: where it begins, and where its two sides lead. It is public because definitions name it.
 #[derive(Clone, Copy)]
 pub struct Ways {
     /// Where the test begins.
@@ -44,8 +45,8 @@ pub struct Ways {
     pub unmet: usize,
 }
 
-/// The label of one side of two tests. The later test begins at `entry` and has this label for the side; where it begins there, the side
-/// is that of the first test.
+/// The label of one side of two tests. The later test begins at `entry` and has the label `label` for the side. If they are equal, the
+/// later test has no code, and the label is that of the first test.
 pub(crate) fn side_label(entry: usize, label: usize, first: usize) -> usize
     ensures { result ≡ if entry == label then first else label }
 {

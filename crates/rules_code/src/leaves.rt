@@ -49,7 +49,7 @@ fn is_same_part(one: Part, other: Part) -> bool
     is_same_load(one, other) && is_same_mask(one.mask, other.mask)
 }
 
-/// Whether A, which holds the first part if anything is known of it, holds the second.
+/// Whether A is known to hold this part. `held` is the part that A holds, if that is known.
 fn is_held(held: Option<Part>, part: Part) -> bool
     ensures { result ≡ is_held held part }
 {
@@ -70,7 +70,7 @@ fn is_covered(one: Option<u32>, other: Option<u32>) -> bool
     }
 }
 
-/// Whether A holds octets in which each bit of the second part is as it is in the packet.
+/// Whether A is known to hold the octets of this part, and in them each bit that the part's mask keeps.
 fn is_loaded(held: Option<Part>, part: Part) -> bool
     ensures { result ≡ is_loaded held part }
 {
@@ -91,7 +91,7 @@ pub(crate) fn whole_of(part: Part) -> Part
     }
 }
 
-/// What A holds at a test of bits of the part.
+/// What A holds at a test of bits of the part: what it held before, if these bits are in it, and otherwise the octets, which are loaded.
 fn held_for_bits(held: Option<Part>, part: Part) -> Option<Part>
     ensures { result ≡ held_for_bits held part }
 {
@@ -102,7 +102,7 @@ fn held_for_bits(held: Option<Part>, part: Part) -> Option<Part>
     }
 }
 
-/// What A holds at a comparison of the part, where this was known of it before.
+/// What A holds at a comparison of the part. `held` is what A held before, if that is known.
 pub(crate) fn held_to_compare(
     held: Option<Part>,
     part: Part,
@@ -177,7 +177,7 @@ fn put_load(draft: &mut Draft, held: Option<Part>, part: Part) -> Result<(), All
     })
 }
 
-/// Whether no number with bits of this mask is above this one.
+/// Whether no number that this mask keeps is above `high`. False without a mask, as nothing is known then.
 fn is_top(mask: Option<u32>, high: u32) -> bool
     ensures { result ≡ is_top mask high }
 {
@@ -279,8 +279,8 @@ fn put_bits(draft: &mut Draft, test: BitTest, met: usize, unmet: usize) -> Resul
     })
 }
 
-/// Puts a comparison of a part in front: a test of bits where it is one. It isn't inlined: `put_test` calls itself, and each of its
-/// frames would have room for this.
+/// Puts a comparison of a part in front: a test of bits where it is one. It isn't inlined: `put_test` is recursive, and each of its frames
+/// would have room for this function's variables.
 #[inline(never)]
 #[tactic(auto, unfolding(crate::specs::TestCode::among_code, crate::specs::TestCode::with_load, crate::specs::TestCode::with_octets))]
 pub(crate) fn put_among(

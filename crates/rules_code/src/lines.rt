@@ -21,7 +21,7 @@ use std::collections::VecDeque;
 /// A line: a rule, the head of a block, or its end. Lines are tried in order.
 #[derive(Drop)]
 pub enum Line {
-    /// Where the test holds, the value is this.
+    /// A rule: a packet of which the test holds has this value.
     Rule {
         /// The test.
         test: PlainTest,
@@ -44,7 +44,8 @@ struct Coding {
     draft: Draft,
     /// The label where the lines begin.
     entry: usize,
-    /// The labels after the ends of the blocks that they leave, that of the first end first.
+    /// For each block whose end is among the lines and whose head isn't: the label of what follows the block. The block that ends first is
+    /// first.
     after: VecDeque<usize>,
 }
 
@@ -59,7 +60,7 @@ fn take_first(after: &mut VecDeque<usize>) -> usize
     }
 }
 
-/// Puts a line in front.
+/// Puts the code of a line in front. A holds `held` there, if that is known.
 #[tactic(auto, unfolding(crate::specs::LineCode::line_code))]
 fn put_line(coding: &mut Coding, line: &Line, held: Option<Part>) -> Result<(), AllocError>
     ensures { OnOk result (coded_of coding.new ≡ line_code line.now held (coded_of coding.old)) }
@@ -111,7 +112,7 @@ fn known_after_line(line: &Line, held: Option<Part>) -> Option<Part>
 struct PlacedCoding {
     /// The code.
     coding: Coding,
-    /// For each line, how many instructions the code has from its first on.
+    /// For each line, how many instructions the code has from the line's first instruction to the end.
     starts_from_end: Vec<usize>,
 }
 
@@ -222,7 +223,7 @@ pub fn generate_placed(
 ///
 /// # Errors
 ///
-/// As [`generate_placed`] has them.
+/// Those of [`generate_placed`].
 pub fn generate(alloc: Global, lines: &[Line], otherwise: u32) -> Result<Vec<Instr>, CodeFault>
     ensures accepted { IfOk result (λ code. IsAccepted code.items) }
     ensures value { IfOk result (λ code. Classifies lines.now otherwise code.items) }

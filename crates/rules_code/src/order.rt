@@ -1,4 +1,4 @@
-//! Spans in order.
+//! Sorts spans, and joins those that overlap or are adjacent.
 
 ghost use Rattle.std.specs.Prelude.{◌≡◌, [], ◌∷◌, length, IfOk, OnOk};
 ghost use Rattle.std.specs.List.Sorted.{IsPermutation, IsNonDecreasingBy};
@@ -39,7 +39,7 @@ fn put(spans: &mut VecDeque<Span>, span: Span) -> Result<(), AllocError>
     join(spans, span)
 }
 
-/// Joins spans of which none ends before those in front of it, from the last to the first.
+/// Joins spans that are sorted by their highest numbers, from the last to the first.
 fn joined_spans(alloc: Global, sorted: &[Span]) -> Result<Vec<Span>, AllocError>
     ensures { IfOk result (λ ordered. ordered.items ≡ joined_spans sorted.now) }
 {
@@ -64,7 +64,7 @@ fn sorted(alloc: Global, first: Span, others: &[Span]) -> Result<Vec<Span>, Allo
     Ok(spans)
 }
 
-/// The same numbers in order, in as few spans as there can be: overlapping and adjacent spans become one, and empty ones
+/// Returns spans with the numbers of these, in order and as few as there can be: overlapping and adjacent spans become one, and empty ones
 /// disappear.
 pub fn in_order(alloc: Global, first: Span, others: &[Span]) -> Result<Vec<Span>, AllocError>
     ensures { IfOk result (λ ordered. IsOrderOf (first ∷ others.now) ordered.items) }

@@ -27,7 +27,7 @@ pub struct Span {
     pub high: u32,
 }
 
-/// What is known of A on the two branches of a test, which definitions of the generated code name: the part that it holds, if any is known.
+/// What is known of A on the two branches of a test: the part that A holds, if that is known. It is public because definitions name it.
 #[derive(Clone, Copy)]
 pub struct KnownOnBranches {
     /// Where the test is met.
@@ -36,7 +36,7 @@ pub struct KnownOnBranches {
     pub unmet: Option<Part>,
 }
 
-/// A comparison of masked bits with one span, which definitions of the generated code name.
+/// A comparison of masked bits with one span. It is public because definitions name it.
 #[derive(Clone, Copy)]
 pub struct Single {
     /// The octets.

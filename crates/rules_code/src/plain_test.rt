@@ -16,10 +16,10 @@ pub enum PlainTest {
         /// The others, in the order in which they are tried.
         others: Vec<Span>,
     },
-    /// The test doesn't hold.
+    /// This test doesn't hold.
     Not(Box<PlainTest>),
     /// Each of these tests holds. They are tried in order, up to the first that doesn't.
     AllOf(Vec<PlainTest>),
-    /// One of these tests holds. They are tried in order, up to the first that does.
+    /// At least one of these tests holds. They are tried in order, up to the first that does.
     AnyOf(Vec<PlainTest>),
 }

@@ -11,7 +11,7 @@ use crate::packet_part::{KnownOnBranches, Part};
 use crate::plain_test::PlainTest;
 use std::alloc::{AllocError, Global};
 
-/// What is known of A after a test, its two sides changed over.
+/// What is known of A after a test, with its two sides swapped.
 fn turned_known(known: KnownOnBranches) -> KnownOnBranches
     ensures { result ≡ turned_known known }
 {
@@ -31,7 +31,7 @@ fn known_with_operand(before: KnownOnBranches, known: KnownOnBranches) -> KnownO
     }
 }
 
-/// What is known of A after a test, where it held this before if anything is known.
+/// What is known of A after a test. `held` is what A held before it, if that is known.
 #[cycle(known_after)]
 pub(crate) fn known_after(test: &PlainTest, held: Option<Part>) -> KnownOnBranches
     ensures { result ≡ known_after test.now held }
@@ -58,7 +58,8 @@ pub(crate) fn known_after(test: &PlainTest, held: Option<Part>) -> KnownOnBranch
     }
 }
 
-/// What is known of A after an operand of a chain that goes on where its operands have this outcome: first where it goes on.
+/// What is known of A after an operand of a chain: as `met` where the chain goes on, as `unmet` where it ends. `on` is the outcome of an
+/// operand with which the chain goes on: true for `and`, false for `or`.
 #[cycle(known_after)]
 fn known_after_operand(on: bool, test: &PlainTest, held: Option<Part>) -> KnownOnBranches
     ensures { result ≡ known_after_operand on test.now held }
@@ -104,7 +105,7 @@ fn held_parts_before(
     Ok(parts)
 }
 
-/// Puts a test in front, with the labels of its two sides.
+/// Puts the code of a test in front. `met` and `unmet` are the labels to which its sides lead.
 #[cycle(put_test)]
 #[tactic(auto, unfolding(crate::specs::TestCode::test_code))]
 pub(crate) fn put_test(
@@ -139,7 +140,7 @@ pub(crate) fn put_test(
     }
 }
 
-/// The labels with the two sides changed over.
+/// The labels with the two sides swapped.
 fn turned_ways(ways: Ways) -> Ways
     ensures entry { result.entry ≡ ways.entry }
     ensures met { result.met ≡ ways.unmet }
@@ -176,7 +177,8 @@ fn put_operand(
     })
 }
 
-/// Puts the operands of a chain in front, with the label after its last operand and the label of its end.
+/// Puts the operands of a chain in front. `next` is the label where the chain goes on after its last operand, and `end` the label where it
+/// ends before.
 #[cycle(put_test)]
 fn put_chain(
     draft: &mut Draft,

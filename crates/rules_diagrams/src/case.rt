@@ -1,4 +1,4 @@
-//! What two rules decide for one cell.
+//! What the two sides of a comparison decide for one cell.
 
 use rules_cells::Decision;
 use upc_cell::Cell;
@@ -10,6 +10,6 @@ pub struct Case {
     pub old: Decision,
     /// What the new side decides.
     pub new: Decision,
-    /// The least cell for which they decide so.
+    /// The least cell for which they decide so. Cells are compared as numbers of 52 octets, the first octet highest.
     pub cell: Cell,
 }

@@ -1,4 +1,4 @@
-//! Choices between diagrams.
+//! Choices between two diagrams by a third: if, then, else.
 
 ghost use Rattle.std.specs.Prelude.{◌≡◌, ◌≤◌, ◌<◌, List, IfOk, IfSome, None};
 ghost use Rattle.rules_diagrams.specs.inner.Values.{IsWithin, Keeps};
@@ -43,7 +43,7 @@ impl Diagrams {
         self.top(asked.test).min(later)
     }
 
-    /// The parts of a choice at a bit that no diagram is past.
+    /// Splits a choice at a bit. None of the three diagrams asks for an earlier bit.
     fn parts(&self, asked: Asked, bit: u16) -> Parts
         requires within { AreWithin self.now asked }
         requires bit { bit < 416 }

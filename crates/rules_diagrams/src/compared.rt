@@ -1,4 +1,4 @@
-//! What is compared.
+//! The sides of a comparison, and their diagrams.
 
 ghost use Rattle.std.specs.Prelude.{◌≡◌, IfOk};
 ghost use Rattle.rules_diagrams.specs.inner.CaseLists.{IsShown, decision_with};
@@ -14,7 +14,7 @@ use rules_cells::{Decision, Rules, decide};
 use std::alloc::Global;
 use upc_cell::Cell;
 
-/// What is compared: rules, or a program.
+/// A side of a comparison: rules, or a program.
 #[derive(Clone, Copy)]
 pub enum Compared<'a> {
     /// Rules, which decide each cell by a line or otherwise.
@@ -37,7 +37,7 @@ pub(crate) fn decision_with(compared: Compared<'_>, cell: &Cell, number: u32) ->
     }
 }
 
-/// The diagram of what is decided: of the lines of rules, or the values of a program.
+/// The diagram of a side: it gives each cell the number of the line that decides the cell, or the value of the program.
 pub(crate) fn shown(
     alloc: Global,
     diagrams: &mut Diagrams,

@@ -19,7 +19,7 @@ use crate::walk::meetings;
 use rules_cells::{Rules, laws};
 use std::alloc::Global;
 
-/// The case of a meeting.
+/// The case that belongs to a meeting: what both sides decide for its cell.
 fn case_of(old: Compared<'_>, new: Compared<'_>, meeting: &Meeting) -> Case
     ensures { result ≡ case_of old.entry new.entry meeting.now }
 {
@@ -46,12 +46,12 @@ fn cases_of(
     Ok(cases)
 }
 
-/// The cases of old and new rules: what they decide for cells. Each two decisions that a cell gets are a case, once, with the least
-/// cell that gets them; the cases are in the order of these cells.
+/// Compares old and new rules: returns each pair of decisions that they make for some cell, once, with the least such cell. The cases are
+/// in the order of these cells.
 ///
 /// # Errors
 ///
-/// `TooLarge` if there are too many cases to decide: more than [`MOST_NODES`](crate::MOST_NODES) nodes for either rules, more than
+/// `TooLarge` if there are too many cases to decide: more than [`MOST_NODES`](crate::MOST_NODES) nodes for one side, more than
 /// [`MOST_STEPS`](crate::MOST_STEPS) steps, or more than [`MOST_MEETINGS`](crate::MOST_MEETINGS) cases. `NoMemory` if an allocation failed.
 pub fn compare(alloc: Global, old: &Rules, new: &Rules) -> Result<Vec<Case>, Undecided>
     ensures { IfOk result (λ cases. AreCases old.now new.now cases.items) }
@@ -90,13 +90,13 @@ fn side_shown(
     }
 }
 
-/// The cases of what old and new rules or programs decide for cells, as [`compare`] lists them. No line of a program decides: the
-/// decision has its value and no line.
+/// Compares an old and a new side, each rules or a program, and returns the cases as [`compare`] does. The decision of a program has a
+/// value and no line.
 ///
 /// # Errors
 ///
-/// `Old` or `New` if a program isn't followed, with the place of the first instruction that some path meets with operands that aren't
-/// followed. `TooLarge` and `NoMemory` as for [`compare`], and `TooLarge` if too much would have to be remembered of a program.
+/// `Old` or `New` if a program can't be followed bit by bit, with the place of the first instruction at which that fails on some path.
+/// `TooLarge` and `NoMemory` as for [`compare`]; also `TooLarge` if too much would have to be remembered of a program.
 pub fn compare_sides(
     alloc: Global,
     old: Compared<'_>,
@@ -116,7 +116,7 @@ pub fn compare_sides(
     Ok(cases)
 }
 
-/// Whether old and new give each cell the same value, by their cases.
+/// Whether both sides give each cell the same value, by the cases of their comparison.
 pub fn give_same(cases: &[Case]) -> bool
     ensures rules { (old new : Written) → AreCases old new cases.now → (IsTrue result ↔ GiveSame old new) }
     ensures decisions { (was is : List ℕ → Decided) → AreCasesOf was is cases.now → (IsTrue result ↔ GiveOneValue was is) }
@@ -125,14 +125,14 @@ pub fn give_same(cases: &[Case]) -> bool
     have_one_value(cases)
 }
 
-/// Whether a case has one value.
+/// Whether both decisions of a case have one value.
 fn has_one_value(case: &Case) -> bool
     ensures { result ≡ (case.now.old.value == case.now.new.value) }
 {
     case.old.value == case.new.value
 }
 
-/// Whether each case has one value.
+/// Whether in each case both decisions have one value.
 fn have_one_value(cases: &[Case]) -> bool
     ensures { result ≡ have_one_value cases.now }
 {

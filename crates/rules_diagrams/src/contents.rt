@@ -112,7 +112,7 @@ pub(crate) fn with_word(contents: &Contents, register: Register, word: [Bit; 32]
 /// What one instruction makes of a register.
 #[derive(Clone, Copy)]
 pub(crate) enum Made {
-    /// It puts this word into it.
+    /// It puts this word into the register.
     Word([Bit; 32]),
     /// It ends the program with this value.
     Ends(u32),
@@ -120,7 +120,7 @@ pub(crate) enum Made {
     Unknown,
 }
 
-/// The same bits, if there are 32.
+/// These bits as a word, if there are 32.
 fn word_of(bits: &[Bit]) -> Option<[Bit; 32]>
     ensures { IfSome result (λ word. word ≡ bits.now) }
 {

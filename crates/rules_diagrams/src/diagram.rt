@@ -3,7 +3,7 @@
 /// A diagram: its number, or the node at which it begins.
 #[derive(Clone, Copy, PartialEq, Eq)]
 pub(crate) enum Diagram {
-    /// Every cell has this number.
+    /// Gives every cell this number.
     Leaf(u32),
     /// The node of this number decides. Nodes are counted from 0, the oldest first.
     Inner(u32),
@@ -24,8 +24,8 @@ pub(crate) struct Node {
 /// The diagrams of the cells in which a bit isn't set and in which it is.
 #[derive(Clone, Copy)]
 pub(crate) struct Sides {
-    /// Of those in which it isn't set.
+    /// The diagram of the cells in which the bit isn't set.
     pub low: Diagram,
-    /// Of those in which it is set.
+    /// The diagram of the cells in which the bit is set.
     pub high: Diagram,
 }

@@ -45,7 +45,8 @@ impl<T: Drop> From<AllocFailed<T>> for Undecided {
 /// Why a program has no diagram.
 #[derive(Clone, Copy, PartialEq, Eq)]
 pub(crate) enum Unfollowed {
-    /// The instruction at this place isn't followed.
+    /// The instruction at this place isn't followed: what it does depends on the cell in a way that no constant and no single bits of the
+    /// cell express, such as a sum of octets.
     At(usize),
     /// No diagram was made.
     Undecided(Undecided),

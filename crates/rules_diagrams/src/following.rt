@@ -148,7 +148,7 @@ fn recall(k: u32, contents: &Contents) -> Made
     }
 }
 
-/// The number whose sum with another is 0.
+/// Minus `a`, modulo 2^32.
 fn negative(a: u32) -> u32
     ensures { result ≡ minus a }
 {

@@ -32,8 +32,8 @@ fn leave(inside: &mut VecDeque<Diagram>)
     inside.pop_front();
 }
 
-/// The diagram of the cells of which a rule with this test holds, within these blocks: the diagrams of the cells for which no block around
-/// the rule is passed over, that of the innermost block first.
+/// The diagram of the cells of which a rule holds that has this test and is in these blocks. `inside` has for each of the blocks the
+/// diagram of the cells for which neither the block nor one around it is passed over, that of the innermost block first.
 #[tactic(auto, using(crate::proofs::Nodes::keeps_both, crate::proofs::Nodes::keeps_itself))]
 pub(crate) fn held(
     diagrams: &mut Diagrams,
@@ -50,7 +50,7 @@ pub(crate) fn held(
     both(diagrams, one, first_of(inside))
 }
 
-/// The blocks around the line after one that is in these.
+/// Turns the blocks around the line at a place into those around the next line.
 #[tactic(auto, using(crate::proofs::Nodes::keeps_both, crate::proofs::Nodes::keeps_itself))]
 pub(crate) fn enter(
     diagrams: &mut Diagrams,

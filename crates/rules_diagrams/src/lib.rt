@@ -1,4 +1,4 @@
-//! Decision diagrams over the bits of a cell.
+//! Decision diagrams over the bits of a cell: they compare rules or programs on every cell, and find the rules that decide none.
 #![tactic(auto)]
 
 mod case;

@@ -28,8 +28,8 @@ fn take_first(outer: &mut VecDeque<Diagram>) -> Diagram
     }
 }
 
-/// The diagram with one line more, which comes before those so far. The outer ones are those of what comes after the ends of blocks, that of
-/// the first end first.
+/// The diagram of the lines so far with one more before them. `outer` has the diagrams of what comes after the ends of blocks whose heads
+/// are still to come, that of the first end first.
 #[tactic(auto, using(crate::proofs::Nodes::keeps_both, crate::proofs::Nodes::keeps_itself))]
 fn with_line(
     diagrams: &mut Diagrams,
@@ -67,7 +67,7 @@ fn with_line(
 ///
 /// # Errors
 ///
-/// As [`Diagrams::choose`] has them; also `TooLarge` for 4,294,967,295 lines or more.
+/// Those of [`Diagrams::choose`]; also `TooLarge` for 4,294,967,295 lines or more.
 pub(crate) fn deciding_lines(alloc: Global, diagrams: &mut Diagrams, rules: &Rules) -> Drawn
     ensures keeps { Keeps diagrams.old diagrams.new }
     ensures gives { IfOk result (GivesNumber diagrams.new (deciding_line rules.now)) }

@@ -31,7 +31,7 @@ fn bits_of_octets(side: Side, octets: Octets) -> Bits
     }
 }
 
-/// The bits that the path is.
+/// The bits of the VPI at this side.
 fn bits_of_path(side: Side) -> Bits
     ensures { AreBitsOf side Field.Vpi result }
 {
@@ -43,7 +43,7 @@ fn bits_of_path(side: Side) -> Bits
     }
 }
 
-/// The bits that a field is.
+/// The bits of a field.
 fn bits_of(side: Side, field: Field) -> Bits
     ensures { AreBitsOf side field result }
 {
@@ -57,7 +57,7 @@ fn bits_of(side: Side, field: Field) -> Bits
     }
 }
 
-/// The diagram of the cells in which a field, of which a mask may keep some bits, is a number in a reach.
+/// The diagram of the cells in which a field, of which a mask may keep some bits, is a number in an interval.
 fn reached(
     diagrams: &mut Diagrams,
     side: Side,
@@ -75,7 +75,7 @@ fn reached(
     }
 }
 
-/// The diagram of the cells that another doesn't tell.
+/// The diagram of all cells but those of another: it gives 1 where the other gives 0, and 0 elsewhere.
 fn denied(diagrams: &mut Diagrams, test: Diagram) -> Drawn
     requires { IsWithin diagrams.old test }
     ensures keeps { Keeps diagrams.old diagrams.new }
@@ -84,7 +84,7 @@ fn denied(diagrams: &mut Diagrams, test: Diagram) -> Drawn
     diagrams.choose(test, Diagram::Leaf(0), Diagram::Leaf(1))
 }
 
-/// The diagram of the cells that both of two tell.
+/// The diagram of the cells to which both of two give 1.
 pub(crate) fn both(diagrams: &mut Diagrams, one: Diagram, other: Diagram) -> Drawn
     requires one { IsWithin diagrams.old one }
     requires other { IsWithin diagrams.old other }
@@ -95,7 +95,7 @@ pub(crate) fn both(diagrams: &mut Diagrams, one: Diagram, other: Diagram) -> Dra
     diagrams.choose(one, other, Diagram::Leaf(0))
 }
 
-/// The diagram of the cells that one of two tells.
+/// The diagram of the cells to which at least one of two gives 1.
 fn either(diagrams: &mut Diagrams, one: Diagram, other: Diagram) -> Drawn
     requires one { IsWithin diagrams.old one }
     requires other { IsWithin diagrams.old other }
@@ -106,7 +106,7 @@ fn either(diagrams: &mut Diagrams, one: Diagram, other: Diagram) -> Drawn
     diagrams.choose(one, Diagram::Leaf(1), other)
 }
 
-/// The numbers up to one.
+/// The numbers up to `number`, which is among them.
 fn up_to(number: u32) -> Interval
     ensures low { result.low ≡ 0 }
     ensures end { result.end ≡ number + 1 }
@@ -117,7 +117,7 @@ fn up_to(number: u32) -> Interval
     }
 }
 
-/// The numbers below one.
+/// The numbers less than `number`.
 fn below(number: u32) -> Interval
     ensures low { result.low ≡ 0 }
     ensures end { result.end ≡ number }
@@ -128,7 +128,7 @@ fn below(number: u32) -> Interval
     }
 }
 
-/// The span at a place.
+/// The span at an index.
 fn span_at(spans: &[Span], place: usize) -> Span
     requires { place < length spans.now }
     ensures { result ≡ slice_index_or spans.now place result }
@@ -217,7 +217,7 @@ fn compared(
 ///
 /// # Errors
 ///
-/// As [`Diagrams::choose`] has them.
+/// Those of [`Diagrams::choose`].
 #[cycle(met)]
 #[tactic(auto, using(crate::proofs::Nodes::keeps_both, crate::proofs::Nodes::keeps_itself))]
 pub(crate) fn met(diagrams: &mut Diagrams, side: Side, test: &Test) -> Drawn

@@ -14,7 +14,7 @@ use crate::walk::meetings;
 use std::alloc::{AllocError, Global};
 use std::collections::BTreeSet;
 
-/// The first numbers of meetings.
+/// The numbers that the first diagram gives in these meetings.
 fn ones(alloc: Global, meetings: &[Meeting]) -> Result<BTreeSet<u32>, AllocError>
     ensures { IfOk result (λ numbers. (number : ℕ) → contains nat_cmp numbers number ≡ has_one meetings.now number) }
 {
@@ -29,7 +29,7 @@ fn ones(alloc: Global, meetings: &[Meeting]) -> Result<BTreeSet<u32>, AllocError
 ///
 /// # Errors
 ///
-/// As [`meetings`] has them.
+/// Those of [`meetings`].
 pub(crate) fn numbers(
     alloc: Global,
     diagrams: &Diagrams,

@@ -45,7 +45,7 @@ fn bits_operated(alloc: Global, op: Op, by: By, contents: &Contents) -> Result<M
     }
 }
 
-/// A shift by 32 or more, which only X can be.
+/// A shift by 32 or more. The check of programs refuses such a constant, so in an accepted program the operand is X.
 fn shifted_out(
     alloc: Global,
     op: Op,

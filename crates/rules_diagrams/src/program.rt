@@ -20,16 +20,16 @@ use crate::word_tests::test_shown;
 use bpf_code::{Instr, Test};
 use std::alloc::{AllocError, Global};
 
-/// What is told of the places of a program so far.
+/// The diagrams of the values of a program from its places on, as far as they were made.
 #[derive(Drop)]
 struct Tellings {
-    /// All that is told, that of later places first.
+    /// All of them, those of later places first.
     told: Vec<Told>,
-    /// Where what is told of each place begins.
+    /// For each place the index in `told` of the first that is of this place.
     firsts: Vec<usize>,
 }
 
-/// The diagram of what was told, if that is of this place with these contents.
+/// The diagram that was told, if it is of this place with these contents.
 fn diagram_if(told: &Told, place: usize, contents: &Contents) -> Option<Diagram>
     ensures { IfSome result (λ diagram. told.now ≡ record { place = place; contents = contents.now; diagram = diagram }) }
 {
@@ -58,7 +58,7 @@ fn find(told: &[Told], first: usize, place: usize, contents: &Contents) -> Optio
 }
 
 impl Tellings {
-    /// Nothing is told of this many places.
+    /// No diagram, for a program of this many instructions.
     fn new(alloc: Global, places: usize) -> Result<Tellings, Unfollowed>
         ensures { IfOk result (λ tellings. tellings.told.items ≡ []) }
     {
@@ -153,7 +153,7 @@ fn diagram_from(
     }
 }
 
-/// Tells the diagram from a place on, if there are contents.
+/// Makes the diagram from a place on with these contents, if there are any, and adds it to those that are told.
 #[tactic(auto, using(crate::proofs::Nodes::keeps_itself))]
 fn tell(
     alloc: Global,
@@ -181,7 +181,7 @@ fn tell(
     Ok(())
 }
 
-/// Tells the diagrams from a place on, with each of the contents that are reached there.
+/// Makes the diagrams from a place on, one for each of the contents that are reached there.
 fn tell_place(
     alloc: Global,
     diagrams: &mut Diagrams,
@@ -204,7 +204,7 @@ fn tell_place(
     Ok(())
 }
 
-/// Tells the diagrams of all contents that are reached, from the last place to the first.
+/// Makes the diagrams of all contents that are reached, from the last place to the first.
 fn tell_all(
     alloc: Global,
     diagrams: &mut Diagrams,

@@ -11,7 +11,7 @@ use std::alloc::Global;
 /// The most work, in steps: one for each comparison of contents, and some for contents that are kept. It bounds time and memory.
 const MOST_WORK: u32 = 4_194_304;
 
-/// The work of contents that are kept. So at most 16,384 are.
+/// The steps that it costs to keep contents. So at most 16,384 are kept.
 const EACH_KEPT: u32 = 256;
 
 /// The contents at each place of a program, and how much work may follow.
@@ -40,7 +40,7 @@ impl Reached {
 
     // no ensures: as `new`
     // no edit: it has no ensures
-    /// The contents at a place of which this many are before them.
+    /// The contents with index `index` among those at a place.
     pub(crate) fn contents(&self, place: usize, index: usize) -> Option<Contents> {
         match self.at.get(place) {
             None => None,
@@ -63,7 +63,7 @@ impl Reached {
 
     // no ensures: as `new`
     // no edit: it has no ensures
-    /// Takes this much work.
+    /// Takes this many steps from those that may follow. `TooLarge` if fewer are left.
     fn spend(&mut self, work: u32) -> Result<(), Unfollowed> {
         match self.left.checked_sub(work) {
             None => Err(Unfollowed::Undecided(Undecided::TooLarge)),

@@ -19,14 +19,14 @@ use rules_cells::{RuleLine, Rules, laws};
 use std::alloc::{AllocError, Global};
 use std::collections::{BTreeSet, VecDeque};
 
-/// The most work of a search, in steps: one for each node there is, for each rule that is found to decide no cell, and
-/// some for each rule that is named with it. It bounds time and memory where many rules decide no cell.
+/// The most work of a search, in steps. Each rule that decides no cell costs as many as there are nodes then, and `EACH_TAKER` for each
+/// rule that takes its cells. This limit bounds time and memory where many rules decide no cell.
 const MOST_WORK: u64 = 268_435_456;
 
-/// The work of a rule that is named with another. So at most 4,194,304 are.
+/// The steps that a rule costs which takes the cells of an unused one. So at most 4,194,304 such rules are named.
 const EACH_TAKER: u64 = 64;
 
-/// The places of the lines that decide the cells that a diagram tells.
+/// The places of the lines that decide the cells to which `held` gives 1.
 #[tactic(auto, using(crate::proofs::Nodes::keeps_both, crate::proofs::Nodes::keeps_itself))]
 fn takers(
     alloc: Global,

@@ -17,7 +17,7 @@ pub(crate) struct Bits {
     pub width: u16,
 }
 
-/// Numbers from one on, up to another, which isn't among them.
+/// The numbers from `low` on that are less than `end`.
 #[derive(Clone, Copy)]
 pub(crate) struct Interval {
     /// The first number.
@@ -26,7 +26,7 @@ pub(crate) struct Interval {
     pub end: u64,
 }
 
-/// The power of two.
+/// 2 to this power.
 fn power(exponent: u16) -> u64
     requires { exponent ≤ 32 }
     ensures { result ≡ 2 ^ exponent }
@@ -42,7 +42,7 @@ fn has_bit(mask: u32, place: u16) -> bool
     mask >> place & 1 == 1
 }
 
-/// The reach of what a number may be without a part of it.
+/// The interval in which the rest of a number is, once this part was taken from it.
 fn without(reach: Interval, part: u64) -> Interval
     ensures low { result.low ≡ reach.low - part }
     ensures end { result.end ≡ reach.end - part }
@@ -54,12 +54,12 @@ fn without(reach: Interval, part: u64) -> Interval
 }
 
 impl Diagrams {
-    /// The diagram that gives 1 to the cells in which these bits, of which a mask keeps some, are a number in this reach, and 0 to
-    /// all others. Reaches may be larger than the numbers that the bits can be.
+    /// The diagram that gives 1 to the cells in which these bits, of which a mask keeps some, are a number in this reach, and 0 to all
+    /// others. The reach may go beyond the largest number of the bits.
     ///
     /// # Errors
     ///
-    /// As [`choose`](Self::choose) has them.
+    /// Those of [`choose`](Self::choose).
     #[tactic(auto, using(crate::proofs::Nodes::keeps_both, crate::proofs::Nodes::keeps_itself))]
     pub(crate) fn span(&mut self, bits: Bits, mask: u32, reach: Interval) -> Drawn
         requires width { bits.width ≤ 32 }

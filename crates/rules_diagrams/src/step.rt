@@ -1,11 +1,11 @@
-//! Choices that were made, which needn't be made again.
+//! Choices between diagrams: what is asked for, and the answers that the store keeps, so that they needn't be found again.
 
 use crate::diagram::Diagram;
 
 /// A choice that is asked for.
 #[derive(Clone, Copy, PartialEq, Eq)]
 pub(crate) struct Asked {
-    /// What decides.
+    /// The diagram that decides.
     pub test: Diagram,
     /// The diagram of the cells to which `test` gives any number but 0.
     pub one: Diagram,

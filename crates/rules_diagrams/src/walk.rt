@@ -1,4 +1,4 @@
-//! The walk through two diagrams, with the cells in order.
+//! The walk through two diagrams, in the order of the cells from the least on.
 
 ghost use Rattle.std.specs.Prelude.{◌≡◌, ◌+◌, ◌-◌, ◌^◌, ◌≤◌, ◌<◌, ◌==◌, ◌&&◌, min, ℕ, length, slice_set, IfOk, OnOk, IfSome, IsTrue};
 ghost use Rattle.std.specs.List.{All, Contains};
@@ -136,7 +136,7 @@ impl Walk {
         Ok(())
     }
 
-    /// Walks through two diagrams, from this cell on. The cell is the least that leads there.
+    /// Walks through two diagrams. `cell` is the least cell that leads to both.
     fn go(
         &mut self,
         one: &Diagrams,

@@ -17,7 +17,7 @@ pub(crate) enum Bit {
     Of(u16),
 }
 
-/// Bits with one more before them.
+/// Bits with one more below them, which is the new lowest.
 pub(crate) fn before(bit: Bit, mut bits: Vec<Bit>) -> Result<Vec<Bit>, AllocError>
     ensures { IfOk result (λ all. all.items ≡ bit ∷ bits.items) }
 {
@@ -83,7 +83,7 @@ pub(crate) fn constant_of(bits: &[Bit]) -> Option<u32>
     }
 }
 
-/// The lowest bits of the product with the power of two.
+/// The number, shifted left by this many places and cut to its lowest `width` bits.
 pub(crate) fn shifted_left(
     alloc: Global,
     bits: &[Bit],
@@ -104,7 +104,7 @@ pub(crate) fn shifted_left(
     }
 }
 
-/// The quotient by the power of two, with this many bits that are 0 above it.
+/// The number, shifted right by this many places, with `above` bits that are 0 on top.
 pub(crate) fn shifted_right(
     alloc: Global,
     bits: &[Bit],

@@ -7,7 +7,7 @@ use crate::word::{Bit, before};
 use bpf_code::Op;
 use std::alloc::{AllocError, Global};
 
-/// Both of two bits.
+/// `one and other`, if that is a constant or one of the two.
 fn anded(one: Bit, other: Bit) -> Option<Bit>
     ensures { IfSome result (IsBitResult Op.And one other) }
 {
@@ -22,7 +22,7 @@ fn anded(one: Bit, other: Bit) -> Option<Bit>
     }
 }
 
-/// One of two bits.
+/// `one or other`, if that is a constant or one of the two.
 fn ored(one: Bit, other: Bit) -> Option<Bit>
     ensures { IfSome result (IsBitResult Op.Or one other) }
 {
@@ -37,7 +37,7 @@ fn ored(one: Bit, other: Bit) -> Option<Bit>
     }
 }
 
-/// Exactly one of two bits.
+/// `one xor other`, if that is a constant or one of the two.
 fn xored(one: Bit, other: Bit) -> Option<Bit>
     ensures { IfSome result (IsBitResult Op.Xor one other) }
 {
@@ -56,7 +56,7 @@ fn xored(one: Bit, other: Bit) -> Option<Bit>
     }
 }
 
-/// The result of a bitwise operation on two bits, if it is a bit.
+/// The result of a bitwise operation on two bits, if it is a constant or a bit of the cell.
 fn bit_result(op: Op, one: Bit, other: Bit) -> Option<Bit>
     ensures { IfSome result (IsBitResult op one other) }
 {
@@ -68,7 +68,7 @@ fn bit_result(op: Op, one: Bit, other: Bit) -> Option<Bit>
     }
 }
 
-/// The result of a bitwise operation on words of as many bits, if each bit of it is a bit.
+/// The result of a bitwise operation on two words of the same length, if each of its bits is a constant or a bit of the cell.
 pub(crate) fn bitwise(
     alloc: Global,
     op: Op,

@@ -31,7 +31,8 @@ fn set(diagrams: &mut Diagrams, bit: Bit) -> Drawn
     }
 }
 
-/// What the test of two bits is where the first is set, above lower bits that gave a diagram.
+/// The diagram of a test of two numbers where the highest bit of the first is set, and that of the second is `other`. `lower` is the
+/// diagram of the test of the lower bits.
 fn if_set(test: Test, other: bool, lower: Diagram) -> Diagram
     ensures within { (nodes : List Node) → IsWithin nodes lower → IsWithin nodes result }
     ensures value { (nodes : List Node) (cell : ℕ) (before : Bool) → diagram_value nodes lower cell ≡ truth before → diagram_value nodes result cell ≡ truth (test_bits test true other before) }
@@ -43,7 +44,8 @@ fn if_set(test: Test, other: bool, lower: Diagram) -> Diagram
     }
 }
 
-/// What it is where the first isn't set.
+/// The diagram of a test of two numbers where the highest bit of the first isn't set, and that of the second is `other`. `lower` is as for
+/// [`if_set`].
 fn if_clear(test: Test, other: bool, lower: Diagram) -> Diagram
     ensures within { (nodes : List Node) → IsWithin nodes lower → IsWithin nodes result }
     ensures value { (nodes : List Node) (cell : ℕ) (before : Bool) → diagram_value nodes lower cell ≡ truth before → diagram_value nodes result cell ≡ truth (test_bits test false other before) }
@@ -54,7 +56,8 @@ fn if_clear(test: Test, other: bool, lower: Diagram) -> Diagram
     }
 }
 
-/// The diagram of the test of a bit with a bit of a constant, above lower bits that gave a diagram.
+/// The diagram of a test of two numbers by their highest bits: `bit`, and `other` of a constant. `lower` is the diagram of the test of the
+/// lower bits.
 #[tactic(auto, using(crate::proofs::Nodes::keeps_both, crate::proofs::Nodes::keeps_itself))]
 fn stepped(diagrams: &mut Diagrams, test: Test, bit: Bit, other: bool, lower: Diagram) -> Drawn
     requires { IsWithin diagrams.old lower }
@@ -70,7 +73,8 @@ fn stepped(diagrams: &mut Diagrams, test: Test, bit: Bit, other: bool, lower: Di
     )
 }
 
-/// What a test is above lower bits that gave a diagram, if no bit of the number is left.
+/// The diagram of a test where no bit of the number is left, and the constant has the higher bits `k`. `lower` is the diagram of the test
+/// of the lower bits.
 fn ended(test: Test, k: u32, lower: Diagram) -> Diagram
     ensures within { (nodes : List Node) → IsWithin nodes lower → IsWithin nodes result }
     ensures ended { (nodes : List Node) → IsTestedAfter nodes nodes test [] k lower result }
@@ -81,7 +85,8 @@ fn ended(test: Test, k: u32, lower: Diagram) -> Diagram
     }
 }
 
-/// The diagram of the test of bits with a constant, above lower bits that gave a diagram.
+/// The diagram of a test of a number with a constant, whose higher bits are `bits` and `k`. `lower` is the diagram of the test of the lower
+/// bits.
 #[tactic(auto, using(crate::proofs::Nodes::keeps_both, crate::proofs::Nodes::keeps_itself))]
 fn tested(diagrams: &mut Diagrams, test: Test, bits: &[Bit], k: u32, lower: Diagram) -> Drawn
     requires { IsWithin diagrams.old lower }
@@ -97,7 +102,7 @@ fn tested(diagrams: &mut Diagrams, test: Test, bits: &[Bit], k: u32, lower: Diag
     }
 }
 
-/// What the test of no bits gives.
+/// The diagram of the test of two numbers without bits, which are both 0.
 fn of_none(test: Test) -> Diagram
     ensures { (nodes : List Node) → GivesTruth nodes (λ _. test_of_none test) result }
 {
@@ -111,7 +116,7 @@ fn of_none(test: Test) -> Diagram
 ///
 /// # Errors
 ///
-/// As [`Diagrams::choose`] has them.
+/// Those of [`Diagrams::choose`].
 pub(crate) fn test_shown(diagrams: &mut Diagrams, test: Test, bits: &[Bit], k: u32) -> Drawn
     ensures keeps { Keeps diagrams.old diagrams.new }
     ensures shows { IfOk result (GivesTruth diagrams.new (λ cell. test_of test (word_number bits.now cell) k)) }

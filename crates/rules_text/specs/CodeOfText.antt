@@ -7,7 +7,7 @@ use Rattle.rules_code.specs.LineCode.{lines_code}
 use Rattle.rules_code.specs.declared.lines.Line.{Line}
 use Rattle.rules_text.specs.RulesInMemory.{HasRules}
 
--- The text has rules, and this is the code of the lines that they become.
+-- The text has rules, and this is the code of the lines of tests on octets that they become (`ArePlainLines`).
 pub record IsCodeOfText (octets : List ℕ) (code : List Instr) : Type 0 where
   pub rules : Rules
   pub read : HasRules octets rules

@@ -1,5 +1,5 @@
--- The lines of rules of a text, and the places of their octets. A line of rules is a source line, but inside parentheses a line end is a
--- blank, so there it goes on; and `;`, `{` and `}` end a line of rules before its source line ends.
+-- The lines of rules of a text, and the places of their octets. A line of rules ends where its source line ends, but not inside
+-- parentheses: there a line end is a blank. `;`, `{` and `}` end a line of rules earlier.
 use Rattle.std.specs.Prelude.{ℕ, ◌+◌, ◌-◌, ◌==◌, ◌&&◌, ◌||◌, Bool, true, false, not, if◌then◌else◌, List, [], ◌∷◌, Some, None}
 use Rattle.rules_text.specs.declared.place.RulePlace.{RulePlace}
 use Rattle.rules_text.specs.declared.place.TextPlace.{TextPlace}
@@ -13,8 +13,8 @@ pub record Enclosing : Type 0 where
 abbrev pub nothing_around : Enclosing
 nothing_around = record { parentheses = 0; comment = false }
 
--- What is around the octet after this one outside of comments. A comment begins at `#` (35). No test goes on after the first octet of
--- `->` (45), which begins no other mark.
+-- What is around the octet after this one, which is in no comment. A comment begins at `#` (35). `-` (45) begins only `->`, which ends a
+-- test, so no parenthesis is open after it.
 abbrev pub around_after : Enclosing → ℕ → Enclosing
 around_after around octet =
     if octet == 35 then record around { comment = true } else (
@@ -44,12 +44,12 @@ closes_block around (octet ∷ rest) = not around.comment && (octet == 125)
 abbrev pub ends_rule_line : Enclosing → ℕ → List ℕ → Bool
 ends_rule_line around octet rest = is_line_end around octet || closes_block (around_next around octet) rest
 
--- Lines, the first of which begins with this octet.
+-- These lines, with this octet put before the first.
 abbrev pub first_begun_with : ℕ → List (List ℕ) → List (List ℕ)
 first_begun_with octet [] = (octet ∷ []) ∷ []
 first_begun_with octet (line ∷ lines) = (octet ∷ line) ∷ lines
 
--- The lines of rules of octets, the first of which goes on here.
+-- The lines of rules of octets. The first of these lines began before, with this around its next octet.
 unfoldable pub lines_going_on : Enclosing → List ℕ → List (List ℕ)
 lines_going_on around [] = []
 lines_going_on around (octet ∷ rest) =
@@ -74,7 +74,7 @@ line_begin number = record { line = number; column = 1 }
 abbrev pub place_next : TextPlace → ℕ → TextPlace
 place_next place octet = if octet == 10 then line_begin (place.line + 1) else record place { column = place.column + 1 }
 
--- The place after octets of which the first is at this place.
+-- The place after the last of these octets. The first is at this place.
 unfoldable pub place_past : TextPlace → List ℕ → TextPlace
 place_past place [] = place
 place_past place (octet ∷ rest) = place_past (place_next place octet) rest
@@ -84,8 +84,8 @@ place_past place (octet ∷ rest) = place_past (place_next place octet) rest
 abbrev pub first_token_place : TextPlace → ℕ → TextPlace
 first_token_place begin column = record begin { column = begin.column + (column - 1) }
 
--- What tells a line of rules from others: the number of the source line in which it begins, and where that source line doesn't begin
--- with it, the column of its first token.
+-- Where a line of rules begins, as it is printed: the number of its source line, and if the line doesn't begin that source line, the column
+-- of its first token.
 abbrev pub rule_place : TextPlace → ℕ → RulePlace
 rule_place begin column = record {
   line = begin.line;

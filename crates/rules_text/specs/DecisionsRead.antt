@@ -1,5 +1,5 @@
--- Which line of rules decides a cell, in the words in which the rules are written. It is what rules_cells decides, which speaks of
--- the rules in memory.
+-- Which line of rules decides a cell, by the rules as they are written (`RulesRead`). `Decisions.antt` of rules_cells defines it by the
+-- rules in memory.
 use Rattle.std.specs.Prelude.{ℕ, zero, suc, ◌+◌, ◌-◌, if◌then◌else◌, List, [], ◌∷◌, Option, Some, None}
 use Rattle.rules_cells.specs.Decisions.{decision_by}
 use Rattle.rules_cells.specs.declared.deciding.Decision.{Decision}
@@ -23,8 +23,8 @@ line_passes side (block_line test) zero cell = if test_holds side test cell then
 line_passes side (block_line test) (suc passed) cell = suc (suc passed)
 line_passes side end_line passed cell = passed - 1
 
--- What lines decide, where the first of them has this place and this many blocks are passed over: the first line that gives a
--- value decides. If none does, the value is the one for all other cells.
+-- What lines decide, where the first of them has this place among all lines, from 0, and this many blocks are passed over: the first line
+-- that gives a value decides. If none does, the value is the one for all other cells.
 abbrev pub lines_decide : Side → List LineRead → ℕ → ℕ → ℕ → List ℕ → Decision
 lines_decide side [] place passed otherwise cell = record { line = None; value = otherwise }
 lines_decide side (line ∷ rest) place passed otherwise cell =

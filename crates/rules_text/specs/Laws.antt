@@ -58,14 +58,15 @@ OnlyWrittenRulesAreRead =
     → statement_from context nothing_read 1 found ≡ Ok (line_statement (rule_line read value))
     → IsRuleWritten (map (λ it. it.token) found) read value
 
--- The same of the head of a block.
+-- A line that is read as the head of a block has the tokens of a test of the grammar that means the test of the block, and `{`.
 abbrev pub OnlyWrittenHeadsAreRead : Type 0
 OnlyWrittenHeadsAreRead =
     (context : LineContext) (found : List RuleFound) (read : TestRead)
     → statement_from context nothing_read 1 found ≡ Ok (line_statement (block_line read))
     → IsHeadWritten (map (λ it. it.token) found) read
 
--- The column of the first of these tokens of a line of rules, before which these octets stand in its source line; none if no octet does.
+-- The column that is printed of a line of rules with these tokens: that of its first token in the source line, where these octets come
+-- before the line of rules. None if no octet does.
 abbrev pub column_after : List ℕ → List RuleFound → Option ℕ
 column_after [] tokens = None
 column_after (octet ∷ begun) [] = None
@@ -95,7 +96,7 @@ pub record IsLineReadAt (octets : List ℕ) (place : RulePlace) (read : LineRead
   pub names : List NameRead
   pub read_as : formed_statement context names rule_form line 1 (rule_tokens line) ≡ Ok (line_statement read)
 
--- Lines of rules that begin at these places are read as these lines: as many, in order.
+-- The lines of rules that begin at these places are read as these lines, one by one, in order.
 abbrev pub AreLinesReadAt : List ℕ → List RulePlace → List LineRead → Type 0
 AreLinesReadAt octets [] [] = Unit {0}
 AreLinesReadAt octets (place ∷ places) (read ∷ lines) = IsLineReadAt octets place read × AreLinesReadAt octets places lines
@@ -107,7 +108,7 @@ pub record ArePlacedRules (octets : List ℕ) (placed_rules : PlacedRulesRead) :
   pub rules : rules_in octets ≡ Ok placed_rules.rules
   pub places : AreLinesReadAt octets placed_rules.begins placed_rules.rules.lines
 
--- For every text.
+-- For every text, what is read with places is so.
 abbrev pub PlacesAreThoseOfTheLines : Type 0
 PlacesAreThoseOfTheLines = (octets : List ℕ) (placed_rules : PlacedRulesRead) → placed_rules_in octets ≡ Ok placed_rules → ArePlacedRules octets placed_rules
 

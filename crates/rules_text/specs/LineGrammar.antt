@@ -13,7 +13,7 @@ use Rattle.rules_text.specs.Subjects.{header_read, most_of_field, number_within,
 use Rattle.rules_text.specs.declared.fault.RuleFaultKind.{RuleFaultKind}
 use Rattle.rules_text.specs.declared.fault.RuleFaultKind.TheVariants.{BadLine, TooLarge, Unbalanced, TooDeep, TooLong, UnknownName}
 
--- What was read before a line.
+-- What the lines before a line say, as far as its reading depends on them.
 pub record LineContext : Type 0 where
   -- the side at which headers are read
   pub side : Side
@@ -42,8 +42,8 @@ pub data ListRead : Type 0 where
   denied_list : SubjectRead → ListRead
   path_list : ℕ → ListRead
 
--- What was read of a test, or of what is in a parenthesis: the alternatives before the last `or`, the parts after it
--- that are joined by `and`, and whether a `not` applies to the next part.
+-- What was read of a test, or of what is in a parenthesis: the alternatives before the last `or`, the parts after it that are joined by
+-- `and`, and whether the next part is denied.
 pub record GroupRead : Type 0 where
   pub alternatives : Option TestRead
   pub last_alternative : Option TestRead

@@ -24,15 +24,15 @@ unfoldable pub tokens_added : List NameRead → List ℕ → List RuleFound → 
 tokens_added names line [] = 0
 tokens_added names line (found ∷ rest) = length (tokens_meant names line found) + tokens_added names line rest
 
--- A line without a fault adds what its names mean, and no more than names may: what they may add before the line is what they add in it and
--- what they may add after it.
+-- A line without a fault adds the tokens that its names mean, and no more than names may: the number that they may add before the line is
+-- the number that they add in it plus the number that they may add after it.
 abbrev pub LinesAddWhatNamesMean : Type 0
 LinesAddWhatNamesMean =
     (context : LineContext) (names : List NameRead) (form : FormRead) (line : List ℕ) (column : ℕ) (tokens : List RuleFound) (statement : StatementRead)
     → formed_statement context names form line column tokens ≡ Ok statement
     → room_left names context.room line tokens + tokens_added names line tokens ≡ context.room
 
--- Where names may add as much as they do in a line, the same tokens are read as where they may add any more.
+-- If names may add at least as many tokens as they do in a line, how many more they may add changes nothing of what is read.
 abbrev pub RoomIsNoLimitWithin : Type 0
 RoomIsNoLimitWithin =
     (names : List NameRead) (room other : ℕ) (form : FormRead) (line : List ℕ) (column : ℕ) (tokens : List RuleFound)

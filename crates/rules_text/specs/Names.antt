@@ -27,18 +27,20 @@ pub data FormRead : Type 0 where
   test_form : FormRead
   list_form : FormRead
 
--- What comes first. The numbers of a list are those that four octets can have.
+-- What a line, a value or a definition begins with. The field that the numbers of a list are compared with is known only where the name is
+-- used; until then each number of 32 bits fits.
 abbrev pub first_awaited : FormRead → Awaited
 first_awaited rule_form = awaits_start
 first_awaited value_form = awaits_only_value
 first_awaited test_form = awaits_unit
 first_awaited list_form = awaits_low (field_list (subject_of (octets_field Word 0)))
 
--- Nothing of it was read.
+-- Nothing was read in this form.
 abbrev pub form_start : FormRead → Reading
 form_start form = record nothing_read { awaited = first_awaited form }
 
--- The token, where this is read. `->` and `{` end no definition, and a list has numbers, `,` and `..` alone.
+-- The token, if this form admits it, otherwise one that fits nowhere. A definition has no `->` and no `{`, and a list has only numbers,
+-- names, `,` and `..`.
 abbrev pub admitted : FormRead → RuleToken → RuleToken
 admitted rule_form token = token
 admitted value_form token = token
@@ -52,14 +54,15 @@ admitted list_form comma_mark = comma_mark
 admitted list_form dots_mark = dots_mark
 admitted list_form _ = no_token
 
--- What is read at the end of a line: where a definition ends, its test ends as the test of a rule does.
+-- The tokens that are read after those of a line. After a definition they are `-> refuse`, so its test must be complete, as before the `->`
+-- of a rule.
 abbrev pub ending : FormRead → List RuleToken
 ending rule_form = []
 ending value_form = []
 ending test_form = arrow_mark ∷ refuse_word ∷ []
 ending list_form = arrow_mark ∷ refuse_word ∷ []
 
--- Tokens at the place of a token.
+-- These tokens, each with the columns of the one token in whose place they are read.
 abbrev pub all_at : ℕ → ℕ → List RuleToken → List RuleFound
 all_at column after tokens = map (λ token. record { token = token; column = column; after = after }) tokens
 
@@ -67,7 +70,7 @@ all_at column after tokens = map (λ token. record { token = token; column = col
 abbrev pub most_added : ℕ
 most_added = 262144
 
--- What is read of the meaning of a name where names may add this many tokens: all of it, or none if it has more.
+-- What is read for a name with this meaning, where names may still add this many tokens: all of it, or `no_room` if it has more.
 abbrev pub within_room : ℕ → Option (List RuleToken) → List RuleToken
 within_room room None = []
 within_room room (Some tokens) = if nat_lt room (length tokens) then no_room ∷ [] else tokens
@@ -85,7 +88,8 @@ read_for form token (first ∷ more) = first ∷ more
 abbrev pub room_after_token : List NameRead → ℕ → List ℕ → RuleFound → ℕ
 room_after_token names room line found = room - length (meant names room line found)
 
--- What is read of the tokens of a line, up to its end, where names may add this many. The column is the one after the token before them.
+-- What is read for the tokens of a line, up to its end, where names may still add this many. The column is the one after the token before
+-- them.
 unfoldable pub expanded : List NameRead → ℕ → FormRead → List ℕ → ℕ → List RuleFound → List RuleFound
 expanded names room form line column [] = all_at column column (ending form)
 expanded names room form line column (found ∷ rest) =
@@ -108,10 +112,10 @@ is_list (number_word k ∷ rest) = is_no_path rest
 is_list (bad_number ∷ rest) = is_no_path rest
 is_list _ = false
 
--- How what a definition means is read.
+-- The form in which a definition of these tokens is read.
 abbrev pub definition_form : List RuleToken → FormRead
 definition_form tokens = if is_list tokens then list_form else test_form
 
--- What a name means in place of which these tokens are defined: a list as it stands, a test in parentheses.
+-- The tokens that a name with this definition means: a list as it stands, a test in parentheses.
 abbrev pub defined_as : List RuleToken → List RuleToken
 defined_as tokens = if is_list tokens then tokens else open_parenthesis ∷ (tokens ++ close_parenthesis ∷ [])

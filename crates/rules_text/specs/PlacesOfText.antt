@@ -1,4 +1,4 @@
--- Which line of rules each part of a code is of.
+-- Where the code of each line of rules begins.
 use Rattle.std.specs.Prelude.{◌≡◌, ℕ, List}
 use Rattle.rules_cells.specs.PlainOf.{ArePlainLines}
 use Rattle.rules_code.specs.LineCode.{lines_code}
@@ -8,7 +8,8 @@ use Rattle.rules_text.specs.RulesInMemory.{HasPlacedRules}
 use Rattle.rules_text.specs.declared.compiler.CodeWithPlaces.{CodeWithPlaces}
 use Rattle.rules_text.specs.declared.reader.PlacedRules.{PlacedRules}
 
--- The code is that of the text's rules, the numbers are those of their lines (`line_starts_from_end`), and the places are where these begin.
+-- The code is that of the text's rules. `starts_from_end` says where the code of each line begins (`line_starts_from_end`), and `begins`
+-- where the line begins in the text.
 pub record IsCodeWithPlaces (octets : List ℕ) (made : CodeWithPlaces) : Type 0 where
   pub placed_rules : PlacedRules
   pub read : HasPlacedRules octets placed_rules

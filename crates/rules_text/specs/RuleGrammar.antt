@@ -21,7 +21,7 @@ pub data OrderForm : Type 0 where
   greater_order : OrderForm
   at_least_order : OrderForm
 
--- What is before a list: nothing, `=` or `!=`, after a field with its mask; or a path and `/`.
+-- What comes before a list: a field with its mask, and then nothing, `=` or `!=`; or a path and `/`.
 pub data HeadForm : Type 0 where
   bare_head : SubjectRead → HeadForm
   equal_head : SubjectRead → HeadForm
@@ -29,7 +29,7 @@ pub data HeadForm : Type 0 where
   path_head : ℕ → HeadForm
 
 mutual
-  -- A unit of a test: a word that is a test; a field that is compared; a list, which has ranges and a last one; all channels of a
+  -- A unit of a test: a word that is a test; a field that is compared; a list of ranges, the last of which is kept apart; all channels of a
   -- path; and what `not` and parentheses make of others.
   pub data UnitForm : Type 0 where
     word_unit : TestRead → UnitForm
@@ -182,7 +182,7 @@ HeadFits context (unequal_head subject) = SubjectFits context subject
 HeadFits context (path_head path) = path ≤ most_of_field context.side vpi_field
 
 abbrev mutual
-  -- The numbers of a unit fit their fields, and with this many parentheses and blocks open at most 64 will be.
+  -- The numbers of a unit fit their fields. `deep` parentheses and blocks are open before the unit, and in it never more than 64.
   pub UnitFits : LineContext → ℕ → UnitForm → Type 0
   UnitFits context deep (word_unit test) = Unit {0}
   UnitFits context deep (order_unit subject order k) = SubjectFits context subject × (k ≤ most_of_field context.side subject.field)
@@ -191,12 +191,12 @@ abbrev mutual
   UnitFits context deep (not_unit unit) = UnitFits context deep unit
   UnitFits context deep (parenthesis_unit test) = (deep < 64) × TestFits context (deep + 1) test
 
-  -- The same of a part.
+  -- A part fits if each of its units does.
   pub PartFits : LineContext → ℕ → PartForm → Type 0
   PartFits context deep (one_unit unit) = UnitFits context deep unit
   PartFits context deep (and_unit part unit) = PartFits context deep part × UnitFits context deep unit
 
-  -- The same of a test.
+  -- A test fits if each of its parts does.
   pub TestFits : LineContext → ℕ → TestForm → Type 0
   TestFits context deep (one_part part) = PartFits context deep part
   TestFits context deep (or_part test part) = TestFits context deep test × PartFits context deep part
@@ -211,12 +211,12 @@ abbrev mutual
   unit_count (not_unit unit) = unit_count unit
   unit_count (parenthesis_unit test) = test_count test
 
-  -- How many a part has.
+  -- How many of these a part has.
   pub part_count : PartForm → ℕ
   part_count (one_unit unit) = unit_count unit
   part_count (and_unit part unit) = part_count part + unit_count unit
 
-  -- How many a test has.
+  -- How many of these a test has.
   pub test_count : TestForm → ℕ
   test_count (one_part part) = part_count part
   test_count (or_part test part) = test_count test + part_count part

@@ -105,7 +105,7 @@ pub record TokenCut : Type 0 where
   pub token : RuleToken
   pub size : ℕ
 
--- The longest mark, or any other octet.
+-- The longest mark, or one octet that begins none.
 abbrev pub longest_mark : Option RuleToken → Option RuleToken → TokenCut
 longest_mark (Some token) short = record { token = token; size = 2 }
 longest_mark None short = record { token = unwrap_or short no_token; size = 1 }
@@ -142,8 +142,8 @@ unfoldable pub before_feed : List ℕ → ℕ
 before_feed [] = 0
 before_feed (octet ∷ rest) = if octet == 10 then 0 else suc (before_feed rest)
 
--- The tokens of octets of a line that begin at this column, after this many octets of a token or a comment before them. Blanks and
--- line ends separate tokens. A comment begins at `#` (35) and ends with its source line.
+-- The tokens of octets of a line, the first of which is at this column. The first `passed` octets belong to a token or a comment that began
+-- before them, and are skipped. Blanks and line ends separate tokens. A comment begins at `#` (35) and ends with its source line.
 unfoldable pub tokens_from : ℕ → ℕ → List ℕ → List RuleFound
 tokens_from column passed [] = []
 tokens_from column (suc passed) (octet ∷ rest) = tokens_from (column + 1) passed rest

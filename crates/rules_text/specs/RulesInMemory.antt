@@ -1,4 +1,4 @@
--- When rules in memory are those of a text, and with the places where their lines begin.
+-- When rules in memory are those of a text; and when rules with the places of their lines are.
 use Rattle.std.specs.Prelude.{◌≡◌, ℕ, List, Ok}
 use Rattle.rules_text.specs.RulesRead.{rules_read}
 use Rattle.rules_text.specs.TextOfRules.{PlacedRulesRead, placed_rules_in, rules_in}

@@ -1,4 +1,4 @@
--- Rules as they are written, without their places in memory.
+-- Rules as they are written. Definitions speak of these; functions such as `test_read` say which rules as written the rules in memory are.
 use Rattle.std.specs.Prelude.{ℕ, List, [], ◌∷◌, ◌++◌, map, Option}
 use Rattle.bpf_code.specs.declared.instr.Size.{Size}
 use Rattle.rules_cells.specs.declared.field.Field.{Field}

@@ -27,7 +27,7 @@ class_seen class.Signalling = cell_of_channel 5
 class_seen class.Ilmi = cell_of_channel 16
 class_seen class.Idle = idle_cell
 
--- A token.
+-- A token of the code as a token of the definitions.
 abbrev pub rule_token_seen : Token → RuleToken
 rule_token_seen (token.Test class) = test_word (class_seen class)
 rule_token_seen token.Not = not_word

@@ -6,7 +6,7 @@ use Rattle.rules_text.specs.TextOfRules.{placed_fault, rules_in}
 use Rattle.rules_text.specs.declared.fault.RuleFault.{RuleFault}
 use Rattle.rules_text.specs.declared.fault.RuleFaultKind.TheVariants.{NoMemory, TooLong}
 
--- The fault is that an allocation failed, or it is what the definition says. Out of memory has no place.
+-- The fault is that an allocation failed, or it is what the definition says. The fault of an allocation has no place.
 abbrev pub IsFaultOf : {A : Type 0} → Result A RuleFault → RuleFault → Type 0
 IsFaultOf read fault = (fault ≡ placed_fault 0 0 NoMemory) ⊎ (read ≡ Err fault)
 

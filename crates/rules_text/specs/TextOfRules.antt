@@ -17,12 +17,12 @@ use Rattle.rules_text.specs.declared.fault.RuleFault.{RuleFault}
 use Rattle.rules_text.specs.declared.fault.RuleFaultKind.{RuleFaultKind}
 use Rattle.rules_text.specs.declared.fault.RuleFaultKind.TheVariants.{AfterOtherwise, BadLine, NameTaken, TooLong, Unbalanced}
 
--- Goes on with what was read, or changes the fault.
+-- Goes on with what was read, or turns the fault into another.
 abbrev pub read_then : {A B E F : Type 0} → Result A E → (E → F) → (A → Result B F) → Result B F
 read_then (Ok found) fault next = next found
 read_then (Err error) fault next = Err (fault error)
 
--- The column of a fault at the token at this column: a parenthesis that isn't closed has its own.
+-- The column of a fault that the token at this column is. `Unbalanced` has that of the outermost open parenthesis, if one is open.
 abbrev pub fault_column : Reading → RuleFaultKind → ℕ → ℕ
 fault_column reading Unbalanced column = if nat_lt 0 (length reading.around) then reading.outermost else column
 fault_column reading _ column = column
@@ -35,7 +35,8 @@ placed_fault line column kind = record { line = line; column = column; kind = ki
 abbrev pub fault_in_line : ℕ → RuleFaultKind → RuleFault
 fault_in_line column kind = placed_fault 0 column kind
 
--- The statement of the tokens, read on from here. The column is the one after the last token. Columns count from 1.
+-- The statement of a line of which this was read, and these tokens follow. The column is the one after the last token that was read.
+-- Columns count from 1.
 unfoldable pub statement_from : LineContext → Reading → ℕ → List RuleFound → Result StatementRead RuleFault
 statement_from context reading column [] =
     read_then (statement_at_end reading.awaited reading.statement) (λ kind. fault_in_line column kind) (λ statement. Ok statement)
@@ -44,7 +45,8 @@ statement_from context reading column (found ∷ rest) =
     (λ kind. fault_in_line (fault_column reading kind found.column) kind)
     (λ next. statement_from context next found.after rest)
 
--- The statement of the tokens of a line from this column on, or what is read there in this form, where names mean this.
+-- The statement of the tokens of a line from this column on, read in this form: as a line of rules, the number of a contract, or what a
+-- name means. These are the names that were given.
 abbrev pub formed_statement : LineContext → List NameRead → FormRead → List ℕ → ℕ → List RuleFound → Result StatementRead RuleFault
 formed_statement context names form line column tokens =
     statement_from context (form_start form) column (expanded names context.room form line column tokens)
@@ -59,13 +61,13 @@ pub record TextReading : Type 0 where
   pub begins : List RulePlace
   -- the names, in the order in which they were given
   pub names : List NameRead
-  -- how many tokens they may still add
+  -- how many tokens names may still add
   pub room : ℕ
   -- the value where no rule gives one
   pub otherwise : ℕ
   -- how many blocks are open
   pub blocks : ℕ
-  -- the place of the outermost of them
+  -- the place of the head of the outermost open block
   pub head : TextPlace
   -- whether a line with tokens was read
   pub begun : Bool
@@ -87,7 +89,7 @@ no_text_read = record {
   closed = false;
 }
 
--- What was read, with one more line of rules, which begins at this place and has its first token at this column.
+-- What was read, with one more line of rules. It begins at this place, and its first token is at this column of it.
 abbrev pub with_line : TextReading → LineRead → TextPlace → ℕ → TextReading
 with_line text (rule_line test value) begin column =
     record text { lines = text.lines ++ rule_line test value ∷ []; begins = text.begins ++ rule_place begin column ∷ []; begun = true }
@@ -112,7 +114,7 @@ text_with text begin column (side_statement side) = record text { side = side; b
 text_with text begin column (value_statement value) = record text { otherwise = value; closed = true; begun = true }
 text_with text begin column (line_statement statement) = with_line text statement begin column
 
--- What a line must know of the text before it.
+-- What the reading of a line needs from the lines before it.
 abbrev pub context_of : TextReading → LineContext
 context_of text = record { side = text.side; blocks = text.blocks; begun = text.begun; room = text.room }
 
@@ -120,7 +122,7 @@ context_of text = record { side = text.side; blocks = text.blocks; begun = text.
 abbrev pub starts_word : ℕ → Bool
 starts_word octet = is_word octet && not (is_digit octet)
 
--- The letters of a new name: a word that is none of the language, and no name that was given. A text has at most 4096.
+-- The letters of a new name: a word that is none of the language, and no name that was given. A text gives at most 4096 names.
 abbrev pub new_name : List NameRead → List ℕ → RuleToken → Result (List ℕ) RuleFaultKind
 new_name names letters token =
     if may_be_name token
@@ -176,7 +178,7 @@ definition_given context names line name tokens =
     read_then (formed_statement context names (definition_form tokens) line name.after name.tokens) (λ fault. fault)
     (λ statement. Ok (record { letters = name.letters; tokens = defined_as tokens })))
 
--- What a line that begins with this word gives a name.
+-- The name that a line gives which begins with this word: `contract`, or else `define`.
 abbrev pub given_by : RuleToken → LineContext → List NameRead → List ℕ → NameFound → Result NameRead RuleFault
 given_by contract_word context names line name = contract_given context names line name
 given_by _ context names line name = definition_given context names line name (definition_tokens names context.room line name)
@@ -198,7 +200,7 @@ name_given text line first rest =
 abbrev pub text_with_name : TextReading → NameRead → TextReading
 text_with_name text name = record text { names = text.names ++ name ∷ []; begun = true }
 
--- What was read, where the names in a line of these tokens add what they mean.
+-- What was read, with the tokens that the names in this line add taken from those that names may still add.
 abbrev pub text_with_room : TextReading → List ℕ → List RuleFound → TextReading
 text_with_room text line tokens = record text { room = room_left text.names text.room line tokens }
 
@@ -212,8 +214,7 @@ text_with_tokens text begin line (first ∷ rest) =
     else read_then (formed_statement (context_of text) text.names rule_form line 1 (first ∷ rest)) (λ fault. fault)
     (λ statement. Ok (text_with (text_with_room text line (first ∷ rest)) begin first.column statement)))
 
--- What was read, with a line of rules, which begins at this place. The column of a fault is counted from the beginning of the line of
--- rules.
+-- What was read, with a line of rules, which begins at this place. The column of a fault is counted from 1 in the line of rules.
 unfoldable pub text_with_line : TextReading → TextPlace → List ℕ → Result TextReading RuleFault
 text_with_line text begin line = text_with_tokens text begin line (rule_tokens line)
 
@@ -221,8 +222,8 @@ text_with_line text begin line = text_with_tokens text begin line (rule_tokens l
 abbrev pub fault_in_text : TextPlace → RuleFaultKind → RuleFault
 fault_in_text place kind = placed_fault place.line place.column kind
 
--- A fault of the line of rules of these octets, which begins at this place, with its place in the text: it is where the octets before
--- its column end. A fault without a place has none.
+-- A fault of a line of rules, with its place in the text: the place after the octets of the line that come before the fault's column. The
+-- line begins at this place. A fault without a place gets none.
 abbrev pub fault_of_line : TextPlace → List ℕ → RuleFault → RuleFault
 fault_of_line begin line fault =
     if fault.column == 0 then fault else fault_in_text (place_past begin (take (fault.column - 1) line)) fault.kind
@@ -238,7 +239,7 @@ placed_rules_at_end text =
     if nat_lt 0 text.blocks then Err (fault_in_text text.head Unbalanced) else
     Ok (record { rules = record { side = text.side; lines = text.lines; otherwise = text.otherwise }; begins = text.begins })
 
--- The rules of the lines, read on from here. The first of them begins at this place.
+-- The rules of a text of which this was read, and these lines follow. The first of them begins at this place.
 unfoldable pub placed_rules_from : TextReading → TextPlace → List (List ℕ) → Result PlacedRulesRead RuleFault
 placed_rules_from text begin [] = placed_rules_at_end text
 placed_rules_from text begin (line ∷ rest) =

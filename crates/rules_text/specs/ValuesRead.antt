@@ -1,5 +1,5 @@
--- The value that rules give a cell, in the words in which they are written. It is that of rules_cells, which speaks of the
--- rules in memory.
+-- The value that rules give a cell, by the rules as they are written (`RulesRead`). `Rules.antt` of rules_cells defines it by the rules in
+-- memory.
 use Rattle.std.specs.Prelude.{◌≡◌, ℕ, zero, suc, Bool, true, false, not, ◌&&◌, ◌||◌, ◌==◌, nat_le, nat_lt, if◌then◌else◌, List, [], ◌∷◌, drop, Ok}
 use Rattle.bpf_code.specs.declared.instr.Instr.{Instr}
 use Rattle.bpf_interp.specs.Packet.{octets_loaded}

@@ -11,7 +11,7 @@ use bpf_code::Size;
 use rules_cells::{Field, Octets, Relation, Span, Test};
 use std::alloc::{AllocError, Global};
 
-/// What a word that is a test holds of: cells of ITU-T I.361 and I.610.
+/// The cells of which a word that is a test holds, by ITU-T I.361 and I.610.
 #[derive(Clone, Copy)]
 pub enum Class {
     /// Every cell.
@@ -46,7 +46,7 @@ pub enum Class {
     Idle,
 }
 
-/// The test that a class of cells is.
+/// The test that holds of the cells of a class.
 pub(crate) fn test_of(alloc: Global, class: Class) -> Result<Test, AllocError>
     ensures { IfOk result (λ test. test_read test ≡ class_seen class) }
 {
@@ -69,7 +69,7 @@ pub(crate) fn test_of(alloc: Global, class: Class) -> Result<Test, AllocError>
     }
 }
 
-/// The test of OAM cells of a path.
+/// The test of OAM cells of a path: VCI 3 or 4.
 fn f4(alloc: Global) -> Test
     ensures { test_read result ≡ f4_cell }
 {
@@ -83,7 +83,7 @@ fn f4(alloc: Global) -> Test
     }
 }
 
-/// The test of idle cells.
+/// The test of idle cells: octets 0 to 3 are the number 1.
 fn idle() -> Test
     ensures { test_read result ≡ idle_cell }
 {

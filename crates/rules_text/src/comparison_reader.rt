@@ -186,7 +186,7 @@ impl LineReader {
         }
     }
 
-    /// Adds the test that a list is, which ends with this range.
+    /// Ends a list with this range, and adds the list to the test.
     #[tactic(auto, unfolding(crate::specs::LineGrammar::with_list))]
     pub(crate) fn list(&mut self, of: ListOf, span: Span) -> Step
         ensures ok { IfOk result (λ _. with_list (list_seen of) span (reading_seen self.old) ≡ reading_seen self.new) }

@@ -21,8 +21,8 @@ use std::alloc::Global;
 ///
 /// # Errors
 ///
-/// The first fault of the text, as [`read_rules`] has it; else `TooLong` without a place if the code has more than 4096
-/// instructions.
+/// The first fault of the text, as [`read_rules`] returns it. If the text has none, `TooLong` with line and column 0 if the code has more
+/// than 4096 instructions.
 #[tactic(auto, using(crate::proofs::Values::follows_text))]
 pub fn compile_text(alloc: Global, text: &[u8]) -> Result<Vec<Instr>, RuleFault>
     ensures accepted { IfOk result (λ code. IsAccepted code.items) }
@@ -39,21 +39,21 @@ pub fn compile_text(alloc: Global, text: &[u8]) -> Result<Vec<Instr>, RuleFault>
     }
 }
 
-/// The code of a text of rules, and which line of rules each part of it is of.
+/// The code of a text of rules, and for each line of rules where its code begins and where the line begins in the text.
 #[derive(Drop)]
 pub struct CodeWithPlaces {
-    /// The code, and where that of each line of rules begins.
+    /// The code, and where the code of each line of rules begins.
     pub placed: PlacedCode,
-    /// For each line of rules where it begins.
+    /// Where each line of rules begins in the text, in the order of the lines.
     pub begins: Vec<RulePlace>,
 }
 
-/// Compiles a text of rules: returns a code that gives each cell the value of the rules, with the place of each line's code and
-/// where the line begins.
+/// Compiles a text of rules: returns a code that gives each cell the value of the rules, and for each line of rules where its code begins
+/// and where the line begins in the text.
 ///
 /// # Errors
 ///
-/// As [`compile_text`] has them.
+/// Those of [`compile_text`].
 pub fn compile_with_places(alloc: Global, text: &[u8]) -> Result<CodeWithPlaces, RuleFault>
     ensures accepted { IfOk result (λ made. IsAccepted made.placed.code.items) }
     ensures text { IfOk result (λ made. FollowsText text.now made.placed.code.items) }

@@ -1,10 +1,11 @@
-//! The lines of rules: inside parentheses a line end is a blank, and a line goes on; `;`, `{` and `}` end one before its source line ends.
+//! Splits a text into lines of rules. A line of rules ends where its source line ends, but not inside parentheses: there a line end is a
+//! blank. `;`, `{` and `}` end a line of rules earlier.
 
 ghost use Rattle.std.specs.Prelude.{◌≡◌, ◌+◌, ◌≤◌, ◌<◌, ◌^◌, ◌∷◌, [], length, MatchOption, IfSome};
 ghost use Rattle.rules_text.specs.ContinuedLines.{around_after, around_next, closes_block, ends_rule_line, is_line_end, nothing_around, rule_lines};
 ghost use Rattle.rules_text.specs.inner.SeenLines.{around_seen, line_size};
 
-/// What is around an octet of a line.
+/// What encloses an octet of a line: open parentheses, and perhaps a comment.
 #[derive(Clone, Copy)]
 struct Around {
     /// How many parentheses are open.
@@ -35,7 +36,7 @@ impl Around {
         !self.comment && (octet == b';' || (octet == b'{' || octet == b'}'))
     }
 
-    /// Whether octets begin with a `}` that ends a block.
+    /// Whether octets begin with a `}` that ends a block: one outside of comments.
     fn closes_block(self, octets: &[u8]) -> bool
         ensures { result ≡ closes_block (around_seen self) octets.now }
     {
@@ -45,7 +46,7 @@ impl Around {
         }
     }
 
-    /// The same parentheses, but in a comment or not.
+    /// As many open parentheses, in a comment or not.
     fn commented(self, comment: bool) -> Around
         ensures seen { around_seen result ≡ record { parentheses = self.parentheses; comment = comment } }
         ensures same { result.parentheses ≡ self.parentheses }
@@ -56,7 +57,7 @@ impl Around {
         }
     }
 
-    /// What is around the octet after this one outside of comments.
+    /// What is around the octet after `octet`, which is in no comment.
     fn after(self, octet: u8) -> Around
         requires { self.parentheses < 2 ^ 63 }
         ensures seen { around_seen result ≡ around_after (around_seen self) octet }
@@ -76,7 +77,7 @@ impl Around {
         }
     }
 
-    /// What is around the octet after this one.
+    /// What is around the octet after `octet`.
     fn next(self, octet: u8) -> Around
         requires { self.parentheses < 2 ^ 63 }
         ensures seen { around_seen result ≡ around_next (around_seen self) octet }
@@ -114,8 +115,8 @@ fn rule_line_len(text: &[u8]) -> usize
     at
 }
 
-/// Returns the first line of rules of a text and the rest. It goes on over the end of a source line inside parentheses, and has the
-/// octets that end it: the line feed or `;`.
+/// Returns the first line of rules of a text, and the rest of the text. The line has the octet that ends it: a line feed, `;`, `{` or `}`.
+/// Before a `}` it ends without one. None if the text is empty.
 pub fn next_rule_line(text: &[u8]) -> Option<(&[u8], &[u8])>
     ensures lines { MatchOption result (rule_lines text.now ≡ [])
         (λ found. rule_lines text.now ≡ found.0.now ∷ rule_lines found.1.now) }

@@ -1,4 +1,4 @@
-//! The lines that give names.
+//! The lines that give names: those that begin with `define` or `contract`.
 
 ghost use Rattle.std.specs.Prelude.{◌≡◌, ◌≢◌, ◌+◌, ◌≤◌, ◌<◌, ◌++◌, IsTrue, false, Ok, Err, IfOk, IfErr, drop, length, map, slice_range, None, MatchOption};
 ghost use Rattle.rules_text.specs.Names.{expanded, name_meaning, read_for, rule_form};
@@ -29,7 +29,8 @@ pub(crate) struct NamePlace {
     pub after: usize,
 }
 
-/// Whether the letters of a token are a new name.
+/// Checks that a token is a new name. `NameTaken` for a word of the language and for a name that was given, `BadLine` for any other token,
+/// `TooLong` if 4096 names were given.
 fn check_name(names: &NameTable, letters: &[u8], token: Token) -> Result<(), RuleFaultKind>
     requires names { IsFoundByLetters names.now }
     requires some { 0 < length letters.now }
@@ -60,7 +61,7 @@ fn equal(token: Token) -> bool
     matches!(token, Token::Sign(Sign::Equal))
 }
 
-/// The place of the name that a line gives, from a column on.
+/// Finds the name that a line gives, and its `=`, from column `from` on, counted from 0.
 pub(crate) fn name_place(
     names: &NameTable,
     line: &[u8],
@@ -93,7 +94,8 @@ pub(crate) fn name_place(
     })
 }
 
-/// Adds a token of a definition, or in its place what it means: returns whether there are at most 4096 then.
+/// Adds a token of a definition, or the tokens that it means. Returns false, and adds nothing, if the definition would have more than 4096
+/// tokens.
 fn add_token(tokens: &mut Vec<Token>, found: Found, meant: &[Token]) -> Result<bool, AllocError>
     requires { length tokens.old.items ≤ 4096 }
     ensures added { IfOk result (λ added. IsTrue added → map rule_token_seen tokens.new.items ≡ map rule_token_seen tokens.old.items ++ read_for rule_form (rule_token_seen found.token) (map rule_token_seen meant.now)) }
@@ -112,7 +114,8 @@ fn add_token(tokens: &mut Vec<Token>, found: Found, meant: &[Token]) -> Result<b
     Ok(true)
 }
 
-/// The tokens of a definition from a column on, with those that names in it mean; none if there are more than 4096.
+/// The tokens of a definition from a column on, counted from 0, with the tokens that names mean in place of the names. None if there are
+/// more than 4096.
 fn body(
     alloc: Global,
     names: &NameTable,
@@ -139,7 +142,7 @@ fn body(
     Ok(Some(tokens))
 }
 
-/// What the name at a place means, as a line that begins with `define` has it.
+/// The tokens that a name means, by a line that begins with `define`.
 pub(crate) fn definition(
     alloc: Global,
     context: Context,
@@ -167,7 +170,7 @@ pub(crate) fn definition(
     Ok(meaning(alloc, tokens)?)
 }
 
-/// What the name at a place means, as a line that begins with `contract` has it.
+/// The token that a name means, by a line that begins with `contract`: the number of the contract.
 pub(crate) fn contract(
     alloc: Global,
     context: Context,
@@ -204,7 +207,7 @@ pub(crate) fn is_giving(token: Token) -> bool
     matches!(token, Token::Define | Token::Contract)
 }
 
-/// The name that a line gives which begins with this token, at its place.
+/// The name at a place, with what it means. `first` is the first token of the line: `contract`, or else `define`.
 pub(crate) fn name_at(
     alloc: Global,
     context: Context,

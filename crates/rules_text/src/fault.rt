@@ -9,7 +9,7 @@ use thiserror::Error;
 /// The kind of a fault.
 #[derive(Clone, Copy, Debug, PartialEq, Eq, Error)]
 pub enum RuleFaultKind {
-    /// What is here doesn't fit the grammar.
+    /// The token here, or the end of the line here, doesn't fit the grammar.
     #[error("1 BadLine")]
     BadLine,
     /// A word begins with a digit but is no number of at most 4294967295.
@@ -78,7 +78,7 @@ impl<T: Drop> From<AllocFailed<T>> for RuleFaultKind {
 pub struct RuleFault {
     /// The source line, counted from 1; 0 if the fault has no place, or while only its column in its line of rules is known.
     pub line: usize,
-    /// The column of its octet, counted from 1; 0 if the fault has no place.
+    /// The column at which the fault is, counted from 1; 0 if the fault has no place.
     pub column: usize,
     /// The kind of the fault.
     pub kind: RuleFaultKind,
@@ -110,7 +110,7 @@ impl<T: Drop> From<AllocFailed<T>> for RuleFault {
     }
 }
 
-/// The fault of this kind at a place. NoMemory has none.
+/// The fault of this kind at a place. `NoMemory` has no place: its line and column are 0.
 pub(crate) fn fault_at(kind: RuleFaultKind, line: usize, column: usize) -> RuleFault
     ensures { result ≡ fault_seen line column kind }
 {
@@ -124,7 +124,7 @@ pub(crate) fn fault_at(kind: RuleFaultKind, line: usize, column: usize) -> RuleF
     }
 }
 
-/// The fault of this kind at a column of a line of rules. Where the line is in the text isn't known yet, so it has no line.
+/// The fault of this kind at a column of a line of rules. Where the line is in the text isn't known yet, so its line is 0.
 pub(crate) fn fault_in_line(kind: RuleFaultKind, column: usize) -> RuleFault
     ensures { result ≡ fault_seen 0 column kind }
 {

@@ -9,12 +9,12 @@ ghost use Rattle.rules_text.specs.inner.SeenReading.{group_seen, some_test_seen}
 use rules_cells::Test;
 use std::alloc::{AllocError, Global};
 
-/// What was read of a test, or of what is in a parenthesis: alternatives, the last of which isn't whole.
+/// What was read of a test, or of what is in a parenthesis: alternatives that `or` joins. The last of them may get more parts.
 #[derive(Drop)]
 pub(crate) struct Group {
     /// The alternatives before the last.
     pub alternatives: Option<Test>,
-    /// The parts of the last alternative.
+    /// The parts of the last alternative, which `and` joins. None at first and right after `or`.
     pub last_alternative: Option<Test>,
     /// Whether `not` comes before the next part.
     pub negated: bool,
@@ -43,7 +43,7 @@ impl Group {
         Ok(())
     }
 
-    /// Ends the last alternative.
+    /// Ends the last alternative, after which `or` was read.
     pub(crate) fn alternate(&mut self, alloc: Global) -> Result<(), AllocError>
         ensures { IfOk result (λ _. group_seen self.new ≡ group_after_or (group_seen self.old)) }
     {
@@ -53,7 +53,7 @@ impl Group {
         Ok(())
     }
 
-    /// Denies the next part.
+    /// Denies the next part, or denies it no more: `not` was read.
     pub(crate) fn negate(&mut self)
         ensures { group_seen self.new ≡ group_after_not (group_seen self.old) }
     {
@@ -68,7 +68,7 @@ impl Group {
     }
 }
 
-/// The test, or that it doesn't hold.
+/// The test, or if `negated` that the test doesn't hold.
 fn negated(alloc: Global, negated: bool, test: Test) -> Result<Test, AllocError>
     ensures { IfOk result (λ part. test_read part ≡ negated_if negated (test_read test)) }
 {
@@ -79,7 +79,7 @@ fn negated(alloc: Global, negated: bool, test: Test) -> Result<Test, AllocError>
     }
 }
 
-/// These two tests.
+/// The list of these two tests.
 fn two(alloc: Global, one: Test, other: Test) -> Result<Vec<Test>, AllocError>
     ensures { IfOk result (λ tests. tests.items ≡ one ∷ other ∷ []) }
 {
@@ -89,7 +89,7 @@ fn two(alloc: Global, one: Test, other: Test) -> Result<Vec<Test>, AllocError>
     Ok(tests)
 }
 
-/// These tests and one more.
+/// These tests, and one more at the end.
 fn one_more(tests: Vec<Test>, test: Test) -> Result<Vec<Test>, AllocError>
     ensures { IfOk result (λ more. more.items ≡ tests.items ++ test ∷ []) }
 {
@@ -105,21 +105,21 @@ pub(crate) fn all_of_two(alloc: Global, one: Test, other: Test) -> Result<Test, 
     Ok(Test::AllOf(two(alloc, one, other)?))
 }
 
-/// The test that one of the two holds.
+/// The test that at least one of the two holds.
 pub(crate) fn any_of_two(alloc: Global, one: Test, other: Test) -> Result<Test, AllocError>
     ensures { IfOk result (λ either. test_read either ≡ disjunction (two_tests (test_read one) (test_read other))) }
 {
     Ok(Test::AnyOf(two(alloc, one, other)?))
 }
 
-/// The test that each of these tests holds, and one more holds too.
+/// The test that each of these tests holds, and also one more.
 fn one_more_of_all(tests: Vec<Test>, test: Test) -> Result<Test, AllocError>
     ensures { IfOk result (λ both. test_read both ≡ joined_by_and (test_read (AllOf tests)) (test_read test)) }
 {
     Ok(Test::AllOf(one_more(tests, test)?))
 }
 
-/// The test that one of these tests holds, or one more does.
+/// The test that at least one of these tests holds, or one more.
 fn one_more_of_any(tests: Vec<Test>, test: Test) -> Result<Test, AllocError>
     ensures { IfOk result (λ either. test_read either ≡ joined_by_or (test_read (AnyOf tests)) (test_read test)) }
 {
@@ -163,7 +163,7 @@ fn joined_by_and(alloc: Global, parts: Test, test: Test) -> Result<Test, AllocEr
     }
 }
 
-/// The test that one of the alternatives holds, and one more. It is one list too.
+/// `alternatives or last_alternative`, or the one of them that there is. A chain of `or` is one list, too.
 fn or_with(
     alloc: Global,
     alternatives: Option<Test>,
@@ -182,7 +182,7 @@ fn or_with(
     }
 }
 
-/// The test that one of the alternatives holds, or one more does.
+/// `alternatives or last_alternative`. An `AnyOf` gets one more test; any other test becomes the first of a list of two.
 fn joined_by_or(
     alloc: Global,
     alternatives: Test,

@@ -23,7 +23,7 @@ pub fn only_written_heads_are_read()
     ensures { OnlyWrittenHeadsAreRead }
 {}
 
-/// The place of a line of rules is that in which it begins.
+/// The place of a line of rules is where the line begins in the text.
 pub fn places_are_those_of_the_lines()
     ensures { PlacesAreThoseOfTheLines }
 {}

@@ -49,9 +49,9 @@ pub enum Token {
     Contract,
     /// Any other word, which may be a name.
     Name,
-    /// The value of a contract, which comes from its name alone.
+    /// The number of a contract, read in place of the contract's name. No text spells this token.
     Value(u32),
-    /// In place of a name whose tokens are more than names may add.
+    /// Read in place of a name whose tokens are more than names may still add. No text spells this token.
     NoRoom,
     /// The name of a field of the header.
     Field(Field),
@@ -81,7 +81,7 @@ pub enum Token {
     Slash,
     /// `*`
     Star,
-    /// A sign.
+    /// A sign that compares: `=`, `==`, `!=`, `<`, `<=`, `>` or `>=`.
     Sign(Sign),
     /// Anything else.
     Unknown,
@@ -95,7 +95,7 @@ impl Token {
         matches!(self, Token::Name)
     }
 
-    /// Whether this was read in place of a name whose tokens are more than names may add.
+    /// Whether this was read in place of a name whose tokens are more than names may still add.
     pub(crate) fn lacks_room(self) -> bool
         ensures { result ≡ lacks_room (rule_token_seen self) }
     {
@@ -207,21 +207,21 @@ fn found_in(octets: &[u8], rows: &[(&[u8], Token)]) -> Option<Token>
     None
 }
 
-/// The word of the language that these octets are.
+/// The token of these octets, if they are a word of the language.
 fn known_word(octets: &[u8]) -> Option<Token>
     ensures { some_token result ≡ row_token octets.now rule_words }
 {
     found_in(octets, &WORDS)
 }
 
-/// The mark of two octets that these are.
+/// The token of these octets, if they are a mark of two octets.
 fn long_mark(octets: &[u8]) -> Option<Token>
     ensures { some_token result ≡ row_token octets.now long_marks }
 {
     found_in(octets, &LONG_MARKS)
 }
 
-/// The mark of one octet that these are.
+/// The token of these octets, if they are a mark of one octet.
 fn short_mark(octets: &[u8]) -> Option<Token>
     ensures { some_token result ≡ row_token octets.now short_marks }
 {
@@ -242,7 +242,7 @@ fn begins_with_feed(octets: &[u8]) -> bool
     matches!(octets, [b'\n', ..])
 }
 
-/// Whether the octet in a column separates tokens.
+/// Whether the octet at index `at` separates tokens: a space, a tab, a line feed, a carriage return before one, or `;`.
 fn separates(line: &[u8], at: usize) -> bool
     requires { at < length line.now }
     ensures { result ≡ separates (slice_index line.now at) (drop (at + 1) line.now) }
@@ -253,7 +253,7 @@ fn separates(line: &[u8], at: usize) -> bool
             || (octet == b';' || (octet == b'\r' && begins_with_feed(&line[at + 1..]))))
 }
 
-/// Whether a comment begins at an octet.
+/// Whether an octet begins a comment: `#`.
 fn begins_comment(octet: u8) -> bool
     ensures { result ≡ (octet == 35) }
 {
@@ -267,8 +267,8 @@ fn goes_on(octet: u8) -> bool
     octet != b'\n'
 }
 
-/// Whether the octet after a column is in a comment, if the octet in the column belongs to no token; None if a token begins there.
-/// `comment` says whether the octet in the column is in a comment.
+/// Passes over the octet at index `at`, if it belongs to no token: returns whether the octet after it is in a comment. None if a token
+/// begins at `at`. `comment` says whether the octet at `at` is in a comment.
 fn passed(line: &[u8], at: usize, comment: bool) -> Option<bool>
     requires { at < length line.now }
     ensures { MatchOption result ((comment ≡ false) × (separates (slice_index line.now at) (drop (at + 1) line.now) ≡ false) × ((slice_index line.now at == 35) ≡ false))
@@ -310,7 +310,8 @@ pub(crate) fn begins_word(octet: u8) -> bool
     word_octet(octet) && !digit(octet)
 }
 
-/// The column after spaces, tabs, line ends, `;` and comments of a line of rules, from a column on; both are counted from 0.
+/// The index of the first octet from `from` on that belongs to a token, or the length of the line. Spaces, tabs, line ends, `;` and
+/// comments are passed over.
 fn after_blanks(line: &[u8], from: usize) -> usize
     requires { from ≤ length line.now }
     ensures least { from ≤ result }
@@ -360,7 +361,7 @@ fn word_token(word: &[u8]) -> Token
     }
 }
 
-/// The longest mark that octets begin with, or any other octet.
+/// The longest mark that octets begin with, or one octet as `Unknown` if they begin with none.
 fn mark(octets: &[u8]) -> Cut
     requires { 0 < length octets.now }
     ensures seen { cut_seen result ≡ longest_mark (row_token (take 2 octets.now) long_marks) (row_token (take 1 octets.now) short_marks) }
@@ -380,7 +381,7 @@ fn mark(octets: &[u8]) -> Cut
     }
 }
 
-/// The token that octets begin with, which don't begin with what separates tokens.
+/// The token that octets begin with. They begin neither with what separates tokens nor with a comment.
 #[tactic(auto, unfolding(crate::specs::RuleTokens::first_cut))]
 fn first_token(octets: &[u8]) -> Cut
     requires { 0 < length octets.now }
@@ -398,7 +399,7 @@ fn first_token(octets: &[u8]) -> Cut
     }
 }
 
-/// Returns the first token of a line of rules from a column on, counted from 0, if there is one before the end of the line.
+/// Returns the first token of a line of rules from column `from` on, counted from 0. None if no token follows.
 pub fn next_token(line: &[u8], from: usize) -> Option<Found>
     requires { from ≤ length line.now }
     ensures tokens { MatchOption result (tokens_from (from + 1) 0 (drop from line.now) ≡ [])

@@ -23,7 +23,7 @@ use upc_cell::Side;
 pub(crate) enum Wants {
     /// The first token.
     Start,
-    /// A unit of a test.
+    /// A unit of a test: a word that is a test, a field, octets, a path, `not` or `(`.
     Unit,
     /// `and`, `or`, a closing parenthesis or the end of the test.
     Operator,
@@ -61,20 +61,20 @@ pub(crate) enum Wants {
     End,
 }
 
-/// What a line is.
+/// What a line says.
 #[derive(Drop)]
 pub(crate) enum Statement {
-    /// Nothing.
+    /// Nothing: the line has no token.
     Blank,
     /// The side at which headers are read.
     Side(Side),
     /// A line of rules.
     Line(RuleLine),
-    /// A value: that where no rule gives one, or the number of a contract.
+    /// A value alone: the one after `otherwise ->`, or the number of a contract.
     Value(u32),
 }
 
-/// What was read before a line.
+/// What the lines before a line say, as far as its reading depends on them.
 #[derive(Clone, Copy)]
 pub(crate) struct Context {
     /// The side at which headers are read.
@@ -87,12 +87,12 @@ pub(crate) struct Context {
     pub room: usize,
 }
 
-/// What was read of a line.
+/// What was read of a line so far.
 #[derive(Drop)]
 pub(crate) struct LineReader {
     /// What comes next.
     pub wants: Wants,
-    /// The test, or what is in the innermost parenthesis.
+    /// What was read of the test, or of what is in the innermost open parenthesis.
     pub group: Group,
     /// What was read around each open parenthesis, the outermost first.
     pub around: Vec<Group>,
@@ -100,15 +100,15 @@ pub(crate) struct LineReader {
     pub outermost: usize,
     /// The ranges of a list before the last comma.
     pub spans: Vec<Span>,
-    /// How many comparisons were read.
+    /// How many comparisons, words that are tests and ranges of lists the test has so far.
     pub comparisons: usize,
-    /// The whole test, once it was read.
+    /// The whole test of a rule, once `->` was read.
     pub test: Test,
     /// The statement of the line, once it was read.
     pub statement: Statement,
 }
 
-/// What comes first.
+/// What a line, a value or a definition begins with.
 fn first_wants(form: Form) -> Wants
     ensures { wants_seen result ≡ first_awaited (form_seen form) }
 {
@@ -116,7 +116,7 @@ fn first_wants(form: Form) -> Wants
         Form::Rule => Wants::Start,
         Form::Value => Wants::OnlyValue,
         Form::Test => Wants::Unit,
-        // The widest field, so that every number fits; its real field is known where the name is used.
+        // The field that the numbers are compared with is known only where the name is used. Until then each number of 32 bits fits.
         Form::List => Wants::Low(ListOf::Field(Subject {
             field: Field::Octets(Octets {
                 size: Size::Word,
@@ -162,7 +162,7 @@ impl LineReader {
         self.read_known(context, column, token)
     }
 
-    /// Reads a token that is no unknown name, and no name for which there is no room.
+    /// Reads a token that `read` doesn't refuse at once: no unknown name, and no name whose tokens are more than names may add.
     #[tactic(auto, unfolding(crate::specs::LineGrammar::read_awaited))]
     fn read_known(&mut self, context: Context, column: usize, token: Token) -> Step
         ensures { TakesLineStepOrNoMemory result self.new (read_awaited (wants_seen self.old.wants) (context_seen context) column (reading_seen self.old) (rule_token_seen token)) }
@@ -190,7 +190,7 @@ impl LineReader {
         }
     }
 
-    /// What the line is, which ends before this column.
+    /// The statement of the line, whose last token ends just before this column. `BadLine` if something more has to come.
     #[tactic(auto, unfolding(crate::specs::TextOfRules::statement_from))]
     pub(crate) fn finish(self, column: usize) -> Result<Statement, RuleFault>
         ensures { (context : LineContext) → statement_found result ≡ statement_from context (reading_seen self) column [] }
@@ -201,7 +201,8 @@ impl LineReader {
         }
     }
 
-    /// The column of a fault that this token may be: that of the token, or of a parenthesis that isn't closed.
+    /// The column of the fault `Unbalanced`, should the token at `column` be one: that of the outermost open parenthesis, or of the token
+    /// if none is open.
     pub(crate) fn unbalanced_at(&self, column: usize) -> usize
         ensures { result ≡ fault_column (reading_seen self.now) Unbalanced column }
     {

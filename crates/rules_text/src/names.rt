@@ -11,7 +11,7 @@ use crate::lexer::Token;
 use std::alloc::{AllocError, Global};
 use std::collections::BTreeMap;
 
-/// What is read of a line.
+/// The form in which a line, or a part of it, is read.
 #[derive(Clone, Copy)]
 pub(crate) enum Form {
     /// A line of rules.
@@ -33,8 +33,8 @@ pub(crate) struct Name {
     pub tokens: Vec<Token>,
 }
 
-/// Returns a token that a form admits as it is, and any other as `Unknown`, which fits nowhere: `->` and `{` end no definition, and a list
-/// has numbers, names, `,` and `..` alone.
+/// Returns the token if this form admits it, otherwise `Unknown`, which fits nowhere. A definition has no `->` and no `{`, and a list has
+/// only numbers, names, `,` and `..`.
 pub(crate) fn admit(form: Form, token: Token) -> Token
     ensures { rule_token_seen result ≡ admitted (form_seen form) (rule_token_seen token) }
 {
@@ -95,9 +95,9 @@ pub(crate) fn meaning(alloc: Global, tokens: Vec<Token>) -> Result<Vec<Token>, A
 pub(crate) struct NameTable {
     /// The names, in the order in which they were given.
     pub given: Vec<Name>,
-    /// The place of each among them, by its letters.
+    /// The index of each name in `given`, by its letters.
     pub places: BTreeMap<Vec<u8>, usize>,
-    /// What is read in place of a name whose tokens are more than names may add.
+    /// What is read in place of a name whose tokens are more than names may still add.
     pub beyond: [Token; 1],
 }
 
@@ -131,7 +131,8 @@ impl NameTable {
         Some(name.tokens.as_slice())
     }
 
-    /// What is read of the name with these letters where names may add this many tokens, nothing if it wasn't given.
+    /// The tokens that are read for the name with these letters: those that it means, or `NoRoom` if they are more than `room`. None if no
+    /// such name was given.
     pub(crate) fn find_within(&self, room: usize, letters: &[u8]) -> &[Token]
         requires { IsFoundByLetters self.now }
         ensures { map rule_token_seen result.now ≡ within_room room (name_meaning (names_seen self.now) letters.now) }

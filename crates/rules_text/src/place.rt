@@ -6,7 +6,7 @@ ghost use Rattle.rules_text.specs.TextOfRules.{fault_of_line};
 
 use crate::fault::RuleFault;
 
-/// Where a line of rules begins. It is printed as the number of the source line, and the column if there is one.
+/// Where a line of rules begins, as it is printed: the number of its source line, and a column if the line doesn't begin that source line.
 #[derive(Clone, Copy, PartialEq, Eq)]
 pub struct RulePlace {
     /// The number of the source line, counted from 1.
@@ -46,7 +46,7 @@ impl TextPlace {
         }
     }
 
-    /// The place of the first token of a line of rules that begins at this place, with the token at this column of it.
+    /// The place of the first token of a line of rules that begins at this place. The token is at `column` of the line, counted from 1.
     pub(crate) fn of_first_token(self, column: usize) -> TextPlace
         requires some { 0 < column }
         requires within { self.column + column < 2 ^ 64 }
@@ -58,7 +58,7 @@ impl TextPlace {
         }
     }
 
-    /// What is printed of a line of rules that begins at this place, with its first token at this column of it.
+    /// Where a line of rules begins, as it is printed. It begins at this place, and its first token is at `column` of it, counted from 1.
     pub(crate) fn of_rule(self, column: usize) -> RulePlace
         requires some { 0 < column }
         requires within { self.column + column < 2 ^ 64 }
@@ -76,7 +76,7 @@ impl TextPlace {
     }
 }
 
-/// Returns the place after octets of which the first is at a place.
+/// Returns the place after the last of these octets. The first is at `begin`.
 #[tactic(auto, unfolding(crate::specs::ContinuedLines::place_past))]
 pub fn place_after(begin: TextPlace, octets: &[u8]) -> TextPlace
     requires line { begin.line + length octets.now < 2 ^ 64 }
@@ -94,7 +94,8 @@ pub fn place_after(begin: TextPlace, octets: &[u8]) -> TextPlace
     place
 }
 
-/// A fault of a line of rules, which begins at a place, with its place in the text.
+/// Gives a fault of a line of rules its place in the text. The line begins at `begin`, and the fault has a column of it. A fault with
+/// column 0 has no place, and stays as it is.
 pub(crate) fn fault_of_line(begin: TextPlace, line: &[u8], fault: RuleFault) -> RuleFault
     requires line { begin.line + length line.now < 2 ^ 64 }
     requires column { begin.column + length line.now < 2 ^ 64 }

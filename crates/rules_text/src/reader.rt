@@ -25,19 +25,19 @@ use rules_cells::{RuleLine, Rules};
 use std::alloc::Global;
 use upc_cell::Side;
 
-/// The most tokens that the names of a text add.
+/// The most tokens that names may add to a text. The tokens of a name count each time the name is used.
 const MOST_ADDED: usize = 262_144;
 
-/// Rules, and where they begin.
+/// Rules, and where each of their lines begins in the text.
 #[derive(Drop)]
 pub struct PlacedRules {
     /// The rules.
     pub rules: Rules,
-    /// For each line of the rules where it begins.
+    /// Where each line of `rules` begins, in the order of the lines.
     pub begins: Vec<RulePlace>,
 }
 
-/// What was read of a text.
+/// What was read of a text so far.
 #[derive(Drop)]
 struct TextReader {
     /// The rules.
@@ -46,11 +46,11 @@ struct TextReader {
     begins: Vec<RulePlace>,
     /// The names.
     names: NameTable,
-    /// How many tokens they may still add.
+    /// How many tokens names may still add.
     room: usize,
     /// How many blocks are open.
     blocks: usize,
-    /// The place of the head of the outermost of them.
+    /// Where the head of the outermost open block begins. It means nothing if no block is open.
     head: TextPlace,
     /// Whether a line with a token was read.
     begun: bool,
@@ -59,7 +59,7 @@ struct TextReader {
 }
 
 impl TextReader {
-    /// Takes a line of rules, which begins at a place, and has its first token at a column of it, counted from 1.
+    /// Adds a line of rules that begins at `begin`. Its first token is at its column `column`, counted from 1.
     fn take_line(
         &mut self,
         line: RuleLine,
@@ -90,7 +90,7 @@ impl TextReader {
         Ok(())
     }
 
-    /// Takes the statement of a line, which begins at a place, and has its first token at a column of it, counted from 1.
+    /// Adds the statement of a line that begins at `begin`. The line's first token is at its column `column`, counted from 1.
     fn take(
         &mut self,
         statement: Statement,
@@ -122,7 +122,7 @@ impl TextReader {
         }
     }
 
-    /// What a line must know of the text before it.
+    /// What the reading of a line needs from the lines before it.
     fn context(&self) -> Context
         ensures { context_seen result ≡ context_of (text_seen self.now) }
     {
@@ -134,7 +134,7 @@ impl TextReader {
         }
     }
 
-    /// The name that a line gives which begins with this token.
+    /// The name that a line gives whose first token is `define` or `contract`. `BadLine` if a line of rules came before.
     fn name_in(&self, alloc: Global, line: &[u8], first: Found) -> Result<Name, RuleFault>
         requires names { IsFoundByLetters self.now.names }
         requires start { first.start < first.end }
@@ -150,7 +150,7 @@ impl TextReader {
         name_at(alloc, self.context(), names, line, first.token, place)
     }
 
-    /// The statement of a line.
+    /// The statement of a line that gives no name.
     fn statement(&self, alloc: Global, line: &[u8]) -> Result<Statement, RuleFault>
         requires { IsFoundByLetters self.now.names }
         ensures { IsReadAs result (formed_statement (context_of (text_seen self.now)) (text_seen self.now).names rule_form line.now 1 (rule_tokens line.now)) line_statement_seen }
@@ -158,7 +158,7 @@ impl TextReader {
         statement_in(alloc, self.context(), &self.names, Form::Rule, line, 0)
     }
 
-    /// Counts what the names in a line add.
+    /// Takes the tokens that the names in a line add from the number that names may still add.
     fn spend(&mut self, line: &[u8])
         requires { IsFoundByLetters self.old.names }
         ensures room { text_with_room (text_seen self.old) line.now (rule_tokens line.now) ≡ text_seen self.new }
@@ -168,7 +168,7 @@ impl TextReader {
         self.room = room_after_line(&self.names, self.room, line);
     }
 
-    /// Takes a name.
+    /// Adds a name that the text gives.
     fn take_name(&mut self, alloc: Global, name: Name) -> Result<(), RuleFault>
         requires names { IsFoundByLetters self.old.names }
         requires new { name_meaning (names_seen self.old.names) name.letters.items ≡ None }
@@ -182,7 +182,8 @@ impl TextReader {
         Ok(())
     }
 
-    /// Reads a line of rules, which begins at a place. The column of a fault is counted from the beginning of the line of rules.
+    /// Reads a line of rules that begins at `begin`. The column of a fault is counted from 1 in the line of rules, and its line is 0:
+    /// `fault_of_line` finds the place in the text.
     fn read_line(&mut self, alloc: Global, begin: TextPlace, line: &[u8]) -> Result<(), RuleFault>
         requires names { IsFoundByLetters self.old.names }
         requires blocks { self.old.blocks < 2 ^ 63 }
@@ -211,7 +212,7 @@ impl TextReader {
         }
     }
 
-    /// The rules, once the whole text was read.
+    /// The rules, once the whole text was read. `Unbalanced` if a block is still open.
     fn finish(self) -> Result<PlacedRules, RuleFault>
         ensures ok { IfOk result (λ placed_rules. placed_rules_at_end (text_seen self) ≡ Ok (placed_rules_read placed_rules)) }
         ensures err { IfErr result (λ fault. placed_rules_at_end (text_seen self) ≡ Err fault) }
@@ -230,9 +231,8 @@ impl TextReader {
 ///
 /// # Errors
 ///
-/// The first fault that a reader meets who goes through the text from left to right. A parenthesis or a block that isn't
-/// closed is met at the end of its test or of the text, and has the place of its beginning. `NoMemory` if an allocation
-/// failed; it has no place.
+/// The first fault from left to right. A parenthesis that isn't closed is found where its test ends, and an open block where the text ends;
+/// the fault then has the place of the `(`, or of the block's first token. `NoMemory`, with line and column 0, if an allocation failed.
 pub fn read_with_places(alloc: Global, text: &[u8]) -> Result<PlacedRules, RuleFault>
     ensures rules { IfOk result (HasPlacedRules text.now) }
     ensures fault { IfErr result (IsFaultOf (placed_rules_in text.now)) }
@@ -267,7 +267,7 @@ pub fn read_with_places(alloc: Global, text: &[u8]) -> Result<PlacedRules, RuleF
 ///
 /// # Errors
 ///
-/// As [`read_with_places`] has them.
+/// Those of [`read_with_places`].
 pub fn read_rules(alloc: Global, text: &[u8]) -> Result<Rules, RuleFault>
     ensures rules { IfOk result (HasRules text.now) }
     ensures fault { IfErr result (IsFaultOf (rules_in text.now)) }

@@ -1,4 +1,4 @@
-//! The reader of a statement, in a line with names.
+//! Reads the statement of a line: passes its tokens to the reader of lines, and in place of a name the tokens that the name means.
 
 ghost use Rattle.std.specs.Prelude.{◌≡◌, ◌+◌, ◌≤◌, ◌<◌, drop, length, map};
 ghost use Rattle.rules_text.specs.Names.{ending, meant, read_for, room_left};
@@ -17,7 +17,7 @@ use crate::names::{Form, NameTable, admit};
 use std::alloc::Global;
 
 impl LineReader {
-    /// Reads a token at a place.
+    /// Reads a token at a column, and gives a fault its column.
     fn read_at(&mut self, context: Context, column: usize, token: Token) -> Result<(), RuleFault>
         ensures { IsReadAs result (token_read (context_seen context) column (reading_seen self.old) (rule_token_seen token)) (λ _. reading_seen self.new) }
     {
@@ -32,7 +32,7 @@ impl LineReader {
         }
     }
 
-    /// Reads tokens at a place.
+    /// Reads tokens that all have one column, which is that of the token or of the name that stands there.
     fn read_all(
         &mut self,
         context: Context,
@@ -49,7 +49,7 @@ impl LineReader {
         Ok(())
     }
 
-    /// Reads a token, or in its place what it means.
+    /// Reads a token, or the tokens that it means if it is a name (`meant`).
     fn read_found(
         &mut self,
         context: Context,
@@ -69,7 +69,8 @@ impl LineReader {
         }
     }
 
-    /// Ends a definition: reads `-> refuse`, so that it must end where the test of a rule does. Nothing is read after another line.
+    /// Ends a definition: reads `-> refuse` after it, so its test must be complete, as before the `->` of a rule. Nothing is read after a
+    /// line of rules or the number of a contract.
     fn read_end(&mut self, context: Context, form: Form, column: usize) -> Result<(), RuleFault>
         ensures { IsReadAs result (all_tokens_read (context_seen context) column (reading_seen self.old) (ending (form_seen form))) (λ _. reading_seen self.new) }
     {
@@ -103,7 +104,7 @@ pub(crate) fn meant_by<'a>(
     }
 }
 
-/// How many tokens names may still add after the tokens of a line.
+/// How many tokens names may still add after a line. `allowed` is how many they may add before it.
 pub(crate) fn room_after_line(names: &NameTable, allowed: usize, line: &[u8]) -> usize
     requires { IsFoundByLetters names.now }
     ensures { result ≡ room_left (names_seen names.now) allowed line.now (rule_tokens line.now) }
@@ -118,7 +119,8 @@ pub(crate) fn room_after_line(names: &NameTable, allowed: usize, line: &[u8]) ->
     room
 }
 
-/// Reads the statement of a line from a column on, or what is read there in this form.
+/// Reads a line from column `start` on, counted from 0, in this form: as a line of rules, as the number of a contract, or as what a name
+/// means.
 pub(crate) fn statement_in(
     alloc: Global,
     context: Context,

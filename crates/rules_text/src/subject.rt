@@ -1,4 +1,4 @@
-//! What a comparison is about, and the lists of numbers with which it compares.
+//! The left side of a comparison, which is a field or octets with a mask, and the numbers on its right side.
 
 ghost use Rattle.std.specs.Prelude.{◌≡◌, [], ◌∷◌, ◌++◌, None, IfOk};
 ghost use Rattle.rules_text.specs.LineGrammar.{field_of_list, list_test};
@@ -16,7 +16,7 @@ use rules_cells::{Field, Octets, Relation, Span, Test};
 use std::alloc::{AllocError, Global};
 use upc_cell::Side;
 
-/// A number of a cell, with a mask if there is one.
+/// A field or octets of a cell, with a mask if there is one.
 #[derive(Clone, Copy)]
 pub(crate) struct Subject {
     /// The number.
@@ -25,18 +25,18 @@ pub(crate) struct Subject {
     pub mask: Option<u32>,
 }
 
-/// What a list is of.
+/// What the numbers of a list are for.
 #[derive(Clone, Copy)]
 pub(crate) enum ListOf {
-    /// The numbers that a field has.
+    /// The field has one of them.
     Field(Subject),
-    /// The numbers that a field doesn't have.
+    /// The field has none of them.
     Denied(Subject),
-    /// The channels of a path.
+    /// They are channels of this path.
     Path(u32),
 }
 
-/// The field of the header that this name denotes at this side.
+/// The field of the header that this name denotes at this side. `BadLine` for GFC between nodes, where the header has none.
 pub(crate) fn header_field(side: Side, name: Field) -> Result<Field, RuleFaultKind>
     ensures { field_found result ≡ header_read side (field_read name) }
 {
@@ -106,7 +106,7 @@ fn most_of(field: Field, side: Side) -> u32
     }
 }
 
-/// The number of a token that a field can have.
+/// The number that a token spells, if the field can have it at this side.
 pub(crate) fn number_for(token: Token, field: Field, side: Side) -> Result<u32, RuleFaultKind>
     ensures { result ≡ number_within (most_of_field side (field_read field)) (rule_token_seen token) }
 {
@@ -123,7 +123,7 @@ pub(crate) fn number_for(token: Token, field: Field, side: Side) -> Result<u32, 
     }
 }
 
-/// The value of a rule that a token is.
+/// The value that a token stands for: a number, that of a contract, or 0 for `refuse`.
 pub(crate) fn value_of(token: Token) -> Result<u32, RuleFaultKind>
     ensures { result ≡ value_read (rule_token_seen token) }
 {
@@ -156,7 +156,7 @@ pub(crate) fn equal(field: Field, k: u32) -> Test
     }
 }
 
-/// The test that a list is, which has this range last.
+/// The test that a list is. `last` is its last range, and `others` are those before.
 pub(crate) fn test_of_list(
     alloc: Global,
     of: ListOf,
@@ -165,7 +165,7 @@ pub(crate) fn test_of_list(
 ) -> Result<Test, AllocError>
     ensures { IfOk result (λ test. test_read test ≡ list_test (list_seen of) (others.items ++ last ∷ [])) }
 {
-    // The order of the spans plays no part. The last range, which every list has, is the one that the type asks for.
+    // `In` takes one span apart from the others. Every list has a last one, and the order of spans changes no meaning.
     let relation = Relation::In {
         first: last,
         others,
@@ -183,7 +183,7 @@ pub(crate) fn test_of_list(
     }
 }
 
-/// The test that a subject is as a relation says.
+/// The test that compares a subject as a relation says.
 pub(crate) fn compared(subject: Subject, relation: Relation) -> Test
     ensures { test_read result ≡ comparing (field_read subject.field) subject.mask (relation_read relation) }
 {

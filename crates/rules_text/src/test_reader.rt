@@ -136,7 +136,7 @@ impl LineReader {
         }
     }
 
-    /// Takes the whole test. All parentheses must be closed.
+    /// Takes the whole test. `Unbalanced` if a parenthesis is still open.
     #[tactic(auto, unfolding(crate::specs::LineGrammar::whole_test))]
     pub(crate) fn whole(&mut self) -> Result<Test, RuleFaultKind>
         ensures ok { IfOk result (λ test. whole_test (reading_seen self.old) ≡ Ok (test_read test)) }
@@ -168,7 +168,7 @@ impl LineReader {
         Ok(())
     }
 
-    /// Keeps the test of a rule.
+    /// Keeps the test of a rule, after which `->` was read.
     #[tactic(auto, unfolding(crate::specs::LineGrammar::with_head))]
     pub(crate) fn head(&mut self) -> Step
         ensures { TakesLineStepOrNoMemory result self.new (with_head (reading_seen self.old)) }

@@ -21,7 +21,7 @@ abbrev pub ReadsText : Which → Option (List ℕ) → List ℕ → List ℕ →
 ReadsText which found before after read = MatchOption read (Adds (PrintsFaultAfter (which_mark which) found) before after)
     (λ placed_rules. (after ≡ before) × FindsText found (placed_rules_read placed_rules))
 
--- The same of a text of this kind.
+-- A text of this kind was read, and nothing was added to the answers; or its fault was.
 abbrev pub ReadsSide : TextKind → Which → Option (List ℕ) → List ℕ → List ℕ → Option SideText → Type 0
 ReadsSide kind which found before after read = MatchOption read (Adds (PrintsSideFault kind (which_mark which) found) before after)
     (λ side. (after ≡ before) × FindsSide kind found (side_read side))

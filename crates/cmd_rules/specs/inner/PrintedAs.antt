@@ -36,7 +36,7 @@ some-printed prints faults text = read-printed (rules_in text) refl
     read-printed (Ok rules) same = (rule_fault (placed_fault 0 0 TooLong), Ended, inr ((rules, same), (refl, refl)))
     read-printed (Err fault) same = (rule_fault fault, Ended, inl (faults text fault same))
 
--- So it is with both things that programs are printed as.
+-- Whichever way programs are printed, a text with a fault is answered by the fault.
 faulty : (printed : Printed) → FaultsAnswered (prints_as printed)
 faulty Octets text fault same = inr (inl (fault, same, refl, refl))
 faulty Source text fault same = inr (inl (fault, same, refl, refl))

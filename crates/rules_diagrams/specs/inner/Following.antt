@@ -33,7 +33,7 @@ pub record AreContents (contents : Contents) (cell a x : ℕ) (m : List (ℕ × 
   pub x_is : word_number contents.x cell ≡ x
   pub scratch : (index : ℕ) (word : List Bit) → slice_get contents.scratch index ≡ Some (Some word) → word_in m index ≡ Some (word_number word cell)
 
--- It is so for each cell, and each machine with these contents.
+-- The condition is true of each cell, and of each machine with these contents.
 abbrev pub OnEach : Contents → (List ℕ → ℕ → ℕ → List (ℕ × ℕ) → Type 0) → Type 0
 OnEach contents is = (cell : List ℕ) → IsCell cell → (a x : ℕ) (m : List (ℕ × ℕ)) → AreContents contents (octets_number cell) a x m → is cell a x m
 

@@ -22,7 +22,7 @@ use Rattle.rules_diagrams.specs.declared.unused.Unused.{Unused}
 abbrev pub first_inside : List Diagram → Diagram
 first_inside inside = first_diagram (Leaf 1) inside
 
--- The diagram of the block around this many.
+-- The diagram with this index, where 0 is that of the innermost block. Beyond the last block it is that of all cells.
 abbrev pub inside_at : List Diagram → ℕ → Diagram
 inside_at inside zero = first_inside inside
 inside_at [] (suc most) = Leaf 1
@@ -47,7 +47,8 @@ line_holds side None cell = false
 abbrev pub holds_of : Rules → ℕ → List ℕ → Bool
 holds_of rules place cell = nat_le (passed_before rules place cell) 0 && line_holds rules.side (slice_get rules.lines.items place) cell
 
--- The places are those that a function, which gives a place one more than it, gives the cells of which a test holds.
+-- The function gives a cell one more than the place of a line, or 0. The places are those of the lines that it gives the cells of which a
+-- test holds.
 pub record AreTaken (number : List ℕ → ℕ) (holds : List ℕ → Bool) (places : List ℕ) : Type 0 where
   pub each : (cell : List ℕ) → IsCell cell → holds cell ≡ true → (place : ℕ) → number cell ≡ suc place → Contains places place
   pub only : All (λ place. (cell : List ℕ) × IsCell cell × (holds cell ≡ true) × (number cell ≡ suc place)) places

@@ -21,11 +21,11 @@ lined_at so_far (first ∷ more) (suc passed) = lined_at first more passed
 abbrev pub first_outer : List Diagram → Diagram
 first_outer outer = first_diagram (Leaf 0) outer
 
--- All of them are of these nodes.
+-- All of these diagrams are of these nodes.
 abbrev pub AreAllWithin : List Node → Diagram → List Diagram → Type 0
 AreAllWithin nodes so_far outer = (passed : ℕ) → IsWithin nodes (lined_at so_far outer passed)
 
--- Each gives the cells the number of the line that decides among these.
+-- Each of these diagrams gives each cell the number of the line that decides it, where so many blocks are passed over before these lines.
 abbrev pub AreLined : List Node → Side → List RuleLine → ℕ → ℕ → Diagram → List Diagram → Type 0
 AreLined nodes side lines place otherwise so_far outer = (passed : ℕ)
     → GivesNumber nodes (λ cell. line_number (decision_from side lines place passed otherwise cell).line) (lined_at so_far outer passed)

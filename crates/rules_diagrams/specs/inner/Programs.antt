@@ -17,7 +17,8 @@ pub record GivesValue (nodes : List Node) (code : List Instr) (diagram : Diagram
   pub within : IsWithin nodes diagram
   pub value : (cell : List ℕ) → IsCell cell → (steps : ℕ) × Value code cell (diagram_value nodes diagram (octets_number cell)) steps
 
--- The diagram is one of two by a test of bits with a constant.
+-- The diagram gives each cell the number of one of two diagrams: of `one` if the test of bits with a constant is true, of `other` if it is
+-- false.
 pub record IsBranch (old new : List Node) (test : Test) (bits : List Bit) (k : ℕ) (one other made : Diagram) : Type 0 where
   pub within : IsWithin new made
   pub value : (cell : ℕ) → diagram_value new made cell ≡ (if test_of test (word_number bits cell) k then diagram_value old one cell else diagram_value old other cell)

@@ -6,7 +6,7 @@ use Rattle.rules_diagrams.specs.declared.diagram.Node.{Node}
 use Rattle.rules_diagrams.specs.declared.span.Bits.{Bits}
 use Rattle.rules_diagrams.specs.declared.span.Interval.{Interval}
 
--- The number that this many bits of a cell from one on are, the first highest.
+-- The number that `width` bits of a cell are, from the bit `bit` on, the first highest.
 unfoldable pub bits_number : ℕ → ℕ → ℕ → ℕ
 bits_number cell bit width = cell / 2 ^ (416 - (bit + width)) % 2 ^ width
 
@@ -14,7 +14,7 @@ bits_number cell bit width = cell / 2 ^ (416 - (bit + width)) % 2 ^ width
 abbrev pub is_between : ℕ → ℕ → ℕ → Bool
 is_between low end number = nat_le low number && nat_lt number end
 
--- 1 if it is true, and 0 if it isn't.
+-- 1 for true, and 0 for false.
 abbrev pub truth : Bool → ℕ
 truth b = if b then 1 else 0
 

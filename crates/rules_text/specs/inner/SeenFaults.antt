@@ -6,7 +6,7 @@ use Rattle.rules_text.specs.declared.fault.RuleFault.{RuleFault}
 use Rattle.rules_text.specs.declared.fault.RuleFaultKind.{RuleFaultKind}
 use Rattle.rules_text.specs.declared.fault.RuleFaultKind.TheVariants.{NoMemory}
 
--- A fault at a place. Out of memory has none.
+-- A fault at a place. That of a failed allocation has none.
 abbrev pub fault_seen : ℕ → ℕ → RuleFaultKind → RuleFault
 fault_seen line column NoMemory = placed_fault 0 0 NoMemory
 fault_seen line column kind = placed_fault line column kind

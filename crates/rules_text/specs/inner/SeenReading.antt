@@ -95,7 +95,7 @@ abbrev pub TakesLineStep : {A : Type 0} → Result A RuleFaultKind → LineReade
 TakesLineStep (Ok done) reader step = step ≡ Ok (reading_seen reader)
 TakesLineStep (Err kind) reader step = step ≡ Err kind
 
--- The same, unless an allocation fails.
+-- A reader takes this step, unless an allocation fails.
 abbrev pub TakesLineStepOrNoMemory : {A : Type 0} → Result A RuleFaultKind → LineReader → LineStep → Type 0
 TakesLineStepOrNoMemory (Ok done) reader step = step ≡ Ok (reading_seen reader)
 TakesLineStepOrNoMemory (Err kind) reader step = kind ≢ NoMemory → step ≡ Err kind
