@@ -8,8 +8,8 @@ ghost use Rattle.bpf_asm.specs.Tokens.{tokens_in};
 
 use crate::operand::{after_name, at_end};
 use crate::statement::{
-    LentStatement, arithmetic, branch, end, header, index_load, inverse, jump, packet_load,
-    scratch, word_load,
+    LentStatement, arithmetic, branch, header_length, index_load, inverse, jump, packet_load,
+    return_operand, scratch, word_load,
 };
 use bpf_code::{Instr, Op, Size, Test};
 
@@ -81,7 +81,7 @@ fn inverse_named(name: &[u8]) -> Option<Test>
 
 /// Reads the operands of a mnemonic of a load or a store. Returns None for any other mnemonic or other operands.
 #[tactic(auto, unfolding(crate::specs::inner::Reading::moved_in))]
-fn moved(name: &[u8], text: &[u8]) -> Option<Instr>
+fn load_or_store(name: &[u8], text: &[u8]) -> Option<Instr>
     ensures { MatchOption result (moved_in name.now (tokens_in text.now) ≡ None)
         (λ i. moved_in name.now (tokens_in text.now) ≡ Some (plain i)) }
 {
@@ -98,7 +98,7 @@ fn moved(name: &[u8], text: &[u8]) -> Option<Instr>
         return index_load(text);
     }
     if name == b"ldxb".as_slice() {
-        let k = header(text)?;
+        let k = header_length(text)?;
         return Some(Instr::LdxMsh(k));
     }
     if name == b"st".as_slice() {
@@ -113,7 +113,7 @@ fn moved(name: &[u8], text: &[u8]) -> Option<Instr>
 }
 
 /// Returns an instruction that takes no operands, if no token is left.
-fn alone(instr: Instr, text: &[u8]) -> Option<LentStatement<'_>>
+fn without_operands(instr: Instr, text: &[u8]) -> Option<LentStatement<'_>>
     ensures { MatchOption result (ended (plain instr) (tokens_in text.now) ≡ None)
         (λ c. ended (plain instr) (tokens_in text.now) ≡ Some (statement_seen c)) }
 {
@@ -126,12 +126,12 @@ fn alone(instr: Instr, text: &[u8]) -> Option<LentStatement<'_>>
 
 /// Reads the operands of `neg`, `ja`, `jmp`, `ret`, `tax` and `txa`.
 #[tactic(auto, unfolding(crate::specs::inner::Reading::other_in))]
-fn other<'a>(name: &[u8], text: &'a [u8]) -> Option<LentStatement<'a>>
+fn other_statement<'a>(name: &[u8], text: &'a [u8]) -> Option<LentStatement<'a>>
     ensures { MatchOption result (other_in name.now (tokens_in text.entry.now) ≡ None)
         (λ c. other_in name.now (tokens_in text.entry.now) ≡ Some (statement_seen c)) }
 {
     if name == b"neg".as_slice() {
-        return alone(Instr::Neg, text);
+        return without_operands(Instr::Neg, text);
     }
     if name == b"ja".as_slice() {
         return jump(text);
@@ -140,14 +140,14 @@ fn other<'a>(name: &[u8], text: &'a [u8]) -> Option<LentStatement<'a>>
         return jump(text);
     }
     if name == b"ret".as_slice() {
-        let instr = end(text)?;
+        let instr = return_operand(text)?;
         return Some(LentStatement::Plain(instr));
     }
     if name == b"tax".as_slice() {
-        return alone(Instr::Tax, text);
+        return without_operands(Instr::Tax, text);
     }
     if name == b"txa".as_slice() {
-        return alone(Instr::Txa, text);
+        return without_operands(Instr::Txa, text);
     }
     None
 }
@@ -168,10 +168,10 @@ pub(crate) fn named<'a>(name: &[u8], text: &'a [u8]) -> Option<LentStatement<'a>
     if let Some(test) = inverse_named(name) {
         return inverse(test, text);
     }
-    if let Some(instr) = moved(name, text) {
+    if let Some(instr) = load_or_store(name, text) {
         return Some(LentStatement::Plain(instr));
     }
-    other(name, text)
+    other_statement(name, text)
 }
 
 /// Reads a statement.

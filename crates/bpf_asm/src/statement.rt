@@ -69,7 +69,7 @@ pub(crate) fn scratch(text: &[u8]) -> Option<u32>
 }
 
 /// Reads `4*([k]&0xf)` and the end.
-pub(crate) fn header(text: &[u8]) -> Option<u32>
+pub(crate) fn header_length(text: &[u8]) -> Option<u32>
     ensures { result ≡ header_in (tokens_in text.now) }
 {
     let rest = after_value(text, 4)?;
@@ -141,12 +141,12 @@ pub(crate) fn index_load(text: &[u8]) -> Option<Instr>
     if packet_length(text) {
         return Some(Instr::LdxLen);
     }
-    let k = header(text)?;
+    let k = header_length(text)?;
     Some(Instr::LdxMsh(k))
 }
 
 /// Reads the operand of `ret`.
-pub(crate) fn end(text: &[u8]) -> Option<Instr>
+pub(crate) fn return_operand(text: &[u8]) -> Option<Instr>
     ensures { MatchOption result (return_in (tokens_in text.now) ≡ None)
         (λ i. return_in (tokens_in text.now) ≡ Some (plain i)) }
 {

@@ -1,12 +1,12 @@
--- Instructions and the octets that spell them. Read Table, Fields, OctetSpelling, Decoding, Encoding, Widths and EarlierTable in
--- this order. Flow, Operands and Scratch are for the crates that use this one.
-pub mod Decoding
-pub mod EarlierTable
-pub mod Encoding
+-- Instructions and the octets that spell them. Read the modules in this order. Flow, Operands and Scratch are for the crates that use
+-- this one.
+pub mod Table
 pub mod Fields
+pub mod OctetSpelling
+pub mod Decoding
+pub mod Encoding
+pub mod Widths
+pub mod EarlierTable
 pub mod Flow
 pub mod Operands
 pub mod Scratch
-pub mod OctetSpelling
-pub mod Table
-pub mod Widths

@@ -1,13 +1,12 @@
--- The machine that runs a program on a packet. Read State, Packet, ScratchMemory, Arithmetic, Operand, Tests, Step, Value, Runs
--- and Registers in this order.
-pub mod Arithmetic
-pub mod ScratchMemory
-pub mod Operand
-pub mod Packet
-pub mod Registers
-pub mod Runs
+-- The machine that runs a program on a packet. Read the modules in this order.
 pub mod State
-pub mod Step
+pub mod Packet
+pub mod ScratchMemory
+pub mod Arithmetic
+pub mod Operand
 pub mod Tests
+pub mod Step
 pub mod Value
+pub mod Runs
+pub mod Registers
 pub mod inner

@@ -1,6 +1,6 @@
--- The check of a code. Read Paths, Accepted, Faults and Walks in this order. Flats is about the layout for the machine alone.
+-- The check of a code. Read the modules in this order. Flats is about the layout for the machine alone.
+pub mod Paths
 pub mod Accepted
 pub mod Faults
-pub mod Flats
-pub mod Paths
 pub mod Walks
+pub mod Flats

@@ -3,7 +3,8 @@ use Rattle.std.proofs.Common.{◌≡◌, ℕ, ◌^◌, ◌==◌, Bool, true, fal
 use Rattle.upc_cell.specs.Connection.{vc_of}
 use Rattle.line_record.specs.History.{last_moment}
 use Rattle.card_core.specs.declared.answer.Answer.{Answer}
-use Rattle.card_core.specs.declared.answer.Answer.TheVariants.{NoConnection as UnknownCell, Released as PickReleased, MomentTooLate, MomentBack, JournalFull}
+use Rattle.card_core.specs.declared.answer.Answer.TheVariants.{MomentTooLate, MomentBack, JournalFull}
+use Rattle.card_core.specs.declared.answer.Answer.TheVariants as cell_answers
 use Rattle.card_core.specs.declared.fault.DeskFault.TheVariants.{NoMemory}
 use Rattle.card_core.specs.declared.reply.Reply.{Reply}
 use Rattle.card_core.specs.declared.reply.Reply.TheVariants.{NotNow, Answered, NotLoaded, NotSetUp, Refused}
@@ -39,8 +40,8 @@ pub pick-refused : (before : World) (o : Option PortState) (refused : Reply) →
 pick-refused before None refused e = at_no_time (sym (same_some NotNow refused e))
 pick-refused before (Some outside) refused e = at_no_time (sym (same_some NotNow refused e))
 pick-refused before (Some (entered cell moment)) refused e =
-    refused_by CellRefused (is_none (connection_in before.connections (vc_of before.shape.side cell))) (Answered UnknownCell) None
-    (with_answer UnknownCell refl refl) (λ x e. absurd (cc)) refused e
+    refused_by CellRefused (is_none (connection_in before.connections (vc_of before.shape.side cell))) (Answered cell_answers.NoConnection) None
+    (with_answer cell_answers.NoConnection refl refl) (λ x e. absurd (cc)) refused e
 pick-refused before (Some (picked picking)) refused e = at_no_time (sym (same_some NotNow refused e))
 
 cell-refused : (before : World) (connection : Connection) (moment : ℕ) (answer : Answer)
@@ -54,12 +55,12 @@ cell-refused before connection moment =
 
 picking-refused : (before : World) (picking : Picking) (o : Option Connection) (answer : Answer)
     → picking_refusal before picking o ≡ Some answer → IsUnjudged answer
-picking-refused before picking None answer e = subst IsUnjudged (same_some PickReleased answer e) refl
+picking-refused before picking None answer e = subst IsUnjudged (same_some cell_answers.Released answer e) refl
 picking-refused before picking (Some connection) answer e =
-    let choice : (b : Bool) → cond b (cell_refusal before connection picking.moment) (Some PickReleased) ≡ Some answer
+    let choice : (b : Bool) → cond b (cell_refusal before connection picking.moment) (Some cell_answers.Released) ≡ Some answer
     → IsUnjudged answer = elim [
       | true ↦ λ e. cell-refused before connection picking.moment answer e
-      | false ↦ λ e. subst IsUnjudged (same_some PickReleased answer e) refl
+      | false ↦ λ e. subst IsUnjudged (same_some cell_answers.Released answer e) refl
     ] in
     choice (connection.incarnation == picking.incarnation) e
 

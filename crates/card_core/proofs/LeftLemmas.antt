@@ -1,7 +1,7 @@
 -- The world after a refused step, by its answer.
 use Rattle.std.proofs.Common.{◌≡◌, ℕ, Option, Some, None, slice_get, is_none, refl, sym, ap}
 use Rattle.upc_cell.specs.Connection.{vc_of}
-use Rattle.card_core.specs.declared.answer.Answer.TheVariants.{NoConnection as UnknownCell}
+use Rattle.card_core.specs.declared.answer.Answer.TheVariants as cell_answers
 use Rattle.card_core.specs.declared.reply.Reply.{Reply}
 use Rattle.card_core.specs.declared.reply.Reply.TheVariants.{NotNow, Answered}
 use Rattle.card_core.specs.declared.step.Step.{Step}
@@ -32,7 +32,7 @@ left-pick before port None refused e = not-now before port refused e
 left-pick before port (Some outside) refused e = not-now before port refused e
 left-pick before port (Some (entered cell moment)) refused e =
     refused_by (λ r. with_port before port outside ≡ with_answered before port r)
-    (is_none (connection_in before.connections (vc_of before.shape.side cell))) (Answered UnknownCell) None refl
+    (is_none (connection_in before.connections (vc_of before.shape.side cell))) (Answered cell_answers.NoConnection) None refl
     (λ x none. absurd (cc)) refused e
 left-pick before port (Some (picked picking)) refused e = not-now before port refused e
 

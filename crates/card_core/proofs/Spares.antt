@@ -5,7 +5,8 @@ use Rattle.upc_cell.specs.Connection.{vc_of}
 use Rattle.gen_arena.specs.declared.id.Id.{Id}
 use Rattle.line_record.specs.History.{last_moment}
 use Rattle.card_core.specs.declared.answer.Answer.{Answer}
-use Rattle.card_core.specs.declared.answer.Answer.TheVariants.{NoConnection as UnknownCell, Released as PickReleased, MomentTooLate, MomentBack, JournalFull}
+use Rattle.card_core.specs.declared.answer.Answer.TheVariants.{MomentTooLate, MomentBack, JournalFull}
+use Rattle.card_core.specs.declared.answer.Answer.TheVariants as cell_answers
 use Rattle.card_core.specs.declared.ask.Ask.{Ask}
 use Rattle.card_core.specs.declared.fault.DeskFault.{DeskFault}
 use Rattle.card_core.specs.declared.fault.DeskFault.TheVariants.{NoProgram, NoConnection, Taken, NoLine, InUse, ProgramsFull, Exhausted, BadContracts, Busy}
@@ -44,12 +45,12 @@ cell-spares before connection moment =
 
 picking-spares : (before : World) (picking : Picking) (o : Option Connection) (answer : Answer)
     → picking_refusal before picking o ≡ Some answer → CellSpares answer
-picking-spares before picking None answer e = subst CellSpares (same_some PickReleased answer e) (refl, refl)
+picking-spares before picking None answer e = subst CellSpares (same_some cell_answers.Released answer e) (refl, refl)
 picking-spares before picking (Some connection) answer e =
-    let choice : (b : Bool) → cond b (cell_refusal before connection picking.moment) (Some PickReleased) ≡ Some answer
+    let choice : (b : Bool) → cond b (cell_refusal before connection picking.moment) (Some cell_answers.Released) ≡ Some answer
     → CellSpares answer = elim [
       | true ↦ λ e. cell-spares before connection picking.moment answer e
-      | false ↦ λ e. subst CellSpares (same_some PickReleased answer e) (refl, refl)
+      | false ↦ λ e. subst CellSpares (same_some cell_answers.Released answer e) (refl, refl)
     ] in
     choice (connection.incarnation == picking.incarnation) e
 
@@ -63,7 +64,7 @@ pick-spares : (before : World) (o : Option PortState) (refused : Reply) → pick
 pick-spares before None refused e = subst Spares (same_some NotNow refused e) (refl, refl)
 pick-spares before (Some outside) refused e = subst Spares (same_some NotNow refused e) (refl, refl)
 pick-spares before (Some (entered cell moment)) refused e =
-    refused_by Spares (is_none (connection_in before.connections (vc_of before.shape.side cell))) (Answered UnknownCell) None
+    refused_by Spares (is_none (connection_in before.connections (vc_of before.shape.side cell))) (Answered cell_answers.NoConnection) None
     (refl, refl) (λ x e. absurd (cc)) refused e
 pick-spares before (Some (picked picking)) refused e = subst Spares (same_some NotNow refused e) (refl, refl)
 

@@ -4,7 +4,8 @@ use Rattle.upc_cell.specs.declared.vc.Vc.{Vc}
 use Rattle.gen_arena.specs.declared.id.Id.{Id}
 use Rattle.line_record.specs.History.{last_moment}
 use Rattle.card_core.specs.declared.answer.Answer.{Answer}
-use Rattle.card_core.specs.declared.answer.Answer.TheVariants.{NoConnection as UnknownCell, Released as PickReleased, MomentTooLate, MomentBack, JournalFull}
+use Rattle.card_core.specs.declared.answer.Answer.TheVariants.{MomentTooLate, MomentBack, JournalFull}
+use Rattle.card_core.specs.declared.answer.Answer.TheVariants as cell_answers
 use Rattle.card_core.specs.declared.ask.Ask.{Ask}
 use Rattle.card_core.specs.declared.fault.DeskFault.{DeskFault}
 use Rattle.card_core.specs.declared.fault.DeskFault.TheVariants.{NoProgram, NoConnection, Taken, NoLine, InUse, ProgramsFull, Exhausted, BadContracts, Busy}
@@ -29,7 +30,7 @@ pick_refusal world None = Some NotNow
 pick_refusal world (Some outside) = Some NotNow
 pick_refusal world (Some (entered cell moment)) =
     if is_none (connection_in world.connections (vc_of world.shape.side cell))
-    then Some (Answered UnknownCell)
+    then Some (Answered cell_answers.NoConnection)
     else None
 pick_refusal world (Some (picked picking)) = Some NotNow
 
@@ -46,11 +47,11 @@ cell_refusal world connection moment =
 -- A picked cell is refused if its virtual connection no longer has a connection of the picked incarnation; else if that
 -- connection refuses the cell.
 abbrev pub picking_refusal : World → Picking → Option Connection → Option Answer
-picking_refusal world picking None = Some PickReleased
+picking_refusal world picking None = Some cell_answers.Released
 picking_refusal world picking (Some connection) =
     if connection.incarnation == picking.incarnation
     then cell_refusal world connection picking.moment
-    else Some PickReleased
+    else Some cell_answers.Released
 
 -- Judge is refused if the port has no picked cell, or if there is no such port; else if the picked cell is refused.
 abbrev pub judge_refusal : World → Option PortState → Option Reply

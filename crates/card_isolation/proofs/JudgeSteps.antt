@@ -10,7 +10,8 @@ use Rattle.bpf_code.specs.declared.instr.Instr.{Instr}
 use Rattle.leaky.specs.declared.verdict.Verdict.{Verdict}
 use Rattle.line_record.specs.History.{NamedCell, last_moment}
 use Rattle.card_core.specs.declared.answer.Answer.{Answer}
-use Rattle.card_core.specs.declared.answer.Answer.TheVariants.{NoConnection as UnknownCell, Released as PickReleased, MomentTooLate, MomentBack, JournalFull}
+use Rattle.card_core.specs.declared.answer.Answer.TheVariants.{MomentTooLate, MomentBack, JournalFull}
+use Rattle.card_core.specs.declared.answer.Answer.TheVariants as cell_answers
 use Rattle.card_core.specs.declared.reply.Reply.{Reply}
 use Rattle.card_core.specs.declared.reply.Reply.TheVariants.{NotNow, Answered}
 use Rattle.card_core.specs.declared.step.Step.{Step}
@@ -59,7 +60,7 @@ picking-alike : (world : World) (picking : Picking) (found : Option Connection) 
     ≡ refusal_alone world.shape.journal (option_map (own_connection_of world.loaded) found) picking.moment (is_current found picking)
 picking-alike world picking None less = refl
 picking-alike world picking (Some connection) less =
-    ap (λ (o : Option Answer). if connection.incarnation == picking.incarnation then o else Some PickReleased)
+    ap (λ (o : Option Answer). if connection.incarnation == picking.incarnation then o else Some cell_answers.Released)
     (cell-alike world connection picking.moment (less connection.line))
 
 -- The answer to a cell that isn't judged is its outcome.
@@ -84,12 +85,12 @@ cell-plain world connection moment =
 
 pub picking-plain : (world : World) (picking : Picking) (found : Option Connection) (answer : Answer)
     → picking_refusal world picking found ≡ Some answer → IsPlain answer
-picking-plain world picking None answer e = subst IsPlain (same_Some PickReleased answer e) (λ codes. refl)
+picking-plain world picking None answer e = subst IsPlain (same_Some cell_answers.Released answer e) (λ codes. refl)
 picking-plain world picking (Some connection) answer e =
-    let choice : (b : Bool) → cond b (cell_refusal world connection picking.moment) (Some PickReleased) ≡ Some answer
+    let choice : (b : Bool) → cond b (cell_refusal world connection picking.moment) (Some cell_answers.Released) ≡ Some answer
     → IsPlain answer = elim [
       | true ↦ λ e. cell-plain world connection picking.moment answer e
-      | false ↦ λ e. subst IsPlain (same_Some PickReleased answer e) (λ codes. refl)
+      | false ↦ λ e. subst IsPlain (same_Some cell_answers.Released answer e) (λ codes. refl)
     ] in
     choice (connection.incarnation == picking.incarnation) e
 
@@ -316,20 +317,20 @@ effect-judge_refused vc before less port refused (Some (picked picking)) at e =
 
 -- A Pick that finds no connection.
 
-pub no-connection : (o : Option Connection) (refused : Reply) → cond (is_none o) (Some (Answered UnknownCell)) None ≡ Some refused
-    → (o ≡ None) × (refused ≡ Answered UnknownCell)
-no-connection None refused e = (refl, sym (same_Some (Answered UnknownCell) refused e))
+pub no-connection : (o : Option Connection) (refused : Reply) → cond (is_none o) (Some (Answered cell_answers.NoConnection)) None ≡ Some refused
+    → (o ≡ None) × (refused ≡ Answered cell_answers.NoConnection)
+no-connection None refused e = (refl, sym (same_Some (Answered cell_answers.NoConnection) refused e))
 no-connection (Some connection) refused e = absurd (cc)
 
 effect-unknown : (vc : Vc) (before : World) (port : ℕ) (cell : List ℕ) (moment : ℕ) → slice_get before.ports port ≡ Some (entered cell moment)
     → connection_in before.connections (vc_of before.shape.side cell) ≡ None
-    → StepEffect vc before (Pick port) (Answered UnknownCell) (with_port before port outside)
+    → StepEffect vc before (Pick port) (Answered cell_answers.NoConnection) (with_port before port outside)
 effect-unknown vc before port cell moment had none =
     let side : Side = before.shape.side in
     let alone : Alone = alone_in vc before in
     let own : Bool = is_same_vc vc (vc_of side cell) in
     let later : World = with_port before port outside in
-    let outcome : Outcome = was_not_judged UnknownCell in
+    let outcome : Outcome = was_not_judged cell_answers.NoConnection in
     let next : Alone = record alone { places = with_at alone.places port idle } in
     let own_here : has_own_in side vc (slice_get before.ports port) ≡ own = ap (has_own_in side vc) had in
     let at : alone.places port ≡ cond own (came cell moment) idle = ap (place_of side vc before.loaded (connection_in before.connections vc)) had in
@@ -348,7 +349,7 @@ effect-unknown vc before port cell moment had none =
     ] in
     record {
       shape = refl;
-      notes = same-notes (notes_after side vc (notes_in vc before) (event_of (Pick port) (Answered UnknownCell))) (notes_in vc later) refl
+      notes = same-notes (notes_after side vc (notes_in vc before) (event_of (Pick port) (Answered cell_answers.NoConnection))) (notes_in vc later) refl
           (λ other. ap (λ (has : ℕ → Bool). has other) (noted-answered vc before port (entered cell moment) had));
       own = goes-by before.shape.journal (own_where (has_own_in side vc (slice_get before.ports port)) (looks_up port) outcome)
           (own_where own (looks_up port) outcome) alone next (alone_in vc later)

@@ -6,7 +6,7 @@ use Rattle.upc_cell.specs.Connection.{vc_of, is_same_vc}
 use Rattle.upc_cell.proofs.Public.{vc_same}
 use Rattle.gen_arena.specs.declared.id.Id.{Id}
 use Rattle.card_core.specs.declared.answer.Answer.{Answer}
-use Rattle.card_core.specs.declared.answer.Answer.TheVariants.{NoConnection as UnknownCell}
+use Rattle.card_core.specs.declared.answer.Answer.TheVariants as cell_answers
 use Rattle.card_core.specs.declared.ask.Ask.{Ask}
 use Rattle.card_core.specs.declared.reply.Reply.{Reply}
 use Rattle.card_core.specs.declared.reply.Reply.TheVariants.{Entered, Picked, Answered, SetUp, Reloaded, Released, Cut as CutOff}
@@ -210,9 +210,9 @@ own-picks vc before port reply after here w =
           let at : pick_refusal before (Some (entered here.cell here.moment)) ≡ Some refused =
           ap (pick_refusal before) (sym here.had) ∙ e in
           let none = no-connection (connection_in before.connections (vc_of side here.cell)) refused at in
-          own-at vc before (Pick port) reply (Answered UnknownCell) after (with_port before port outside) (looks_up port) same_holding 0
+          own-at vc before (Pick port) reply (Answered cell_answers.NoConnection) after (with_port before port outside) (looks_up port) same_holding 0
           (w.answer ∙ none.1) (w.world ∙ ap (left_by_pick before port) here.had)
-          (moved outside (Answered UnknownCell) (outcome_of before.loaded UnknownCell) refl (λ kept is none. refl))
+          (moved outside (Answered cell_answers.NoConnection) (outcome_of before.loaded cell_answers.NoConnection) refl (λ kept is none. refl))
     ] in
     choice (refusal before (Pick port)) refl w
 

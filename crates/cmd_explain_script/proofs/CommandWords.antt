@@ -7,7 +7,7 @@ use Rattle.text_io.specs.Words.{words_of}
 use Rattle.upc_cell.specs.Side.{last_vpi}
 use Rattle.upc_cell.specs.declared.side.Side.{Side}
 use Rattle.upc_cell.specs.declared.vc.Vc.{Vc}
-use Rattle.text_script.specs.ScriptCommands.{Command, cell, cell_of_words, command_of, contracts_of, cut, cut_of, load_of, only_vc, release, release_of, reload_of, reload_with, retire, retire_of, connection_and_program, setup_of, setup_with}
+use Rattle.text_script.specs.ScriptCommands.{Command, cell, cell_of_words, command_of, wanted_contracts, cut, cut_of, load_of, only_vc, release, release_of, reload_of, reload_with, retire, retire_of, connection_and_program, setup_of, setup_with}
 use Rattle.text_script.specs.ScriptWords.{channel_named, connection_of, number_of_digits, number_up_to, program_of, vc_named, wanted_of, wanted_of_each, with_both}
 use Rattle.text_script.specs.declared.script_words.Wanted.{Wanted}
 use Rattle.cmd_explain_script.proofs.WordsFound.{finds_words}
@@ -153,7 +153,7 @@ module _ (side : Side) where
   abbrev contract_slots : List ScriptSlot
   contract_slots = slot.Contract ∷ slot.Contract ∷ slot.Contract ∷ slot.Contract ∷ []
 
-  contracts_follow : (words : List (List ℕ)) → is_some (contracts_of words) ≡ (nat_le 1 (length words) && all_fit side contract_slots words)
+  contracts_follow : (words : List (List ℕ)) → is_some (wanted_contracts words) ≡ (nat_le 1 (length words) && all_fit side contract_slots words)
   contracts_follow [] = refl
   contracts_follow (a ∷ []) = some_wanted a []
   contracts_follow (a ∷ b ∷ []) = some_wanted a (b ∷ []) ∙ ap (λ (t : Bool). is_some (wanted_of a) && t) (some_wanted b [])
@@ -192,8 +192,8 @@ module _ (side : Side) where
       let two = fits_script_slot side slot.Channel channel in
       let three = fits_script_slot side slot.Program name in
       let all = all_fit side contract_slots contracts in
-      some_both setup_with (connection_and_program side path channel name) (contracts_of contracts)
-      ∙ ap (λ (b : Bool). b && is_some (contracts_of contracts)) (some_seat path channel name)
+      some_both setup_with (connection_and_program side path channel name) (wanted_contracts contracts)
+      ∙ ap (λ (b : Bool). b && is_some (wanted_contracts contracts)) (some_seat path channel name)
       ∙ ap (λ (b : Bool). (one && (two && three)) && b) (contracts_follow contracts)
       ∙ seat_and one two three (nat_le 1 (length contracts)) all
       ∙ ap (λ (b : Bool). b && (one && (two && (three && all)))) (more_words (length contracts))

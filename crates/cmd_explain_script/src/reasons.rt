@@ -14,7 +14,7 @@ use crate::wrong_words::{add_wrong, word_at, wrong_word};
 use arrayvec::ArrayVec;
 use std::alloc::Global;
 use text_io::Added;
-use text_script::{Rate, Wanted, contract, contracts_of};
+use text_script::{Rate, Wanted, checked_contracts, contract};
 use text_words::add_text;
 use upc_cell::Side;
 
@@ -27,7 +27,7 @@ fn has_bad_bucket(wanted: Option<Wanted>) -> bool
         Some(wanted) => {
             let mut one: ArrayVec<Wanted, 4> = ArrayVec::new();
             one.push(wanted);
-            contracts_of(&one).is_err()
+            checked_contracts(&one).is_err()
         }
     }
 }

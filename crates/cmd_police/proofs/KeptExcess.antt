@@ -6,7 +6,7 @@ use Rattle.card_core.specs.World.{Connection}
 use Rattle.leaky.proofs.Public.{passed_cells_have_no_excess}
 use Rattle.leaky.specs.Arrivals.{Arrival, buckets_left}
 use Rattle.leaky.specs.Bucket.{conforms, opening}
-use Rattle.leaky.specs.Contract.{Buckets, buckets_after, charged_under, conforms_if_met, excess_of, peak_of, sustained_of, verdict_of, verdict_under}
+use Rattle.leaky.specs.Contract.{Buckets, buckets_after, charged_under, conforms_if_met, verdict_over_second, peak_of, sustained_of, verdict_of, verdict_under}
 use Rattle.leaky.specs.Excess.{excess_at, excess_under, over_limit, over_limit_if_met}
 use Rattle.leaky.specs.declared.contract.Contract.{Contract}
 use Rattle.leaky.specs.declared.excess.Excess.{Excess}
@@ -72,7 +72,7 @@ kept : (contract : Contract) (buckets : Buckets) (clp : Bool) (moment : ℕ) (ve
     → excess_at contract buckets clp moment ≡ excess_at contract (buckets_to_explain verdict (buckets_after contract buckets clp moment)) clp moment
 kept contract buckets clp moment Pass is other = absurd (other refl)
 kept contract buckets clp moment Tag is other =
-    tag_kept (peak_of contract) (sustained_of contract clp) (excess_of contract) buckets moment is
+    tag_kept (peak_of contract) (sustained_of contract clp) (verdict_over_second contract) buckets moment is
     ∙ ap (λ (v : Verdict). excess_at contract (record { first = opening; second = (charged_under v (peak_of contract) (sustained_of contract clp) buckets moment).second }) clp moment) (sym is)
 kept contract buckets clp moment Discard is other =
     ap (λ (v : Verdict). excess_at contract (charged_under v (peak_of contract) (sustained_of contract clp) buckets moment) clp moment) (sym is)

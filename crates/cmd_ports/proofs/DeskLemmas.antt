@@ -20,7 +20,7 @@ use Rattle.text_script.specs.ReplyTexts.{program_name}
 use Rattle.text_card.specs.AddsSome.{AddsSome}
 use Rattle.text_script.specs.Rates.{first_wanted_fault}
 use Rattle.text_script.specs.declared.script_words.Wanted.{Wanted}
-use Rattle.text_script.specs.ScriptCommands.{Command, load, retire, setup, reload, release, cut, cell, command_of, cell_of_words, load_of, retire_of, setup_of, reload_of, release_of, cut_of, connection_and_program, setup_with, reload_with, only_vc, contracts_of}
+use Rattle.text_script.specs.ScriptCommands.{Command, load, retire, setup, reload, release, cut, cell, command_of, cell_of_words, load_of, retire_of, setup_of, reload_of, release_of, cut_of, connection_and_program, setup_with, reload_with, only_vc, wanted_contracts}
 use Rattle.text_script.specs.ScriptWords.{number_of_digits, program_of}
 use Rattle.line_record.specs.Tally.{nothing, plus}
 use Rattle.line_record.specs.declared.tally.Tally.{Tally}
@@ -135,8 +135,8 @@ setup-no side [] = refl
 setup-no side (path ∷ []) = refl
 setup-no side (path ∷ channel ∷ []) = refl
 setup-no side (path ∷ channel ∷ program ∷ contracts) =
-    and_then-no (λ seat. option_map (setup_with seat) (contracts_of contracts))
-    (λ seat. mapped-no (setup_with seat) (λ wanted. refl) (contracts_of contracts)) (connection_and_program side path channel program)
+    and_then-no (λ seat. option_map (setup_with seat) (wanted_contracts contracts))
+    (λ seat. mapped-no (setup_with seat) (λ wanted. refl) (wanted_contracts contracts)) (connection_and_program side path channel program)
 
 reload-no : (side : Side) (words : List (List ℕ)) → is_cell (reload_of side words) ≡ false
 reload-no side [] = refl

@@ -10,7 +10,7 @@ use std::alloc::{AllocError, Global};
 use std::mem::replace;
 use text_card::{add_no_card, add_shape_fault, read_card};
 use text_io::{Added, Answered, Done, Machine, Turn};
-use text_script::asking_word;
+use text_script::word_and_rest;
 use text_words::add_too_long;
 use upc_cell::Side;
 
@@ -23,7 +23,7 @@ fn is_silent(line: &[u8]) -> bool
         return true;
     };
     if *first == b' ' || *first == b'\t' {
-        return asking_word(line).is_none();
+        return word_and_rest(line).is_none();
     }
     *first == b'#'
 }

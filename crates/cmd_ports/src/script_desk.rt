@@ -13,7 +13,7 @@ use text_card::{add_desk_fault, add_gcra_fault, add_no_such_program};
 use text_io::Added;
 use text_script::{
     Command, Names, Wanted, add_cut, add_loaded, add_released, add_reloaded, add_retired, add_set,
-    contracts, contracts_of, read_command,
+    checked_contracts, read_command, wanted_contracts,
 };
 use text_words::{add_bad_hex, add_bad_line, octets_of_word};
 use upc_cell::Vc;
@@ -94,7 +94,7 @@ impl<S: Ledgers> ScriptDesk<S> {
         ensures { OnOk result (AddsReply (MayObey card.now.side (setup vc number wanted.now.items))
             self.old.names self.new.names answers.old.items answers.new.items) }
     {
-        let contracts = match contracts_of(wanted) {
+        let contracts = match checked_contracts(wanted) {
             Ok(contracts) => contracts,
             Err(fault) => return add_gcra_fault(answers, fault),
         };
@@ -125,7 +125,7 @@ impl<S: Ledgers> ScriptDesk<S> {
         ensures { OnOk result (AddsReply (MayObeySeen card.now.side (setup_seen vc number words.now))
             self.old.names self.new.names answers.old.items answers.new.items) }
     {
-        let Some(wanted) = contracts(words) else {
+        let Some(wanted) = wanted_contracts(words) else {
             return add_bad_line(answers);
         };
         self.setup(rt, card, vc, number, &wanted, answers)

@@ -12,7 +12,7 @@ use text_card::{add_desk_fault, add_gcra_fault, add_judged, add_no_such_program,
 use text_io::Added;
 use text_script::{
     Command, Names, Wanted, add_cut, add_loaded, add_released, add_reloaded, add_retired, add_set,
-    asking_word, contracts, contracts_of, named_command, read_common_cell,
+    checked_contracts, named_command, read_common_cell, wanted_contracts, word_and_rest,
 };
 use text_words::{
     CellWord, add_bad_hex, add_bad_line, add_wrong_length, cell_of_word, octets_of_word,
@@ -159,7 +159,7 @@ impl ScriptCard {
         ensures { OnOk result (Moves (λ before. Obeys before (setup vc number wanted.now.items))
             self.old self.new answers.old.items answers.new.items) }
     {
-        let contracts = match contracts_of(wanted) {
+        let contracts = match checked_contracts(wanted) {
             Ok(contracts) => contracts,
             Err(fault) => return add_gcra_fault(answers, fault),
         };
@@ -190,7 +190,7 @@ impl ScriptCard {
         ensures { OnOk result (Moves (λ before. ObeysSeen before (setup_seen vc number words.now))
             self.old self.new answers.old.items answers.new.items) }
     {
-        let Some(wanted) = contracts(words) else {
+        let Some(wanted) = wanted_contracts(words) else {
             return add_bad_line(answers);
         };
         self.setup(vc, number, &wanted, answers)
@@ -339,7 +339,7 @@ impl ScriptCard {
     fn answer_words(&mut self, alloc: Global, line: &[u8], answers: &mut Vec<u8>) -> Added
         ensures { OnOk result (Moves (AnswersLine line.now) self.old self.new answers.old.items answers.new.items) }
     {
-        match asking_word(line) {
+        match word_and_rest(line) {
             Some((name, rest)) => self.answer_command(alloc, name, rest, answers),
             None => Ok(()),
         }

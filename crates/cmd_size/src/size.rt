@@ -12,7 +12,7 @@ use crate::size_words::figures;
 use crate::sizing::sized;
 use std::alloc::{AllocError, Global};
 use text_io::{Added, Answered, Done, Ending, Input, Machine, Output, Turn, answer_lines};
-use text_script::asking_word;
+use text_script::word_and_rest;
 use text_words::add_too_long;
 
 /// Answers a contract, or a line that isn't one.
@@ -33,7 +33,7 @@ fn answer_figures(answers: &mut Vec<u8>, found: Result<Figures, SizeFault>) -> A
 fn answer_line(answers: &mut Vec<u8>, line: &[u8]) -> Added
     ensures { OnOk result (answers.new.items ≡ answers.old.items ++ size_answer (words_of line.now)) }
 {
-    match asking_word(line) {
+    match word_and_rest(line) {
         Some((name, rest)) => answer_figures(answers, figures(name, rest)),
         None => Ok(()),
     }

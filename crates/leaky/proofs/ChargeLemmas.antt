@@ -8,7 +8,7 @@ use Rattle.leaky.specs.declared.verdict.Verdict.TheVariants.{Pass, Tag, Discard,
 use Rattle.leaky.specs.Moments.{GoesOn}
 use Rattle.leaky.specs.Bucket.{level_at, conforms, filled}
 use Rattle.leaky.specs.Bursts.{AllFill, Fills}
-use Rattle.leaky.specs.Contract.{Buckets, peak_of, sustained_of, excess_of, conforms_if_met, verdict_of, charged_under, buckets_after}
+use Rattle.leaky.specs.Contract.{Buckets, peak_of, sustained_of, verdict_over_second, conforms_if_met, verdict_of, charged_under, buckets_after}
 use Rattle.leaky.specs.Arrivals.{Arrival, charges_first, is_passed, charges_second, first_charges, second_charges}
 use Rattle.leaky.specs.Laws.{IsBounded, ContractsBoundBursts, ChargesAreFillings, FillingsShow, TaggedCellsCameUntagged}
 use Rattle.leaky.proofs.BurstLemmas.{fillings-bounded, GoesOn-some, AllFill-some}
@@ -49,7 +49,7 @@ FillsFirst contract buckets clp moment =
     let admitted = conforms_if_met sustained buckets.second moment in
     record {
       fills = λ e. (
-        first-conforms (conforms peak buckets.first moment) admitted (excess_of contract) e,
+        first-conforms (conforms peak buckets.first moment) admitted (verdict_over_second contract) e,
         first-filled verdict peak sustained buckets moment e,
       );
       leaves = first-left verdict peak sustained buckets moment;

@@ -10,7 +10,7 @@ use Rattle.leaky.specs.declared.verdict.Verdict.TheVariants.{Pass, Discard}
 use Rattle.leaky.specs.declared.excess.Excess.{Excess}
 use Rattle.leaky.specs.declared.excess.WhichBucket.TheVariants.{Peak, Sustained}
 use Rattle.leaky.specs.Bucket.{Bucket, conforms}
-use Rattle.leaky.specs.Contract.{Buckets, peak_of, sustained_of, excess_of, conforms_if_met}
+use Rattle.leaky.specs.Contract.{Buckets, peak_of, sustained_of, verdict_over_second, conforms_if_met}
 use Rattle.leaky.specs.Excess.{over_limit, over_limit_if_met, rate_met, bucket_among, IsLeastDelay}
 use Rattle.leaky.specs.Laws.{PassedCellsHaveNoExcess, ExcessesAreLeastDelays}
 
@@ -24,7 +24,7 @@ least-delay gcra bucket moment h misses = record {
 }
 
 -- No verdict on an excess is a pass.
-excess-no-pass : (contract : Contract) → excess_of contract ≢ Pass
+excess-no-pass : (contract : Contract) → verdict_over_second contract ≢ Pass
 excess-no-pass (Cbr1 peak) e = absurd (cc)
 excess-no-pass (Vbr1 peak sustained) e = absurd (cc)
 excess-no-pass (Vbr2 peak sustained) e = absurd (cc)
@@ -43,7 +43,7 @@ passed-no-excess contract buckets clp moment =
     (conforms_if_met (sustained_of contract clp) buckets.second moment)
     (record { bucket = Peak; ticks = over_limit (peak_of contract) buckets.first moment })
     (record { bucket = Sustained; ticks = over_limit_if_met (sustained_of contract clp) buckets.second moment })
-    (excess_of contract) (excess-no-pass contract)
+    (verdict_over_second contract) (excess-no-pass contract)
 
 -- The bucket that an excess names, with its rate, and the delay.
 abbrev IsDelay : Contract → Buckets → Bool → ℕ → Excess → Type 0

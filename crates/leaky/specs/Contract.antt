@@ -39,11 +39,11 @@ meets_second (Vbr2 peak sustained) clp = not clp
 meets_second (Vbr3 peak sustained) clp = not clp
 
 -- The verdict on a cell that conforms to bucket 1 and not to bucket 2.
-abbrev pub excess_of : Contract → Verdict
-excess_of (Cbr1 peak) = Discard
-excess_of (Vbr1 peak sustained) = Discard
-excess_of (Vbr2 peak sustained) = Discard
-excess_of (Vbr3 peak sustained) = Tag
+abbrev pub verdict_over_second : Contract → Verdict
+verdict_over_second (Cbr1 peak) = Discard
+verdict_over_second (Vbr1 peak sustained) = Discard
+verdict_over_second (Vbr2 peak sustained) = Discard
+verdict_over_second (Vbr3 peak sustained) = Tag
 
 -- The rate of bucket 2, if a cell of this CLP meets it.
 abbrev pub sustained_of : Contract → Bool → Option Gcra
@@ -83,7 +83,7 @@ charged_under Refuse peak sustained buckets moment = buckets
 -- The verdict of a contract on a cell of this CLP at this moment.
 abbrev pub verdict_of : Contract → Buckets → Bool → ℕ → Verdict
 verdict_of contract buckets clp moment =
-    verdict_under (peak_of contract) (sustained_of contract clp) (excess_of contract) buckets moment
+    verdict_under (peak_of contract) (sustained_of contract clp) (verdict_over_second contract) buckets moment
 
 -- The buckets of the contract after this cell.
 abbrev pub buckets_after : Contract → Buckets → Bool → ℕ → Buckets

@@ -4,7 +4,7 @@ use Rattle.std.specs.Prelude.{nat_le, ◌&&◌}
 use Rattle.std.specs.Option.{option_and_then}
 use Rattle.std.proofs.lemmas.Bool.Decides.{nat_tests}
 use Rattle.std.proofs.lemmas.List.{append-nil, append_assoc, length-append}
-use Rattle.text_script.specs.ScriptCommands.{contracts_of}
+use Rattle.text_script.specs.ScriptCommands.{wanted_contracts}
 use Rattle.text_script.specs.ScriptWords.{wanted_of, wanted_of_each}
 use Rattle.text_script.specs.declared.script_words.Wanted.{Wanted}
 
@@ -48,7 +48,7 @@ none-either true o e = e
 none-either false o e = refl
 
 pub reads_none : (words : List (List ℕ)) (read : List Wanted) (rest after : List (List ℕ)) (word : List ℕ)
-    → ReadsOn words read rest → rest ≡ word ∷ after → wanted_of word ≡ None → contracts_of words ≡ None
+    → ReadsOn words read rest → rest ≡ word ∷ after → wanted_of word ≡ None → wanted_contracts words ≡ None
 reads_none words read rest after word so_far cut is =
     none-either (nat_le 1 (length words) && nat_le (length words) 4) (wanted_of_each words)
     (sym so_far.reads ∙ ap (read_rest read) cut
@@ -64,18 +64,18 @@ test-true : (n : ℕ) → 0 < n → n ≤ 4 → (nat_le 1 n && nat_le n 4) ≡ t
 test-true n some few = grind (arith, nat_tests)
 
 pub reads_many : (words : List (List ℕ)) (read : List Wanted) (rest after : List (List ℕ)) (word : List ℕ)
-    → ReadsOn words read rest → rest ≡ word ∷ after → 4 ≤ length read → contracts_of words ≡ None
+    → ReadsOn words read rest → rest ≡ word ∷ after → 4 ≤ length read → wanted_contracts words ≡ None
 reads_many words read rest after word so_far cut full =
     let above : 4 < length words = (let cut_length : length rest ≡ length (word ∷ after) = ap length cut in omega (arith, cut_length, so_far.many, full)) in
     ap (λ b. if b then wanted_of_each words else None) (test-false (length words) above)
 
-pub reads_empty : (words : List (List ℕ)) (read : List Wanted) (rest : List (List ℕ)) → ReadsOn words read rest → rest ≡ [] → length read ≡ 0 → contracts_of words ≡ None
+pub reads_empty : (words : List (List ℕ)) (read : List Wanted) (rest : List (List ℕ)) → ReadsOn words read rest → rest ≡ [] → length read ≡ 0 → wanted_contracts words ≡ None
 reads_empty words read rest so_far ends none =
     let zero : length words ≡ 0 = (let cut_length : length rest ≡ 0 = ap length ends in omega (arith, cut_length, so_far.many, none)) in
     ap (λ b. if b then wanted_of_each words else None) (test-none (length words) zero)
 
 pub reads_all : (words : List (List ℕ)) (read : List Wanted) (rest : List (List ℕ)) → ReadsOn words read rest → rest ≡ [] → 0 < length read
-    → contracts_of words ≡ Some read
+    → wanted_contracts words ≡ Some read
 reads_all words read rest so_far ends some =
     let same : length words ≡ length read = (let cut_length : length rest ≡ 0 = ap length ends in omega (arith, cut_length, so_far.many)) in
     let test : (nat_le 1 (length words) && nat_le (length words) 4) ≡ true = test-true (length words) (omega (arith, same, some)) (omega (arith, same, so_far.few)) in

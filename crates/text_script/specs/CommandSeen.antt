@@ -2,13 +2,13 @@
 use Rattle.std.specs.Prelude.{ℕ, List, Option, Some, option_map}
 use Rattle.text_io.specs.Words.{words_of}
 use Rattle.upc_cell.specs.declared.vc.Vc.{Vc}
-use Rattle.text_script.specs.ScriptCommands.{Command, load, retire, setup, reload, release, cut, cell, contracts_of}
+use Rattle.text_script.specs.ScriptCommands.{Command, load, retire, setup, reload, release, cut, cell, wanted_contracts}
 use Rattle.text_script.specs.declared.commands.Command.{Command as Coded}
 use Rattle.text_script.specs.declared.commands.Command.TheVariants as coded
 
 -- A setup with the contracts that these octets spell, one word each. None if they are not one to four contracts.
 abbrev pub setup_seen : Vc → ℕ → List ℕ → Option Command
-setup_seen vc number octets = option_map (λ wanted. setup vc number wanted) (contracts_of (words_of octets))
+setup_seen vc number octets = option_map (λ wanted. setup vc number wanted) (wanted_contracts (words_of octets))
 
 -- The command, with the content of its words. The code keeps the contracts of a setup as words; if these are not one to
 -- four contracts, there is no command.

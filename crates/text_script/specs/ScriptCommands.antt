@@ -28,8 +28,8 @@ retire_of (program ∷ []) = option_map (λ number. retire number) (program_of p
 retire_of _ = None
 
 -- The contracts of one to four words. None for any other number of words, or if one of them spells no contract.
-abbrev pub contracts_of : List (List ℕ) → Option (List Wanted)
-contracts_of words = if nat_le 1 (length words) && nat_le (length words) 4 then wanted_of_each words else None
+abbrev pub wanted_contracts : List (List ℕ) → Option (List Wanted)
+wanted_contracts words = if nat_le 1 (length words) && nat_le (length words) 4 then wanted_of_each words else None
 
 -- `VPI VCI pN`, with which the words of `setup` and of `reload` begin.
 abbrev pub connection_and_program : Side → List ℕ → List ℕ → List ℕ → Option (Vc × ℕ)
@@ -37,17 +37,17 @@ connection_and_program side path channel program = with_both (λ vc number. (vc,
 
 -- The setup of this connection and program, with these contracts.
 abbrev pub setup_with : Vc × ℕ → List Wanted → Command
-setup_with seat wanted = setup seat.0 seat.1 wanted
+setup_with target wanted = setup target.0 target.1 wanted
 
 -- `setup VPI VCI pN CONTRACT ..`
 abbrev pub setup_of : Side → List (List ℕ) → Option Command
 setup_of side (path ∷ channel ∷ program ∷ contracts) =
-    with_both setup_with (connection_and_program side path channel program) (contracts_of contracts)
+    with_both setup_with (connection_and_program side path channel program) (wanted_contracts contracts)
 setup_of side _ = None
 
 -- The reload of this connection and program.
 abbrev pub reload_with : Vc × ℕ → Command
-reload_with seat = reload seat.0 seat.1
+reload_with target = reload target.0 target.1
 
 -- `reload VPI VCI pN`
 abbrev pub reload_of : Side → List (List ℕ) → Option Command

@@ -2,7 +2,7 @@
 
 ghost use Rattle.std.specs.Prelude.{◌≡◌, ◌∷◌, true, false, option_map, IfSome, IfNone};
 ghost use Rattle.std.specs.Option.{option_and_then};
-ghost use Rattle.text_script.specs.ScriptCommands.{cell_of_words, command_of, contracts_of, cut_of, load_of, only_vc, release_of, reload_of, retire_of, setup_of};
+ghost use Rattle.text_script.specs.ScriptCommands.{cell_of_words, command_of, wanted_contracts, cut_of, load_of, only_vc, release_of, reload_of, retire_of, setup_of};
 ghost use Rattle.text_script.specs.CommandSeen.{command_seen};
 ghost use Rattle.text_script.specs.inner.OnlyWord.{only_of};
 ghost use Rattle.text_io.specs.Words.{is_silent, words_of};
@@ -14,7 +14,7 @@ use upc_cell::{Side, Vc};
 
 /// A command of a line. Programs are named by number, from 1. The octets of a program or of a cell are still a word of
 /// digits: an error in this word is reported only if all other words are right. The contracts of a setup are still words:
-/// the function that carries out the command reads them with [`contracts`], so that a `Command` needs no space for four
+/// the function that carries out the command reads them with [`wanted_contracts`], so that a `Command` needs no space for four
 /// contracts.
 #[derive(Drop)]
 pub enum Command<'a> {
@@ -142,8 +142,8 @@ fn cut(side: Side, line: &[u8]) -> Option<Command<'_>>
 }
 
 /// Returns one to four contracts, one word each. None if a word is no contract, or if there are none or more than four.
-pub fn contracts(line: &[u8]) -> Option<ArrayVec<Wanted, 4>>
-    ensures { option_map (λ wanted. wanted.items) result ≡ contracts_of (words_of line.now) }
+pub fn wanted_contracts(line: &[u8]) -> Option<ArrayVec<Wanted, 4>>
+    ensures { option_map (λ wanted. wanted.items) result ≡ wanted_contracts (words_of line.now) }
 {
     let mut wanted = ArrayVec::new();
     let mut rest = line;
@@ -220,7 +220,7 @@ pub fn read_command(side: Side, line: &[u8]) -> Option<Command<'_>>
 }
 
 /// Returns the first word of a line and the rest. None if the line has no words or is a comment.
-pub fn asking_word(line: &[u8]) -> Option<(&[u8], &[u8])>
+pub fn word_and_rest(line: &[u8]) -> Option<(&[u8], &[u8])>
     ensures silent { IfNone result (is_silent (words_of line.now) ≡ true) }
     ensures asks { IfSome result (λ found. is_silent (words_of line.now) ≡ false) }
     ensures words { IfSome result (λ found. words_of line.now ≡ found.0.now ∷ words_of found.1.now) }

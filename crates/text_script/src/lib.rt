@@ -17,10 +17,10 @@ pub use answer_lines::{
     add_verdict,
 };
 pub use cell_line::{CellLine, CellLineFault, read_by_words, read_cell_line};
-pub use commands::{Command, asking_word, contracts, named_command, read_command};
+pub use commands::{Command, named_command, read_command, wanted_contracts, word_and_rest};
 pub use common_cell_line::{Arrival, read_common_cell, text_after_cell};
 pub use dealing::{Answerer, Deal, deal_lines};
 pub use names::Names;
-pub use rates::contracts_of;
+pub use rates::checked_contracts;
 pub use script_lines::{first_line, is_cell_line};
 pub use script_words::{Rate, Wanted, channel_of, contract, number, program};

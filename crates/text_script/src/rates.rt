@@ -8,7 +8,7 @@ use arrayvec::ArrayVec;
 use leaky::{Contract, Gcra, GcraFault};
 
 /// Returns a rate as the card takes it, if its numbers are within the limits.
-fn bucket(rate: Rate) -> Result<Gcra, GcraFault>
+fn checked_rate(rate: Rate) -> Result<Gcra, GcraFault>
     ensures made { IfOk result (IsRate rate) }
     ensures sound { OnOk result (rate_fault rate ≡ None) }
     ensures faulty { IfErr result (λ fault. rate_fault rate ≡ Some fault) }
@@ -17,13 +17,13 @@ fn bucket(rate: Rate) -> Result<Gcra, GcraFault>
 }
 
 /// Returns two rates as the card takes them, or the error of the first that has one.
-fn two_buckets(peak: Rate, sustained: Rate) -> Result<(Gcra, Gcra), GcraFault>
+fn checked_rates(peak: Rate, sustained: Rate) -> Result<(Gcra, Gcra), GcraFault>
     ensures peak { IfOk result (λ both. IsRate peak both.0) }
     ensures sustained { IfOk result (λ both. IsRate sustained both.1) }
     ensures sound { OnOk result (first_of_two (rate_fault peak) (rate_fault sustained) ≡ None) }
     ensures faulty { IfErr result (λ fault. first_of_two (rate_fault peak) (rate_fault sustained) ≡ Some fault) }
 {
-    Ok((bucket(peak)?, bucket(sustained)?))
+    Ok((checked_rate(peak)?, checked_rate(sustained)?))
 }
 
 /// Returns the requested contract, or the error of its first rate that has one.
@@ -33,17 +33,17 @@ fn contract(wanted: Wanted) -> Result<Contract, GcraFault>
     ensures faulty { IfErr result (λ fault. wanted_fault wanted ≡ Some fault) }
 {
     match wanted {
-        Wanted::Cbr1(peak) => Ok(Contract::Cbr1(bucket(peak)?)),
+        Wanted::Cbr1(peak) => Ok(Contract::Cbr1(checked_rate(peak)?)),
         Wanted::Vbr1(peak, sustained) => {
-            let (first, second) = two_buckets(peak, sustained)?;
+            let (first, second) = checked_rates(peak, sustained)?;
             Ok(Contract::Vbr1(first, second))
         }
         Wanted::Vbr2(peak, sustained) => {
-            let (first, second) = two_buckets(peak, sustained)?;
+            let (first, second) = checked_rates(peak, sustained)?;
             Ok(Contract::Vbr2(first, second))
         }
         Wanted::Vbr3(peak, sustained) => {
-            let (first, second) = two_buckets(peak, sustained)?;
+            let (first, second) = checked_rates(peak, sustained)?;
             Ok(Contract::Vbr3(first, second))
         }
     }
@@ -54,7 +54,7 @@ fn contract(wanted: Wanted) -> Result<Contract, GcraFault>
 /// # Errors
 ///
 /// The error of the first rate that has one, over all contracts from left to right.
-pub fn contracts_of(wanted: &ArrayVec<Wanted, 4>) -> Result<ArrayVec<Contract, 4>, GcraFault>
+pub fn checked_contracts(wanted: &ArrayVec<Wanted, 4>) -> Result<ArrayVec<Contract, 4>, GcraFault>
     ensures made { IfOk result (λ contracts. AreContracts wanted.now.items contracts.items) }
     ensures sound { OnOk result (first_wanted_fault wanted.now.items ≡ None) }
     ensures faulty { IfErr result (λ fault. first_wanted_fault wanted.now.items ≡ Some fault) }

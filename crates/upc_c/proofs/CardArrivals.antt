@@ -14,7 +14,7 @@ use Rattle.card_core.specs.Shapes.{is_beyond, shape_fault}
 use Rattle.card_core.specs.Steps.{FindsNoMemory, IsRefused, Succeeds, WorldStep, left_by_judge, left_by_pick, picking_of}
 use Rattle.card_core.specs.World.{World, PortState, Picking, Connection, outside, entered, picked, connection_in, is_busy, is_outside, opening_world}
 use Rattle.card_core.specs.declared.answer.Answer.{Answer}
-use Rattle.card_core.specs.declared.answer.Answer.TheVariants.{NoConnection as UnknownCell}
+use Rattle.card_core.specs.declared.answer.Answer.TheVariants as cell_answers
 use Rattle.card_core.specs.declared.fault.CardFault.TheVariants.{Programs, Lines, Ports, Journal}
 use Rattle.card_core.specs.declared.reply.Reply.{Reply}
 use Rattle.card_core.specs.declared.reply.Reply.TheVariants.{Entered, Picked, NotNow, Answered}
@@ -59,7 +59,7 @@ never-now before after cell moment (inr l) = let no = l.answer in cc
 
 -- The two outcomes of a pick, by whether a connection is missing.
 abbrev pub PickedBy : Bool → World → Reply → World → Type 0
-PickedBy missing before reply after = MatchOption (if missing then Some (Answered UnknownCell) else None)
+PickedBy missing before reply after = MatchOption (if missing then Some (Answered cell_answers.NoConnection) else None)
     (Taken before (Pick 0) reply after) (λ refused. IsRefused before (Pick 0) refused reply after)
 
 pub picks : (before after : World) (cell : List ℕ) (moment : ℕ) (reply : Reply) → slice_get before.ports 0 ≡ Some (entered cell moment)
@@ -86,7 +86,7 @@ pub record PickedFrom (before after : World) : Type 0 where
   pub placed : With before (picked picking) after
 
 pub pick-picked : (missing : Bool) (before after : World) (cell : List ℕ) (moment : ℕ) → PickedBy missing before Picked after → PickedFrom before after
-pick-picked true before after cell moment is = let no : Picked ≡ Answered UnknownCell = is.answer in cc
+pick-picked true before after cell moment is = let no : Picked ≡ Answered cell_answers.NoConnection = is.answer in cc
 pick-picked false before after cell moment (inl p) =
     let vc = vc_of before.shape.side p.cell in record {
       picking = picking_of p.cell p.moment vc p.connection p.value;

@@ -12,7 +12,8 @@ use Rattle.card_core.specs.Refusals.{refusal, enter_refusal, pick_refusal, judge
 use Rattle.card_core.specs.Steps.{FindsNoMemory, IsRefused, Succeeds, WorldStep, without_memory}
 use Rattle.card_core.specs.World.{World, PortState, Picking, Connection, outside, entered, picked, code_in, connection_in, kept_cells, is_busy, any_below, is_open_slot, is_open_line, is_named}
 use Rattle.card_core.specs.declared.answer.Answer.{Answer}
-use Rattle.card_core.specs.declared.answer.Answer.TheVariants.{NoConnection as UnknownCell, Released as PickReleased, MomentTooLate, MomentBack, JournalFull}
+use Rattle.card_core.specs.declared.answer.Answer.TheVariants.{MomentTooLate, MomentBack, JournalFull}
+use Rattle.card_core.specs.declared.answer.Answer.TheVariants as cell_answers
 use Rattle.card_core.specs.declared.ask.Ask.{Ask}
 use Rattle.card_core.specs.declared.fault.DeskFault.{DeskFault}
 use Rattle.card_core.specs.declared.fault.DeskFault.TheVariants.{NoProgram, NoConnection, Taken, NoLine, InUse, ProgramsFull, Exhausted, BadContracts, Busy, NoMemory}
@@ -109,7 +110,7 @@ pick-none : (before : World) (o : Option PortState) (refused : Reply) → pick_r
 pick-none before None refused e = ap reason_of (sym (same_some NotNow refused e))
 pick-none before (Some outside) refused e = ap reason_of (sym (same_some NotNow refused e))
 pick-none before (Some (entered cell moment)) refused e =
-    refused_by (λ (r : Reply). reason_of r ≡ None) (is_none (connection_in before.connections (vc_of before.shape.side cell))) (Answered UnknownCell) None
+    refused_by (λ (r : Reply). reason_of r ≡ None) (is_none (connection_in before.connections (vc_of before.shape.side cell))) (Answered cell_answers.NoConnection) None
     refl (λ x e. absurd (cc)) refused e
 pick-none before (Some (picked picking)) refused e = ap reason_of (sym (same_some NotNow refused e))
 
@@ -207,7 +208,7 @@ same-answer : (answer found : Answer) → Answered answer ≡ Answered found →
 same-answer answer found e may = subst MayAnswer (sym (ap (λ (r : Reply). answer-in r answer) e)) may
 
 pick-answers : (missing : Bool) (before after : World) (answer : Answer) → PickedBy missing before (Answered answer) after → MayAnswer answer
-pick-answers true before after answer is = same-answer answer UnknownCell is.answer refl
+pick-answers true before after answer is = same-answer answer cell_answers.NoConnection is.answer refl
 pick-answers false before after answer (inl p) = let no : Answered answer ≡ Picked = p.answer in cc
 pick-answers false before after answer (inr l) = let no = l.answer in cc
 
@@ -228,7 +229,7 @@ picking-answers before picking connection (Some it) same found answer e =
     let is : it ≡ connection = same_some it connection found in
     let kept : it.incarnation ≡ picking.incarnation = ap (λ (c : Connection). c.incarnation) is ∙ same in
     let choice : (b : Bool) → (it.incarnation == picking.incarnation) ≡ b
-    → cond b (cell_refusal before it picking.moment) (Some PickReleased) ≡ Some answer → MayAnswer answer = elim [
+    → cond b (cell_refusal before it picking.moment) (Some cell_answers.Released) ≡ Some answer → MayAnswer answer = elim [
       | true ↦ λ test e. cell-answers before it picking.moment answer e
       | false ↦ λ test e. absurd (grind (arith, nat_tests))
     ] in

@@ -3,7 +3,8 @@
 -- looked up for a cell is gone.
 use Rattle.std.specs.Prelude.{ℕ, Bool, true, false, List, IsTrue}
 use Rattle.card_core.specs.declared.answer.Answer.{Answer}
-use Rattle.card_core.specs.declared.answer.Answer.TheVariants.{NoConnection as UnknownCell, MomentBack, MomentTooLate, JournalFull}
+use Rattle.card_core.specs.declared.answer.Answer.TheVariants.{MomentBack, MomentTooLate, JournalFull}
+use Rattle.card_core.specs.declared.answer.Answer.TheVariants as cell_answers
 use Rattle.card_core.specs.declared.fault.DeskFault.{DeskFault}
 use Rattle.card_core.specs.declared.fault.DeskFault.TheVariants.{NoProgram, NoConnection, Taken, NoLine, InUse, ProgramsFull, Exhausted, BadContracts, NoMemory}
 use Rattle.card_core.specs.declared.step.Step.{Step}
@@ -33,7 +34,7 @@ may_refuse _ _ = false
 
 -- Whether a cell that isn't judged may have this answer. An arrival doesn't allocate.
 abbrev pub may_answer : Answer → Bool
-may_answer UnknownCell = true
+may_answer cell_answers.NoConnection = true
 may_answer MomentTooLate = true
 may_answer (MomentBack last) = true
 may_answer JournalFull = true

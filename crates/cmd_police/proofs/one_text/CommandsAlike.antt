@@ -12,7 +12,7 @@ use Rattle.line_record.specs.Tally.{tally_of}
 use Rattle.line_record.specs.declared.tally.Tally.{Tally}
 use Rattle.text_io.specs.Words.{words_of}
 use Rattle.text_script.specs.ReplyTexts.{connection_name, tally_text}
-use Rattle.text_script.specs.ScriptCommands.{Command, cell, cell_of_words, command_of, contracts_of, connection_and_program, cut, cut_of, load, load_of, only_vc, release, release_of, reload, reload_of, reload_with, retire, retire_of, setup, setup_of, setup_with}
+use Rattle.text_script.specs.ScriptCommands.{Command, cell, cell_of_words, command_of, wanted_contracts, connection_and_program, cut, cut_of, load, load_of, only_vc, release, release_of, reload, reload_of, reload_with, retire, retire_of, setup, setup_of, setup_with}
 use Rattle.text_script.specs.ScriptWords.{program_of, with_both}
 use Rattle.text_words.specs.FaultLines.{bad_line, line}
 use Rattle.upc_cell.specs.declared.side.Side.{Side}
@@ -57,7 +57,7 @@ module _ (side : Side) where
   setup_none (path ∷ []) = tt
   setup_none (path ∷ channel ∷ []) = tt
   setup_none (path ∷ channel ∷ program ∷ contracts) =
-      both_none setup_with (λ seat wanted. tt) (connection_and_program side path channel program) (contracts_of contracts)
+      both_none setup_with (λ seat wanted. tt) (connection_and_program side path channel program) (wanted_contracts contracts)
 
   reload_none : (words : List (List ℕ)) → HasNoCell (reload_of side words)
   reload_none [] = tt

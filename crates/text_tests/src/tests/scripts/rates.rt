@@ -3,7 +3,7 @@
 use arrayvec::ArrayVec;
 use leaky::{Contract, Gcra};
 use std::test::Fail;
-use text_script::{Rate, Wanted, contracts_of};
+use text_script::{Rate, Wanted, checked_contracts};
 
 /// The largest number of ticks of a rate.
 const MOST: u64 = 281474976710656;
@@ -19,7 +19,7 @@ fn each_kind_of_contract_is_made_as_it_was_asked_for(rt: HostRuntime) -> Result<
     wanted.push(Wanted::Vbr1(rate(2, 3), rate(4, 5)));
     wanted.push(Wanted::Vbr2(rate(6, 7), rate(8, 9)));
     wanted.push(Wanted::Vbr3(rate(MOST, MOST), rate(10, 11)));
-    let contracts = contracts_of(&wanted)?;
+    let contracts = checked_contracts(&wanted)?;
     assert_eq!(rt;
         contracts.as_slice(),
         [

@@ -3,7 +3,7 @@ use Rattle.std.proofs.Common.{List, ◌+◌, sym, ap, ◌∙◌, subst}
 use Rattle.leaky.specs.declared.contract.Contract.{Contract}
 use Rattle.text_script.specs.Rates.{first_wanted_fault}
 use Rattle.text_script.proofs.RateLemmas.{MadeOf, faulty-first, made-one_more}
-use Rattle.text_script.proofs.rates.contracts_of.Goals as goal
+use Rattle.text_script.proofs.rates.checked_contracts.Goals as goal
 
 pub returns-in-Err-clause-faulty : goal.returns-in-Err-clause-faulty
 returns-in-Err-clause-faulty c =

@@ -3,7 +3,7 @@ use Rattle.std.proofs.Common.{◌≡◌, ◌<◌, [], length, sym, arith}
 use Rattle.std.proofs.lemmas.Grind.{common_steps}
 use Rattle.text_io.specs.Words.{words_of}
 use Rattle.text_script.proofs.ContractWords.{reads_all}
-use Rattle.text_script.proofs.commands.contracts.Goals as goal
+use Rattle.text_script.proofs.commands.wanted_contracts.Goals as goal
 
 pub returns : goal.returns
 returns c =

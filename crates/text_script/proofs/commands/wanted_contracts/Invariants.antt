@@ -2,7 +2,7 @@
 use Rattle.std.proofs.Common.{length}
 use Rattle.text_io.specs.Words.{words_of}
 use Rattle.text_script.proofs.ContractWords.{ReadsOn}
-use Rattle.text_script.proofs.commands.contracts.Given as goal
+use Rattle.text_script.proofs.commands.wanted_contracts.Given as goal
 
 abbrev pub invariant-loop-word : goal.invariant-loop-word
 invariant-loop-word l = ReadsOn (words_of l.line) l.wanted.items (words_of l.rest)
