@@ -1,7 +1,7 @@
 -- At the tick that is agreed something is forwarded.
 use Rattle.std.proofs.Common.{ℕ, List, [], Option, Result, Ok, Err, refl}
 use Rattle.captures.specs.declared.link.Link.{Link}
-use Rattle.cmd_police.specs.SetupTick.{agreed_tick, ticks_differ}
+use Rattle.cmd_setups.specs.SetupTick.{agreed_tick, ticks_differ}
 use Rattle.text_io.specs.declared.ending.Done.{Done}
 use Rattle.text_io.specs.declared.ending.Done.TheVariants.{Ended}
 use Rattle.cmd_forward.specs.AgreedForward.{ForwardsAsAgreed, MayBeForwardedAsAgreed}

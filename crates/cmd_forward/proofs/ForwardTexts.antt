@@ -5,9 +5,9 @@ use Rattle.std.specs.Global.{Vec}
 use Rattle.std.specs.Result.{OnErr, OnOk}
 use Rattle.captures.specs.declared.link.Link.{Link}
 use Rattle.cmd_police.proofs.Existence.{FaultOrPrepared, fault_or_prepared, faulty_may}
-use Rattle.cmd_police.proofs.SetUpLemmas.{FaultOrCard, fault_or_card}
+use Rattle.cmd_setups.proofs.SetUpLemmas.{FaultOrCard, fault_or_card}
 use Rattle.cmd_police.specs.PolicedCards.{OpensSetup, policed_start}
-use Rattle.cmd_police.specs.TimedLines.{line_times, waiting_at}
+use Rattle.cmd_setups.specs.TimedLines.{line_times, waiting_at}
 use Rattle.cmd_police.specs.declared.policed_card.OpenedCard.TheVariants.{Faulty}
 use Rattle.text_io.proofs.Public.{served-wider}
 use Rattle.text_io.specs.Lines.{lines_of}

@@ -1,7 +1,7 @@
 -- What `forward` writes at the tick that is agreed, and its report.
 use Rattle.std.specs.Prelude.{◌≡◌, ℕ, List, [], Option, Result, Ok, Err}
 use Rattle.captures.specs.declared.link.Link.{Link}
-use Rattle.cmd_police.specs.SetupTick.{agreed_tick, ticks_differ}
+use Rattle.cmd_setups.specs.SetupTick.{agreed_tick, ticks_differ}
 use Rattle.text_io.specs.declared.ending.Done.TheVariants.{Ended}
 use Rattle.cmd_forward.specs.ForwardText.{IsSetupForwarded, MayBeSetupForwarded}
 use Rattle.cmd_forward.specs.Reporting.{ReportedTexts}

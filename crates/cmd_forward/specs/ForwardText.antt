@@ -4,11 +4,11 @@
 use Rattle.std.specs.Prelude.{◌≡◌, ◌⊎◌, ℕ, List, [], Option, Some, None}
 use Rattle.captures.specs.declared.link.Link.{Link}
 use Rattle.captures_text.specs.declared.captured_cell.CapturedCell.{CapturedCell}
-use Rattle.cmd_police.specs.PoliceText.{IsFaultAtTimes, IsSetUpAtTimes}
+use Rattle.cmd_setups.specs.SetUpScripts.{IsFaultAtTimes, IsSetUpAtTimes}
 use Rattle.cmd_police.specs.PolicedCards.{PolicedWorld, PolicesOneCell, policed_report, policed_start}
 use Rattle.cmd_police.specs.PreparedSetups.{HasFaultySetup, IsPreparedAs}
 use Rattle.cmd_police.specs.RulesFiles.{IsFaultOfRules, MayBeFaultOfRules}
-use Rattle.cmd_police.specs.TimedLines.{line_times, waiting_at}
+use Rattle.cmd_setups.specs.TimedLines.{line_times, waiting_at}
 use Rattle.leaky.specs.declared.verdict.Verdict.{Verdict}
 use Rattle.leaky.specs.declared.verdict.Verdict.TheVariants.{Pass, Tag, Discard, Refuse}
 use Rattle.text_io.specs.Lines.{lines_of}

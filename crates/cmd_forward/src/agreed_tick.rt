@@ -2,15 +2,15 @@
 
 ghost use Rattle.std.specs.Prelude.{◌≡◌, ◌++◌, IfOk, OnOk, OnErr, Err, option_map};
 ghost use Rattle.text_io.specs.Serving.{IsServed};
-ghost use Rattle.cmd_police.specs.RulesFiles.{octets_of_texts};
-ghost use Rattle.cmd_police.specs.SetupTick.{ticks_differ};
+ghost use Rattle.cmd_setups.specs.SharedTexts.{octets_of_texts};
+ghost use Rattle.cmd_setups.specs.SetupTick.{ticks_differ};
 ghost use Rattle.cmd_forward.specs.AgreedForward.{IsForwardedAsAgreed, MayBeForwardedAsAgreed};
 ghost use Rattle.cmd_forward.specs.Reporting.{HasReportedText, ReportsText};
 
 use crate::forward::forward_setup;
 use crate::others::Others;
 use captures::{Link, Tick};
-use cmd_police::{SharedText, TicksDiffer, add_ticks_differ, agreed_tick};
+use cmd_setups::{SharedText, TicksDiffer, add_ticks_differ, agreed_tick};
 use std::alloc::Global;
 use text_io::{Done, Ending, Input, Output, RunFault};
 
@@ -28,7 +28,7 @@ fn report_ticks(report: &mut Vec<u8>, ticks: TicksDiffer) -> Ending
 
 /// Forwards the cells of a capture, as [`forward_setup`] does, with the tick that the setup script names or the one
 /// that was asked for. If they differ, the report is the fault line about them, and nothing is written. `setup` is the
-/// script without its tick ([`take_tick`](cmd_police::take_tick)).
+/// script without its tick ([`take_tick`](cmd_setups::take_tick)).
 ///
 /// # Errors
 ///

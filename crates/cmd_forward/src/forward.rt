@@ -2,14 +2,15 @@
 
 ghost use Rattle.std.specs.Prelude.{◌≡◌, ◌++◌, IfOk, OnOk, OnErr, Err};
 ghost use Rattle.text_io.specs.Serving.{IsServed};
-ghost use Rattle.cmd_police.specs.RulesFiles.{octets_of_texts};
+ghost use Rattle.cmd_setups.specs.SharedTexts.{octets_of_texts};
 ghost use Rattle.cmd_forward.specs.ForwardText.{IsForwarded, IsSetupForwarded, MayBeSetupForwarded};
 ghost use Rattle.cmd_forward.specs.Reporting.{HasReportedText, IsServedWithReport, ReportsText};
 
 use crate::forwarding::forward_cells;
 use crate::others::Others;
 use captures::{Link, Tick};
-use cmd_police::{OpenedCard, SharedText, open_card, open_setup};
+use cmd_police::{OpenedCard, open_card, open_setup};
+use cmd_setups::SharedText;
 use std::alloc::Global;
 use text_io::{Done, Ending, Input, Output, RunFault};
 
@@ -68,7 +69,7 @@ pub fn forward_capture<I: Input, O: Output>(
 }
 
 /// Forwards the cells of a capture, as [`forward_capture`] does, by a setup script that may name files of rules and times. `texts` are the
-/// octets of these files, in the order of [`files_read`](cmd_police::files_read). If a text has a fault, the report is its fault line, and
+/// octets of these files, in the order of [`files_read`](cmd_setups::files_read). If a text has a fault, the report is its fault line, and
 /// where the script names it.
 ///
 /// Memory is that of [`forward_capture`], the script with the programs of its rules in hexadecimal digits, and what compiling one text of

@@ -3,18 +3,18 @@ use Rattle.std.proofs.Common.{◌≡◌, ◌⊎◌, inl, inr, ℕ, ◌+◌, List
 use Rattle.std.specs.Option.{MatchOption}
 use Rattle.bpf_code.specs.declared.instr.Instr.{Instr}
 use Rattle.text_io.specs.Lines.{Line, lines_of}
-use Rattle.cmd_rules.specs.AsmText.{whole_line}
+use Rattle.cmd_setups.specs.LineWithFeed.{line_with_feed}
 use Rattle.cmd_police.specs.FaultyRules.{HasFaultIn, HasFaultyRules, IsRulesFaultAt, rules_place}
 use Rattle.cmd_police.specs.RulesFiles.{IsFaultOfRules, IsProgramOfRules, later_texts, next_text}
-use Rattle.cmd_police.specs.RulesLines.{name_within, named_rules}
+use Rattle.cmd_setups.specs.RulesLines.{name_within, named_rules}
 use Rattle.cmd_police.specs.SetupPrograms.{HasPrograms, HasProgramsIn, load_line}
 use Rattle.cmd_police.specs.inner.Expansion.{Completes, GrowsByProgram}
-use Rattle.cmd_police.specs.inner.ScriptLine.{BeginsWithLine}
+use Rattle.cmd_setups.specs.ScriptLine.{BeginsWithLine}
 
 -- What replaces lines, the first of which has this name or none.
 abbrev pub ReplacesAt : Option (List ℕ) → Line → List Line → List (List ℕ) → List ℕ → Type 0
 ReplacesAt name line lines texts expanded = MatchOption name
-    ((rest : List ℕ) × HasProgramsIn lines texts rest × (expanded ≡ whole_line line ++ rest))
+    ((rest : List ℕ) × HasProgramsIn lines texts rest × (expanded ≡ line_with_feed line ++ rest))
     (λ name. (code : List Instr) × IsProgramOfRules (next_text texts) code
     × ((rest : List ℕ) × HasProgramsIn lines (later_texts texts) rest × (expanded ≡ load_line code ++ rest)))
 
@@ -60,8 +60,8 @@ module _ (script : List ℕ) (texts : List (List ℕ)) (made : List ℕ) (met : 
     pub kept_line : (new : List ℕ) → name_within size content ≡ None → new ≡ made ++ whole → Completes script texts new (met + 1) rest texts_left
     kept_line new named is = record {
       programs = λ more h.
-          subst (HasPrograms script texts) (sym (ap (λ (t : List ℕ). t ++ more) (is ∙ ap (λ (w : List ℕ). made ++ w) cut.octets) ∙ append_assoc made (whole_line cut.line) more))
-          (replaces None (whole_line cut.line ++ more) named (more, h, refl));
+          subst (HasPrograms script texts) (sym (ap (λ (t : List ℕ). t ++ more) (is ∙ ap (λ (w : List ℕ). made ++ w) cut.octets) ∙ append_assoc made (line_with_feed cut.line) more))
+          (replaces None (line_with_feed cut.line ++ more) named (more, h, refl));
       faults = λ text h. fails None text named h;
     }
 

@@ -8,9 +8,9 @@ use Rattle.text_io.specs.declared.ending.Done.{Done}
 use Rattle.text_io.specs.declared.ending.Done.TheVariants.{Ended}
 use Rattle.cmd_police.specs.PoliceText.{IsPoliceText, police_rules, police_start}
 use Rattle.cmd_police.specs.RuleColumn.{ShownRules}
-use Rattle.cmd_police.specs.TimedLines.{waiting_at}
+use Rattle.cmd_setups.specs.TimedLines.{waiting_at}
 use Rattle.cmd_police.specs.inner.PoliceTotal.{police-total}
-use Rattle.cmd_police.proofs.SetUpLemmas.{FaultOrCard, fault_or_card}
+use Rattle.cmd_setups.proofs.SetUpLemmas.{FaultOrCard, fault_or_card}
 
 police_some : (scope : PoliceScope) (tick : ℕ) (rules : ShownRules) (script : List ℕ) (times : List (Option ℕ)) (octets : List ℕ) → FaultOrCard script times
     → (text : List ℕ) × (done : Done) × IsPoliceText scope tick rules script times octets text done

@@ -15,7 +15,7 @@ use Rattle.leaky.specs.declared.verdict.Verdict.TheVariants.{Pass, Tag, Discard,
 use Rattle.line_record.specs.History.{NamedCell, buckets_after_cells, empty_buckets, last_moment, numbered}
 use Rattle.line_record.specs.Line.{LineView}
 use Rattle.upc_cell.specs.declared.vc.Vc.{Vc}
-use Rattle.cmd_police.specs.inner.ExcessLeft.{IsKeptOnLine, excess_left, first_met, buckets_to_explain}
+use Rattle.cmd_setups.specs.inner.ExcessLeft.{IsKeptOnLine, excess_left, first_met, buckets_to_explain}
 
 -- Lists of one length have the same numbers.
 places_same : {X Y : Type 0} (xs : List X) (ys : List Y) (place : ℕ) → length ys ≡ length xs → slice_get ys place ≡ None → slice_get xs place ≡ None

@@ -14,17 +14,17 @@ use Rattle.cmd_explain_rules.specs.RulesExplained.{IsFaultOfText}
 use Rattle.cmd_rules.specs.RuleFaults.{rule_fault}
 use Rattle.cmd_rules.specs.RulesAnswers.{most_rules_octets}
 use Rattle.text_words.specs.FaultLines.{too_long}
-use Rattle.cmd_rules.specs.AsmText.{whole_line}
+use Rattle.cmd_setups.specs.LineWithFeed.{line_with_feed}
 use Rattle.cmd_police.specs.FaultyRules.{HasFaultIn, rules_place}
 use Rattle.cmd_police.specs.LoadedRules.{shown_rules}
 use Rattle.cmd_police.specs.PreparedSetups.{HasFaultySetup, IsPreparedAs}
 use Rattle.cmd_police.specs.RulesFiles.{IsFaultOfRules, MayBeFaultOfRules, MayBeFaultOfText, TellsFault, later_texts, next_text, too_large_text}
-use Rattle.cmd_police.specs.RulesLines.{named_rules}
+use Rattle.cmd_setups.specs.RulesLines.{named_rules}
 use Rattle.cmd_police.specs.SetupLaws.{PolicesEachSetup}
 use Rattle.cmd_police.specs.SetupPrograms.{HasProgramsIn}
 use Rattle.cmd_police.specs.SetupText.{AsAgreed, MayBePolicedAsAgreed, MayBeSetupPoliced}
-use Rattle.cmd_police.specs.TimedLines.{falling_line, falling_text, line_times, without_times}
-use Rattle.cmd_police.specs.SetupTick.{agreed_tick, ticks_differ}
+use Rattle.cmd_setups.specs.TimedLines.{falling_line, falling_text, line_times, without_times}
+use Rattle.cmd_setups.specs.SetupTick.{agreed_tick, ticks_differ}
 use Rattle.cmd_police.proofs.Completing.{FailsAt, ReplacesAt}
 
 -- ---- a text of rules may have a fault
@@ -66,7 +66,7 @@ line_leads : (name : Option (List ℕ)) (met : ℕ) (line : Line) (lines : List 
 line_leads None met line lines texts named (inl on) =
     inl (on.0, subst (λ (n : Option (List ℕ)). FailsAt MayBeFaultOfRules n met lines texts on.0) (sym named) on.1)
 line_leads None met line lines texts named (inr on) =
-    inr (whole_line line ++ on.0, subst (λ (n : Option (List ℕ)). ReplacesAt n line lines texts (whole_line line ++ on.0)) (sym named) (on.0, on.1, refl))
+    inr (line_with_feed line ++ on.0, subst (λ (n : Option (List ℕ)). ReplacesAt n line lines texts (line_with_feed line ++ on.0)) (sym named) (on.0, on.1, refl))
 line_leads (Some name) met line lines texts named on =
     let fault = may_be_faulty (next_text texts) in
     let text = fault.0 ++ rules_place (met + 1) name fault.1 in

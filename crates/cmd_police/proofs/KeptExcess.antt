@@ -17,7 +17,7 @@ use Rattle.leaky.specs.declared.verdict.Verdict.TheVariants.{Pass, Tag, Discard,
 use Rattle.line_record.specs.History.{NamedCell, arrival_of, arrivals_at, buckets_after_cells, buckets_under, empty_buckets, last_moment, named_verdict, numbered}
 use Rattle.upc_cell.specs.declared.vc.Vc.{Vc}
 use Rattle.cmd_police.specs.PoliceLines.{next_excess}
-use Rattle.cmd_police.specs.inner.ExcessLeft.{JudgesNext, excess_left, buckets_to_explain}
+use Rattle.cmd_setups.specs.inner.ExcessLeft.{JudgesNext, excess_left, buckets_to_explain}
 
 -- Buckets after one more cell.
 

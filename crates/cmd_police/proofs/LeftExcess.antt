@@ -11,7 +11,7 @@ use Rattle.line_record.specs.History.{NamedCell, last_moment}
 use Rattle.line_record.specs.Line.{LineView}
 use Rattle.upc_cell.specs.declared.vc.Vc.{Vc}
 use Rattle.cmd_police.specs.PoliceLines.{next_excess}
-use Rattle.cmd_police.specs.inner.ExcessLeft.{IsKeptOnLine, JudgesNext, excess_left}
+use Rattle.cmd_setups.specs.inner.ExcessLeft.{IsKeptOnLine, JudgesNext, excess_left}
 use Rattle.cmd_police.proofs.ExcessLemmas.{last_then, line_keeps}
 use Rattle.cmd_police.proofs.KeptExcess.{refused_next}
 

@@ -14,7 +14,7 @@ use Rattle.upc_cell.specs.declared.vc.Vc.{Vc}
 use Rattle.cmd_police.specs.PoliceLines.{cell_columns, excess_of_answer, has_line, verdict_heading}
 use Rattle.cmd_police.specs.RuleColumn.{ShownRules, line_end}
 use Rattle.cmd_run.specs.ShownCard.{Held}
-use Rattle.cmd_police.specs.inner.ExcessLeft.{LeavesConnection}
+use Rattle.cmd_setups.specs.inner.ExcessLeft.{LeavesConnection}
 use Rattle.cmd_police.specs.inner.PoliceShown.{AddsCell, headed_line}
 
 or_true : (b : Bool) → true ≡ (b || true)

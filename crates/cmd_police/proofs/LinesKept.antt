@@ -8,7 +8,7 @@ use Rattle.hex.specs.Hex.{encode_lower, encode_with, lower_digits}
 use Rattle.text_io.specs.Lines.{Line, begun_with, lines_of, line_content, without_return}
 use Rattle.cmd_rules.proofs.CommentsPut.{AllFree, AreCut, cut}
 use Rattle.cmd_police.specs.RulesFiles.{IsProgramOfRules, later_texts, next_text}
-use Rattle.cmd_police.specs.RulesLines.{named_rules}
+use Rattle.cmd_setups.specs.RulesLines.{named_rules}
 use Rattle.cmd_police.specs.SetupLaws.{AreReplaced, ProgramsKeepLines}
 use Rattle.cmd_police.specs.SetupPrograms.{HasProgramsIn, load_command, load_line}
 use Rattle.cmd_police.proofs.Completing.{ReplacesAt}

@@ -18,30 +18,31 @@ use Rattle.text_io.specs.Words.{is_filled}
 use Rattle.upc_cell.specs.declared.side.Side.{Side}
 use Rattle.upc_cell.specs.declared.vc.Vc.{Vc}
 use Rattle.cmd_run.specs.RunText.{IsLed}
-use Rattle.cmd_police.specs.CommandsUnderTraffic.{CarriesOutWaiting, waiting_comment}
-use Rattle.cmd_police.specs.ConnectionCounts.{counts_heading, counts_lines}
-use Rattle.cmd_police.specs.NotJudgedCells.{not_judged_after, not_judged_lines}
+use Rattle.cmd_setups.specs.CommandsUnderTraffic.{CarriesOutWaiting, waiting_comment}
+use Rattle.cmd_setups.specs.ConnectionCounts.{counts_heading, counts_lines}
+use Rattle.cmd_setups.specs.NotJudgedCells.{not_judged_after, not_judged_lines}
 use Rattle.cmd_police.specs.PoliceLines.{excess_of_answer, has_line}
 use Rattle.cmd_police.specs.RuleColumn.{ShownRules}
 use Rattle.cmd_police.specs.StoredRules.{shown_stored}
-use Rattle.cmd_police.specs.RunComments.{run_comments}
-use Rattle.cmd_police.specs.PoliceText.{CarriesOutDue, PoliceWorld, PolicesArrived, after_cell, policed_text, connection_of_cell, has_lines_before, police_closes, police_gap, police_rules}
-use Rattle.cmd_police.specs.SpanCounts.{SpansWorld, ended_text, is_begun_after, present_text, spans_after, spans_at}
-use Rattle.cmd_police.specs.declared.not_judged.NotJudged.{NotJudged}
+use Rattle.cmd_setups.specs.RunComments.{run_comments}
+use Rattle.cmd_police.specs.PoliceText.{CarriesOutDue, PoliceWorld, PolicesArrived, after_cell, policed_text, has_lines_before, police_closes, police_gap, police_rules}
+use Rattle.cmd_setups.specs.CellsTaken.{connection_of_cell}
+use Rattle.cmd_setups.specs.SpanCounts.{SpansWorld, ended_text, is_begun_after, present_text, spans_after, spans_at}
+use Rattle.cmd_setups.specs.declared.not_judged.NotJudged.{NotJudged}
 use Rattle.cmd_police.specs.declared.police.PoliceRun.{PoliceRun}
-use Rattle.cmd_police.specs.TimedLines.{WaitingCommand}
-use Rattle.cmd_police.specs.declared.timed_card.TimedCard.{TimedCard}
-use Rattle.cmd_police.specs.inner.CardArrival.{ArrivesWithRoom}
-use Rattle.cmd_police.specs.inner.CommandsShown.{CarriesShown, CarriesTo}
-use Rattle.cmd_police.specs.StoredCommands.{waiting_in}
-use Rattle.cmd_police.specs.inner.ExcessLeft.{LeavesConnection}
-use Rattle.cmd_police.proofs.StartLemmas.{room_starts}
-use Rattle.cmd_police.proofs.CommandLemmas.{room_names}
-use Rattle.cmd_police.proofs.LeftLemmas.{room_leaves}
-use Rattle.cmd_police.specs.declared.spans.Spans.{Spans}
+use Rattle.cmd_setups.specs.TimedLines.{WaitingCommand}
+use Rattle.cmd_setups.specs.declared.timed_card.TimedCard.{TimedCard}
+use Rattle.cmd_setups.specs.CardArrival.{ArrivesWithRoom}
+use Rattle.cmd_setups.specs.CommandsShown.{CarriesShown, CarriesTo}
+use Rattle.cmd_setups.specs.StoredCommands.{waiting_in}
+use Rattle.cmd_setups.specs.inner.ExcessLeft.{LeavesConnection}
+use Rattle.cmd_setups.proofs.StartLemmas.{room_starts}
+use Rattle.cmd_setups.proofs.CommandLemmas.{room_names}
+use Rattle.cmd_setups.proofs.LeftLemmas.{room_leaves}
+use Rattle.cmd_setups.specs.declared.spans.Spans.{Spans}
 use Rattle.cmd_police.specs.inner.PoliceShown.{AddsCell, ShowsPolice, headed_line, lined}
-use Rattle.cmd_police.specs.inner.SpansShown.{ShowsSpans, own_begun_after, own_ended_text, own_text}
-use Rattle.cmd_police.proofs.SpanLemmas.{begun_same, ended_same, text_same}
+use Rattle.cmd_setups.specs.SpansShown.{ShowsSpans, own_begun_after, own_ended_text, own_text}
+use Rattle.cmd_setups.proofs.SpanLemmas.{begun_same, ended_same, text_same}
 
 -- The spans go on to this moment, with the text about the one that ends.
 pub record SpansGoOn (before : Spans) (moment : ℕ) (after : Spans) (old new : List ℕ) : Type 0 where

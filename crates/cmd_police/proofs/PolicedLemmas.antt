@@ -10,22 +10,22 @@ use Rattle.captures_text.specs.declared.captured_cell.CapturedCell.{CapturedCell
 use Rattle.captures_text.specs.declared.reading_summary.ReadingSummary.{ReadingSummary}
 use Rattle.leaky.specs.declared.verdict.Verdict.{Verdict}
 use Rattle.cmd_run.specs.RunText.{IsLed}
-use Rattle.cmd_police.specs.CommandsUnderTraffic.{CarriesOutWaiting, waiting_comment}
-use Rattle.cmd_police.specs.ConnectionCounts.{counts_heading, counts_lines}
-use Rattle.cmd_police.specs.NotJudgedCells.{not_judged_after, not_judged_lines}
-use Rattle.cmd_police.specs.RunComments.{run_comments}
+use Rattle.cmd_setups.specs.CommandsUnderTraffic.{CarriesOutWaiting, waiting_comment}
+use Rattle.cmd_setups.specs.ConnectionCounts.{counts_heading, counts_lines}
+use Rattle.cmd_setups.specs.NotJudgedCells.{not_judged_after, not_judged_lines}
+use Rattle.cmd_setups.specs.RunComments.{run_comments}
 use Rattle.cmd_police.specs.PolicedCards.{PolicedWorld, PolicesOneCell, ShowsPoliced, policed_report}
-use Rattle.cmd_police.specs.PoliceLines.{verdict_given}
+use Rattle.cmd_setups.specs.Columns.{verdict_given}
 use Rattle.cmd_police.specs.PoliceText.{police_gap}
-use Rattle.cmd_police.specs.TimedLines.{WaitingCommand}
-use Rattle.cmd_police.specs.declared.not_judged.NotJudged.{NotJudged}
+use Rattle.cmd_setups.specs.TimedLines.{WaitingCommand}
+use Rattle.cmd_setups.specs.declared.not_judged.NotJudged.{NotJudged}
 use Rattle.cmd_police.specs.declared.policed_card.PolicedCard.{PolicedCard}
-use Rattle.cmd_police.specs.declared.timed_card.TimedCard.{TimedCard}
-use Rattle.cmd_police.specs.inner.CardArrival.{ArrivesWithRoom}
-use Rattle.cmd_police.specs.inner.CommandsShown.{CarriesShown}
-use Rattle.cmd_police.proofs.StartLemmas.{room_starts}
-use Rattle.cmd_police.proofs.CommandLemmas.{room_names}
-use Rattle.cmd_police.specs.StoredCommands.{waiting_in}
+use Rattle.cmd_setups.specs.declared.timed_card.TimedCard.{TimedCard}
+use Rattle.cmd_setups.specs.CardArrival.{ArrivesWithRoom}
+use Rattle.cmd_setups.specs.CommandsShown.{CarriesShown}
+use Rattle.cmd_setups.proofs.StartLemmas.{room_starts}
+use Rattle.cmd_setups.proofs.CommandLemmas.{room_names}
+use Rattle.cmd_setups.specs.StoredCommands.{waiting_in}
 
 -- The stored card after a cell.
 abbrev policed_after : PolicedCard → TimedCard → CoreView → Vec ℕ → NotJudged → PolicedCard

@@ -7,7 +7,7 @@ use Rattle.cmd_police.specs.PolicedCards.{OpensPolicedCard, OpensSetup}
 use Rattle.cmd_police.specs.PreparedSetups.{IsPreparedAs}
 use Rattle.cmd_police.specs.RuleColumn.{ShownRules}
 use Rattle.cmd_police.specs.SetupText.{IsSetupPolicedBy}
-use Rattle.cmd_police.specs.TimedLines.{line_times, without_times}
+use Rattle.cmd_setups.specs.TimedLines.{line_times, without_times}
 use Rattle.cmd_police.specs.declared.policed_card.OpenedCard.{OpenedCard}
 use Rattle.cmd_police.specs.declared.policed_card.OpenedCard.TheVariants.{Faulty, Ready}
 use Rattle.cmd_police.specs.declared.preparing.ReadySetup.{ReadySetup}

@@ -14,8 +14,8 @@ use Rattle.line_record.specs.declared.tally.Tally.{Tally}
 use Rattle.upc_cell.specs.Connection.{is_same_vc}
 use Rattle.upc_cell.specs.declared.vc.Vc.{Vc}
 use Rattle.upc_cell.proofs.Public.{vc_is, vc_itself, vc_same}
-use Rattle.cmd_police.specs.OrderNumber.{order_number}
-use Rattle.cmd_police.specs.SpanCounts.{JudgedCell, counts_of_row, one_more_judged, span_rows, with_judged}
+use Rattle.cmd_setups.specs.OrderNumber.{order_number}
+use Rattle.cmd_setups.specs.SpanCounts.{JudgedCell, counts_of_row, one_more_judged, span_rows, with_judged}
 use Rattle.cmd_police.specs.SpanLaws.{RowsCountCells, in_a_word, in_words, row_of, verdicts_of}
 
 -- Numbers in order.

@@ -11,15 +11,16 @@ use Rattle.line_record.specs.Tally.{count_of, counted, tally_of}
 use Rattle.upc_cell.specs.Connection.{is_same_vc}
 use Rattle.upc_cell.specs.declared.vc.Vc.{Vc}
 use Rattle.cmd_run.specs.RunText.{Card, IsLed}
-use Rattle.cmd_police.specs.PoliceLines.{verdict_given}
-use Rattle.cmd_police.specs.CommandsUnderTraffic.{CarriesOutWaiting}
-use Rattle.cmd_police.specs.PoliceText.{CarriesOutDue, PoliceWorld, PolicesArrived, after_cell, connection_of_cell, police_rules, police_start}
-use Rattle.cmd_police.specs.TimedLines.{WaitingCommand}
+use Rattle.cmd_setups.specs.Columns.{verdict_given}
+use Rattle.cmd_setups.specs.CommandsUnderTraffic.{CarriesOutWaiting}
+use Rattle.cmd_police.specs.PoliceText.{CarriesOutDue, PoliceWorld, PolicesArrived, after_cell, police_rules, police_start}
+use Rattle.cmd_setups.specs.CellsTaken.{connection_of_cell}
+use Rattle.cmd_setups.specs.TimedLines.{WaitingCommand}
 use Rattle.text_io.specs.Words.{is_filled}
-use Rattle.cmd_police.specs.SpanCounts.{JudgedCell, SpansWorld, span_begin, ends_span, judged_after, next_span, spans_after, spans_at, ticks_of_span}
+use Rattle.cmd_setups.specs.SpanCounts.{JudgedCell, SpansWorld, span_begin, ends_span, judged_after, next_span, spans_after, spans_at, ticks_of_span}
 use Rattle.cmd_police.specs.SpanLaws.{SpansAddUp, all_spans, count_in_spans, verdicts_of}
 use Rattle.cmd_police.specs.inner.PoliceTotal.{room_led}
-use Rattle.cmd_police.proofs.CountGains.{count_nothing, count_more, added, added_none, own_count, room_gains}
+use Rattle.cmd_setups.proofs.CountGains.{count_nothing, count_more, added, added_none, own_count, room_gains}
 
 no_cells : (vc : Vc) (verdict : Verdict) → count_of (tally_of (verdicts_of vc [])) verdict ≡ 0
 no_cells vc verdict = count_nothing verdict

@@ -2,8 +2,8 @@
 use Rattle.std.proofs.Common.{◌≡◌, ℕ, ◌==◌, Bool, true, false, if◌then◌else◌, List, [], ◌∷◌, ◌++◌, codes, Option, Some, None, refl, sym, ap, subst, ◌∙◌}
 use Rattle.std.proofs.lemmas.Bool.{eqb-true}
 use Rattle.text_io.specs.Lines.{Line, begun_with, lines_of, line_content}
-use Rattle.cmd_rules.specs.AsmText.{whole_line}
-use Rattle.cmd_police.specs.RulesLines.{named_rules, names_in, rules_names, with_rules_name}
+use Rattle.cmd_setups.specs.LineWithFeed.{line_with_feed}
+use Rattle.cmd_setups.specs.RulesLines.{named_rules, names_in, rules_names, with_rules_name}
 use Rattle.cmd_police.specs.SetupLaws.{ScriptsWithoutRulesStay}
 use Rattle.cmd_police.specs.SetupPrograms.{HasPrograms, HasProgramsIn}
 use Rattle.cmd_police.proofs.Completing.{ReplacesAt}
@@ -11,7 +11,7 @@ use Rattle.cmd_police.proofs.Completing.{ReplacesAt}
 -- The octets of lines.
 abbrev all_whole : List Line → List ℕ
 all_whole [] = []
-all_whole (line ∷ lines) = whole_line line ++ all_whole lines
+all_whole (line ∷ lines) = line_with_feed line ++ all_whole lines
 
 -- ---- the octets of the lines of a text are those of the text
 
@@ -44,7 +44,7 @@ stays : (lines : List Line) (texts : List (List ℕ)) → names_in lines ≡ [] 
 stays [] texts none = refl
 stays (line ∷ lines) texts none =
     let both = no_name (named_rules line) (names_in lines) none in
-    subst (λ (n : Option (List ℕ)). ReplacesAt n line lines texts (whole_line line ++ all_whole lines)) (sym both.0)
+    subst (λ (n : Option (List ℕ)). ReplacesAt n line lines texts (line_with_feed line ++ all_whole lines)) (sym both.0)
     (all_whole lines, stays lines texts both.1, refl)
 
 stays_alone : (lines : List Line) (texts : List (List ℕ)) (expanded : List ℕ) → names_in lines ≡ [] → HasProgramsIn lines texts expanded → expanded ≡ all_whole lines
@@ -52,7 +52,7 @@ stays_alone [] texts expanded none is = is
 stays_alone (line ∷ lines) texts expanded none is =
     let both = no_name (named_rules line) (names_in lines) none in
     let here = subst (λ (n : Option (List ℕ)). ReplacesAt n line lines texts expanded) both.0 is in
-    here.2 ∙ ap (λ (t : List ℕ). whole_line line ++ t) (stays_alone lines texts here.0 both.1 here.1)
+    here.2 ∙ ap (λ (t : List ℕ). line_with_feed line ++ t) (stays_alone lines texts here.0 both.1 here.1)
 
 pub stays_itself : (script : List ℕ) (texts : List (List ℕ)) → rules_names script ≡ [] → HasPrograms script texts script
 stays_itself script texts none = subst (HasPrograms script texts) (whole_text script) (stays (lines_of script) texts none)

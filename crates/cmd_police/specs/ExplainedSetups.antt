@@ -2,16 +2,16 @@
 -- without one, the hints and a line that says so. And the hints as comments.
 use Rattle.std.specs.Prelude.{◌≡◌, ◌⊎◌, ℕ, Bool, eqb, if◌then◌else◌, List, [], ◌∷◌, ◌++◌, codes, Option}
 use Rattle.std.specs.List.{starts_with}
-use Rattle.cmd_rules.specs.AsmText.{whole_line}
+use Rattle.cmd_setups.specs.LineWithFeed.{line_with_feed}
 use Rattle.cmd_explain_script.specs.ScriptText.{IsScriptExplained}
 use Rattle.text_io.specs.Devices.{IsPart}
 use Rattle.text_io.specs.Lines.{Line, lines_of, line_content}
 use Rattle.text_io.specs.declared.ending.Done.{Done}
 use Rattle.text_io.specs.declared.ending.Done.TheVariants.{Ended, Whole}
-use Rattle.cmd_police.specs.PoliceText.{IsFaultAtTimes}
+use Rattle.cmd_setups.specs.SetUpScripts.{IsFaultAtTimes}
 use Rattle.cmd_police.specs.PreparedSetups.{HasFaultySetup, IsPreparedAs}
 use Rattle.cmd_police.specs.RulesFiles.{IsFaultOfRules}
-use Rattle.cmd_police.specs.TimedLines.{line_times, octets_before_times}
+use Rattle.cmd_setups.specs.TimedLines.{line_times, octets_before_times}
 
 -- The explanation of a script whose lines have these times, and how it ends: its fault, or that of its lines before the
 -- first time, and Ended; or without a fault its hints, and Whole.
@@ -42,7 +42,7 @@ comment_of_hint content octets = if is_hint_line content then codes "# " ++ octe
 -- The hints among these lines as comments, in order.
 abbrev pub comments_of_hints : List Line → List ℕ
 comments_of_hints [] = []
-comments_of_hints (line ∷ lines) = comment_of_hint (line_content line) (whole_line line) ++ comments_of_hints lines
+comments_of_hints (line ∷ lines) = comment_of_hint (line_content line) (line_with_feed line) ++ comments_of_hints lines
 
 -- The same for an explanation, if it is one without a fault. That of a fault is printed, with its hints.
 abbrev pub comments_of_explanation : List ℕ → Done → List ℕ

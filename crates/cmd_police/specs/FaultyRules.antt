@@ -4,7 +4,7 @@ use Rattle.bpf_code.specs.declared.instr.Instr.{Instr}
 use Rattle.text_io.specs.Lines.{Line, lines_of}
 use Rattle.cmd_explain_script.specs.Places.{place_words, quoted}
 use Rattle.cmd_police.specs.RulesFiles.{IsProgramOfRules, later_texts, next_text}
-use Rattle.cmd_police.specs.RulesLines.{named_rules}
+use Rattle.cmd_setups.specs.RulesLines.{named_rules}
 
 -- The line that says which line of the script names the rules, and what is wrong in them.
 abbrev pub rules_place : ℕ → List ℕ → List ℕ → List ℕ

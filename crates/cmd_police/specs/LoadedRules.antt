@@ -5,10 +5,10 @@ use Rattle.rules_text.specs.TextOfRules.{PlacedRulesRead, placed_rules_in}
 use Rattle.rules_text.specs.declared.fault.RuleFault.{RuleFault}
 use Rattle.text_io.specs.Lines.{Line, line_content, lines_of}
 use Rattle.text_io.specs.Words.{words_of}
-use Rattle.cmd_police.specs.FileNames.{escaped_name}
+use Rattle.cmd_setups.specs.FileNames.{escaped_name}
 use Rattle.cmd_police.specs.RuleColumn.{NamedRules, ShownRules}
 use Rattle.cmd_police.specs.RulesFiles.{later_texts, next_text}
-use Rattle.cmd_police.specs.RulesLines.{named_rules}
+use Rattle.cmd_setups.specs.RulesLines.{named_rules}
 
 -- Whether the first of these words is `load`.
 abbrev pub begins_load : List (List ℕ) → Bool

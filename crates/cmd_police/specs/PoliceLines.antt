@@ -1,6 +1,6 @@
 -- The lines of `police` about cells: the number of the record, the moment, the connection, the cell loss priority, the
 -- value that the program gave, the verdict, and by how much the cell comes too early for which bucket.
-use Rattle.std.specs.Prelude.{ℕ, nat_lt, Bool, true, false, if◌then◌else◌, List, [], ◌∷◌, ◌++◌, codes, decimal, Option, Some, None, option_and_then}
+use Rattle.std.specs.Prelude.{ℕ, nat_lt, Bool, true, false, if◌then◌else◌, List, ◌++◌, codes, decimal, Option, Some, None, option_and_then}
 use Rattle.card_core.specs.World.{Connection, World, connection_in}
 use Rattle.card_core.specs.declared.answer.Answer.{Answer}
 use Rattle.card_core.specs.declared.answer.Answer.TheVariants as answer
@@ -15,10 +15,7 @@ use Rattle.upc_cell.specs.declared.side.Side.{Side}
 use Rattle.upc_cell.specs.declared.vc.Vc.{Vc}
 use Rattle.text_script.specs.ReplyTexts.{channel_name}
 use Rattle.cmd_police.specs.RuleColumn.{ShownRules, heading_end}
-
--- A column, with the tab after it.
-abbrev pub in_column : List ℕ → List ℕ
-in_column text = text ++ 9 ∷ []
+use Rattle.cmd_setups.specs.Columns.{in_column}
 
 -- The heading of the lines about cells.
 abbrev pub verdict_heading : ShownRules → List ℕ
@@ -73,11 +70,6 @@ abbrev pub cell_columns : Side → ℕ → ℕ → Vc → Bool → Answer → Op
 cell_columns side number moment vc clp given excess =
     in_column (decimal number) ++ (in_column (decimal moment) ++ (in_column (decimal vc.vpi) ++ (in_column (channel_name side vc.vci)
     ++ (in_column (decimal (priority_digit clp)) ++ answer_columns given excess))))
-
--- The verdict in an answer. A cell that isn't judged has none.
-abbrev pub verdict_given : Answer → Option Verdict
-verdict_given (answer.Judged line number moment value program verdict leaving) = Some verdict
-verdict_given _ = None
 
 -- Whether the cell passes.
 abbrev pub is_pass_answer : Answer → Bool

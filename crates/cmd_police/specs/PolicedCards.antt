@@ -9,20 +9,22 @@ use Rattle.leaky.specs.declared.verdict.Verdict.{Verdict}
 use Rattle.text_io.specs.Lines.{lines_of}
 use Rattle.text_io.specs.Words.{is_filled}
 use Rattle.cmd_run.specs.RunText.{Card, IsLed}
-use Rattle.cmd_police.specs.CommandsUnderTraffic.{CarriesOutWaiting, waiting_comment}
-use Rattle.cmd_police.specs.ConnectionCounts.{counts_heading, counts_lines}
-use Rattle.cmd_police.specs.NotJudgedCells.{all_judged, not_judged_after, not_judged_lines}
-use Rattle.cmd_police.specs.PoliceLines.{verdict_given}
-use Rattle.cmd_police.specs.PoliceText.{IsFaultAtTimes, IsSetUpAtTimes, TakesCellWithRoom, police_gap}
+use Rattle.cmd_setups.specs.CommandsUnderTraffic.{CarriesOutWaiting, waiting_comment}
+use Rattle.cmd_setups.specs.ConnectionCounts.{counts_heading, counts_lines}
+use Rattle.cmd_setups.specs.NotJudgedCells.{all_judged, not_judged_after, not_judged_lines}
+use Rattle.cmd_setups.specs.Columns.{verdict_given}
+use Rattle.cmd_setups.specs.SetUpScripts.{IsFaultAtTimes, IsSetUpAtTimes}
+use Rattle.cmd_setups.specs.CellsTaken.{TakesCellWithRoom}
+use Rattle.cmd_police.specs.PoliceText.{police_gap}
 use Rattle.cmd_police.specs.PreparedSetups.{HasFaultySetup, IsPreparedAs}
 use Rattle.cmd_police.specs.RulesFiles.{IsFaultOfRules}
-use Rattle.cmd_police.specs.RunComments.{run_comments}
-use Rattle.cmd_police.specs.TimedLines.{WaitingCommand, line_times, waiting_at}
-use Rattle.cmd_police.specs.declared.not_judged.NotJudged.{NotJudged}
+use Rattle.cmd_setups.specs.RunComments.{run_comments}
+use Rattle.cmd_setups.specs.TimedLines.{WaitingCommand, line_times, waiting_at}
+use Rattle.cmd_setups.specs.declared.not_judged.NotJudged.{NotJudged}
 use Rattle.cmd_police.specs.declared.policed_card.OpenedCard.{OpenedCard}
 use Rattle.cmd_police.specs.declared.policed_card.OpenedCard.TheVariants.{Faulty, Ready}
 use Rattle.cmd_police.specs.declared.policed_card.PolicedCard.{PolicedCard}
-use Rattle.cmd_police.specs.StoredCommands.{ShowsTimed}
+use Rattle.cmd_setups.specs.StoredCommands.{ShowsTimed}
 
 -- The state: the card, the commands that wait, the lines of those that were carried out, the nanoseconds of a tick, and
 -- the cells that were not judged.

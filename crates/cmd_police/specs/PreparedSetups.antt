@@ -2,7 +2,7 @@
 use Rattle.std.specs.Prelude.{◌≡◌, ◌⊎◌, ℕ, List, Some, None}
 use Rattle.cmd_police.specs.FaultyRules.{HasFaultyRules}
 use Rattle.cmd_police.specs.SetupPrograms.{HasPrograms}
-use Rattle.cmd_police.specs.TimedLines.{falling_line, falling_text, without_times}
+use Rattle.cmd_setups.specs.TimedLines.{falling_line, falling_text, without_times}
 
 -- The text names the line of a setup script whose time falls; or no time falls, and the text is about the first rules with a fault.
 -- `IsFault` says which lines are the fault line of a text of rules and its explanation.

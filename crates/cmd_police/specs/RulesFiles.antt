@@ -1,5 +1,5 @@
 -- What the text of a file of rules leads to: a program, or a fault line.
-use Rattle.std.specs.Prelude.{◌≡◌, ◌⊎◌, ℕ, List, [], ◌∷◌, codes, map, Option, Some, MatchOption, Ok}
+use Rattle.std.specs.Prelude.{◌≡◌, ◌⊎◌, ℕ, List, [], ◌∷◌, codes, Option, Some, MatchOption, Ok}
 use Rattle.bpf_code.specs.Encoding.{code_octets}
 use Rattle.bpf_code.specs.OctetSpelling.{SpellsCode}
 use Rattle.bpf_code.specs.declared.instr.Instr.{Instr}
@@ -17,7 +17,6 @@ use Rattle.rules_text.specs.declared.fault.RuleFaultKind.TheVariants.{TooLong}
 use Rattle.text_io.specs.Gathered.{gathered}
 use Rattle.text_words.specs.FaultLines.{too_long}
 use Rattle.text_words.specs.Hexadecimal.{octets_of_digits}
-use Rattle.cmd_police.specs.declared.shared_text.SharedText.{SharedText}
 
 -- The octets of a code in lower case hexadecimal digits, as `upc-lab rules` prints them.
 abbrev pub program_digits : List Instr → List ℕ
@@ -59,14 +58,6 @@ MayBeFaultOfText text fault =
 -- The same as `IsFaultOfRules`, but that the code of any rules may be reported as too long.
 abbrev pub MayBeFaultOfRules : List ℕ → List ℕ → List ℕ → Type 0
 MayBeFaultOfRules text line reason = TellsFault MayBeFaultOfText (gathered most_rules_octets text) line reason
-
--- The octets of a text.
-abbrev pub octets_of_text : SharedText → List ℕ
-octets_of_text text = text.octets.value.items
-
--- The octets of each text.
-abbrev pub octets_of_texts : List SharedText → List (List ℕ)
-octets_of_texts texts = map octets_of_text texts
 
 -- The first of the texts that are left; a text that is missing counts as empty.
 abbrev pub next_text : List (List ℕ) → List ℕ

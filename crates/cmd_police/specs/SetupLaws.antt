@@ -11,7 +11,7 @@ use Rattle.cmd_programs.specs.Program.{ProgramReading, ReadsAs, is_program}
 use Rattle.text_script.specs.ScriptCommands.{command_of, load}
 use Rattle.text_words.specs.Hexadecimal.{octets_of_digits}
 use Rattle.cmd_police.specs.RulesFiles.{IsProgramOfRules, later_texts, next_text, program_digits}
-use Rattle.cmd_police.specs.RulesLines.{named_rules, rules_names}
+use Rattle.cmd_setups.specs.RulesLines.{named_rules, rules_names}
 use Rattle.cmd_police.specs.SetupPrograms.{HasPrograms, load_command}
 use Rattle.cmd_police.specs.SetupText.{MayBeSetupPoliced}
 

@@ -2,10 +2,10 @@
 use Rattle.std.specs.Prelude.{◌≡◌, ℕ, List, [], ◌∷◌, ◌++◌, codes, MatchOption}
 use Rattle.bpf_code.specs.declared.instr.Instr.{Instr}
 use Rattle.text_io.specs.Lines.{Line, lines_of, line_content}
-use Rattle.cmd_rules.specs.AsmText.{whole_line}
+use Rattle.cmd_setups.specs.LineWithFeed.{line_with_feed}
 use Rattle.text_words.specs.FaultLines.{line as ended_by_feed}
 use Rattle.cmd_police.specs.RulesFiles.{IsProgramOfRules, later_texts, next_text, program_digits}
-use Rattle.cmd_police.specs.RulesLines.{named_rules}
+use Rattle.cmd_setups.specs.RulesLines.{named_rules}
 
 -- The command that loads a code.
 abbrev pub load_command : List Instr → List ℕ
@@ -20,7 +20,7 @@ load_line code = ended_by_feed (load_command code)
 abbrev pub HasProgramsIn : List Line → List (List ℕ) → List ℕ → Type 0
 HasProgramsIn [] texts expanded = expanded ≡ []
 HasProgramsIn (line ∷ lines) texts expanded = MatchOption (named_rules line)
-    ((rest : List ℕ) × HasProgramsIn lines texts rest × (expanded ≡ whole_line line ++ rest))
+    ((rest : List ℕ) × HasProgramsIn lines texts rest × (expanded ≡ line_with_feed line ++ rest))
     (λ name. (code : List Instr) × IsProgramOfRules (next_text texts) code
     × ((rest : List ℕ) × HasProgramsIn lines (later_texts texts) rest × (expanded ≡ load_line code ++ rest)))
 

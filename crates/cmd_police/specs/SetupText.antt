@@ -8,8 +8,8 @@ use Rattle.text_io.specs.declared.ending.Done.TheVariants.{Ended}
 use Rattle.cmd_police.specs.LoadedRules.{shown_rules}
 use Rattle.cmd_police.specs.PreparedSetups.{HasFaultySetup, IsPreparedAs}
 use Rattle.cmd_police.specs.RulesFiles.{IsFaultOfRules, MayBeFaultOfRules}
-use Rattle.cmd_police.specs.SetupTick.{agreed_tick, ticks_differ}
-use Rattle.cmd_police.specs.TimedLines.{line_times, without_times}
+use Rattle.cmd_setups.specs.SetupTick.{agreed_tick, ticks_differ}
+use Rattle.cmd_setups.specs.TimedLines.{line_times, without_times}
 
 -- The text for a setup script, the texts of its files of rules and a whole capture, and how the run ends. If the setup has a fault, the
 -- text is about it, and nothing is policed. `IsFault` says which lines are the fault line of a text of rules and its explanation.

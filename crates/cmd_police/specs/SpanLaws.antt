@@ -12,11 +12,11 @@ use Rattle.line_record.specs.declared.tally.Tally.{Tally}
 use Rattle.upc_cell.specs.Connection.{is_same_vc}
 use Rattle.upc_cell.specs.declared.vc.Vc.{Vc}
 use Rattle.cmd_run.specs.RunText.{Card, IsLed}
-use Rattle.cmd_police.specs.ConnectionCounts.{own_counts}
-use Rattle.cmd_police.specs.OrderNumber.{order_number}
+use Rattle.cmd_setups.specs.ConnectionCounts.{own_counts}
+use Rattle.cmd_setups.specs.OrderNumber.{order_number}
 use Rattle.cmd_police.specs.PoliceText.{PoliceWorld, police_rules, police_start}
 use Rattle.cmd_police.specs.RuleColumn.{ShownRules}
-use Rattle.cmd_police.specs.SpanCounts.{JudgedCell, SpansWorld, TimeSpan, span_rows}
+use Rattle.cmd_setups.specs.SpanCounts.{JudgedCell, SpansWorld, TimeSpan, span_rows}
 use Rattle.cmd_police.specs.declared.scope.PoliceScope.{PoliceScope}
 
 -- The verdicts on the cells of this connection among these.

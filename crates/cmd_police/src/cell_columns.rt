@@ -4,7 +4,8 @@ ghost use Rattle.std.specs.Prelude.{◌≡◌, ◌+◌, ◌≤◌, ◌++◌, ℕ
 ghost use Rattle.card_core.specs.Sections.{answer_to, unjudged_answer};
 ghost use Rattle.leaky.specs.Excess.{bucket_number};
 ghost use Rattle.text_script.specs.ReplyTexts.{channel_name};
-ghost use Rattle.cmd_police.specs.PoliceLines.{answer_columns, cell_columns, excess_columns, in_column, priority_digit, verdict_word};
+ghost use Rattle.cmd_police.specs.PoliceLines.{answer_columns, cell_columns, excess_columns, priority_digit, verdict_word};
+ghost use Rattle.cmd_setups.specs.Columns.{in_column};
 
 use card_core::{Judgement, Unjudged};
 use leaky::{Excess, Verdict, WhichBucket};

@@ -2,14 +2,13 @@
 
 ghost use Rattle.std.specs.Prelude.{◌≡◌, ◌++◌, IfOk, OnOk};
 ghost use Rattle.cmd_police.specs.FaultyRules.{rules_place};
-ghost use Rattle.cmd_police.specs.RulesFiles.{later_texts, next_text, octets_of_texts};
+ghost use Rattle.cmd_police.specs.RulesFiles.{later_texts, next_text};
+ghost use Rattle.cmd_setups.specs.SharedTexts.{octets_of_texts};
 ghost use Rattle.cmd_police.specs.inner.Expansion.{ExpandsTo};
 
 use crate::compiling::{ToldFault, add_program_of};
-use crate::rules_lines::{has_rules, name_within};
-use crate::script_lines::next_line;
-use crate::shared_text::SharedText;
 use cmd_explain_script::{add_place, add_quoted};
+use cmd_setups::{SharedText, has_rules, name_within, next_line};
 use std::alloc::{AllocError, Global};
 use text_io::Added;
 use text_words::add_text;

@@ -5,13 +5,10 @@ ghost use Rattle.text_io.specs.Devices.{Adds};
 ghost use Rattle.text_io.specs.Failures.{write_failures};
 ghost use Rattle.text_io.specs.Lines.{lines_of};
 ghost use Rattle.cmd_police.specs.ExplainedSetups.{AreHintsOfSetup, IsExplainedAtTimes, IsExplainedInPart, IsSetupExplained, comment_of_hint, comments_of_hints};
-ghost use Rattle.cmd_police.specs.RulesFiles.{octets_of_texts};
+ghost use Rattle.cmd_setups.specs.SharedTexts.{octets_of_texts};
 
 use crate::preparing::{Prepared, prepare_setup};
-use crate::script_lines::next_line;
-use crate::setting_up::{Explanation, explanation_of};
-use crate::shared_text::SharedText;
-use crate::stored_commands::before_times;
+use cmd_setups::{Explanation, SharedText, before_times, explanation_of, next_line};
 use std::alloc::{AllocError, Global};
 use text_io::{Done, Ending, Output, RunFault, give_last};
 use text_words::add_text;
@@ -53,7 +50,7 @@ fn setup_explanation(
 }
 
 /// Writes what `police` would find wrong in a setup script that may name files of rules and times; or, if nothing is wrong, the hints about
-/// it and a line that says so. `texts` are the octets of these files, in the order of [`files_read`](crate::files_read). The run is Ended
+/// it and a line that says so. `texts` are the octets of these files, in the order of [`files_read`](cmd_setups::files_read). The run is Ended
 /// if there is a fault, and Whole if there is none. docs/LAB.md has the format.
 ///
 /// # Errors

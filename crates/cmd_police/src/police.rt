@@ -10,25 +10,17 @@ ghost use Rattle.text_io.specs.Serving.{IsServed};
 ghost use Rattle.upc_cell.specs.Connection.{vc_of};
 ghost use Rattle.cmd_police.specs.PoliceLines.{excess_of_answer};
 ghost use Rattle.cmd_police.specs.PoliceText.{IsPoliceText, police_gap};
-ghost use Rattle.cmd_police.specs.inner.ExcessLeft.{IsKeptOnLine, LeavesConnection, excess_left, first_met};
+ghost use Rattle.cmd_setups.specs.inner.ExcessLeft.{IsKeptOnLine, LeavesConnection, excess_left, first_met};
 ghost use Rattle.cmd_police.specs.StoredRules.{shown_stored};
-ghost use Rattle.cmd_police.specs.SpanCounts.{spans_start, ticks_of_span};
+ghost use Rattle.cmd_setups.specs.SpanCounts.{spans_start, ticks_of_span};
 ghost use Rattle.cmd_police.specs.inner.PoliceShown.{AddsCell};
-ghost use Rattle.cmd_police.specs.inner.SpansShown.{ShowsSpans, own_begun_after};
+ghost use Rattle.cmd_setups.specs.SpansShown.{ShowsSpans, own_begun_after};
 
 use crate::cell_columns::add_cell_columns;
 use crate::cell_lines::{add_heading_once, has_line};
-use crate::connection_counts::add_counts;
-use crate::not_judged::{NotJudged, add_not_judged};
 use crate::program_rules::LoadedRules;
 use crate::rule_column::end_line;
-use crate::run_comments::add_run_comments;
 use crate::scope::PoliceScope;
-use crate::setting_up::{SetUp, set_up};
-use crate::span_length::SpanLength;
-use crate::spans::Spans;
-use crate::stored_commands::add_waiting;
-use crate::timed_card::TimedCard;
 use captures::{Fault, Tick};
 use captures_text::{
     CapturedCell, CellFollower, Followed, LineChoice, ReadingSummary, add_closing, follow_cells,
@@ -36,6 +28,10 @@ use captures_text::{
 };
 use card_core::{Core, Judgement, Unjudged};
 use cmd_run::ScriptCard;
+use cmd_setups::{
+    NotJudged, SetUp, SpanLength, Spans, TimedCard, add_counts, add_not_judged, add_run_comments,
+    add_waiting, set_up,
+};
 use leaky::{Excess, Levels, Verdict, excess_at};
 use line_record::Line;
 use std::alloc::{AllocError, Global};

@@ -4,20 +4,16 @@ ghost use Rattle.std.specs.Prelude.{◌≡◌, ◌++◌, IfOk, OnOk};
 ghost use Rattle.text_io.specs.Words.{is_filled};
 ghost use Rattle.cmd_run.specs.RunText.{IsLed};
 ghost use Rattle.cmd_police.specs.PolicedCards.{OpensPolicedCard, OpensSetup, PolicedWorld, PolicesOneCell, ShowsPoliced, policed_report};
-ghost use Rattle.cmd_police.specs.RulesFiles.{octets_of_texts};
+ghost use Rattle.cmd_setups.specs.SharedTexts.{octets_of_texts};
 
-use crate::cell_lines::verdict_in;
-use crate::connection_counts::add_counts;
-use crate::not_judged::{NotJudged, add_not_judged};
 use crate::police::add_gap;
 use crate::preparing::{Prepared, prepare_setup};
-use crate::run_comments::add_run_comments;
-use crate::setting_up::{SetUp, set_up};
-use crate::shared_text::SharedText;
-use crate::stored_commands::add_waiting;
-use crate::timed_card::TimedCard;
 use captures::{Fault, Tick};
 use captures_text::{CapturedCell, ReadingSummary, add_closing};
+use cmd_setups::{
+    NotJudged, SetUp, SharedText, TimedCard, add_counts, add_not_judged, add_run_comments,
+    add_waiting, set_up, verdict_in,
+};
 use leaky::Verdict;
 use std::alloc::{AllocError, Global};
 use text_words::add_text;
@@ -118,7 +114,7 @@ pub fn open_card(alloc: Global, script: &[u8], times: &[Option<u64>], tick: Tick
 }
 
 /// Opens a card, as [`open_card`] does, by a setup script that may name files of rules and times. `texts` are the octets of these files, in
-/// the order of [`files_read`](crate::files_read). A line `at TIME COMMAND` is carried out before the first cell at or after that time, and so
+/// the order of [`files_read`](cmd_setups::files_read). A line `at TIME COMMAND` is carried out before the first cell at or after that time, and so
 /// are the lines after it.
 ///
 /// # Errors

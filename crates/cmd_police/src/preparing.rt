@@ -1,12 +1,11 @@
 //! A setup script, prepared: its lines without their times, and with the programs of its rules.
 
 ghost use Rattle.std.specs.Prelude.{◌≡◌, IfOk};
-ghost use Rattle.cmd_police.specs.RulesFiles.{octets_of_texts};
+ghost use Rattle.cmd_setups.specs.SharedTexts.{octets_of_texts};
 ghost use Rattle.cmd_police.specs.inner.Preparing.{PreparesTo, script_of};
 
 use crate::expanding::{Expanded, expand_setup};
-use crate::shared_text::SharedText;
-use crate::timed_lines::{TimedScript, take_times};
+use cmd_setups::{SharedText, TimedScript, take_times};
 use std::alloc::{AllocError, Global};
 
 /// A setup script whose times don't fall and whose rules have no fault.

@@ -4,15 +4,12 @@ ghost use Rattle.std.specs.Prelude.{◌≡◌, IfOk, option_map};
 ghost use Rattle.rules_text.specs.TextOfRules.{placed_rules_in};
 ghost use Rattle.text_io.specs.Lines.{lines_of};
 ghost use Rattle.cmd_police.specs.LoadedRules.{is_load_line, loaded_rules, rules_of_file, shown_rules};
-ghost use Rattle.cmd_police.specs.RulesFiles.{octets_of_texts};
+ghost use Rattle.cmd_setups.specs.SharedTexts.{octets_of_texts};
 ghost use Rattle.cmd_police.specs.StoredRules.{all_rules_stored, rules_stored, shown_stored};
 
 use crate::expanding::{later_texts, next_text};
-use crate::file_names::add_escaped_name;
-use crate::rules_lines::name_within;
-use crate::script_lines::next_line;
-use crate::shared_text::SharedText;
 use cmd_rules::Decider;
+use cmd_setups::{SharedText, add_escaped_name, name_within, next_line};
 use rules_text::{RuleFault, RuleFaultKind};
 use std::alloc::{AllocError, Global};
 use text_io::first_word;

@@ -3,22 +3,21 @@
 ghost use Rattle.std.specs.Prelude.{IfOk, option_map};
 ghost use Rattle.text_io.specs.Devices.{Adds};
 ghost use Rattle.text_io.specs.Serving.{IsServed};
-ghost use Rattle.cmd_police.specs.RulesFiles.{octets_of_texts};
+ghost use Rattle.cmd_setups.specs.SharedTexts.{octets_of_texts};
 ghost use Rattle.cmd_police.specs.SetupText.{IsPolicedAsAgreed, IsSetupPoliced, MayBePolicedAsAgreed, MayBeSetupPoliced};
 
 use crate::police::{PoliceChoice, police_capture};
 use crate::preparing::{Prepared, prepare_setup};
 use crate::program_rules::shown_rules;
-use crate::setup_tick::{add_ticks_differ, agreed_tick};
-use crate::shared_text::SharedText;
 use captures::Tick;
 use captures_text::write_faults;
+use cmd_setups::{SharedText, add_ticks_differ, agreed_tick};
 use std::alloc::Global;
 use std::thread::Threads;
 use text_io::{Ending, Input, Output, RunFault};
 
 /// Polices the cells of a capture, as [`police_capture`] does, by a setup script that may name files of rules and times. `texts` are the
-/// octets of these files, in the order of [`files_read`](crate::files_read). Each line `rules NAME` loads the program of its text, as the
+/// octets of these files, in the order of [`files_read`](cmd_setups::files_read). Each line `rules NAME` loads the program of its text, as the
 /// next program of the script. If a text has a fault, the output is its fault line, and where the script names it; no cell is
 /// policed then. A line `at TIME COMMAND` is carried out before the first cell at or after that time, and so are the lines after it.
 /// docs/LAB.md has the format.
@@ -68,7 +67,7 @@ pub fn police_setup<R: Threads, I: Input + Send, O: Output>(
 
 /// Polices the cells of a capture, as [`police_setup`] does, with the tick that the setup script names or the one that
 /// was asked for. If they differ, the output is the fault line about them, and no cell is policed. `setup` is the
-/// script without its tick ([`take_tick`](crate::take_tick)).
+/// script without its tick ([`take_tick`](cmd_setups::take_tick)).
 ///
 /// # Errors
 ///

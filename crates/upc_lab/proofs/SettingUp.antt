@@ -3,9 +3,9 @@ use Rattle.std.proofs.Common.{◌≡◌, ◌<◌, ◌≤◌, ◌-◌, ◌∙◌,
 use Rattle.std.proofs.lemmas.List.{take_all}
 use Rattle.std.specs.Global.{Vec}
 use Rattle.text_io.specs.Devices.{Adds}
-use Rattle.cmd_police.specs.FilesRead.{octets_of_name, octets_of_names}
-use Rattle.cmd_police.specs.RulesFiles.{octets_of_text, octets_of_texts}
-use Rattle.cmd_police.specs.declared.shared_text.SharedText.{SharedText}
+use Rattle.cmd_setups.specs.FilesRead.{octets_of_name, octets_of_names}
+use Rattle.cmd_setups.specs.SharedTexts.{octets_of_text, octets_of_texts}
+use Rattle.cmd_setups.specs.declared.shared_text.SharedText.{SharedText}
 use Rattle.upc_lab.specs.SetupHints.{AreFileHints, AreFilesHints, names_with_file}
 
 pub either : (one other : Bool) → cond one true other ≡ (one || other)

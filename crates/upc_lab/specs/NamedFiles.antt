@@ -4,7 +4,7 @@ use Rattle.std.specs.Prelude.{◌≡◌, ◌⊎◌, ◌==◌, IsTrue, if◌then�
 use Rattle.std.specs.Path.{path_with_file_name}
 use Rattle.std.specs.Str.{bytes_eq}
 use Rattle.std.specs.String.{string_bytes}
-use Rattle.cmd_police.specs.RulesFiles.{octets_of_texts}
+use Rattle.cmd_setups.specs.SharedTexts.{octets_of_texts}
 use Rattle.text_command_line.specs.ShownWords.{shown_word}
 use Rattle.text_command_line.specs.declared.stop.Stop.{Stop}
 use Rattle.cmd_options.specs.declared.differ.DifferOptions.{DifferOptions}

@@ -4,7 +4,7 @@ use Rattle.std.specs.List.{list_any}
 use Rattle.std.specs.Str.{bytes_eq}
 use Rattle.cmd_explain_rules.specs.HintComments.{AreHintsAbout, no_memory_comment}
 use Rattle.cmd_police.specs.ExplainedSetups.{AreHintsOfSetup}
-use Rattle.cmd_police.specs.FilesRead.{files_read}
+use Rattle.cmd_setups.specs.FilesRead.{files_read}
 use Rattle.upc_lab.specs.ShownNames.{shown_name}
 
 -- What comes before a hint about the file of rules with this name.

@@ -3,7 +3,7 @@ use Rattle.std.specs.Prelude.{ℕ, ◌&&◌, not, Bool, if◌then◌else◌, Lis
 use Rattle.std.specs.Char.{is_control}
 use Rattle.std.specs.List.{list_any}
 use Rattle.std.specs.Str.{is_utf8}
-use Rattle.cmd_police.specs.FileNames.{escaped_name}
+use Rattle.cmd_setups.specs.FileNames.{escaped_name}
 
 -- Whether a name is a text for a terminal: UTF-8 without control characters.
 abbrev pub is_terminal_text : List ℕ → Bool

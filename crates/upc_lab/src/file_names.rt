@@ -10,7 +10,7 @@ ghost use Rattle.upc_lab.specs.NamedFiles.{IsGivenAs};
 ghost use Rattle.upc_lab.specs.ShownNames.{is_terminal_text, shown_name};
 ghost use Rattle.upc_lab.specs.inner.OnlyWord.{is_only};
 
-use cmd_police::add_escaped_name;
+use cmd_setups::add_escaped_name;
 use std::alloc::{AllocError, Global};
 use std::env::FillError;
 use std::str;

@@ -3,15 +3,15 @@
 
 ghost use Rattle.std.specs.Prelude.{◌≡◌, ◌⊎◌, IfErr, IfOk, IfSome, IsOkAnd, None, []};
 ghost use Rattle.std.specs.Path.{path_with_file_name};
-ghost use Rattle.cmd_police.specs.FilesRead.{AreTextsForFiles, IsTextForFile, files_read, octets_of_name, octets_of_names};
-ghost use Rattle.cmd_police.specs.RulesFiles.{octets_of_text, octets_of_texts};
+ghost use Rattle.cmd_setups.specs.FilesRead.{AreTextsForFiles, IsTextForFile, files_read, octets_of_name, octets_of_names};
+ghost use Rattle.cmd_setups.specs.SharedTexts.{octets_of_text, octets_of_texts};
 ghost use Rattle.upc_lab.specs.NamedFiles.{IsUnreadable, IsUnreadableSetup, IsUnreadableShown, old_name, fit_rules_name, setup_name, unreadable_line, unreadable_message};
 
 use crate::file_names::{add_shown_name, name_given};
 use crate::reason::in_words;
 use captures::Tick;
 use cmd_options::Asked;
-use cmd_police::{SharedText, files_read, take_tick};
+use cmd_setups::{SharedText, files_read, take_tick};
 use std::alloc::{AllocError, Global};
 use std::collections::BTreeMap;
 use std::fs::File;

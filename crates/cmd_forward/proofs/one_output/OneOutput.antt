@@ -22,9 +22,9 @@ use Rattle.cmd_run.specs.RunText.{Card}
 use Rattle.cmd_police.proofs.one_text.FramesFew.{frames_few}
 use Rattle.cmd_police.proofs.one_text.OneText.{faults_once, never_both, start_near}
 use Rattle.cmd_police.proofs.one_text.PolicedAlike.{PolicedAlike, cell_judged_alike, reports_alike, starts_alike}
-use Rattle.cmd_police.specs.PoliceText.{IsSetUpAtTimes}
+use Rattle.cmd_setups.specs.SetUpScripts.{IsSetUpAtTimes}
 use Rattle.cmd_police.specs.PolicedCards.{PolicedWorld, policed_start}
-use Rattle.cmd_police.specs.TimedLines.{waiting_at}
+use Rattle.cmd_setups.specs.TimedLines.{waiting_at}
 use Rattle.cmd_forward.proofs.one_output.FramesOnce.{are_read, as_many, givens, one_frames, written_once}
 use Rattle.cmd_forward.specs.ForwardLaws.{ForwardedOnce}
 use Rattle.cmd_forward.specs.ForwardText.{forward_rules, onward_by}

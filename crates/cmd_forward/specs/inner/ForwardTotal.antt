@@ -1,9 +1,9 @@
 -- The rules of `forward` are total: each cell has an answer. This law is in `specs/` because the judge cites it.
 use Rattle.std.proofs.Common.{◌++◌, refl}
-use Rattle.cmd_police.specs.NotJudgedCells.{not_judged_after}
-use Rattle.cmd_police.specs.PoliceLines.{verdict_given}
+use Rattle.cmd_setups.specs.NotJudgedCells.{not_judged_after}
+use Rattle.cmd_setups.specs.Columns.{verdict_given}
 use Rattle.cmd_police.specs.PolicedCards.{PolicedWorld, PolicesOneCell}
-use Rattle.cmd_police.specs.inner.CommandLaws.{carries_led, carries_some}
+use Rattle.cmd_setups.specs.inner.CommandLaws.{carries_led, carries_some}
 use Rattle.cmd_police.specs.inner.PoliceTotal.{room_led, room_some}
 use Rattle.cmd_forward.specs.ForwardText.{forward_rules, onward_by}
 use Rattle.cmd_forward.specs.JudgeRules.{JudgesEachCell}

@@ -19,10 +19,11 @@ use Rattle.cmd_run.proofs.one_script.Seen.{SeenConnection, found_at, seen, seen_
 use Rattle.cmd_run.proofs.one_script.SeenCells.{arrivals-nameless, last-nameless}
 use Rattle.cmd_run.proofs.one_script.SeenConnections.{found-seen}
 use Rattle.cmd_run.specs.RunText.{Card}
-use Rattle.cmd_police.specs.ConnectionCounts.{connection_counts, counts_below, counts_if_any, counts_line, own_counts, vc_numbered}
-use Rattle.cmd_police.specs.NotJudgedCells.{not_judged_after}
-use Rattle.cmd_police.specs.PoliceLines.{answer_columns, excess_of_answer, has_line, is_pass_answer, next_excess, verdict_given}
-use Rattle.cmd_police.specs.declared.not_judged.NotJudged.{NotJudged}
+use Rattle.cmd_setups.specs.ConnectionCounts.{connection_counts, counts_below, counts_if_any, counts_line, own_counts, vc_numbered}
+use Rattle.cmd_setups.specs.NotJudgedCells.{not_judged_after}
+use Rattle.cmd_police.specs.PoliceLines.{answer_columns, excess_of_answer, has_line, is_pass_answer, next_excess}
+use Rattle.cmd_setups.specs.Columns.{verdict_given}
+use Rattle.cmd_setups.specs.declared.not_judged.NotJudged.{NotJudged}
 use Rattle.cmd_police.proofs.one_text.CommandsAlike.{counts_alike}
 
 -- ---- what is read of an answer

@@ -34,10 +34,10 @@ use Rattle.cmd_run.proofs.one_script.Seen.{Seen, seen}
 use Rattle.cmd_run.proofs.one_script.SeenLines.{IsAfterLines}
 use Rattle.cmd_run.specs.RunText.{Card, IsLed, TakesCommand, id_loaded}
 use Rattle.cmd_run.specs.inner.RunLaws.{cut-led}
-use Rattle.cmd_police.specs.PoliceText.{IsCutOrWorn, MayBeCut, TakesCellWithRoom, connection_of_cell}
+use Rattle.cmd_setups.specs.CellsTaken.{IsCutOrWorn, MayBeCut, TakesCellWithRoom, connection_of_cell}
 use Rattle.cmd_police.specs.inner.PoliceTotal.{room_led}
-use Rattle.cmd_police.proofs.CommandLemmas.{room_names}
-use Rattle.cmd_police.proofs.LeftLemmas.{cut_shaped, put_found}
+use Rattle.cmd_setups.proofs.CommandLemmas.{room_names}
+use Rattle.cmd_setups.proofs.LeftLemmas.{cut_shaped, put_found}
 
 -- ---- a cut
 

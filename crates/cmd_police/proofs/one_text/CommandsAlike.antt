@@ -24,10 +24,10 @@ use Rattle.cmd_run.proofs.one_script.Seen.{SeenConnection, found_at, seen, seen_
 use Rattle.cmd_run.proofs.one_script.SeenCells.{judged-nameless, verdict_in}
 use Rattle.cmd_run.proofs.one_script.SeenConnections.{found-seen}
 use Rattle.cmd_run.specs.RunText.{Card, IsLed, RefusesLine, RunSteps}
-use Rattle.cmd_police.specs.CommandsUnderTraffic.{AnswersUnderTraffic, AnswersWithCounts, CarriesFirst, CarriesNothing, CarriesOutWaiting, command_line, counted_answer, ended_journal, is_taken_under_traffic}
-use Rattle.cmd_police.specs.ConnectionCounts.{own_counts}
-use Rattle.cmd_police.specs.TimedLines.{WaitingCommand}
-use Rattle.cmd_police.specs.inner.CommandLaws.{under_traffic_led}
+use Rattle.cmd_setups.specs.CommandsUnderTraffic.{AnswersUnderTraffic, AnswersWithCounts, CarriesFirst, CarriesNothing, CarriesOutWaiting, command_line, counted_answer, ended_journal, is_taken_under_traffic}
+use Rattle.cmd_setups.specs.ConnectionCounts.{own_counts}
+use Rattle.cmd_setups.specs.TimedLines.{WaitingCommand}
+use Rattle.cmd_setups.specs.inner.CommandLaws.{under_traffic_led}
 
 -- ---- a command that is taken is no cell
 

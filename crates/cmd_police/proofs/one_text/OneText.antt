@@ -22,9 +22,10 @@ use Rattle.cmd_explain_script.specs.ScriptText.{script_rules, before_script}
 use Rattle.cmd_run.proofs.alike.SetUpAlike.{SetUpAlike, lines-few, set_up-alike}
 use Rattle.cmd_run.specs.RunText.{Card}
 use Rattle.cmd_police.specs.PoliceLaws.{PoliceTextsAreOne}
-use Rattle.cmd_police.specs.PoliceText.{IsFaultAtTimes, IsSetUpAtTimes, PoliceWorld, police_rules, police_start}
+use Rattle.cmd_setups.specs.SetUpScripts.{IsFaultAtTimes, IsSetUpAtTimes}
+use Rattle.cmd_police.specs.PoliceText.{PoliceWorld, police_rules, police_start}
 use Rattle.cmd_police.specs.RuleColumn.{ShownRules}
-use Rattle.cmd_police.specs.TimedLines.{WaitingCommand, moment_of_time, octets_before_times, waiting_at, waiting_line}
+use Rattle.cmd_setups.specs.TimedLines.{WaitingCommand, moment_of_time, octets_before_times, waiting_at, waiting_line}
 use Rattle.cmd_police.specs.declared.scope.PoliceScope.{PoliceScope}
 use Rattle.cmd_police.proofs.one_text.FramesFew.{cells_few}
 use Rattle.cmd_police.proofs.one_text.RunsAlike.{StatesAlike, texts_alike}

@@ -10,14 +10,15 @@ use Rattle.text_io.specs.Lines.{lines_of}
 use Rattle.text_io.specs.Words.{is_filled}
 use Rattle.cmd_run.proofs.alike.LinesAlike.{CardsAlike}
 use Rattle.cmd_run.specs.RunText.{Card}
-use Rattle.cmd_police.specs.CommandsUnderTraffic.{CarriesOutWaiting, waiting_comment}
-use Rattle.cmd_police.specs.ConnectionCounts.{counts_heading, counts_lines}
-use Rattle.cmd_police.specs.NotJudgedCells.{not_judged_after, not_judged_lines}
-use Rattle.cmd_police.specs.PoliceText.{IsSetUpAtTimes, police_gap}
+use Rattle.cmd_setups.specs.CommandsUnderTraffic.{CarriesOutWaiting, waiting_comment}
+use Rattle.cmd_setups.specs.ConnectionCounts.{counts_heading, counts_lines}
+use Rattle.cmd_setups.specs.NotJudgedCells.{not_judged_after, not_judged_lines}
+use Rattle.cmd_setups.specs.SetUpScripts.{IsSetUpAtTimes}
+use Rattle.cmd_police.specs.PoliceText.{police_gap}
 use Rattle.cmd_police.specs.PolicedCards.{PolicedWorld, PolicesOneCell, policed_report, policed_start}
-use Rattle.cmd_police.specs.RunComments.{run_comments}
-use Rattle.cmd_police.specs.TimedLines.{WaitingCommand, waiting_at}
-use Rattle.cmd_police.specs.declared.not_judged.NotJudged.{NotJudged}
+use Rattle.cmd_setups.specs.RunComments.{run_comments}
+use Rattle.cmd_setups.specs.TimedLines.{WaitingCommand, waiting_at}
+use Rattle.cmd_setups.specs.declared.not_judged.NotJudged.{NotJudged}
 use Rattle.cmd_police.proofs.one_text.AnswersShown.{not_judged_alike, table_alike, verdicts_alike}
 use Rattle.cmd_police.proofs.one_text.CellAlike.{room_alike}
 use Rattle.cmd_police.proofs.one_text.CommandsAlike.{carried_alike}

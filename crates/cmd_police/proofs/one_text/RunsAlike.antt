@@ -21,14 +21,16 @@ use Rattle.upc_cell.specs.Header.{has_low_priority}
 use Rattle.upc_cell.specs.declared.vc.Vc.{Vc}
 use Rattle.cmd_run.proofs.alike.LinesAlike.{CardsAlike}
 use Rattle.cmd_run.specs.RunText.{Card}
-use Rattle.cmd_police.specs.CommandsUnderTraffic.{waiting_comment}
-use Rattle.cmd_police.specs.ConnectionCounts.{counts_heading, counts_lines}
-use Rattle.cmd_police.specs.NotJudgedCells.{not_judged_lines}
-use Rattle.cmd_police.specs.PoliceLines.{cell_columns, excess_of_answer, has_line, in_column, priority_digit, verdict_heading}
+use Rattle.cmd_setups.specs.CommandsUnderTraffic.{waiting_comment}
+use Rattle.cmd_setups.specs.ConnectionCounts.{counts_heading, counts_lines}
+use Rattle.cmd_setups.specs.NotJudgedCells.{not_judged_lines}
+use Rattle.cmd_police.specs.PoliceLines.{cell_columns, excess_of_answer, has_line, priority_digit, verdict_heading}
+use Rattle.cmd_setups.specs.Columns.{in_column}
 use Rattle.cmd_police.specs.RuleColumn.{line_end}
-use Rattle.cmd_police.specs.PoliceText.{PoliceWorld, PolicesArrived, PolicesCaptured, after_cell, connection_of_cell, has_lines_before, police_closes, police_gap, police_rules, policed_text}
-use Rattle.cmd_police.specs.RunComments.{run_comments}
-use Rattle.cmd_police.specs.SpanCounts.{ended_text, judged_after, present_text, spans_after, spans_at}
+use Rattle.cmd_police.specs.PoliceText.{PoliceWorld, PolicesArrived, PolicesCaptured, after_cell, has_lines_before, police_closes, police_gap, police_rules, policed_text}
+use Rattle.cmd_setups.specs.CellsTaken.{connection_of_cell}
+use Rattle.cmd_setups.specs.RunComments.{run_comments}
+use Rattle.cmd_setups.specs.SpanCounts.{ended_text, judged_after, present_text, spans_after, spans_at}
 use Rattle.cmd_police.proofs.one_text.AnswersShown.{columns_alike, excess_alike, lines_alike, not_judged_alike, table_alike, verdicts_alike}
 use Rattle.cmd_police.proofs.one_text.CellAlike.{room_alike}
 use Rattle.cmd_police.proofs.one_text.CommandsAlike.{carried_alike}

@@ -1,7 +1,7 @@
 -- A run of `police` as the code stores it, and the states that it shows.
 use Rattle.std.specs.Prelude.{◌≡◌, ◌||◌, ◌++◌, if◌then◌else◌, List, [], ℕ, Bool, true, Option}
 use Rattle.card_core.specs.Agreement.{CoreAgrees}
-use Rattle.cmd_police.specs.StoredCommands.{ShowsTimed}
+use Rattle.cmd_setups.specs.StoredCommands.{ShowsTimed}
 use Rattle.card_core.specs.World.{World}
 use Rattle.card_core.specs.declared.answer.Answer.{Answer}
 use Rattle.captures_text.specs.declared.line_choice.LineChoice.{LineChoice}
@@ -18,8 +18,8 @@ use Rattle.upc_cell.specs.declared.vc.Vc.{Vc}
 use Rattle.cmd_police.specs.PoliceLines.{cell_columns, excess_of_answer, has_line, verdict_heading}
 use Rattle.cmd_police.specs.PoliceText.{PoliceWorld}
 use Rattle.cmd_police.specs.declared.police.PoliceRun.{PoliceRun}
-use Rattle.cmd_police.specs.inner.ExcessLeft.{LeavesConnection}
-use Rattle.cmd_police.specs.inner.SpansShown.{ShowsSpans}
+use Rattle.cmd_setups.specs.inner.ExcessLeft.{LeavesConnection}
+use Rattle.cmd_setups.specs.SpansShown.{ShowsSpans}
 
 -- The run has what the state has.
 pub record ShowsPolice (run : PoliceRun) (world : PoliceWorld) : Type 0 where

@@ -6,9 +6,10 @@ use Rattle.captures_text.specs.CellRules.{AnswersEachCell}
 use Rattle.cmd_run.specs.RunText.{Card, IsLed}
 use Rattle.cmd_run.specs.inner.RunLaws.{arrived-led, cell-some, cut-led, cut-some}
 use Rattle.upc_cell.specs.declared.vc.Vc.{Vc}
-use Rattle.cmd_police.specs.SpanCounts.{ended_text}
-use Rattle.cmd_police.specs.inner.CommandLaws.{due_state_led, due_state_some}
-use Rattle.cmd_police.specs.PoliceText.{MayBeCut, PoliceWorld, TakesCell, TakesCellWithRoom, after_cell, policed_text, connection_of_cell, police_rules}
+use Rattle.cmd_setups.specs.SpanCounts.{ended_text}
+use Rattle.cmd_police.specs.inner.DueStates.{due_state_led, due_state_some}
+use Rattle.cmd_setups.specs.CellsTaken.{MayBeCut, TakesCell, TakesCellWithRoom, connection_of_cell}
+use Rattle.cmd_police.specs.PoliceText.{PoliceWorld, after_cell, policed_text, police_rules}
 
 -- A cell that arrives leads to a card that a log leads to.
 pub taken_led : (before after : Card) (cell : List ℕ) (moment : ℕ) (given : Answer) → IsLed before → TakesCell before cell moment given after → IsLed after

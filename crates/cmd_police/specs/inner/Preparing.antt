@@ -2,7 +2,7 @@
 use Rattle.std.specs.Prelude.{◌≡◌, ℕ, List, unwrap_or}
 use Rattle.cmd_police.specs.PreparedSetups.{HasFaultySetup, IsPreparedAs}
 use Rattle.cmd_police.specs.RulesFiles.{IsFaultOfRules}
-use Rattle.cmd_police.specs.TimedLines.{line_times, without_times}
+use Rattle.cmd_setups.specs.TimedLines.{line_times, without_times}
 use Rattle.cmd_police.specs.declared.preparing.Prepared.{Prepared}
 use Rattle.cmd_police.specs.declared.preparing.Prepared.TheVariants.{Faulty, Ready}
 use Rattle.cmd_police.specs.declared.preparing.ReadySetup.{ReadySetup}

@@ -3,8 +3,8 @@ use Rattle.std.proofs.Common.{◌≡◌, ℕ, List, [], Option, option_map, Resu
 use Rattle.captures.specs.declared.clock.Tick.{Tick}
 use Rattle.text_io.specs.Serving.{IsServed}
 use Rattle.text_io.specs.declared.ending.Done.TheVariants.{Ended}
-use Rattle.cmd_police.specs.RulesFiles.{octets_of_texts}
-use Rattle.cmd_police.specs.SetupTick.{agreed_tick, ticks_differ}
+use Rattle.cmd_setups.specs.SharedTexts.{octets_of_texts}
+use Rattle.cmd_setups.specs.SetupTick.{agreed_tick, ticks_differ}
 use Rattle.cmd_forward.specs.AgreedForward.{ForwardsAsAgreed, IsForwardedAsAgreed, MayBeForwardedAsAgreed}
 use Rattle.cmd_forward.specs.ForwardText.{IsSetupForwarded, MayBeSetupForwarded}
 use Rattle.cmd_forward.specs.Reporting.{HasReportedText, ReportedTexts, ReportsText}

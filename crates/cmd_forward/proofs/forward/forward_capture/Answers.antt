@@ -2,8 +2,8 @@
 use Rattle.std.proofs.Common.{List, ℕ, inl, inr, refl, subst, sym}
 use Rattle.cmd_police.specs.PolicedCards.{IsOpenedBy, OpensPolicedCard, policed_start}
 use Rattle.cmd_police.specs.declared.policed_card.OpenedCard.{OpenedCard}
-use Rattle.cmd_police.specs.PoliceText.{IsFaultAtTimes}
-use Rattle.cmd_police.specs.TimedLines.{waiting_at}
+use Rattle.cmd_setups.specs.SetUpScripts.{IsFaultAtTimes}
+use Rattle.cmd_setups.specs.TimedLines.{waiting_at}
 use Rattle.text_io.specs.Lines.{lines_of}
 use Rattle.text_io.specs.declared.ending.Done.TheVariants.{Ended}
 use Rattle.text_io.specs.declared.ending.RunFault.TheVariants.{NoMemory}

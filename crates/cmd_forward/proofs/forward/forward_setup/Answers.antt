@@ -1,8 +1,8 @@
 -- The same with files of rules.
 use Rattle.std.proofs.Common.{List, ℕ, [], inr, refl, subst, sym}
 use Rattle.cmd_police.specs.PolicedCards.{OpensSetup, policed_start}
-use Rattle.cmd_police.specs.RulesFiles.{octets_of_texts}
-use Rattle.cmd_police.specs.TimedLines.{line_times, waiting_at}
+use Rattle.cmd_setups.specs.SharedTexts.{octets_of_texts}
+use Rattle.cmd_setups.specs.TimedLines.{line_times, waiting_at}
 use Rattle.text_io.specs.Lines.{lines_of}
 use Rattle.cmd_police.specs.declared.policed_card.OpenedCard.{OpenedCard}
 use Rattle.cmd_police.specs.declared.policed_card.OpenedCard.TheVariants.{Faulty, Ready}

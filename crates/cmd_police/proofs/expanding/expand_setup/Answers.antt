@@ -1,5 +1,5 @@
 use Rattle.cmd_police.proofs.WholeLines.{stays_itself}
-use Rattle.cmd_police.specs.RulesFiles.{octets_of_texts}
+use Rattle.cmd_setups.specs.SharedTexts.{octets_of_texts}
 use Rattle.cmd_police.proofs.expanding.expand_setup.Goals as goal
 
 pub returns-then-not-has_rules : goal.returns-then-not-has_rules

@@ -1,6 +1,7 @@
 -- The lines that are left complete the script, whatever is done for each.
 use Rattle.std.proofs.Common.{◌+◌, arith, sym, subst, List, ℕ}
-use Rattle.cmd_police.specs.RulesFiles.{IsFaultOfRules, next_text, octets_of_texts}
+use Rattle.cmd_police.specs.RulesFiles.{IsFaultOfRules, next_text}
+use Rattle.cmd_setups.specs.SharedTexts.{octets_of_texts}
 use Rattle.cmd_police.specs.inner.Expansion.{Completes, GrowsByProgram}
 use Rattle.cmd_police.proofs.Completing.{faulty_line, kept_line, loaded_line, made_whole}
 use Rattle.cmd_police.proofs.expanding.replaced.Goals as goal

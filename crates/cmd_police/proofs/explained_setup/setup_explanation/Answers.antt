@@ -3,7 +3,7 @@ use Rattle.std.proofs.Common.{inr, subst}
 use Rattle.std.proofs.lemmas.Result.{IfOk-weaker}
 use Rattle.cmd_police.proofs.PreparedLemmas.{goes_on}
 use Rattle.cmd_police.specs.ExplainedSetups.{IsExplainedAtTimes}
-use Rattle.cmd_police.specs.RulesFiles.{octets_of_texts}
+use Rattle.cmd_setups.specs.SharedTexts.{octets_of_texts}
 use Rattle.cmd_police.specs.declared.preparing.Prepared.{Prepared}
 use Rattle.cmd_police.specs.inner.Preparing.{IsReadyFor, PreparesTo}
 use Rattle.cmd_police.proofs.explained_setup.setup_explanation.Goals as goal

@@ -6,7 +6,7 @@ use Rattle.upc_cell.specs.Header.{has_low_priority}
 use Rattle.upc_cell.specs.declared.vc.Vc.{Vc}
 use Rattle.cmd_police.specs.PoliceLines.{cell_columns, excess_of_answer}
 use Rattle.cmd_police.specs.StoredRules.{shown_stored}
-use Rattle.cmd_police.specs.inner.ExcessLeft.{LeavesConnection}
+use Rattle.cmd_setups.specs.inner.ExcessLeft.{LeavesConnection}
 use Rattle.cmd_police.specs.inner.PoliceShown.{AddsCell}
 use Rattle.cmd_police.proofs.LineTexts.{adds_line}
 use Rattle.cmd_police.proofs.police.add_cell.Goals as goal

@@ -3,7 +3,7 @@ use Rattle.card_core.specs.Sections.{answer_to}
 use Rattle.card_core.specs.declared.answer.Judgement.{Judgement}
 use Rattle.card_core.specs.declared.answer.Unjudged.{Unjudged}
 use Rattle.cmd_police.specs.PoliceLines.{excess_of_answer}
-use Rattle.cmd_police.specs.inner.ExcessLeft.{LeavesConnection}
+use Rattle.cmd_setups.specs.inner.ExcessLeft.{LeavesConnection}
 use Rattle.cmd_police.proofs.LeftExcess.{judged_excess}
 use Rattle.cmd_police.proofs.police.excess_of.Goals as goal
 

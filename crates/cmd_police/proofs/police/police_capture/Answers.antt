@@ -6,21 +6,22 @@ use Rattle.text_io.proofs.Public.{served-wider}
 use Rattle.captures_text.specs.CaptureText.{IsCaptureText}
 use Rattle.captures_text.specs.CellFilter.{filter_start}
 use Rattle.upc_cell.specs.declared.side.Side.{Side}
-use Rattle.cmd_police.specs.PoliceText.{IsFaultAtTimes, IsPoliceText, police_rules, police_start}
+use Rattle.cmd_setups.specs.SetUpScripts.{IsFaultAtTimes}
+use Rattle.cmd_police.specs.PoliceText.{IsPoliceText, police_rules, police_start}
 use Rattle.cmd_police.specs.StoredRules.{shown_stored}
-use Rattle.cmd_police.specs.SpanCounts.{spans_start, ticks_of_span}
-use Rattle.cmd_police.specs.inner.SpansShown.{ShowsSpans}
-use Rattle.cmd_police.specs.declared.setting_up.SetUp.{SetUp}
-use Rattle.cmd_police.specs.TimedLines.{waiting_at}
-use Rattle.cmd_police.specs.inner.SetUpCard.{IsTimedAs, LeadsScriptTo}
+use Rattle.cmd_setups.specs.SpanCounts.{spans_start, ticks_of_span}
+use Rattle.cmd_setups.specs.SpansShown.{ShowsSpans}
+use Rattle.cmd_setups.specs.declared.setting_up.SetUp.{SetUp}
+use Rattle.cmd_setups.specs.TimedLines.{waiting_at}
+use Rattle.cmd_setups.specs.SetUpCard.{IsTimedAs, LeadsScriptTo}
 use Rattle.text_io.specs.Lines.{lines_of}
 use Rattle.cmd_police.proofs.ServedLemmas.{faults_written, nothing_served}
 use Rattle.cmd_police.proofs.EachCapture.{some_police_text}
 use denote.Param.Send.{IsSend, sendable}
 use Rattle.std.proofs.Crossing.{crosses}
 use Rattle.cmd_police.specs.contracts.police.PoliceRun as PoliceRun
-use Rattle.cmd_police.proofs.spans.Spans.TheSendSync.{the_field_send as spans_send}
-use Rattle.cmd_police.proofs.timed_card.TimedCard.TheSendSync.{the_field_send as timed_sends}
+use Rattle.cmd_setups.proofs.spans.Spans.TheSendSync.{the_field_send as spans_send}
+use Rattle.cmd_setups.proofs.timed_card.TimedCard.TheSendSync.{the_field_send as timed_sends}
 use Rattle.cmd_police.proofs.RulesSend.{loaded_sends}
 use Rattle.cmd_police.proofs.police.police_capture.Goals as goal
 

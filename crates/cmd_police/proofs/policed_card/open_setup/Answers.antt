@@ -2,7 +2,7 @@
 use Rattle.std.proofs.Common.{subst}
 use Rattle.std.proofs.lemmas.Result.{IfOk-weaker}
 use Rattle.cmd_police.proofs.PreparedLemmas.{opens_prepared}
-use Rattle.cmd_police.specs.RulesFiles.{octets_of_texts}
+use Rattle.cmd_setups.specs.SharedTexts.{octets_of_texts}
 use Rattle.cmd_police.specs.declared.preparing.Prepared.{Prepared}
 use Rattle.cmd_police.specs.inner.Preparing.{IsReadyFor, PreparesTo}
 use Rattle.cmd_police.proofs.policed_card.open_setup.Goals as goal

@@ -2,7 +2,7 @@
 use Rattle.std.proofs.Common.{◌≡◌, ◌++◌, length, map, option_map}
 use Rattle.text_io.specs.Lines.{lines_of}
 use Rattle.cmd_police.specs.LoadedRules.{loaded_rules}
-use Rattle.cmd_police.specs.RulesFiles.{octets_of_texts}
+use Rattle.cmd_setups.specs.SharedTexts.{octets_of_texts}
 use Rattle.cmd_police.specs.StoredRules.{rules_stored}
 use Rattle.cmd_police.proofs.program_rules.loaded_rules.Given as goal
 

@@ -6,7 +6,7 @@ use Rattle.text_io.specs.Serving.{IsServed}
 use Rattle.text_io.specs.declared.ending.Done.{Done}
 use Rattle.cmd_police.proofs.Existence.{polices_as_agreed}
 use Rattle.cmd_police.proofs.ServedLemmas.{nothing_served}
-use Rattle.cmd_police.specs.RulesFiles.{octets_of_texts}
+use Rattle.cmd_setups.specs.SharedTexts.{octets_of_texts}
 use Rattle.cmd_police.specs.SetupText.{AsAgreed, IsSetupPoliced, MayBePolicedAsAgreed, MayBeSetupPoliced}
 use Rattle.cmd_police.proofs.setup_with_rules.police_as_agreed.Goals as goal
 

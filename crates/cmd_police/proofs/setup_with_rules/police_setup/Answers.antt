@@ -9,7 +9,8 @@ use Rattle.cmd_police.proofs.PreparedLemmas.{policed_prepared}
 use Rattle.cmd_police.proofs.ServedLemmas.{faults_written, nothing_served}
 use Rattle.cmd_police.specs.PoliceText.{IsPoliceText}
 use Rattle.cmd_police.specs.PreparedSetups.{HasFaultySetup}
-use Rattle.cmd_police.specs.RulesFiles.{IsFaultOfRules, MayBeFaultOfRules, octets_of_texts}
+use Rattle.cmd_police.specs.RulesFiles.{IsFaultOfRules, MayBeFaultOfRules}
+use Rattle.cmd_setups.specs.SharedTexts.{octets_of_texts}
 use Rattle.cmd_police.specs.SetupText.{MayBeSetupPoliced}
 use Rattle.cmd_police.specs.StoredRules.{shown_stored}
 use Rattle.cmd_police.specs.declared.preparing.Prepared.{Prepared}

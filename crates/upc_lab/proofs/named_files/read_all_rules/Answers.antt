@@ -1,7 +1,7 @@
 -- The text of each file goes after those of the files before it.
 use Rattle.std.proofs.Common.{◌≡◌, ◌<◌, List, [], ◌∷◌, length, refl, arith}
-use Rattle.cmd_police.proofs.Public.{all_texts}
-use Rattle.cmd_police.specs.FilesRead.{octets_of_names}
+use Rattle.cmd_setups.proofs.Public.{all_texts}
+use Rattle.cmd_setups.specs.FilesRead.{octets_of_names}
 use Rattle.upc_lab.proofs.named_files.read_all_rules.Goals as goal
 
 none-left : {A : Type 0} (items : List A) → length items < 1 → items ≡ []

@@ -1,7 +1,7 @@
 -- Loop invariant: the texts so far, and any texts of the files that are left, are texts of all the files.
 use Rattle.std.proofs.Common.{List, ℕ, ◌++◌, length}
-use Rattle.cmd_police.specs.FilesRead.{AreTextsForFiles, octets_of_names}
-use Rattle.cmd_police.specs.RulesFiles.{octets_of_texts}
+use Rattle.cmd_setups.specs.FilesRead.{AreTextsForFiles, octets_of_names}
+use Rattle.cmd_setups.specs.SharedTexts.{octets_of_texts}
 use Rattle.upc_lab.proofs.named_files.read_all_rules.Given as goal
 
 abbrev pub invariant-loop-left : goal.invariant-loop-left

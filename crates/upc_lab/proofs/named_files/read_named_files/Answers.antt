@@ -1,8 +1,8 @@
 -- Words that name no setup have no files of rules.
 use Rattle.std.proofs.Common.{◌≡◌, List, [], ℕ, Result, Ok, Err, IfOk, refl, sym, subst}
-use Rattle.cmd_police.specs.FilesRead.{AreTextsForFiles, files_read}
-use Rattle.cmd_police.specs.RulesFiles.{octets_of_texts}
-use Rattle.cmd_police.specs.declared.shared_text.SharedText.{SharedText}
+use Rattle.cmd_setups.specs.FilesRead.{AreTextsForFiles, files_read}
+use Rattle.cmd_setups.specs.SharedTexts.{octets_of_texts}
+use Rattle.cmd_setups.specs.declared.shared_text.SharedText.{SharedText}
 use Rattle.upc_lab.specs.declared.named_files.NamedFiles.{NamedFiles}
 use Rattle.upc_lab.specs.declared.named_files.Unreadable.{Unreadable}
 use Rattle.upc_lab.proofs.named_files.read_named_files.Goals as goal

@@ -2,7 +2,7 @@
 use Rattle.std.proofs.Common.{◌≡◌, ℕ, Bool, true, false, not, List, [], Option, OnOk, MatchBool, refl, ap, sym, ◌∙◌, subst}
 use Rattle.text_io.specs.Devices.{Adds}
 use Rattle.cmd_explain_rules.specs.HintComments.{AreHintsAbout}
-use Rattle.cmd_police.specs.FilesRead.{octets_of_name}
+use Rattle.cmd_setups.specs.FilesRead.{octets_of_name}
 use Rattle.upc_lab.specs.SetupHints.{AreFileHints, file_front, is_known}
 use Rattle.upc_lab.proofs.setup_hints.add_file_hints.Goals as goal
 

@@ -1,6 +1,6 @@
 -- Each file goes after the files before it.
-use Rattle.cmd_police.specs.FilesRead.{octets_of_name, octets_of_names}
-use Rattle.cmd_police.specs.RulesFiles.{octets_of_texts}
+use Rattle.cmd_setups.specs.FilesRead.{octets_of_name, octets_of_names}
+use Rattle.cmd_setups.specs.SharedTexts.{octets_of_texts}
 use Rattle.upc_lab.specs.SetupHints.{names_with_file}
 use Rattle.upc_lab.proofs.SettingUp.{all_hints, first_and_rest, next_file, no_file_left, no_text_left}
 use Rattle.upc_lab.proofs.setup_hints.files_hints.Goals as goal

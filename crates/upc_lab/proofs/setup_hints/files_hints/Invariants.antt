@@ -1,7 +1,7 @@
 -- Loop invariant: the hints so far, and any about the files that are left, are hints about all the files.
 use Rattle.std.proofs.Common.{List, ℕ, length}
-use Rattle.cmd_police.specs.FilesRead.{octets_of_names}
-use Rattle.cmd_police.specs.RulesFiles.{octets_of_texts}
+use Rattle.cmd_setups.specs.FilesRead.{octets_of_names}
+use Rattle.cmd_setups.specs.SharedTexts.{octets_of_texts}
 use Rattle.upc_lab.specs.inner.NamesMet.{HasNames}
 use Rattle.upc_lab.proofs.SettingUp.{AreHintsSoFar}
 use Rattle.upc_lab.proofs.setup_hints.files_hints.Given as goal

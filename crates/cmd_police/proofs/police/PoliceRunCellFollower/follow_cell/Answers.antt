@@ -5,13 +5,13 @@ use Rattle.card_core.specs.declared.answer.Judgement.{Judgement}
 use Rattle.card_core.specs.declared.answer.Unjudged.{Unjudged}
 use Rattle.card_core.specs.declared.shape.Shape.{Shape}
 use Rattle.upc_cell.specs.Connection.{vc_of}
-use Rattle.cmd_police.specs.declared.timed_card.TimedCard.{TimedCard}
+use Rattle.cmd_setups.specs.declared.timed_card.TimedCard.{TimedCard}
 use Rattle.upc_cell.specs.Header.{has_low_priority}
-use Rattle.cmd_police.specs.inner.CardArrival.{ArrivesWithRoom}
+use Rattle.cmd_setups.specs.CardArrival.{ArrivesWithRoom}
 use Rattle.cmd_police.specs.StoredRules.{shown_stored}
-use Rattle.cmd_police.specs.SpanCounts.{spans_after}
+use Rattle.cmd_setups.specs.SpanCounts.{spans_after}
 use Rattle.cmd_police.specs.inner.PoliceShown.{AddsCell, ShowsPolice}
-use Rattle.cmd_police.specs.inner.SpansShown.{ShowsSpans}
+use Rattle.cmd_setups.specs.SpansShown.{ShowsSpans}
 use Rattle.cmd_police.proofs.PoliceLemmas.{FollowsArrived, polices_after, polices_by, polices_never, run_commanded}
 use Rattle.cmd_police.proofs.police.PoliceRunCellFollower.follow_cell.Goals as goal
 

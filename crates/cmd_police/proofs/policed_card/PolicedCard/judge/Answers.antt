@@ -3,8 +3,8 @@ use Rattle.card_core.specs.Sections.{answer_to}
 use Rattle.card_core.specs.declared.answer.Judgement.{Judgement}
 use Rattle.card_core.specs.declared.answer.Unjudged.{Unjudged}
 use Rattle.cmd_police.specs.PolicedCards.{PolicedWorld, PolicesOneCell, ShowsPoliced}
-use Rattle.cmd_police.specs.declared.timed_card.TimedCard.{TimedCard}
-use Rattle.cmd_police.specs.inner.CardArrival.{ArrivesWithRoom}
+use Rattle.cmd_setups.specs.declared.timed_card.TimedCard.{TimedCard}
+use Rattle.cmd_setups.specs.CardArrival.{ArrivesWithRoom}
 use Rattle.cmd_police.proofs.PolicedLemmas.{polices_cell, polices_no_cell}
 use Rattle.cmd_police.proofs.policed_card.PolicedCard.judge.Goals as goal
 

@@ -1,0 +1,13 @@
+pub mod CardLemmas
+pub mod CommandGains
+pub mod CountGains
+pub mod CountsLemmas
+pub mod LeftLemmas
+pub mod StartLemmas
+pub mod NotingLemmas
+pub mod SetUpLemmas
+pub mod CommandLemmas
+pub mod TimedLemmas
+pub mod ScriptLines
+pub mod SpanLemmas
+pub mod Public

@@ -1,0 +1,26 @@
+-- The lines of a setup script, its card, and the counts of its cells. Read the modules in this order:
+pub mod Columns
+pub mod NotJudgedCells
+pub mod ConnectionCounts
+pub mod CountsAtSetup
+pub mod OrderNumber
+pub mod SpanCounts
+pub mod SpansShown
+pub mod RunComments
+pub mod LineWithFeed
+pub mod ScriptLine
+pub mod TimedLines
+pub mod CommandsUnderTraffic
+pub mod StoredCommands
+pub mod TimedScripts
+pub mod CommandsShown
+pub mod CellsTaken
+pub mod CardArrival
+pub mod SetUpScripts
+pub mod SetUpCard
+pub mod RulesLines
+pub mod SharedTexts
+pub mod FileNames
+pub mod FilesRead
+pub mod SetupTick
+pub mod inner
