@@ -18,7 +18,7 @@ from rules.meaning import decision_of
 from rules.reader import Fault, place_words, read_rules
 
 SAME = "same on every cell"
-NOT_DECIDED = "not decided: more than 4194304 cases\n"
+NOT_DECIDED = "not decided: too many cases\n"
 # Few pairs of texts may have so many cases that nothing is decided.
 MOST_UNDECIDED = 0.1
 LINE = re.compile(

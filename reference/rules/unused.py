@@ -18,7 +18,7 @@ from rules.meaning import decision_of, is_met
 from rules.reader import Fault, place_of, read_rules
 
 ALL_DECIDE = "every rule decides some cell\n"
-NOT_DECIDED = "not decided: more than 4194304 cases\n"
+NOT_DECIDED = "not decided: too many cases\n"
 # Few texts may have so many cases that nothing is decided.
 MOST_UNDECIDED = 0.1
 LINE = re.compile(r"line (\d+(?::\d+)?) decides no cell: (?:it holds of none|taken by (line \d+(?::\d+)?(?:, line \d+(?::\d+)?)*))\n")

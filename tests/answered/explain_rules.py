@@ -138,6 +138,36 @@ TEXTS = (
         b"line 1 column 13: `2` doesn't fit here; `=` comes after a new name\n",
     ),
     (
+        b"define five = 5\n"
+        b"vci < five 3 -> 1\n",
+        b"fault rules 1 BadLine 2 12\n"
+        b"line 2 column 12: `3` doesn't fit here; `and`, `or`, `->` or `{` comes next\n",
+    ),
+    (
+        b"define five = 5\n"
+        b"octet 4 & five -> 1\n",
+        b"fault rules 1 BadLine 2 16\n"
+        b"line 2 column 16: `->` doesn't fit here; a number, a list or a sign comes after a mask, as in `& 0xf0 = 0x30`\n",
+    ),
+    (
+        b"define five = 5\n"
+        b"octet five -> 1\n",
+        b"fault rules 1 BadLine 2 12\n"
+        b"line 2 column 12: `->` doesn't fit here; a number, a list, a sign or `&` comes after a field, as in `vci 5, 32..127`\n",
+    ),
+    (
+        b"define five = 5\n"
+        b"vci 1..five 6 -> 1\n",
+        b"fault rules 1 BadLine 2 13\n"
+        b"line 2 column 13: `6` doesn't fit here; `,`, `and`, `or`, `->` or `{` comes next\n",
+    ),
+    (
+        b"define five = 5\n"
+        b"vci < five\n",
+        b"fault rules 1 BadLine 2 11\n"
+        b"line 2: the line ends too early; `and`, `or`, `->` or `{` comes next\n",
+    ),
+    (
         b"define gold = -> 2\n",
         b"fault rules 1 BadLine 1 15\n"
         b"line 1 column 15: `->` doesn't fit here; a test or a list of numbers comes after `=`\n",

@@ -61,10 +61,10 @@ abbrev pub FindsSide : TextKind → Option (List ℕ) → SideRead → Type 0
 FindsSide Rules found side = (placed_rules : PlacedRulesRead) × FindsText found placed_rules × (side ≡ side_rules placed_rules)
 FindsSide Program found side = (code : List Instr) × FindsProgram found code × (side ≡ side_program code)
 
--- The answer if a limit was met, of nodes, of steps, of pairs of decisions (65,536), or of what is remembered of a program. The text has
--- the number of nodes and of steps for each of them. Nothing is said of any cell.
+-- The answer if a limit was met, of nodes, of steps, of pairs of decisions (65,536), or of what is remembered of a program. Nothing is
+-- said of any cell.
 abbrev pub not_decided : List ℕ
-not_decided = codes "not decided: more than 4194304 cases\n"
+not_decided = codes "not decided: too many cases\n"
 
 -- The answer if a program isn't followed at the instruction at this place, counted from 0. Nothing is said of any cell.
 abbrev pub not_followed : ℕ → List ℕ

@@ -70,7 +70,7 @@ fn add_comparison(
         Err(Uncompared::Old(place)) => add_not_followed(answers, Which::Old, place)?,
         Err(Uncompared::New(place)) => add_not_followed(answers, Which::New, place)?,
         Err(Uncompared::Undecided(Undecided::TooLarge)) => {
-            add_text(answers, b"not decided: more than 4194304 cases\n")?;
+            add_text(answers, b"not decided: too many cases\n")?;
         }
         Err(Uncompared::Undecided(Undecided::NoMemory)) => return Err(AllocError),
     }

@@ -53,7 +53,7 @@ fn add_search(
     match unused_rules(alloc, &placed_rules.rules) {
         Ok(unused) => add_searched(answers, placed_rules, &unused),
         Err(Undecided::TooLarge) => {
-            add_text(answers, b"not decided: more than 4194304 cases\n")?;
+            add_text(answers, b"not decided: too many cases\n")?;
             Ok(Finding::Undecided)
         }
         Err(Undecided::NoMemory) => Err(AllocError),

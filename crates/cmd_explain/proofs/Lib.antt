@@ -5,5 +5,6 @@ pub mod Public
 pub mod SameFaults
 pub mod WordFront
 pub mod FirstLineRead
+pub mod Mapped
 pub mod Walking
 pub mod TokensFound

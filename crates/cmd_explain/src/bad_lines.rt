@@ -110,6 +110,16 @@ fn add_operands(answers: &mut Vec<u8>, mnemonic: &[u8], form: Form) -> Added
     add_text(answers, operands_text(form))
 }
 
+/// Appends the sentence about a word that begins an instruction, by what it takes.
+fn add_first_word(answers: &mut Vec<u8>, word: &[u8], form: Option<Form>) -> Added
+    ensures { OnOk result (answers.new.items ≡ answers.old.items ++ first_word_sentence word.now form) }
+{
+    match form {
+        None => add_no_mnemonic(answers, word),
+        Some(form) => add_operands(answers, word, form),
+    }
+}
+
 /// Appends the sentence about a line outside the grammar, by the tokens after its label.
 pub(crate) fn add_bad_line(answers: &mut Vec<u8>, text: &[u8], tokens: &[FoundWord]) -> Added
     ensures { OnOk result (answers.new.items ≡ answers.old.items ++ bad_line_sentence text.now tokens.now) }
@@ -121,10 +131,7 @@ pub(crate) fn add_bad_line(answers: &mut Vec<u8>, text: &[u8], tokens: &[FoundWo
         ),
         [first, ..] => {
             let word = word_octets(text, *first);
-            match form_of(word) {
-                None => add_no_mnemonic(answers, word),
-                Some(form) => add_operands(answers, word, form),
-            }
+            add_first_word(answers, word, form_of(word))
         }
     }
 }

@@ -5,10 +5,11 @@ ghost use Rattle.bpf_asm.specs.SourceLines.{source_lines};
 ghost use Rattle.text_io.specs.Devices.{Adds};
 ghost use Rattle.text_io.specs.Serving.{IsServed};
 ghost use Rattle.text_io.specs.Words.{words_of};
-ghost use Rattle.cmd_explain.specs.FaultSentences.{IsFaultsText, explained_line, fault_key, fault_sentences, faults_text, with_numbers, sentence_text};
+ghost use Rattle.cmd_explain.specs.FaultSentences.{IsFaultsText, explained_line, fault_key, fault_sentences, faults_text, meant_octet, with_numbers, sentence_text};
 ghost use Rattle.cmd_explain_script.specs.Tables.{value_among};
 
 use bpf_asm::next_line;
+use cmd_explain_script::value_among;
 use std::alloc::{AllocError, Global};
 use text_io::{Added, Answered, Answerer, Done, Ending, Input, Output, answer_whole, first_word};
 use text_words::{TOO_LONG, add_text};
@@ -155,14 +156,7 @@ const FAULT_SENTENCES: [(&[u8], &[u8]); 34] = [
 fn sentence_among(key: &[u8], rows: &[(&'static [u8], &'static [u8])]) -> Option<&'static [u8]>
     ensures { option_map (λ sentence. sentence.now) result ≡ value_among key.now (map (λ row. (row.0.now, row.1.now)) rows.now) }
 {
-    let mut left = rows;
-    while let [row, rest @ ..] = left {
-        if key == row.0 {
-            return Some(row.1);
-        }
-        left = rest;
-    }
-    None
+    value_among(key, rows)
 }
 
 /// Returns the sentence of a fault, by its family, number and name.
@@ -172,17 +166,24 @@ fn sentence_of(key: &[u8]) -> Option<&'static [u8]>
     sentence_among(key, &FAULT_SENTENCES)
 }
 
+/// Appends what an octet of a sentence stands for.
+fn add_meant(answers: &mut Vec<u8>, octet: u8, first: &[u8], second: &[u8]) -> Added
+    ensures { OnOk result (answers.new.items ≡ answers.old.items ++ meant_octet first.now second.now octet) }
+{
+    match octet {
+        b'%' => add_text(answers, first),
+        b'@' => add_text(answers, second),
+        octet => Ok(answers.push(octet)?),
+    }
+}
+
 /// Appends a sentence with these numbers in place of its marks.
 fn add_filled(answers: &mut Vec<u8>, sentence: &[u8], first: &[u8], second: &[u8]) -> Added
     ensures { OnOk result (answers.new.items ≡ answers.old.items ++ with_numbers first.now second.now sentence.now) }
 {
     let mut left = sentence;
     while let [octet, rest @ ..] = left {
-        match *octet {
-            b'%' => add_text(answers, first)?,
-            b'@' => add_text(answers, second)?,
-            octet => answers.push(octet)?,
-        }
+        add_meant(answers, *octet, first, second)?;
         left = rest;
     }
     Ok(())
@@ -207,8 +208,19 @@ fn add_sentence(
     }
 }
 
-/// Returns the family, the number and the name of a fault with spaces between them.
+/// Appends the family, the number and the name of a fault with spaces between them.
 #[tactic(auto, using(std::proofs::lemmas::List::append_assoc))]
+fn add_fault_key(key: &mut Vec<u8>, family: &[u8], number: &[u8], name: &[u8]) -> Added
+    ensures { OnOk result (key.new.items ≡ key.old.items ++ fault_key family.now number.now name.now) }
+{
+    add_text(key, family)?;
+    key.push(b' ')?;
+    add_text(key, number)?;
+    key.push(b' ')?;
+    add_text(key, name)
+}
+
+/// Returns the family, the number and the name of a fault with spaces between them.
 fn fault_key(
     alloc: Global,
     family: &[u8],
@@ -218,11 +230,7 @@ fn fault_key(
     ensures { IfOk result (λ key. key.items ≡ fault_key family.now number.now name.now) }
 {
     let mut key = Vec::new(alloc);
-    add_text(&mut key, family)?;
-    key.push(b' ')?;
-    add_text(&mut key, number)?;
-    key.push(b' ')?;
-    add_text(&mut key, name)?;
+    add_fault_key(&mut key, family, number, name)?;
     Ok(key)
 }
 

@@ -25,26 +25,31 @@ takes_list here.Low = true
 takes_list here.Channel = true
 takes_list _ = false
 
+-- What comes after a single number, or a name that means one, at a place that takes no list: an offset, a mask, the number after an order
+-- sign, the end of a range, or a value. At any other place that place itself comes.
+abbrev pub after_single : Place → Place
+after_single here.Offset = here.Relation
+after_single here.Mask = here.Sign
+after_single here.Constant = here.Operator
+after_single here.High = here.Comma
+after_single here.Value = here.End
+after_single other = other
+
 -- What comes after a number or a name at a place: `of_test` where a test may begin, `of_list` where a number of a list may come, and
--- anywhere else what was to come at the place itself.
+-- anywhere else what comes after a single number.
 abbrev pub after_value : Place → Place → Place → Place
-after_value place of_test of_list = if takes_test place then of_test else if takes_list place then of_list else place
+after_value place of_test of_list =
+    if takes_test place then of_test else if takes_list place then of_list else after_single place
 
 -- What comes after a number. A number where a test may begin is a path.
 abbrev pub after_number : Place → Place
 after_number here.Body = here.Dots
-after_number here.Offset = here.Relation
-after_number here.Mask = here.Sign
-after_number here.Constant = here.Operator
-after_number here.High = here.Comma
-after_number here.Value = here.End
 after_number other = after_value other here.Slash here.Dots
 
--- What comes after a name: it is a test where one may begin, a list where a number may come, and a contract where a value may.
+-- What comes after a name: it is a test where one may begin, a list where a number of a list may come, and one number where one comes.
 abbrev pub after_name : Place → Place
 after_name here.Body = here.Comma
 after_name here.NewName = here.Equal
-after_name here.Value = here.End
 after_name other = after_value other here.Operator here.Comma
 
 -- What comes after `=` or `!=`: what a new name means, or a number.

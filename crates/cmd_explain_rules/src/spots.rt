@@ -1,7 +1,7 @@
 //! What may come next in a line of rules.
 
 ghost use Rattle.std.specs.Prelude.{◌≡◌};
-ghost use Rattle.cmd_explain_rules.specs.Spots.{after_equal, after_name, after_number, after_value, defines_after, first_spot, place_after, spot_after, spot_from, subject_after, takes_list, takes_test};
+ghost use Rattle.cmd_explain_rules.specs.Spots.{after_equal, after_name, after_number, after_single, after_value, defines_after, first_spot, place_after, spot_after, spot_from, subject_after, takes_list, takes_test};
 
 use crate::rule_tokens::RuleWord;
 use crate::token_parts::{Part, Subject};
@@ -82,8 +82,23 @@ pub(crate) fn takes_list(place: Place) -> bool
     )
 }
 
+/// Returns what comes after a single number, or a name that means one, at a place that takes no list. At any other place that place itself
+/// comes.
+fn after_single(place: Place) -> Place
+    ensures { result ≡ after_single place }
+{
+    match place {
+        Place::Offset => Place::Relation,
+        Place::Mask => Place::Sign,
+        Place::Constant => Place::Operator,
+        Place::High => Place::Comma,
+        Place::Value => Place::End,
+        _ => place,
+    }
+}
+
 /// Returns what comes after a number or a name at a place: `of_test` where a test may begin, `of_list` where a number of a list may come,
-/// and anywhere else what was to come at the place itself.
+/// and anywhere else what comes after a single number.
 fn after_value(place: Place, of_test: Place, of_list: Place) -> Place
     ensures { result ≡ after_value place of_test of_list }
 {
@@ -92,7 +107,7 @@ fn after_value(place: Place, of_test: Place, of_list: Place) -> Place
     } else if takes_list(place) {
         of_list
     } else {
-        place
+        after_single(place)
     }
 }
 
@@ -102,11 +117,6 @@ fn after_number(place: Place) -> Place
 {
     match place {
         Place::Body => Place::Dots,
-        Place::Offset => Place::Relation,
-        Place::Mask => Place::Sign,
-        Place::Constant => Place::Operator,
-        Place::High => Place::Comma,
-        Place::Value => Place::End,
         _ => after_value(place, Place::Slash, Place::Dots),
     }
 }
@@ -118,7 +128,6 @@ fn after_name(place: Place) -> Place
     match place {
         Place::Body => Place::Comma,
         Place::NewName => Place::Equal,
-        Place::Value => Place::End,
         _ => after_value(place, Place::Operator, Place::Comma),
     }
 }
