@@ -8,9 +8,8 @@ ghost use Rattle.cmd_police.specs.RulesFiles.{octets_of_text, octets_of_texts};
 ghost use Rattle.upc_lab.specs.NamedFiles.{IsUnreadable, IsUnreadableSetup, IsUnreadableShown, old_name, fit_rules_name, setup_name, unreadable_line, unreadable_message};
 
 use crate::file_names::{add_shown_name, name_given};
-use crate::reason::in_words;
 use captures::Tick;
-use cmd_options::Asked;
+use cmd_options::{Asked, in_words};
 use cmd_police::{SharedText, files_read, take_tick};
 use std::alloc::{AllocError, Global};
 use std::collections::BTreeMap;
