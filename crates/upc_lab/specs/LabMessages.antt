@@ -1,5 +1,5 @@
 -- What `upc-lab` says beside its answers.
-use Rattle.std.specs.Prelude.{ℕ, ◌==◌, Bool, ◌&&◌, if◌then◌else◌, List, [], ◌++◌, codes}
+use Rattle.std.specs.Prelude.{ℕ, ◌==◌, Bool, ◌&&◌, if◌then◌else◌, List, [], codes}
 use Rattle.text_io.specs.declared.ending.RunFault.{RunFault}
 use Rattle.text_io.specs.declared.ending.RunFault.TheVariants.{ReadFailed, WriteFailed, NoMemory}
 use Rattle.upc_lab.specs.declared.reason.Reasoned.{Ghosts as ReasonView}

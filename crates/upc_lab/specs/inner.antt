@@ -2,3 +2,4 @@
 pub mod OnlyWord
 pub mod NamesMet
 pub mod Stops
+pub mod LineAfter
