@@ -1,5 +1,5 @@
 -- The effect of the subcommands that compile rules before they answer: `asm`, `why`, `police` and `explain`.
-use Rattle.std.specs.Prelude.{◌≡◌, ℕ, List, Result, Ok, Err, IfOk}
+use Rattle.std.specs.Prelude.{◌≡◌, ℕ, List, Result, IfOk}
 use Rattle.text_io.specs.Devices.{Adds}
 use Rattle.text_io.specs.Serving.{IsServed}
 use Rattle.text_io.specs.declared.device.Input.{Ghosts as InputView}

@@ -1,5 +1,5 @@
 -- The effect of `upc-lab explain --setup`, which explains a setup script, and reads no input.
-use Rattle.std.specs.Prelude.{◌≡◌, ℕ, List, Result, Ok, Err, IfOk, OnErr}
+use Rattle.std.specs.Prelude.{◌≡◌, ℕ, List, Result, IfOk, OnErr}
 use Rattle.text_io.specs.Devices.{Adds}
 use Rattle.text_io.specs.declared.device.Input.{Ghosts as InputView}
 use Rattle.text_io.specs.declared.device.Output.{Ghosts as OutputView}

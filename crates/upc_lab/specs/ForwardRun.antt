@@ -1,5 +1,5 @@
 -- The effect of `upc-lab forward`, which writes records to the output, and what it reports of the run to the error output.
-use Rattle.std.specs.Prelude.{◌≡◌, ℕ, List, ◌++◌, Result, Ok, Err}
+use Rattle.std.specs.Prelude.{◌≡◌, ℕ, List, Result, Ok, Err}
 use Rattle.text_io.specs.Devices.{Adds}
 use Rattle.text_io.specs.Serving.{IsServed}
 use Rattle.text_io.specs.declared.device.Input.{Ghosts as InputView}

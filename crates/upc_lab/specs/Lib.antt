@@ -1,7 +1,6 @@
 -- The program `upc-lab`. Read the modules in this order:
 pub mod LabText
 pub mod LabMessages
-pub mod FailureLines
 pub mod ShownNames
 pub mod Comparison
 pub mod ExactRun
@@ -11,5 +10,4 @@ pub mod RulesRun
 pub mod SetupHints
 pub mod NamedFiles
 pub mod LabEffects
-pub mod Progress
 pub mod inner

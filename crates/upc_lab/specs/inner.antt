@@ -1,6 +1,5 @@
 -- Definitions that only private functions and proofs use.
-pub mod ReasonedLine
-pub mod ProgressText
 pub mod OnlyWord
 pub mod NamesMet
 pub mod Stops
+pub mod LineAfter

@@ -5,8 +5,6 @@ mod file_names;
 mod invocation;
 mod laws;
 mod named_files;
-mod notice;
-mod progress;
 mod reason;
 mod reporting;
 mod running;
@@ -18,9 +16,10 @@ pub use cmd_explain::{LookedAt, explain_faults};
 pub use cmd_fit::{fit_capture, links_of_capture};
 pub use cmd_list::{list_program, trace_cells};
 pub use cmd_options::{
-    Asked, CellsOptions, DifferOptions, ExplainOptions, FitOptions, ForwardOptions, PoliceOptions,
-    Programs, Subcommand, WhyOptions, cells_options, choose, differ_options, explain_options,
-    fit_options, forward_options, police_options, why_options,
+    Asked, CellsOptions, Counted, DifferOptions, ExplainOptions, FitOptions, ForwardOptions,
+    PoliceOptions, Programs, Subcommand, WhyOptions, WithReason, Work, awaited, cells_options,
+    choose, differ_options, explain_options, fit_options, forward_options, police_options,
+    reads_capture, why_options,
 };
 pub use cmd_police::{explain_setup, police_as_agreed};
 pub use cmd_rules::{assemble_rules, compile_rules, decide_cells};
@@ -28,9 +27,7 @@ pub use cmd_size::size_contracts;
 pub use invocation::carry_out;
 use invocation::explains_setup;
 pub use named_files::{NamedFiles, Unreadable, read_named_files};
-pub use notice::awaited;
-pub use progress::{Counted, reads_capture};
-pub use reason::{Reasoned, WithReason, Work};
+pub use reason::Reasoned;
 pub use reporting::shell_status;
 use std::alloc::Global;
 use std::io::{BufReader, IsTerminal, Read};

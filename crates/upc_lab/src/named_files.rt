@@ -6,11 +6,11 @@ ghost use Rattle.std.specs.Path.{path_with_file_name};
 ghost use Rattle.cmd_setups.specs.FilesRead.{AreTextsForFiles, IsTextForFile, files_read, octets_of_name, octets_of_names};
 ghost use Rattle.cmd_setups.specs.SharedTexts.{octets_of_text, octets_of_texts};
 ghost use Rattle.upc_lab.specs.NamedFiles.{IsUnreadable, IsUnreadableSetup, IsUnreadableShown, old_name, fit_rules_name, setup_name, unreadable_line, unreadable_message};
+ghost use Rattle.upc_lab.specs.inner.LineAfter.{line_after};
 
 use crate::file_names::{add_shown_name, name_given};
-use crate::reason::in_words;
 use captures::Tick;
-use cmd_options::Asked;
+use cmd_options::{Asked, in_words};
 use cmd_setups::{SharedText, files_read, take_tick};
 use std::alloc::{AllocError, Global};
 use std::collections::BTreeMap;
@@ -112,18 +112,30 @@ impl Unreadable {
     }
 }
 
-/// Returns the message with a reason.
+/// Returns a message that begins with this front and has the name of a file, as it is shown, and a reason.
 #[tactic(auto, using(std::proofs::lemmas::List::append_assoc))]
-fn unreadable_line(alloc: Global, name: &[u8], reason: &[u8]) -> Result<Vec<u8>, AllocError>
-    ensures { IfOk result (λ line. line.items ≡ unreadable_line name.now reason.now) }
+fn line_after(
+    alloc: Global,
+    front: &[u8],
+    name: &[u8],
+    reason: &[u8],
+) -> Result<Vec<u8>, AllocError>
+    ensures { IfOk result (λ line. line.items ≡ line_after front.now name.now reason.now) }
 {
     let mut line = Vec::new(alloc);
-    line.extend_from_slice(b"upc-lab: cannot read ")?;
+    line.extend_from_slice(front)?;
     add_shown_name(alloc, &mut line, name)?;
     line.extend_from_slice(b": ")?;
     line.extend_from_slice(reason)?;
     line.push(b'\n')?;
     Ok(line)
+}
+
+/// Returns the message with a reason.
+fn unreadable_line(alloc: Global, name: &[u8], reason: &[u8]) -> Result<Vec<u8>, AllocError>
+    ensures { IfOk result (λ line. line.items ≡ unreadable_line name.now reason.now) }
+{
+    line_after(alloc, b"upc-lab: cannot read ", name, reason)
 }
 
 /// Returns the message with a reason. It is empty if there is no reason or an allocation fails.

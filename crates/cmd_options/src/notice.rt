@@ -2,10 +2,10 @@
 
 ghost use Rattle.std.specs.Prelude.{◌≡◌, Some};
 ghost use Rattle.text_command_line.specs.Subcommands.{meaning_in};
-ghost use Rattle.upc_lab.specs.LabMessages.{asked_notice, lab_name_of, lab_notice};
+ghost use Rattle.cmd_options.specs.LabNotices.{asked_notice, lab_name_of, lab_notice};
 ghost use Rattle.cmd_options.specs.LabWords.{lab_subcommands};
 
-use cmd_options::{Asked, Subcommand};
+use crate::choice::{Asked, Subcommand};
 
 /// Returns the notice for what was asked, which begins with the name of the subcommand.
 pub fn awaited(asked: &Asked) -> &'static str

@@ -1,11 +1,10 @@
 //! How much of a capture was read, for a terminal.
 
 ghost use Rattle.std.specs.Prelude.{◌≡◌, ◌≢◌, ◌+◌, ◌*◌, ◌/◌, ◌≤◌, ◌<◌, min, IfOk, codes};
-ghost use Rattle.upc_lab.specs.Progress.{ShowsText, reads_capture, reads_links};
-ghost use Rattle.upc_lab.specs.inner.ProgressText.{progress_text};
+ghost use Rattle.cmd_options.specs.Progress.{ShowsText, reads_capture, reads_links};
+ghost use Rattle.cmd_options.specs.inner.ProgressText.{progress_text};
 
-use crate::reason::Reasoned;
-use cmd_options::{Asked, Subcommand};
+use crate::choice::{Asked, Subcommand};
 use std::alloc::{AllocError, Global};
 use text_command_line::{Stop, write_message};
 use text_io::{Failed, Input, Output};
@@ -126,19 +125,5 @@ impl<I: Input, E: Output> Input for Counted<I, E> {
         let octets = self.input.take(room)?;
         self.add(octets);
         Ok(octets)
-    }
-}
-
-impl<I: Reasoned, E> Reasoned for Counted<I, E> {
-    ghost message = { λ it. I.message it.input };
-
-    ghost is_closed = { λ it. I.is_closed it.input };
-
-    fn message(&self) -> &[u8] {
-        self.input.message()
-    }
-
-    fn is_closed(&self) -> bool {
-        self.input.is_closed()
     }
 }
