@@ -4,7 +4,7 @@ use Rattle.text_io.specs.declared.ending.RunFault.{RunFault}
 use Rattle.text_io.specs.declared.ending.RunFault.TheVariants.{ReadFailed, WriteFailed, NoMemory}
 
 -- The message for each failure.
-abbrev pub failure_line : RunFault → List ℕ
-failure_line ReadFailed = codes "upc: reading failed\n"
-failure_line WriteFailed = codes "upc: writing failed\n"
-failure_line NoMemory = codes "upc: out of memory\n"
+abbrev pub failure_message : RunFault → List ℕ
+failure_message ReadFailed = codes "upc: reading failed\n"
+failure_message WriteFailed = codes "upc: writing failed\n"
+failure_message NoMemory = codes "upc: out of memory\n"

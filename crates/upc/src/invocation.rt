@@ -1,7 +1,7 @@
 //! Runs the program over three devices and returns its exit status.
 
 ghost use Rattle.std.specs.Prelude.{◌≡◌, ◌≢◌, Ok as TheOk};
-ghost use Rattle.upc.specs.FailureLines.{failure_line};
+ghost use Rattle.upc.specs.FailureLines.{failure_message};
 ghost use Rattle.upc.specs.Subcommand.{IsTextOf};
 ghost use Rattle.text_command_line.specs.declared.choice.Choice.TheVariants.{Ports};
 ghost use Rattle.text_command_line.specs.ExitStatus.{status_of};
@@ -19,7 +19,7 @@ use text_io::{Ending, Input, Output, RunFault, give_all};
 /// Writes the message for a failed run, and returns the exit status of any run.
 fn report<E: Output>(errors: &mut E, ended: Ending) -> u8
     ensures status { result ≡ status_of ended }
-    ensures reported { E.is_known → Reports failure_line E.Output errors.old errors.new ended }
+    ensures reported { E.is_known → Reports failure_message E.Output errors.old errors.new ended }
 {
     match ended {
         Ok(_) => {}
@@ -40,7 +40,7 @@ pub fn carry_out_on_one_thread<I: Input, O: Output, E: Output>(
     errors: &mut E,
 ) -> u8
     requires no_ports { chosen ≢ TheOk Ports }
-    ensures carried { I.is_known → O.is_known → E.is_known → CarriesOut failure_line IsTextOf chosen I.Input input.old input.new
+    ensures carried { I.is_known → O.is_known → E.is_known → CarriesOut failure_message IsTextOf chosen I.Input input.old input.new
         O.Output output.old output.new E.Output errors.old errors.new result }
     ensures status { IsStatusFor chosen result }
 {
@@ -71,7 +71,7 @@ pub fn carry_out<R: Threads + Wait + Sync, I: Input, O: Output, E: Output>(
     output: &mut O,
     errors: &mut E,
 ) -> u8
-    ensures carried { I.is_known → O.is_known → E.is_known → CarriesOut failure_line IsTextOf chosen I.Input input.old input.new
+    ensures carried { I.is_known → O.is_known → E.is_known → CarriesOut failure_message IsTextOf chosen I.Input input.old input.new
         O.Output output.old output.new E.Output errors.old errors.new result }
     ensures status { IsStatusFor chosen result }
 {
