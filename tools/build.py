@@ -24,7 +24,7 @@ SECONDS = {
     "card_core": 140, "port_card": 350, "text_io": 100, "text_words": 100, "text_script": 100, "text_card": 65, "text_command_line": 100,
     "rules_code": 95, "rules_cells": 55, "rules_diagrams": 185, "rules_text": 185, "captures": 120, "captures_text": 200, "cmd_programs": 50, "cmd_run": 60,
     "cmd_ports": 260, "cmd_list": 80, "cmd_rules": 95, "cmd_size": 60, "cmd_differ": 160, "cmd_explain_script": 100, "cmd_explain_rules": 140, "cmd_explain": 130, "cmd_fit": 150,
-    "cmd_setups": 150, "cmd_police": 130, "cmd_forward": 75, "cmd_options": 110,
+    "cmd_setups": 130, "cmd_police": 150, "cmd_forward": 75, "cmd_options": 110,
 }
 LINES = 12
 
