@@ -20,11 +20,12 @@ import kit
 # About the seconds that one processor takes for a crate, where four are at work. Only their proportions matter, for the order. A crate that isn't
 # here takes one for each LINES lines.
 SECONDS = {
-    "upc_cell": 30, "gen_arena": 50, "leaky": 60, "vc_table": 60, "bpf_code": 65, "bpf_verify": 65, "bpf_interp": 65, "bpf_asm": 130, "line_record": 105,
-    "card_core": 140, "port_card": 350, "text_io": 100, "text_words": 100, "text_script": 100, "text_card": 65, "text_command_line": 100,
-    "rules_code": 95, "rules_cells": 55, "rules_diagrams": 185, "rules_text": 185, "captures": 120, "captures_text": 200, "cmd_programs": 50, "cmd_run": 60,
-    "cmd_ports": 260, "cmd_list": 80, "cmd_rules": 95, "cmd_size": 60, "cmd_differ": 160, "cmd_explain_script": 100, "cmd_explain_rules": 140, "cmd_explain": 130, "cmd_fit": 150,
-    "cmd_setups": 130, "cmd_police": 150, "cmd_forward": 75, "cmd_options": 110,
+    "upc_cell": 25, "gen_arena": 45, "leaky": 35, "vc_table": 45, "bpf_code": 70, "bpf_verify": 75, "bpf_interp": 75, "bpf_asm": 160,
+    "line_record": 115, "card_core": 180, "port_card": 350, "text_io": 100, "text_words": 35, "text_script": 125, "text_card": 35,
+    "text_command_line": 120, "rules_code": 90, "rules_cells": 60, "rules_diagrams": 230, "rules_text": 240, "captures": 120,
+    "captures_text": 190, "cmd_programs": 70, "cmd_run": 105, "cmd_ports": 260, "cmd_list": 50, "cmd_rules": 135, "cmd_size": 80,
+    "cmd_differ": 120, "cmd_explain_script": 155, "cmd_explain_rules": 170, "cmd_explain": 220, "cmd_fit": 150, "cmd_setups": 230,
+    "cmd_police": 260, "cmd_forward": 200, "cmd_options": 160,
 }
 LINES = 12
 
