@@ -2,4 +2,3 @@
 pub mod OnlyWord
 pub mod NamesMet
 pub mod Stops
-pub mod LineAfter

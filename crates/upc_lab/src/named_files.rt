@@ -6,7 +6,6 @@ ghost use Rattle.std.specs.Path.{path_with_file_name};
 ghost use Rattle.cmd_setups.specs.FilesRead.{AreTextsForFiles, IsTextForFile, files_read, octets_of_name, octets_of_names};
 ghost use Rattle.cmd_setups.specs.SharedTexts.{octets_of_text, octets_of_texts};
 ghost use Rattle.upc_lab.specs.NamedFiles.{IsUnreadable, IsUnreadableSetup, IsUnreadableShown, old_name, fit_rules_name, setup_name, unreadable_line, unreadable_message};
-ghost use Rattle.upc_lab.specs.inner.LineAfter.{line_after};
 
 use crate::file_names::{add_shown_name, name_given};
 use captures::Tick;
@@ -112,30 +111,18 @@ impl Unreadable {
     }
 }
 
-/// Returns a message that begins with this front and has the name of a file, as it is shown, and a reason.
+/// Returns the message with a reason.
 #[tactic(auto, using(std::proofs::lemmas::List::append_assoc))]
-fn line_after(
-    alloc: Global,
-    front: &[u8],
-    name: &[u8],
-    reason: &[u8],
-) -> Result<Vec<u8>, AllocError>
-    ensures { IfOk result (λ line. line.items ≡ line_after front.now name.now reason.now) }
+fn unreadable_line(alloc: Global, name: &[u8], reason: &[u8]) -> Result<Vec<u8>, AllocError>
+    ensures { IfOk result (λ line. line.items ≡ unreadable_line name.now reason.now) }
 {
     let mut line = Vec::new(alloc);
-    line.extend_from_slice(front)?;
+    line.extend_from_slice(b"upc-lab: cannot read ")?;
     add_shown_name(alloc, &mut line, name)?;
     line.extend_from_slice(b": ")?;
     line.extend_from_slice(reason)?;
     line.push(b'\n')?;
     Ok(line)
-}
-
-/// Returns the message with a reason.
-fn unreadable_line(alloc: Global, name: &[u8], reason: &[u8]) -> Result<Vec<u8>, AllocError>
-    ensures { IfOk result (λ line. line.items ≡ unreadable_line name.now reason.now) }
-{
-    line_after(alloc, b"upc-lab: cannot read ", name, reason)
 }
 
 /// Returns the message with a reason. It is empty if there is no reason or an allocation fails.
