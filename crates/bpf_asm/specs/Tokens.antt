@@ -70,7 +70,7 @@ signed_after (mark hash) (mark minus ∷ number value ∷ tokens) =
     if hash == 35 && minus == 45 then mark hash ∷ number ((2 ^ 32 - value) % 2 ^ 32) ∷ tokens else mark hash ∷ mark minus ∷ number value ∷ tokens
 signed_after token tokens = token ∷ tokens
 
--- The tokens, with each `#-n` as one number.
+-- The tokens, with each `-n` after a `#` as one number.
 unfoldable pub signed : List Token → List Token
 signed [] = []
 signed (token ∷ tokens) = signed_after token (signed tokens)

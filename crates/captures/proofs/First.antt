@@ -4,7 +4,7 @@ use Rattle.std.proofs.lemmas.Bool.Decides.{nat_tests}
 use Rattle.captures.specs.Frames.{first_frame, frame_held, frame_of_size, frame_size, head_length, held_frame}
 use Rattle.captures.specs.Framing.{Framed}
 use Rattle.captures.specs.Reading.{TakesFrame, IsGiven, count_after}
-use Rattle.captures.specs.declared.block.Unread.{Unread}
+use Rattle.captures.specs.declared.block.SkippedKind.{SkippedKind}
 use Rattle.captures.specs.declared.fault.RecordFault.{RecordFault}
 use Rattle.captures.specs.declared.fault.RecordFault.TheVariants.{TooFar}
 use Rattle.captures.specs.declared.format.Format.{Format}
@@ -58,21 +58,21 @@ pub lacks_content : (format : Format) (at : ℕ) (octets : List ℕ) (size : ℕ
 lacks_content format at octets size reason headed is within fault =
     has_end format at octets size headed is within ∙ ap (λ held. Some (held_frame at size held)) fault
 
-pub has_content : (format : Format) (at : ℕ) (octets : List ℕ) (size : ℕ) (after : Format) (held : Result Framed Unread) → head_length format ≤ length octets
+pub has_content : (format : Format) (at : ℕ) (octets : List ℕ) (size : ℕ) (after : Format) (held : Result Framed SkippedKind) → head_length format ≤ length octets
     → frame_size format octets ≡ Ok size → size ≤ length octets → frame_held format (take size octets) ≡ Ok (after, held)
     → first_frame format at octets ≡ Some (held_frame at size (Ok (after, held)))
 has_content format at octets size after held headed is within whole =
     has_end format at octets size headed is within ∙ ap (λ held. Some (held_frame at size held)) whole
 
 -- It may end too far on.
-pub ends_far : (format : Format) (at : ℕ) (octets : List ℕ) (size : ℕ) (after : Format) (held : Result Framed Unread) → head_length format ≤ length octets
+pub ends_far : (format : Format) (at : ℕ) (octets : List ℕ) (size : ℕ) (after : Format) (held : Result Framed SkippedKind) → head_length format ≤ length octets
     → frame_size format octets ≡ Ok size → size ≤ length octets → frame_held format (take size octets) ≡ Ok (after, held)
     → 2 ^ 64 ≤ at + size → first_frame format at octets ≡ Some (Err TooFar)
 ends_far format at octets size after held headed is within whole far =
     has_content format at octets size after held headed is within whole
     ∙ ap Some (when_above (at + size) (2 ^ 64) _ _ far)
 
-pub is_frame : (format : Format) (at : ℕ) (octets : List ℕ) (size : ℕ) (after : Format) (held : Result Framed Unread) → head_length format ≤ length octets
+pub is_frame : (format : Format) (at : ℕ) (octets : List ℕ) (size : ℕ) (after : Format) (held : Result Framed SkippedKind) → head_length format ≤ length octets
     → frame_size format octets ≡ Ok size → size ≤ length octets → frame_held format (take size octets) ≡ Ok (after, held)
     → at + size < 2 ^ 64
     → first_frame format at octets ≡ Some (Ok (record { size = size; after = after; held = held }))
@@ -86,7 +86,7 @@ head_some (Pcap order times) = omega arith
 head_some (PcapNg section) = omega arith
 
 -- A reader goes on by a whole frame.
-pub takes_frame : (before after : Reader) (octets : List ℕ) (size : ℕ) (next : Format) (held : Result Framed Unread) (given : Result Record SkippedBlock)
+pub takes_frame : (before after : Reader) (octets : List ℕ) (size : ℕ) (next : Format) (held : Result Framed SkippedKind) (given : Result Record SkippedBlock)
     → head_length before.format ≤ length octets → frame_size before.format octets ≡ Ok size → 0 < size → size ≤ length octets
     → frame_held before.format (take size octets) ≡ Ok (next, held) → before.at + size < 2 ^ 64 → IsGiven before.count before.at held given
     → after.format ≡ next → after.count ≡ count_after before.count given → after.at ≡ before.at + size

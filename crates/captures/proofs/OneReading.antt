@@ -9,7 +9,7 @@ use Rattle.captures.specs.Reading.{EndsReading, HasOneReading, IsReading, IsGive
 use Rattle.captures.specs.Record.{HasExtensions}
 use Rattle.captures.specs.RecordContent.{IsContent, cell_place, octets_of_cell}
 use Rattle.captures.specs.RecordReading.{IsRecordOf}
-use Rattle.captures.specs.declared.block.Unread.{Unread}
+use Rattle.captures.specs.declared.block.SkippedKind.{SkippedKind}
 use Rattle.captures.specs.declared.content.NoCell.{NoCell}
 use Rattle.captures.specs.declared.content.NoCell.TheVariants.{OtherType, Errored, CutShort}
 use Rattle.captures.specs.declared.fault.Fault.{Fault}
@@ -70,10 +70,10 @@ one_channel octets (Ok cell) a b one other =
     let same : one.0 ≡ other.0 = one_extensions octets one.0 other.0 one.1 other.1 in
     one.2 ∙ ap (λ k. channel_before octets (cell_place octets k)) same ∙ sym other.2
 
-same_parts : (a b : Link) → a.packet ≡ b.packet → a.interface ≡ b.interface → a.channel ≡ b.channel → a ≡ b
+same_parts : (a b : Link) → a.packet_interface ≡ b.packet_interface → a.interface ≡ b.interface → a.channel ≡ b.channel → a ≡ b
 same_parts a b packets interfaces channels =
-    ap (λ n. record a { packet = n }) packets
-    ∙ ap (λ n. record a { packet = b.packet; interface = n }) interfaces
+    ap (λ n. record a { packet_interface = n }) packets
+    ∙ ap (λ n. record a { packet_interface = b.packet_interface; interface = n }) interfaces
     ∙ ap (λ n. record b { channel = n }) channels
 
 -- A record has one set of marks.
@@ -105,7 +105,7 @@ one_record_of number framed a b one other =
     a
     b
     (one.numbered ∙ sym other.numbered)
-    (same_parts a.link b.link (one.packet ∙ sym other.packet) (one.interface ∙ sym other.interface)
+    (same_parts a.link b.link (one.packet_interface ∙ sym other.packet_interface) (one.interface ∙ sym other.interface)
     (one_channel framed.octets b.content a.link.channel b.link.channel moved other.channel))
     (same_marks framed.octets b.content a.marks b.marks marked other.marks)
     (one.time ∙ sym other.time)
@@ -153,7 +153,7 @@ ends_apart format at octets (Some fault) frame begins (same, inr ends) =
     let bad : Some (Err fault.reason) ≡ Some (Ok frame) = sym ends ∙ begins in cc
 
 -- One thing is given of a frame.
-one_given : (count at : ℕ) (held : Result Framed Unread) (a b : Result Record SkippedBlock) → IsGiven count at held a → IsGiven count at held b → a ≡ b
+one_given : (count at : ℕ) (held : Result Framed SkippedKind) (a b : Result Record SkippedBlock) → IsGiven count at held a → IsGiven count at held b → a ≡ b
 one_given count at (Err unread) (Err block) (Err second) one other = ap Err (one ∙ sym other)
 one_given count at (Err unread) (Err block) (Ok record_read) one other = absurd other
 one_given count at (Err unread) (Ok record_read) b one other = absurd one

@@ -12,7 +12,7 @@ use Rattle.captures.specs.Record.{HasExtensions, record_flags, record_interface,
 use Rattle.captures.specs.Links.{IsChannelOf, channel_before}
 use Rattle.captures.specs.RecordContent.{IsContent, IsErrored, IsOfCell, cell_place, octets_of_cell}
 use Rattle.captures.specs.RecordReading.{IsRecordOf, time_in}
-use Rattle.captures.specs.declared.block.Unread.{Unread}
+use Rattle.captures.specs.declared.block.SkippedKind.{SkippedKind}
 use Rattle.captures.specs.declared.content.NoCell.{NoCell}
 use Rattle.captures.specs.declared.content.NoCell.TheVariants.{OtherType, Errored, CutShort}
 use Rattle.captures.specs.declared.fault.Fault.{Fault}
@@ -95,15 +95,15 @@ some_record_of number framed =
     let marks = some_marks framed.octets content.0 content.1 in (
       record {
         number = number;
-        link = record { packet = framed.packet; interface = record_interface framed.octets; channel = channel.0 };
+        link = record { packet_interface = framed.packet_interface; interface = record_interface framed.octets; channel = channel.0 };
         marks = marks.0;
         time = time_in framed;
         content = content.0;
       },
-      record { numbered = refl; packet = refl; interface = refl; channel = channel.1; marks = marks.1; time = refl; content = content.1 },
+      record { numbered = refl; packet_interface = refl; interface = refl; channel = channel.1; marks = marks.1; time = refl; content = content.1 },
     )
 
-some_given : (count at : ℕ) (held : Result Framed Unread) → (given : Result Record SkippedBlock) × IsGiven count at held given
+some_given : (count at : ℕ) (held : Result Framed SkippedKind) → (given : Result Record SkippedBlock) × IsGiven count at held given
 some_given count at (Err unread) = (Err (record { what = unread; at = at }), refl)
 some_given count at (Ok framed) = let record_read = some_record_of (count + 1) framed in (Ok record_read.0, record_read.1)
 
@@ -136,7 +136,7 @@ block_some (Ok order) octets size is =
     (λ n one. sized_some 0 12 most_block (number_in_order order (drop 4 octets)) n (omega arith) one) is
 
 -- The size of a frame is that of its length field.
-size_of_held : (at size : ℕ) (held : Result (Format × Result Framed Unread) RecordFault) (frame : Frame) → held_frame at size held ≡ Ok frame → frame.size ≡ size
+size_of_held : (at size : ℕ) (held : Result (Format × Result Framed SkippedKind) RecordFault) (frame : Frame) → held_frame at size held ≡ Ok frame → frame.size ≡ size
 size_of_held at size (Err reason) frame is = cc
 size_of_held at size (Ok held) frame is =
     elim (cases_lt (at + size) (2 ^ 64)) [

@@ -5,8 +5,8 @@ use Rattle.captures.specs.Framing.{Framed, half_in_order, number_in_order, or_fa
 use Rattle.captures.specs.InterfaceOptions.{unit_of_options}
 use Rattle.captures.specs.PacketTimes.{packet_time, same_unit, times_begun}
 use Rattle.captures.specs.declared.block.Section.{Section}
-use Rattle.captures.specs.declared.block.Unread.{Unread}
-use Rattle.captures.specs.declared.block.Unread.TheVariants.{NoPacket, Entry, SimplePacket, OldPacket, OtherBlock, OtherLinkPacket}
+use Rattle.captures.specs.declared.block.SkippedKind.{SkippedKind}
+use Rattle.captures.specs.declared.block.SkippedKind.TheVariants.{NoPacket, Entry, SimplePacket, OldPacket, OtherBlock, OtherLinkPacket}
 use Rattle.captures.specs.declared.fault.RecordFault.{RecordFault}
 use Rattle.captures.specs.declared.fault.RecordFault.TheVariants.{OddLength, LengthsDiffer, OtherMagic, OtherVersion, ShortBlock, OtherLink, NoInterface, LongPacket, OtherUnit}
 use Rattle.captures.specs.declared.format.Order.{Order}
@@ -102,7 +102,7 @@ stamp_in_block order block = number_in_order order (drop 12 block) * 2 ^ 32 + nu
 -- The record in an enhanced packet block, or that its interface has no records: in octets 8 to 11 is the number of an
 -- interface, from 0, in octets 20 to 23 the length of the packet, and the packet begins with octet 28. What comes after
 -- it is not read.
-abbrev pub record_of_packet : Section → List ℕ → Result (Result Framed Unread) RecordFault
+abbrev pub record_of_packet : Section → List ℕ → Result (Result Framed SkippedKind) RecordFault
 record_of_packet section block =
     if nat_lt (length block) 32 then Err (ShortBlock (length block))
     else if nat_le section.interfaces (number_in_order section.order (drop 8 block))
@@ -112,7 +112,7 @@ record_of_packet section block =
     else if is_other_interface section (number_in_order section.order (drop 8 block)) then Ok (Err OtherLinkPacket)
     else or_fault (record_in_packet (take (number_in_order section.order (drop 20 block)) (drop 28 block))) (λ octets.
     Ok (Ok (record {
-      packet = Some (interface_in_file section (number_in_order section.order (drop 8 block)));
+      packet_interface = Some (interface_in_file section (number_in_order section.order (drop 8 block)));
       stamped = packet_time section.times (stamp_in_block section.order block);
       octets = octets;
     })))
@@ -126,7 +126,7 @@ abbrev pub is_entry : ℕ → Bool
 is_entry kind = kind == 9 || kind == 0xbad || kind == 0x40000bad
 
 -- The kind of a skipped block, by its type: a simple packet (3), an obsolete packet (2), one without a packet, or one of an unknown type.
-abbrev pub unread_of_type : ℕ → Unread
+abbrev pub unread_of_type : ℕ → SkippedKind
 unread_of_type kind =
     if kind == 3 then SimplePacket
     else if kind == 2 then OldPacket
@@ -135,7 +135,7 @@ unread_of_type kind =
     else OtherBlock kind
 
 -- Whether a skipped block or packet has a number, as records have. Wireshark gives a frame number to the same ones.
-abbrev pub has_number : Unread → Bool
+abbrev pub has_number : SkippedKind → Bool
 has_number NoPacket = false
 has_number Entry = true
 has_number SimplePacket = true
@@ -144,11 +144,11 @@ has_number (OtherBlock kind) = false
 has_number OtherLinkPacket = true
 
 -- How many numbers were given up to a skipped block or packet, itself included, if this many were given before it.
-abbrev pub count_past : ℕ → Unread → ℕ
+abbrev pub count_past : ℕ → SkippedKind → ℕ
 count_past count unread = if has_number unread then count + 1 else count
 
 -- The section after a block of this type, and the record in the block, or what is skipped.
-abbrev pub held_of_type : Section → Order → ℕ → List ℕ → Result (Section × Result Framed Unread) RecordFault
+abbrev pub held_of_type : Section → Order → ℕ → List ℕ → Result (Section × Result Framed SkippedKind) RecordFault
 held_of_type section order kind block =
     if kind == 0x0a0d0d0a then or_fault (section_of_header section order block) (λ begun. Ok (begun, Err NoPacket))
     else if kind == 1 then or_fault (section_of_interface section block) (λ more. Ok (more, Err NoPacket))
@@ -163,6 +163,6 @@ whole_block_order section block =
     else Err (LengthsDiffer (number_in_order order (drop (length block - 4) block))))
 
 -- The section after a whole block, and the record in the block, or what is skipped.
-abbrev pub block_held : Section → List ℕ → Result (Section × Result Framed Unread) RecordFault
+abbrev pub block_held : Section → List ℕ → Result (Section × Result Framed SkippedKind) RecordFault
 block_held section block =
     or_fault (whole_block_order section block) (λ order. held_of_type section order (number_in_order order block) block)

@@ -4,7 +4,7 @@ use Rattle.captures.specs.Blocks.{block_held, block_size}
 use Rattle.captures.specs.Framing.{Framed, number_in_order, or_fault, record_in_packet, sized}
 use Rattle.captures.specs.PacketTimes.{packet_time, units_of_second}
 use Rattle.captures.specs.Record.{record_length}
-use Rattle.captures.specs.declared.block.Unread.{Unread}
+use Rattle.captures.specs.declared.block.SkippedKind.{SkippedKind}
 use Rattle.captures.specs.declared.fault.RecordFault.{RecordFault}
 use Rattle.captures.specs.declared.fault.RecordFault.TheVariants.{TooFar}
 use Rattle.captures.specs.declared.format.Format.{Format}
@@ -55,20 +55,20 @@ abbrev pub pcap_time : Order → PacketTimes → List ℕ → Option ℕ
 pcap_time order times frame = option_and_then (λ unit. packet_time times (pcap_stamp order unit frame)) times.unit
 
 -- How the file goes on after a whole frame, and the record in the frame, or what is skipped.
-unfoldable pub frame_held : Format → List ℕ → Result (Format × Result Framed Unread) RecordFault
-frame_held Erf frame = Ok (Erf, Ok (record { packet = None; stamped = None; octets = frame }))
+unfoldable pub frame_held : Format → List ℕ → Result (Format × Result Framed SkippedKind) RecordFault
+frame_held Erf frame = Ok (Erf, Ok (record { packet_interface = None; stamped = None; octets = frame }))
 frame_held (Pcap order times) frame = or_fault (record_in_packet (drop 16 frame)) (λ octets.
-    Ok (Pcap order times, Ok (record { packet = None; stamped = pcap_time order times frame; octets = octets })))
+    Ok (Pcap order times, Ok (record { packet_interface = None; stamped = pcap_time order times frame; octets = octets })))
 frame_held (PcapNg section) frame = or_fault (block_held section frame) (λ held. Ok (PcapNg held.0, held.1))
 
 -- What the first frame of a file's octets is: how many octets it has, and what it holds.
 pub record Frame : Type 0 where
   pub size : ℕ
   pub after : Format
-  pub held : Result Framed Unread
+  pub held : Result Framed SkippedKind
 
 -- A whole frame, which ends before octet 2^64 of the file.
-abbrev pub held_frame : ℕ → ℕ → Result (Format × Result Framed Unread) RecordFault → Result Frame RecordFault
+abbrev pub held_frame : ℕ → ℕ → Result (Format × Result Framed SkippedKind) RecordFault → Result Frame RecordFault
 held_frame at size held =
     or_fault held (λ it. if nat_lt (at + size) (2 ^ 64) then Ok (record { size = size; after = it.0; held = it.1 }) else Err TooFar)
 

@@ -1,5 +1,5 @@
--- How frames follow one another in a file, and what each holds: a record as it is, a packet of a pcap file, or a block of a
--- pcapng file, of link type ERF (197).
+-- What frames of all formats share: the record in a frame, numbers in either order, the size that a length field states,
+-- and the record in a packet. `Frames` has the frames.
 use Rattle.std.specs.Prelude.{◌+◌, nat_lt, if◌then◌else◌, ℕ, List, Option, length, take, Result, Ok, Err}
 use Rattle.byteorder.specs.Endian.{big_number, little_number}
 use Rattle.captures.specs.Record.{record_length}
@@ -12,7 +12,7 @@ use Rattle.captures.specs.declared.format.Order.TheVariants.{HighestFirst, Lowes
 -- such times are read, in units of 2^-32 seconds; and the octets of the record. In a file of another format there is no
 -- such interface.
 pub record Framed : Type 0 where
-  pub packet : Option ℕ
+  pub packet_interface : Option ℕ
   pub stamped : Option ℕ
   pub octets : List ℕ
 
@@ -31,15 +31,16 @@ abbrev pub half_in_order : Order → List ℕ → ℕ
 half_in_order HighestFirst octets = big_number 2 octets
 half_in_order LowestFirst octets = little_number 2 octets
 
--- How many octets a frame has whose length field is this number: those that it doesn't count, and as many more. The number has a least
--- and a greatest value.
+-- How many octets a frame has whose length field says `stated`: those, and `before` more that the field doesn't count. `stated` is from
+-- `least` to `most`, or it is a fault.
 abbrev pub sized : ℕ → ℕ → ℕ → ℕ → Result ℕ RecordFault
 sized before least most stated =
     if nat_lt stated least then Err (ShortLength stated)
     else if nat_lt most stated then Err (LongLength stated)
     else Ok (before + stated)
 
--- The record in a packet: as much of the packet as the length in the record's header. It has its first header of 16 octets at least.
+-- The record in a packet: as many of its octets as the record's header says, or all if the packet has fewer. If the packet, or that
+-- length, has fewer than the 16 octets of a record's first header, it is a fault.
 abbrev pub record_in_packet : List ℕ → Result (List ℕ) RecordFault
 record_in_packet packet =
     if nat_lt (length packet) 16 then Err ShortRecord

@@ -39,4 +39,4 @@ same_channel (Some one) (Some other) = one.port == other.port && one.connection 
 -- Whether two links are the same.
 abbrev pub same_link : Link → Link → Bool
 same_link one other =
-    one.interface == other.interface && same_packet_interface one.packet other.packet && same_channel one.channel other.channel
+    one.interface == other.interface && same_packet_interface one.packet_interface other.packet_interface && same_channel one.channel other.channel

@@ -5,7 +5,7 @@ use Rattle.captures.specs.Blocks.{count_past, most_block}
 use Rattle.captures.specs.Frames.{Frame, first_frame}
 use Rattle.captures.specs.Framing.{Framed}
 use Rattle.captures.specs.RecordReading.{IsRecordOf}
-use Rattle.captures.specs.declared.block.Unread.{Unread}
+use Rattle.captures.specs.declared.block.SkippedKind.{SkippedKind}
 use Rattle.captures.specs.declared.fault.Fault.{Fault}
 use Rattle.captures.specs.declared.fault.RecordFault.{RecordFault}
 use Rattle.captures.specs.declared.fault.RecordFault.TheVariants.{CutOff}
@@ -31,7 +31,7 @@ EndsReading format at octets (Some fault) = (fault.at ≡ at) × IsRecordFault f
 
 -- What is given of a frame after this many numbers, at this place: the record in it, which has the next number, or what is
 -- skipped, and its place.
-abbrev pub IsGiven : ℕ → ℕ → Result Framed Unread → Result Record SkippedBlock → Type 0
+abbrev pub IsGiven : ℕ → ℕ → Result Framed SkippedKind → Result Record SkippedBlock → Type 0
 IsGiven count at (Err unread) (Err block) = block ≡ record { what = unread; at = at }
 IsGiven count at (Err unread) (Ok record_read) = ⊥
 IsGiven count at (Ok framed) (Err block) = ⊥

@@ -3,11 +3,11 @@ use Rattle.std.specs.Prelude.{◌≡◌, ◌≤◌, ℕ, List, [], length, take,
 use Rattle.captures.specs.Frames.{Frame}
 use Rattle.captures.specs.Framing.{Framed}
 use Rattle.captures.specs.RecordContent.{FromCellPlace, IsContent}
-use Rattle.captures.specs.declared.block.Unread.{Unread}
+use Rattle.captures.specs.declared.block.SkippedKind.{SkippedKind}
 use Rattle.captures.specs.declared.fault.RecordFault.{RecordFault}
 
 -- The octets of the record in a frame. A frame without a record has none.
-abbrev pub octets_held : Result Framed Unread → List ℕ
+abbrev pub octets_held : Result Framed SkippedKind → List ℕ
 octets_held (Ok framed) = framed.octets
 octets_held (Err unread) = []
 

@@ -14,7 +14,7 @@ time_in framed = unwrap_or framed.stamped (record_time framed.octets)
 -- The record with this number, in this frame.
 pub record IsRecordOf (number : ℕ) (framed : Framed) (record_read : Record) : Type 0 where
   pub numbered : record_read.number ≡ number
-  pub packet : record_read.link.packet ≡ framed.packet
+  pub packet_interface : record_read.link.packet_interface ≡ framed.packet_interface
   pub interface : record_read.link.interface ≡ record_interface framed.octets
   pub channel : IsChannelOf framed.octets record_read.content record_read.link.channel
   pub marks : AreMarksOf framed.octets record_read.content record_read.marks

@@ -40,7 +40,7 @@ const OPTIONS_PLACE: usize = 16;
 const PACKET_PLACE: usize = 28;
 
 /// What the blocks so far say of a section of a pcapng file.
-#[derive(Clone, Copy, PartialEq, Eq)]
+#[derive(Clone, Copy)]
 pub struct Section {
     /// In which order the octets of its numbers come.
     pub order: Order,
@@ -55,11 +55,11 @@ pub struct Section {
 }
 
 /// The kinds of blocks and packets that are skipped.
-#[derive(Clone, Copy, PartialEq, Eq)]
-pub enum Unread {
+#[derive(Clone, Copy)]
+pub enum SkippedKind {
     /// A block without a packet: a section header, the description of an interface, names, statistics or secrets.
     NoPacket,
-    /// A block without a packet that has a number, as packets have: an entry of a systemd journal (type 9), or custom data.
+    /// A block that has no packet, but a number, as packets have: an entry of a systemd journal (type 9), or custom data.
     Entry,
     /// A simple packet block (type 3).
     SimplePacket,
@@ -71,12 +71,12 @@ pub enum Unread {
     OtherLinkPacket,
 }
 
-impl Unread {
+impl SkippedKind {
     /// Returns whether it has a number, as a record has.
     pub fn has_number(self) -> bool
         ensures { result ≡ is_numbered self }
     {
-        !matches!(self, Unread::NoPacket | Unread::OtherBlock(_))
+        !matches!(self, SkippedKind::NoPacket | SkippedKind::OtherBlock(_))
     }
 
     /// Returns how many numbers were given up to this block or packet, itself included, if `count` were given before it.
@@ -95,7 +95,7 @@ pub(crate) struct BlockHeld<'a> {
     /// The section after the block.
     pub(crate) section: Section,
     /// The record in the block. If there is none, what the block is.
-    pub(crate) framed: Result<LentRecord<'a>, Unread>,
+    pub(crate) framed: Result<LentRecord<'a>, SkippedKind>,
 }
 
 /// Returns whether octets begin with a section header.
@@ -144,15 +144,15 @@ fn is_entry(kind: u32) -> bool
 }
 
 /// Returns the kind of a skipped block, by its type.
-fn unread_by_type(kind: u32) -> Unread
+fn unread_by_type(kind: u32) -> SkippedKind
     ensures { result ≡ unread_of_type kind }
 {
     match kind {
-        SIMPLE_PACKET => Unread::SimplePacket,
-        OLD_PACKET => Unread::OldPacket,
-        _ if has_no_packet(kind) => Unread::NoPacket,
-        _ if is_entry(kind) => Unread::Entry,
-        _ => Unread::OtherBlock(kind),
+        SIMPLE_PACKET => SkippedKind::SimplePacket,
+        OLD_PACKET => SkippedKind::OldPacket,
+        _ if has_no_packet(kind) => SkippedKind::NoPacket,
+        _ if is_entry(kind) => SkippedKind::Entry,
+        _ => SkippedKind::OtherBlock(kind),
     }
 }
 
@@ -284,7 +284,7 @@ impl Section {
     }
 
     /// Returns the record in an enhanced packet block, or `OtherLinkPacket` if the packets of its interface are no records.
-    fn record_in(self, block: &[u8]) -> Result<Result<LentRecord<'_>, Unread>, RecordFault>
+    fn record_in(self, block: &[u8]) -> Result<Result<LentRecord<'_>, SkippedKind>, RecordFault>
         requires { length block.now ≤ 131072 }
         ensures record { IfOk result (λ held. record_of_packet self block.now ≡ Ok (held_of held)) }
         ensures fault { IfErr result (λ reason. record_of_packet self block.now ≡ Err reason) }
@@ -302,11 +302,11 @@ impl Section {
             return Err(RecordFault::LongPacket(captured));
         }
         if self.is_other(interface) {
-            return Ok(Err(Unread::OtherLinkPacket));
+            return Ok(Err(SkippedKind::OtherLinkPacket));
         }
         let packet = &from_place(block, PACKET_PLACE)[..captured as usize];
         Ok(Ok(LentRecord {
-            packet: Some(self.in_file(u64::from(interface))),
+            packet_interface: Some(self.in_file(u64::from(interface))),
             stamped: self.times.time_of(u128::from(self.stamp_in(block))),
             octets: record_in_packet(packet)?,
         }))
@@ -328,11 +328,11 @@ impl Section {
         match kind {
             SECTION_HEADER => Ok(BlockHeld {
                 section: begun_by(self, order, block)?,
-                framed: Err(Unread::NoPacket),
+                framed: Err(SkippedKind::NoPacket),
             }),
             INTERFACE => Ok(BlockHeld {
                 section: self.with_interface(block)?,
-                framed: Err(Unread::NoPacket),
+                framed: Err(SkippedKind::NoPacket),
             }),
             ENHANCED_PACKET => Ok(BlockHeld {
                 section: self,

@@ -4,7 +4,7 @@ ghost use Rattle.std.specs.Prelude.{◌≡◌, ◌≤◌, ◌<◌, ◌-◌, ◌�
 ghost use Rattle.captures.specs.Moments.{nearest_tick};
 
 /// How long a tick is.
-#[derive(Clone, Copy, PartialEq, Eq)]
+#[derive(Clone, Copy)]
 pub struct Tick {
     /// Its nanoseconds, at least one.
     pub nanoseconds: u64,
@@ -37,7 +37,7 @@ impl Tick {
 }
 
 /// Makes moments of the times of records, from the first of them on.
-#[derive(Clone, Copy, PartialEq, Eq)]
+#[derive(Clone, Copy)]
 pub struct Clock {
     /// The time of moment 0, in units of 2^-32 seconds.
     pub first: u64,

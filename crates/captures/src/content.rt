@@ -20,7 +20,7 @@ pub(crate) const ATM: u8 = 3;
 pub(crate) const MC_ATM: u8 = 7;
 
 /// Why a record holds no cell.
-#[derive(Clone, Copy, PartialEq, Eq, Debug, Error)]
+#[derive(Clone, Copy, Debug, Error)]
 pub enum NoCell {
     /// The record is of another type: its number, 0 to 127.
     #[error("1 OtherType {0}")]

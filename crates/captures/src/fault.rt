@@ -3,7 +3,7 @@
 use thiserror::Error;
 
 /// Why the octets of a capture, from some place on, are no record.
-#[derive(Clone, Copy, PartialEq, Eq, Debug, Error)]
+#[derive(Clone, Copy, Debug, Error)]
 pub enum RecordFault {
     /// The octets end inside a record, packet or block.
     #[error("1 CutOff")]
@@ -60,7 +60,7 @@ pub enum RecordFault {
 }
 
 /// The first place where a file is no capture.
-#[derive(Clone, Copy, PartialEq, Eq, Debug, Error)]
+#[derive(Clone, Copy, Debug, Error)]
 #[error("{at} {reason}")]
 pub struct Fault {
     /// The place, in octets from 0, of the record, packet or block at which the reading ended.

@@ -4,7 +4,7 @@
 ghost use Rattle.std.specs.Prelude.{◌≡◌, ◌≤◌, ◌+◌, length, IfErr, IfOk, Ok, Err};
 ghost use Rattle.captures.specs.Frames.{pcap_time};
 
-use crate::block::{LEAST_BLOCK, Section, Unread};
+use crate::block::{LEAST_BLOCK, Section, SkippedKind};
 use crate::fault::RecordFault;
 use crate::packet::{HEADER_OCTETS, from_place, length_of, record_in_packet, sized};
 use crate::packet_time::{PacketTimes, TimeSource};
@@ -18,7 +18,7 @@ pub(crate) const FILE_HEADER_OCTETS: usize = 24;
 const MOST_OCTETS: u32 = 0xffff;
 
 /// In which order the octets of a number come.
-#[derive(Clone, Copy, PartialEq, Eq)]
+#[derive(Clone, Copy)]
 pub enum Order {
     /// The highest first.
     HighestFirst,
@@ -27,7 +27,7 @@ pub enum Order {
 }
 
 /// The container format.
-#[derive(Clone, Copy, PartialEq, Eq)]
+#[derive(Clone, Copy)]
 pub enum Format {
     /// Records, one after the other.
     Erf,
@@ -42,7 +42,7 @@ pub enum Format {
 #[derive(Clone, Copy)]
 pub(crate) struct LentRecord<'a> {
     /// The interface of its packet among those of a pcapng file, from 0. None in a file of another format.
-    pub(crate) packet: Option<u64>,
+    pub(crate) packet_interface: Option<u64>,
     /// The time of its packet, in units of 2^-32 seconds, if such times are read.
     pub(crate) stamped: Option<u64>,
     /// Its octets.
@@ -55,7 +55,7 @@ pub(crate) struct Held<'a> {
     /// The section that the blocks after the frame are in, in a pcapng file.
     pub(crate) after: Option<Section>,
     /// The record in the frame. If there is none, what the frame is.
-    pub(crate) framed: Result<LentRecord<'a>, Unread>,
+    pub(crate) framed: Result<LentRecord<'a>, SkippedKind>,
 }
 
 /// Returns the time of a packet of a pcap file, if such times are read.
@@ -198,7 +198,7 @@ impl Format {
             Format::Erf => Ok(Held {
                 after: None,
                 framed: Ok(LentRecord {
-                    packet: None,
+                    packet_interface: None,
                     stamped: None,
                     octets: frame,
                 }),
@@ -206,7 +206,7 @@ impl Format {
             Format::Pcap(order, times) => Ok(Held {
                 after: None,
                 framed: Ok(LentRecord {
-                    packet: None,
+                    packet_interface: None,
                     stamped: pcap_time_of(order, times, frame),
                     octets: record_in_packet(from_place(frame, PACKET_HEADER_OCTETS))?,
                 }),

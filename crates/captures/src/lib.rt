@@ -17,7 +17,7 @@ mod packet_time;
 mod reader;
 mod record_octets;
 
-pub use block::{Section, Unread};
+pub use block::{Section, SkippedKind};
 pub use clock::{Clock, Tick};
 pub use content::NoCell;
 pub use fault::{Fault, RecordFault};

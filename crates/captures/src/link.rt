@@ -23,7 +23,7 @@ pub struct Channel {
 #[derive(Clone, Copy, PartialEq, Eq, Hash)]
 pub struct Link {
     /// The interface of its packet among those of a pcapng file, from 0. None in a file of another format.
-    pub packet: Option<u64>,
+    pub packet_interface: Option<u64>,
     /// The interface of the capture card, 0 to 7.
     pub interface: u8,
     /// The port and connection, if a multi-channel header names them.
@@ -86,7 +86,7 @@ impl Link {
         ensures equal { IsTrue result ↔ (self ≡ other) }
     {
         self.interface == other.interface
-            && same_interface(self.packet, other.packet)
+            && same_interface(self.packet_interface, other.packet_interface)
             && same_channel(self.channel, other.channel)
     }
 }

@@ -9,7 +9,7 @@ use crate::packet::from_place;
 use byteorder::{BigEndian, ByteOrder};
 
 /// What a record says of losses before it, and of doubts about its cell.
-#[derive(Clone, Copy, PartialEq, Eq)]
+#[derive(Clone, Copy)]
 pub struct Marks {
     /// How many records were lost before it.
     pub losses: u16,

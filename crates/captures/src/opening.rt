@@ -11,7 +11,7 @@ use byteorder::{BigEndian, ByteOrder};
 use thiserror::Error;
 
 /// Why a file isn't read.
-#[derive(Clone, Copy, PartialEq, Eq, Debug, Error)]
+#[derive(Clone, Copy, Debug, Error)]
 pub enum FileFault {
     /// It was compressed by gzip.
     #[error("1 Gzip")]
@@ -37,7 +37,7 @@ pub enum FileFault {
 }
 
 /// What a file is, by its first octets.
-#[derive(Clone, Copy, PartialEq, Eq)]
+#[derive(Clone, Copy)]
 pub enum Opening {
     /// The file is a capture.
     Opened(Format),

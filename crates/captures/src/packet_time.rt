@@ -13,7 +13,7 @@ pub enum TimeSource {
 }
 
 /// In which units the headers of packets count time.
-#[derive(Clone, Copy, PartialEq, Eq)]
+#[derive(Clone, Copy)]
 pub struct TimeUnit {
     /// N means 10^-N seconds, and 128 + N means 2^-N seconds.
     pub resolution: u8,
@@ -22,7 +22,7 @@ pub struct TimeUnit {
 }
 
 /// What is known of the times of packets.
-#[derive(Clone, Copy, PartialEq, Eq)]
+#[derive(Clone, Copy)]
 pub struct PacketTimes {
     /// Whether they count, in place of those of records.
     pub are_read: bool,

@@ -7,7 +7,7 @@ ghost use Rattle.captures.specs.inner.Lent.{framed_of};
 ghost use Rattle.captures.specs.RecordContent.{IsContent};
 ghost use Rattle.captures.specs.RecordReading.{IsRecordOf};
 
-use crate::block::Unread;
+use crate::block::SkippedKind;
 use crate::content::{ATM, NoCell, cell_at, place_of};
 use crate::fault::{Fault, RecordFault};
 use crate::format::{Format, LentRecord};
@@ -18,9 +18,9 @@ use crate::packet::HEADER_OCTETS;
 use byteorder::{ByteOrder, LittleEndian};
 
 /// A record of a capture. It borrows its cell from the octets that it was read from.
-#[derive(PartialEq, Eq, Drop)]
+#[derive(Drop)]
 pub struct Record<'a> {
-    /// Its number in its capture, from 1. Packets of a pcapng file that are passed over have numbers too (`Unread::has_number`).
+    /// Its number in its capture, from 1. Packets of a pcapng file that are passed over have numbers too (`SkippedKind::has_number`).
     pub number: u64,
     /// The link by which it was received. Only a record with a cell has its channel.
     pub link: Link,
@@ -33,16 +33,16 @@ pub struct Record<'a> {
 }
 
 /// A block or a packet without a record, which was skipped. Printed texts say that it was passed over.
-#[derive(Clone, Copy, PartialEq, Eq)]
+#[derive(Clone, Copy)]
 pub struct SkippedBlock {
     /// What it is.
-    pub what: Unread,
+    pub what: SkippedKind,
     /// The place at which it begins, in octets from 0.
     pub at: u64,
 }
 
 /// What comes next in a capture.
-#[derive(PartialEq, Eq, Drop)]
+#[derive(Drop)]
 pub enum Next<'a> {
     /// A record, and how many octets it has together with its packet or block.
     Taken(Record<'a>, usize),
@@ -55,7 +55,7 @@ pub enum Next<'a> {
 }
 
 /// How far a capture was read.
-#[derive(Clone, Copy, PartialEq, Eq)]
+#[derive(Clone, Copy)]
 pub struct Reader {
     /// The container format. In a pcapng file it has the section of the next block.
     pub format: Format,
@@ -85,7 +85,7 @@ fn record_of<'a>(
     Record {
         number,
         link: Link {
-            packet: framed.packet,
+            packet_interface: framed.packet_interface,
             // Bits 0, 1 and 6 of the flags are the number of the interface.
             interface: flags % 4 + 4 * (flags / 0x40 % 2),
             channel,

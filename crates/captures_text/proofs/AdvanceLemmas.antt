@@ -57,8 +57,8 @@ ends_before rules shown shown' before cells old new answers = λ world sound is_
 -- What comes after what was read, if the run goes on.
 comes_on : (how : StepOutcome) (comes : StopReason) (after : ReadingAhead) (more : List ℕ) (later : List CapturedCell) (end : CellsEnd)
     → how ≢ outcome.Ended → GoesBy how comes → HasCellsFrom after (after.window ++ more) later end → ComesAfter after comes more later end
-comes_on outcome.On comes after more later end on by has = subst (λ (c : StopReason). ComesAfter after c more later end) (sym by) has
-comes_on outcome.Wants comes after more later end on by has = subst (λ (c : StopReason). ComesAfter after c more later end) (sym by) has
+comes_on outcome.GoesOn comes after more later end on by has = subst (λ (c : StopReason). ComesAfter after c more later end) (sym by) has
+comes_on outcome.NeedsOctets comes after more later end on by has = subst (λ (c : StopReason). ComesAfter after c more later end) (sym by) has
 comes_on outcome.Ended comes after more later end on by has = absurd (on refl)
 
 -- After cells are answered, and records are read.

@@ -20,7 +20,7 @@ use Rattle.text_io.specs.declared.machine.Turn.TheVariants.{GoesOn, Ends}
 pub ahead_ended : {World : Type 0} (rules : CellRules World) (shown shown' : World → Type 0) (Known : Type 0) (rest rest' : List ℕ)
     (before after : ReadingAhead) (cells spare fresh : List CapturedCell) (old new : List ℕ)
     → AnswersCells rules shown cells GoesOn shown' old new → FillsAndReads Known rest rest' before None after spare fresh → spare ≡ []
-    → FillsAhead rules shown shown' Known rest rest' before cells outcome.Wants after fresh old new
+    → FillsAhead rules shown shown' Known rest rest' before cells outcome.NeedsOctets after fresh old new
 ahead_ended rules shown shown' Known rest rest' before after cells spare fresh old new answers filled none = record {
   near = before.window;
   front = take_all (length before.window) before.window (omega arith);
@@ -47,22 +47,22 @@ ahead_ended rules shown shown' Known rest rest' before after cells spare fresh o
 pub ahead_on : {World : Type 0} (rules : CellRules World) (shown shown' : World → Type 0) (Known : Type 0) (rest rest' near : List ℕ)
     (before after : ReadingAhead) (comes : StopReason) (cells spare fresh : List CapturedCell) (old new : List ℕ)
     → AnswersCells rules shown cells GoesOn shown' old new → FillsFirst Known rest rest' before near
-    → ReadsCells (with_window before near) comes after spare fresh → spare ≡ [] → (comes ≡ stop.Wants) ⊎ (comes ≡ stop.Enough)
-    → FillsAhead rules shown shown' Known rest rest' before cells outcome.On after fresh old new
+    → ReadsCells (with_window before near) comes after spare fresh → spare ≡ [] → (comes ≡ stop.NeedsOctets) ⊎ (comes ≡ stop.Enough)
+    → FillsAhead rules shown shown' Known rest rest' before cells outcome.GoesOn after fresh old new
 ahead_on rules shown shown' Known rest rest' near before after comes cells spare fresh old new answers filled reads none is = record {
   near = near;
   front = filled.front;
   same = filled.same;
   bounded = λ b. filled.bounded;
   goes_on = λ on. elim is [
-    | inl wants ↦ advances_read rules shown shown' (with_window before near) after outcome.Wants comes cells spare fresh old new answers reads none (λ e. cc) wants
-    | inr enough ↦ advances_read rules shown shown' (with_window before near) after outcome.On comes cells spare fresh old new answers reads none (λ e. cc) enough
+    | inl wants ↦ advances_read rules shown shown' (with_window before near) after outcome.NeedsOctets comes cells spare fresh old new answers reads none (λ e. cc) wants
+    | inr enough ↦ advances_read rules shown shown' (with_window before near) after outcome.GoesOn comes cells spare fresh old new answers reads none (λ e. cc) enough
   ];
   ends = λ end. cc;
   came = (went is, filled.longer);
 }
   where
-    went : (comes ≡ stop.Wants) ⊎ (comes ≡ stop.Enough) → WentOn (with_window before near) after
+    went : (comes ≡ stop.NeedsOctets) ⊎ (comes ≡ stop.Enough) → WentOn (with_window before near) after
     went (inl wants) =
         let at = subst (λ (c : StopReason). ReadsCells (with_window before near) c after spare fresh) wants reads in at.came.0
     went (inr enough) =
@@ -102,8 +102,8 @@ ahead_to_end rules shown shown' shown'' Known rest rest' before after comes cell
 -- What isn't the end of the octets that wait, nor enough cells, ends a run.
 pub ends_by : (how : StepOutcome) (comes : StopReason) → ((first : Link) × (other : Link) × (comes ≡ stop.SecondLink first other)) ⊎ ((fault : Fault) × (comes ≡ stop.Broken fault))
     → GoesBy how comes → how ≡ outcome.Ended
-ends_by outcome.On comes (inl several) by = let no : stop.SecondLink several.0 several.1 ≡ stop.Enough = sym several.2 ∙ by in cc
-ends_by outcome.On comes (inr broken) by = let no : stop.Broken broken.0 ≡ stop.Enough = sym broken.1 ∙ by in cc
-ends_by outcome.Wants comes (inl several) by = let no : stop.SecondLink several.0 several.1 ≡ stop.Wants = sym several.2 ∙ by in cc
-ends_by outcome.Wants comes (inr broken) by = let no : stop.Broken broken.0 ≡ stop.Wants = sym broken.1 ∙ by in cc
+ends_by outcome.GoesOn comes (inl several) by = let no : stop.SecondLink several.0 several.1 ≡ stop.Enough = sym several.2 ∙ by in cc
+ends_by outcome.GoesOn comes (inr broken) by = let no : stop.Broken broken.0 ≡ stop.Enough = sym broken.1 ∙ by in cc
+ends_by outcome.NeedsOctets comes (inl several) by = let no : stop.SecondLink several.0 several.1 ≡ stop.NeedsOctets = sym several.2 ∙ by in cc
+ends_by outcome.NeedsOctets comes (inr broken) by = let no : stop.Broken broken.0 ≡ stop.NeedsOctets = sym broken.1 ∙ by in cc
 ends_by outcome.Ended comes is by = refl

@@ -30,7 +30,7 @@ some_from reading octets = some_cells (filter_state reading.filter) reading.read
 
 -- So does whatever comes after what was read.
 pub some_after : (after : ReadingAhead) (how : StopReason) (more : List ℕ) → (later : List CapturedCell) × (end : CellsEnd) × ComesAfter after how more later end
-some_after after stop.Wants more = some_from after (after.window ++ more)
+some_after after stop.NeedsOctets more = some_from after (after.window ++ more)
 some_after after stop.Enough more = some_from after (after.window ++ more)
 some_after after (stop.SecondLink one other) more = ([], Crosses one other, (refl, refl))
 some_after after (stop.Broken fault) more = ([], Closes after.filter.summary (Some fault), (refl, refl))
@@ -146,7 +146,7 @@ reads_moved before between reader record_read own old new reads takes =
 -- More octets are wanted, and the reader stays where it is.
 pub reads_unfinished : (before between : ReadingAhead) (reader : Reader) (old new : List CapturedCell)
     → ReadsSoFar before between old new → ComesNext between.reader between.window Unfinished reader
-    → ReadsCells before stop.Wants (record between { reader = reader }) old new
+    → ReadsCells before stop.NeedsOctets (record between { reader = reader }) old new
 reads_unfinished before between reader old new reads next =
     let at = next.2.at in
     record {

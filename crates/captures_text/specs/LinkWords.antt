@@ -15,4 +15,4 @@ channel_part (Some channel) = (codes "/" ++ decimal channel.port) ++ (codes "/" 
 
 -- Between them is the interface of the capture card, which each link has.
 abbrev pub link_word : Link → List ℕ
-link_word link = packet_part link.packet ++ decimal link.interface ++ channel_part link.channel
+link_word link = packet_part link.packet_interface ++ decimal link.interface ++ channel_part link.channel

@@ -23,7 +23,7 @@ empty_summary = record {
   marks = no_marks;
 }
 
--- The tallies of the types, which have the numbers from 0 on, with one record more of this type, which has this number.
+-- The tallies, one for each type from 0 on, with one record more of this type. The record has this number.
 abbrev pub with_other_type : List CountAndFirst → ℕ → ℕ → List CountAndFirst
 with_other_type tallies kind number = slice_set tallies kind (one_more_record (slice_index_or tallies kind no_tally) number)
 

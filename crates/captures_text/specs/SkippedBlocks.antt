@@ -1,7 +1,7 @@
 -- The blocks and packets of a pcapng file that have no record for this reader, by kind, and the comments about them.
 use Rattle.std.specs.Prelude.{◌==◌, if◌then◌else◌, ℕ, List, [], ◌++◌, codes, decimal}
-use Rattle.captures.specs.declared.block.Unread.{Unread}
-use Rattle.captures.specs.declared.block.Unread.TheVariants.{NoPacket, Entry, SimplePacket, OldPacket, OtherBlock, OtherLinkPacket}
+use Rattle.captures.specs.declared.block.SkippedKind.{SkippedKind}
+use Rattle.captures.specs.declared.block.SkippedKind.TheVariants.{NoPacket, Entry, SimplePacket, OldPacket, OtherBlock, OtherLinkPacket}
 use Rattle.captures_text.specs.Tallies.{no_tally, one_more_record, skipped_count}
 use Rattle.captures_text.specs.declared.blocks.BlockTallies.{BlockTallies}
 use Rattle.captures_text.specs.declared.tally.CountAndFirst.{CountAndFirst}
@@ -13,7 +13,7 @@ no_blocks = record { simple = no_tally; obsolete = no_tally; other = no_tally; o
 
 -- One block more of this kind, which begins at this place. A block that has no packet by its type isn't counted. Of
 -- blocks of unknown types the type of the first one is kept.
-abbrev pub one_more_block : BlockTallies → Unread → ℕ → BlockTallies
+abbrev pub one_more_block : BlockTallies → SkippedKind → ℕ → BlockTallies
 one_more_block blocks NoPacket at = blocks
 one_more_block blocks Entry at = blocks
 one_more_block blocks SimplePacket at = record blocks { simple = one_more_record blocks.simple at }

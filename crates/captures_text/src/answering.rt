@@ -19,12 +19,12 @@ use text_io::Turn;
 const FEW: usize = 256;
 
 /// How a run goes on after a step.
-#[derive(Clone, Copy, PartialEq, Eq)]
+#[derive(Clone, Copy)]
 pub(crate) enum StepOutcome {
     /// The run goes on: there may be whole frames among the octets that wait.
-    On,
+    GoesOn,
     /// More octets have to be read first.
-    Wants,
+    NeedsOctets,
     /// The run ended.
     Ended,
 }
@@ -63,8 +63,8 @@ pub(crate) fn answer_read<F: CellFollower>(
     }
     cells.clear();
     match stop {
-        StopReason::Wants => Ok(StepOutcome::Wants),
-        StopReason::Enough => Ok(StepOutcome::On),
+        StopReason::NeedsOctets => Ok(StepOutcome::NeedsOctets),
+        StopReason::Enough => Ok(StepOutcome::GoesOn),
         StopReason::SecondLink(one, other) => {
             add_several(answers, one, other)?;
             Ok(StepOutcome::Ended)
@@ -110,8 +110,8 @@ pub(crate) fn advance<F: CellFollower>(
     queue.take_next_cells();
     if leaves_cells(with_two_threads, reading, queue) {
         match stop {
-            // At `Wants` the driver would read more at once. At `On` it reads while these cells are answered (`give_and_go_ahead`).
-            StopReason::Wants => return Ok(StepOutcome::On),
+            // At `NeedsOctets` the driver would read more at once. At `GoesOn` it reads while these cells are answered (`give_and_go_ahead`).
+            StopReason::NeedsOctets => return Ok(StepOutcome::GoesOn),
             _ => {}
         }
     }

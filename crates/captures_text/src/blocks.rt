@@ -5,13 +5,13 @@ ghost use Rattle.captures_text.specs.SkippedBlocks.{block_line, block_lines, fir
 
 use crate::fault_lines::add_with_number;
 use crate::tally::{CountAndFirst, add_count};
-use captures::Unread;
+use captures::SkippedKind;
 use std::alloc::AllocError;
 use text_words::{add_numbered, add_text};
 
 /// Blocks and packets of a pcapng file that have no record for this reader, by kind. `first` is the place of the first one of a kind, in
 /// octets from 0.
-#[derive(Clone, Copy, PartialEq, Eq)]
+#[derive(Clone, Copy)]
 pub struct BlockTallies {
     /// Simple packets.
     pub simple: CountAndFirst,
@@ -42,7 +42,7 @@ impl BlockTallies {
 
     /// Counts one block more of an unknown type, which begins at this place.
     fn count_other(&mut self, kind: u32, at: u64)
-        ensures { self.new ≡ one_more_block self.old (Unread.OtherBlock kind) at }
+        ensures { self.new ≡ one_more_block self.old (SkippedKind.OtherBlock kind) at }
     {
         self.other_type = if self.other.count == 0 {
             kind
@@ -53,15 +53,15 @@ impl BlockTallies {
     }
 
     /// Counts one block more, which begins at this place.
-    pub(crate) fn count(&mut self, what: Unread, at: u64)
+    pub(crate) fn count(&mut self, what: SkippedKind, at: u64)
         ensures { self.new ≡ one_more_block self.old what at }
     {
         match what {
-            Unread::NoPacket | Unread::Entry => {}
-            Unread::SimplePacket => self.simple = self.simple.with(at),
-            Unread::OldPacket => self.obsolete = self.obsolete.with(at),
-            Unread::OtherBlock(kind) => self.count_other(kind, at),
-            Unread::OtherLinkPacket => self.other_link = self.other_link.with(at),
+            SkippedKind::NoPacket | SkippedKind::Entry => {}
+            SkippedKind::SimplePacket => self.simple = self.simple.with(at),
+            SkippedKind::OldPacket => self.obsolete = self.obsolete.with(at),
+            SkippedKind::OtherBlock(kind) => self.count_other(kind, at),
+            SkippedKind::OtherLinkPacket => self.other_link = self.other_link.with(at),
         }
     }
 }

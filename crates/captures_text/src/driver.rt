@@ -111,8 +111,9 @@ pub(crate) fn follow_on<R: Threads, I: Input + Send, O: Output, F: CellFollower 
             ) {
                 Err(fault) => return Err(fault),
                 Ok(StepOutcome::Ended) => return give_last(output, &mut answers, Done::Ended),
-                Ok(StepOutcome::On) => {}
-                Ok(StepOutcome::Wants) => {}
+                Ok(StepOutcome::GoesOn) => {}
+                // The input has ended and no cell waits, so the next round goes on below, where `refill` finds the end again.
+                Ok(StepOutcome::NeedsOctets) => {}
             }
         } else {
             match advance(
@@ -124,12 +125,12 @@ pub(crate) fn follow_on<R: Threads, I: Input + Send, O: Output, F: CellFollower 
             ) {
                 Err(_) => return Err(RunFault::NoMemory),
                 Ok(StepOutcome::Ended) => return give_last(output, &mut answers, Done::Ended),
-                Ok(StepOutcome::On) => {
+                Ok(StepOutcome::GoesOn) => {
                     if give_if_enough(output, &mut answers).is_err() {
                         return Err(RunFault::WriteFailed);
                     }
                 }
-                Ok(StepOutcome::Wants) => match refill(
+                Ok(StepOutcome::NeedsOctets) => match refill(
                     &mut reading.window,
                     most,
                     input,

@@ -10,7 +10,7 @@ use crate::ticks::Ticks;
 use captures::{Clock, LentCell, Link, Record, SkippedBlock, Tick, TimeSource};
 
 /// What a record is to a run that reads the cells of one link.
-#[derive(PartialEq, Eq, Drop)]
+#[derive(Drop)]
 pub enum Filtered<'a> {
     /// Its cell counts: the moment, in ticks since the first cell of the capture, and the cell.
     Counts(u64, LentCell<'a>),

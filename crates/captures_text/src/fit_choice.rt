@@ -4,7 +4,7 @@ use captures::{Link, Tick, TimeSource};
 use upc_cell::Side;
 
 /// What a run of `fit` is asked for, beside rules.
-#[derive(Clone, Copy, PartialEq, Eq)]
+#[derive(Clone, Copy)]
 pub struct FitChoice {
     /// The increment of the bucket, in ticks: 1 to 2^48.
     pub increment: u64,

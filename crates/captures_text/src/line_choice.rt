@@ -1,11 +1,11 @@
 //! Which cells get a line of the output.
 
 /// Which cells get a line of the output.
-#[derive(Clone, Copy, PartialEq, Eq)]
+#[derive(Clone, Copy)]
 pub enum LineChoice {
     /// All cells.
     All,
-    /// Those whose verdict isn't pass: tagged ones too. The option calls them `refused`.
+    /// Those that don't pass: also tagged ones, and those that aren't judged. The option calls them `refused`.
     NotPassed,
     /// No cell.
     Nothing,

@@ -37,7 +37,7 @@ fn add_channel(answers: &mut Vec<u8>, channel: Option<Channel>) -> Result<(), Al
 pub fn add_link(answers: &mut Vec<u8>, link: Link) -> Result<(), AllocError>
     ensures { OnOk result (answers.new.items ≡ answers.old.items ++ link_word link) }
 {
-    add_packet(answers, link.packet)?;
+    add_packet(answers, link.packet_interface)?;
     add_number(answers, u64::from(link.interface))?;
     add_channel(answers, link.channel)
 }

@@ -9,7 +9,7 @@ use std::alloc::AllocError;
 use text_words::{add_number, add_text};
 
 /// How many records have each mark, and the first of them.
-#[derive(Clone, Copy, PartialEq, Eq)]
+#[derive(Clone, Copy)]
 pub struct MarkTallies {
     /// Records were lost before them.
     pub losses: CountAndFirst,

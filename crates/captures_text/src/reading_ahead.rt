@@ -24,10 +24,10 @@ pub const READING_OCTETS: usize = 131_072;
 const USUAL_OCTETS: usize = 16 + CELL_OCTETS;
 
 /// Why the reading stopped: what comes after the records that were read.
-#[derive(Clone, Copy, PartialEq, Eq)]
+#[derive(Clone, Copy)]
 pub(crate) enum StopReason {
     /// The octets that wait begin a frame, or there are none: more octets are wanted.
-    Wants,
+    NeedsOctets,
     /// Enough cells were read. There may be more frames.
     Enough,
     /// A cell of a second link, where none was asked for: the first link, and this one.
@@ -152,7 +152,7 @@ impl ReadingAhead {
         ensures shorter { IfOk result (λ found. found ≡ None → length self.new.window < length self.old.window) }
     {
         match self.reader.next(self.window.octets()) {
-            Next::Unfinished => return Ok(Some(StopReason::Wants)),
+            Next::Unfinished => return Ok(Some(StopReason::NeedsOctets)),
             Next::Broken(fault) => return Ok(Some(StopReason::Broken(fault))),
             Next::Skipped(block, own) => {
                 self.filter.skip_block(block);

@@ -14,7 +14,7 @@ use text_words::{add_number, add_text};
 const TYPES: usize = 128;
 
 /// The records that were passed over, by reason; blocks and packets without a record, which were skipped; and records with marks.
-#[derive(Clone, Copy, PartialEq, Eq)]
+#[derive(Clone, Copy)]
 pub struct ReadingSummary {
     /// Records of the types that hold no cell. Those of type N are at place N.
     pub other_types: [CountAndFirst; TYPES],

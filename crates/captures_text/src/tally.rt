@@ -7,7 +7,7 @@ use text_io::Added;
 use text_words::{add_number, add_numbered, add_text};
 
 /// How many records, or other things in a capture, and the first of them.
-#[derive(Clone, Copy, PartialEq, Eq)]
+#[derive(Clone, Copy)]
 pub struct CountAndFirst {
     /// How many.
     pub count: u64,

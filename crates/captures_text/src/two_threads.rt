@@ -55,8 +55,8 @@ fn read_beside<R: Threads, I: Input + Send, F: CellFollower + Send>(
     }
 }
 
-/// Reads more octets and their records while the cells that were read before are answered. Returns `Wants` at the end of the input: no cell
-/// waits then.
+/// Reads more octets and their records while the cells that were read before are answered. Returns `NeedsOctets` at the end
+/// of the input: no cell waits then.
 fn go_ahead<R: Threads, I: Input + Send, F: CellFollower + Send>(
     rt: &R,
     input: &mut I,
@@ -88,11 +88,11 @@ fn go_ahead<R: Threads, I: Input + Send, F: CellFollower + Send>(
         Turn::GoesOn => {}
     }
     let Some(stop) = stop else {
-        return Ok(StepOutcome::Wants);
+        return Ok(StepOutcome::NeedsOctets);
     };
     match stop {
-        StopReason::Wants => Ok(StepOutcome::On),
-        StopReason::Enough => Ok(StepOutcome::On),
+        StopReason::NeedsOctets => Ok(StepOutcome::GoesOn),
+        StopReason::Enough => Ok(StepOutcome::GoesOn),
         StopReason::SecondLink(_, _) | StopReason::Broken(_) => {
             match answer_read(follower, reading, stop, &mut queue.cells, answers) {
                 Ok(_) => Ok(StepOutcome::Ended),

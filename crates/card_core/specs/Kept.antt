@@ -32,7 +32,7 @@ pub record KeepsButRoom (old new : CoreView) : Type 0 where
   pub room : (line next : LineView) → slice_get old.lines number ≡ Some line
       → slice_get new.lines number ≡ Some next → MayBecomeReady line next
 
--- At most one line changed, and it is ready only if it was ready before. So no line has more space reserved.
+-- At most one line changed, and it is ready only if it was ready before. So no free line gets space for its next journal.
 pub record ReservesNothing (old new : CoreView) : Type 0 where
   pub number : ℕ
   pub others : KeepsOtherLines old number new
@@ -59,18 +59,18 @@ RefusalKeeps (Answered answer) (Pick port) old new = AnswerKeeps answer port old
 RefusalKeeps (Answered answer) (Judge port) old new = AnswerKeeps answer port old new
 RefusalKeeps _ _ old new = ⊤
 
--- The space that a refused setup reserves. After NoMemory, `SetupKeeps` says which.
+-- A refused setup makes no line ready. After NoMemory, `SetupKeeps` says which line may be.
 abbrev pub SetupReserves : DeskFault → CoreView → CoreView → Type 0
 SetupReserves NoMemory old new = ⊤
 SetupReserves _ old new = ReservesNothing old new
 
--- The space that a step reserves: none, unless it is a setup that finds no memory.
+-- A step makes no line ready, unless it is a setup that finds no memory.
 abbrev pub StepReserves : Reply → CoreView → CoreView → Type 0
 StepReserves (NotSetUp fault ask) old new = SetupReserves fault old new
 StepReserves _ old new = ReservesNothing old new
 
 -- The core takes one step with this reply: it follows the world, a refusal changes no more than it may, and no
--- step but a setup reserves space. The reply to a judgement is never NoMemory, and no reply is Stale.
+-- step but a setup that finds no memory makes a line ready. The reply to a judgement is never NoMemory, and no reply is Stale.
 pub record AnswersStep (old : CoreView) (step : Step) (reply : Reply) (new : CoreView) : Type 0 where
   pub follows : Follows old step reply new
   pub unchanged : RefusalKeeps reply step old new

@@ -174,7 +174,7 @@ pub record Reloads (before : World) (vc : Vc) (program : Id) (reply : Reply) (af
     connections = with_connection before.connections vc (record connection { program = program });
   }
 
--- A piece of a connection's record: the cells that no cut has returned, with their verdicts, and the states before and
+-- The piece that a cut or a release returns: the cells that no cut has returned, with their verdicts, and the states before and
 -- after them. The counts at its end are those of all verdicts ever given on the line, and so are the counts at its
 -- start plus those of its entries.
 pub record IsPieceOf (world : World) (vc : Vc) (connection : Connection) (piece : PieceView) : Type 0 where

@@ -1,6 +1,6 @@
 -- The card in the terms of its callers: which programs were ever loaded and which are live, the whole history of each
--- connection, all verdicts of each line, and the state of each port. It has no slot contents, arrival times, journals
--- or look-ups.
+-- connection, all verdicts of each line, and the state of each port. It has no slot contents, no theoretical arrival times,
+-- no journals and no table of look-ups.
 use Rattle.std.specs.Prelude.{ℕ, ◌==◌, nat_lt, Bool, true, false, not, ◌&&◌, ◌||◌, zero, suc, if◌then◌else◌, List, [], ◌∷◌, ◌++◌, take, drop, replicate, Option, Some, None, slice_set}
 use Rattle.std.specs.List.{list_any, list_all}
 use Rattle.upc_cell.specs.declared.vc.Vc.{Vc}

@@ -9,7 +9,7 @@ use leaky::Verdict;
 use line_record::LineFault;
 use upc_cell::Cell;
 
-/// The answer to a cell that arrived. Only `Judged` changes anything but the port.
+/// The answer to a cell that arrived. A Pick or a Judge with any other answer than `Judged` changes only the port.
 #[derive(Clone, Copy, Debug, PartialEq, Eq)]
 pub enum Answer {
     /// The cell was judged.

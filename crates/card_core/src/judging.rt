@@ -1,4 +1,4 @@
-//! The judgement of a cell whose program named a contract, on the line that the caller passes.
+//! The judgement of a picked cell, on the line that the caller passes. If its program named no contract, the verdict is Refuse.
 
 ghost use Rattle.std.specs.Prelude.{◌≡◌, ◌≢◌, ◌+◌, ◌<◌, ◌↔◌, length, IsTrue, IfOk, IfSome, OnErr, MatchOption, Some, None};
 ghost use Rattle.line_record.specs.History.{IsNoNumber};
@@ -14,7 +14,7 @@ use line_record::{Line, Seating};
 use upc_cell::{Vc, same_vc};
 
 /// Judges a cell on the line of its connection, by the contract that its program named. Copies no cell: [`Judgement::answer`] adds the
-/// leaving cell. Every cell of a card is judged here. Doesn't allocate.
+/// leaving cell. Each judged cell of a card is judged here. Doesn't allocate.
 ///
 /// # Errors
 ///

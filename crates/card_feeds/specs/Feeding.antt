@@ -13,8 +13,8 @@ use Rattle.card_shelf.specs.Logs.{AreWaysOf}
 use Rattle.card_shelf.specs.Own.{ServesAll}
 use Rattle.card_shelf.specs.Policing.{ServesArrival}
 
--- The answer of `Core::arrive` to an arrival at port 0: the card serves the arrival. Or there is none, since it is not the
--- time for a cell, and the card is as before.
+-- The answer of `Core::arrive` to an arrival at port 0: the card serves the arrival. Or there is none, since port 0
+-- has a cell already or the card has no such port, and the card is as before.
 abbrev pub IsAnswerAt0 : Arrival → Option (Result Judgement Unjudged) → CoreView → CoreView → Type 0
 IsAnswerAt0 arrival (Some decision) old new = ServesArrival arrival decision old new
 IsAnswerAt0 arrival None old new = Follows old (Enter 0 arrival.cell arrival.moment) NotNow new × (new ≡ old)

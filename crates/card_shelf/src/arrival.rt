@@ -4,7 +4,7 @@ use card_core::{Judgement, Unjudged};
 use upc_cell::Cell;
 
 /// A cell and the moment when it comes.
-#[derive(Clone, Copy, Debug, PartialEq, Eq)]
+#[derive(Clone, Copy)]
 pub struct Arrival {
     pub cell: Cell,
     /// When the cell comes, in ticks.

@@ -73,8 +73,8 @@ is_one_line (side_rules old) (side_rules new) was is = is_same_begin (source_beg
 is_one_line (side_rules old) (side_program code) was is = false
 is_one_line (side_program code) new was is = false
 
--- Whether a case has a line. It has one if its values differ; with `lines` also if they agree, unless lines of rules that begin at one
--- place decide on both sides.
+-- Whether a case has a line. It has one if its values differ; with `lines` also if they agree, unless on both sides lines of
+-- rules that begin at one place decide, or `otherwise`.
 abbrev pub is_listed : Bool → SideRead → SideRead → Case → Bool
 is_listed lines old new case = not (case.old.value == case.new.value) || (lines && not (is_one_line old new case.old.line case.new.line))
 

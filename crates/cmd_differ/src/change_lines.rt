@@ -183,8 +183,8 @@ fn is_one_line(old: &SideText, new: &SideText, was: Option<usize>, is: Option<us
     }
 }
 
-/// Whether a case has a line. It has one if its values differ; with `lines` also if they agree, unless lines of rules that begin at one
-/// place decide on both sides.
+/// Whether a case has a line. It has one if its values differ; with `lines` also if they agree, unless on both sides lines of
+/// rules that begin at one place decide, or `otherwise`.
 fn is_listed(lines: bool, old: &SideText, new: &SideText, case: &Case) -> bool
     ensures { result ≡ is_listed lines (side_read old.now) (side_read new.now) case.now }
 {

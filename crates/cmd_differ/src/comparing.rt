@@ -101,9 +101,9 @@ fn add_differ(
 
 /// Compares two texts: the old one, and the new one, which is the whole input. Each is rules or a program in hexadecimal, by its kind. The
 /// answer says that both give each cell the same value; or it lists each pair of decisions with different values that some cell gets, with
-/// the least such cell, in the order of these cells. A decision is a line of rules, or a value of a program. With `lines` the answer also
-/// lists pairs whose values agree, unless both are lines of rules that begin at one place. The answer to a text with a fault is the fault.
-/// If a program can't be followed, the answer is the place of the instruction at which that fails. docs/RULES.md has the format.
+/// the least such cell, in the order of these cells. A decision is a line of rules or `otherwise`, or a value of a program. With `lines` the
+/// answer also lists pairs whose values agree, unless both are lines of rules that begin at one place, or both are `otherwise`. The answer
+/// to a text with a fault is the fault. If a program can't be followed, the answer is the place of the instruction at which that fails. docs/RULES.md has the format.
 ///
 /// # Errors
 ///

@@ -6,7 +6,7 @@ ghost use Rattle.cmd_differ.specs.Findings.{ended_by, finding_done};
 use text_io::{Done, Ending, RunFault};
 
 /// What `unused` found of one text of rules, or `differ` of two texts, each of rules or with a program.
-#[derive(Clone, Copy, PartialEq, Eq)]
+#[derive(Clone, Copy)]
 pub enum Finding {
     /// `differ`: both texts give each cell the same value. `unused`: each rule decides some cell.
     Nothing,

@@ -1,7 +1,7 @@
 //! The kinds of the texts that are compared.
 
 /// What is in a text.
-#[derive(Clone, Copy, PartialEq, Eq)]
+#[derive(Clone, Copy)]
 pub enum TextKind {
     /// Rules.
     Rules,
@@ -10,7 +10,7 @@ pub enum TextKind {
 }
 
 /// The kinds of the two texts of a comparison.
-#[derive(Clone, Copy, PartialEq, Eq)]
+#[derive(Clone, Copy)]
 pub struct TextKinds {
     /// The text before the change.
     pub old: TextKind,

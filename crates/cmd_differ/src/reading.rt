@@ -16,7 +16,7 @@ use std::alloc::{AllocError, Global};
 use text_words::{add_text, add_too_long};
 
 /// One of two texts, or the only one.
-#[derive(Clone, Copy, PartialEq, Eq)]
+#[derive(Clone, Copy)]
 pub(crate) enum Which {
     /// The text before the change.
     Old,

@@ -15,7 +15,7 @@ use text_io::{Failed, Input, RunFault, before_return, first_feed, first_word};
 const MOST_LINE_OCTETS: usize = 70000;
 
 /// What an input is.
-#[derive(Clone, Copy, PartialEq, Eq)]
+#[derive(Clone, Copy)]
 pub enum InputKind {
     /// A source of assembly, after the line `source`.
     Source,

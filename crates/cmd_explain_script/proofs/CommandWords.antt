@@ -117,7 +117,7 @@ module _ (side : Side) where
   retire_follows (name ∷ []) = some_mapped (λ number. retire number) (program_of name) ∙ and_true (is_some (program_of name))
   retire_follows (name ∷ other ∷ words) = long (nat_le 1 (length (name ∷ other ∷ words))) _ (and_false (is_some (program_of name)))
 
-  named_follows : (make : Vc → Command) (words : List (List ℕ)) → is_some (option_map make (only_vc side words)) ≡ follows side words (Some form.Named)
+  named_follows : (make : Vc → Command) (words : List (List ℕ)) → is_some (option_map make (only_vc side words)) ≡ follows side words (Some form.OneConnection)
   named_follows make [] = refl
   named_follows make (path ∷ []) = refl
   named_follows make (path ∷ channel ∷ []) =
@@ -203,7 +203,7 @@ module _ (side : Side) where
       → is_some (if cells then cell_of_words words else if loads then load_of words else if retires then retire_of words else if setups then setup_of side words
       else if reloads then reload_of side words else if releases then release_of side words else if cuts then cut_of side words else None)
       ≡ follows side words (if cells then Some form.Arrival else (if loads then Some form.Loading else (if retires then Some form.Retiring else (if setups then Some form.Setting
-      else (if reloads then Some form.Reloading else (if releases then Some form.Named else (if cuts then Some form.Named else None)))))))
+      else (if reloads then Some form.Reloading else (if releases then Some form.OneConnection else (if cuts then Some form.OneConnection else None)))))))
   by_name true loads retires setups reloads releases cuts words = cell_follows words
   by_name false true retires setups reloads releases cuts words = load_follows words
   by_name false false true setups reloads releases cuts words = retire_follows words

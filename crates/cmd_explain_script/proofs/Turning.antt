@@ -11,11 +11,11 @@ use Rattle.cmd_explain_script.proofs.LoadedCodes.{codes_follow}
 use Rattle.cmd_explain_script.specs.LoadedPrograms.{loaded_codes, loaded_programs}
 use Rattle.cmd_explain_script.specs.ScriptFaults.{is_fault_line}
 use Rattle.cmd_explain_script.specs.ScriptText.{ScriptWorld, after_answer, explained, one_line_more, script_rules}
-use Rattle.cmd_explain_script.specs.declared.contract_numbers.NamesNone.{NamesNone}
+use Rattle.cmd_explain_script.specs.declared.contract_numbers.NamesNoContract.{NamesNoContract}
 use Rattle.cmd_explain_script.specs.inner.ProgramsKept.{ProgramsAfter, loaded_digits}
 use Rattle.cmd_explain_script.specs.inner.ScriptLaws.{ShowsScript}
 
-module _ (Shows Shows' : RunWorld → Type 0) (met : ℕ) (faulty : Bool) (programs programs' : List NamesNone) (line answer old new : List ℕ) (side : Option Side)
+module _ (Shows Shows' : RunWorld → Type 0) (met : ℕ) (faulty : Bool) (programs programs' : List NamesNoContract) (line answer old new : List ℕ) (side : Option Side)
     (is_side : (world : RunWorld) → Shows world → side ≡ run_side world) (kept : ProgramsAfter (loaded_digits side line answer) programs programs') where
   abbrev text : List ℕ
   text = explained programs faulty side (one_line_more met) line answer
@@ -23,7 +23,7 @@ module _ (Shows Shows' : RunWorld → Type 0) (met : ℕ) (faulty : Bool) (progr
   same_text : (world : ScriptWorld) → ShowsScript Shows met faulty programs world
       → text ≡ explained (loaded_programs world.run) world.faulty (run_side world.run) (one_line_more world.met) line answer
   same_text world shown =
-      ap (λ (ps : List NamesNone). explained ps faulty side (one_line_more met) line answer) shown.keeps
+      ap (λ (ps : List NamesNoContract). explained ps faulty side (one_line_more met) line answer) shown.keeps
       ∙ ap (λ (s : Option Side). explained (loaded_programs world.run) faulty s (one_line_more met) line answer) (is_side world.run shown.runs)
       ∙ ap (λ (n : ℕ). explained (loaded_programs world.run) faulty (run_side world.run) (one_line_more n) line answer) (sym shown.counts)
       ∙ ap (λ (b : Bool). explained (loaded_programs world.run) b (run_side world.run) (one_line_more world.met) line answer) (sym shown.blames)
@@ -53,7 +53,7 @@ module _ (Shows Shows' : RunWorld → Type 0) (met : ℕ) (faulty : Bool) (progr
       (text, added, λ world sound shown. from turn world shown (subst (λ (here : List ℕ). TurnsFrom run_rules world.run line here turn Shows') (sym answers.1) (answers.2 world.run sound shown.runs)))
 
 -- The text for a line follows from the answer of `run`.
-pub turn-explained : (Shows Shows' : RunWorld → Type 0) (met : ℕ) (faulty : Bool) (programs programs' listed : List NamesNone) (line answer old new : List ℕ) (side : Option Side)
+pub turn-explained : (Shows Shows' : RunWorld → Type 0) (met : ℕ) (faulty : Bool) (programs programs' listed : List NamesNoContract) (line answer old new : List ℕ) (side : Option Side)
     (turn : Turn) (start looked read loading : List ℕ) (number : ℕ) (faulty' : Bool)
     → ((world : RunWorld) → Shows world → side ≡ run_side world) → start ≡ [] → looked ≡ answer → read ≡ answer → loading ≡ answer → listed ≡ programs
     → number ≡ one_line_more met → faulty' ≡ (faulty || is_fault_line looked) → Answers run_rules Shows line turn Shows' start answer
@@ -66,7 +66,7 @@ turn-explained Shows Shows' met faulty programs programs' listed line answer old
     let first = subst (λ (xs : List ℕ). Answers run_rules Shows line turn Shows' xs answer) empty answers in
     let kept = subst (λ (xs : List ℕ). ProgramsAfter (loaded_digits side line xs) programs programs') same'' keeps in
     let now : new ≡ old ++ explained programs faulty side (one_line_more met) line answer =
-    added ∙ ap (λ (ps : List NamesNone). old ++ explained ps faulty side number line read) list ∙ ap (λ (n : ℕ). old ++ explained programs faulty side n line read) counted
+    added ∙ ap (λ (ps : List NamesNoContract). old ++ explained ps faulty side number line read) list ∙ ap (λ (n : ℕ). old ++ explained programs faulty side n line read) counted
     ∙ ap (λ (xs : List ℕ). old ++ explained programs faulty side (one_line_more met) line xs) same' in
     subst Blamed (sym (blamed ∙ ap (λ (xs : List ℕ). faulty || is_fault_line xs) same))
     (subst Counted (sym counted) (explained-here Shows Shows' met faulty programs programs' line answer old new side is_side kept turn first now))

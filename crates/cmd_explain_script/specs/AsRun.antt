@@ -4,11 +4,11 @@ use Rattle.text_io.specs.declared.ending.Done.{Done}
 use Rattle.upc_cell.specs.declared.side.Side.{Side}
 use Rattle.cmd_run.specs.RunText.{IsRunText}
 use Rattle.cmd_explain_script.specs.ScriptText.{IsScriptExplained, explained}
-use Rattle.cmd_explain_script.specs.declared.contract_numbers.NamesNone.{NamesNone}
+use Rattle.cmd_explain_script.specs.declared.contract_numbers.NamesNoContract.{NamesNoContract}
 
 -- A line of a script, the programs loaded, whether a line had a fault, and the side of the card before it, and the answer of `run` to it.
 pub record AnsweredLine : Type 0 where
-  pub programs : List NamesNone
+  pub programs : List NamesNoContract
   pub faulty : Bool
   pub side : Option Side
   pub number : ℕ

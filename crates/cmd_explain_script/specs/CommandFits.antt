@@ -18,7 +18,7 @@ least_words form.Loading = 1
 least_words form.Retiring = 1
 least_words form.Setting = 4
 least_words form.Reloading = 3
-least_words form.Named = 2
+least_words form.OneConnection = 2
 least_words form.Arrival = 2
 
 -- Whether these words may follow a command: there are enough, and each fits its slot.

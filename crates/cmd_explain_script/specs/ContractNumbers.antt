@@ -7,7 +7,7 @@ use Rattle.leaky.specs.Contract.{Buckets}
 use Rattle.leaky.specs.declared.contract.Contract.{Contract}
 use Rattle.leaky.specs.declared.verdict.Verdict.TheVariants.{Refuse}
 use Rattle.line_record.specs.History.{NamedCell, verdict_after}
-use Rattle.cmd_explain_script.specs.declared.contract_numbers.NamesNone.{NamesNone}
+use Rattle.cmd_explain_script.specs.declared.contract_numbers.NamesNoContract.{NamesNoContract}
 
 -- Whether a value is the number of one of this many contracts.
 abbrev pub is_contract_number : ℕ → ℕ → Bool
@@ -25,7 +25,7 @@ names_no_contract [] count = true
 names_no_contract (i ∷ code) count = if may_name count i then false else names_no_contract code count
 
 -- For one, two, three and four contracts: whether a code names none of them.
-abbrev pub names_none : List Instr → NamesNone
+abbrev pub names_none : List Instr → NamesNoContract
 names_none code = record {
   one = names_no_contract code 1;
   two = names_no_contract code 2;
@@ -34,7 +34,7 @@ names_none code = record {
 }
 
 -- Whether the code names none of this many contracts. A connection has one to four.
-abbrev pub names_none_of : NamesNone → ℕ → Bool
+abbrev pub names_none_of : NamesNoContract → ℕ → Bool
 names_none_of none count =
     if count == 1 then none.one else (if count == 2 then none.two else (if count == 3 then none.three else ((count == 4) && none.four)))
 

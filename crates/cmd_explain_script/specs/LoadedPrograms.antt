@@ -4,7 +4,7 @@ use Rattle.bpf_code.specs.declared.instr.Instr.{Instr}
 use Rattle.card_core.specs.World.{Loading}
 use Rattle.cmd_run.specs.RunText.{RunWorld}
 use Rattle.cmd_explain_script.specs.ContractNumbers.{names_none}
-use Rattle.cmd_explain_script.specs.declared.contract_numbers.NamesNone.{NamesNone}
+use Rattle.cmd_explain_script.specs.declared.contract_numbers.NamesNoContract.{NamesNoContract}
 
 -- The codes of these, the first one loaded first. A card lists what it loaded the latest first.
 abbrev pub codes_in_order : List Loading → List (List Instr)
@@ -17,5 +17,5 @@ loaded_codes None = []
 loaded_codes (Some card) = codes_in_order card.world.loaded
 
 -- Of each of them, for how many contracts of a connection it names none.
-abbrev pub loaded_programs : RunWorld → List NamesNone
+abbrev pub loaded_programs : RunWorld → List NamesNoContract
 loaded_programs run = map names_none (loaded_codes run)

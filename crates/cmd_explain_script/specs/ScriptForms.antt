@@ -21,7 +21,7 @@ opening_commands = (codes "card", form.Opening) ∷ []
 abbrev pub card_commands : List (List ℕ × ScriptForm)
 card_commands =
     (codes "cell", form.Arrival) ∷ (codes "load", form.Loading) ∷ (codes "retire", form.Retiring) ∷ (codes "setup", form.Setting)
-    ∷ (codes "reload", form.Reloading) ∷ (codes "release", form.Named) ∷ (codes "cut", form.Named) ∷ []
+    ∷ (codes "reload", form.Reloading) ∷ (codes "release", form.OneConnection) ∷ (codes "cut", form.OneConnection) ∷ []
 
 -- The commands that a line may have: without a card, with none known, that which opens one.
 abbrev pub commands_at : Option Side → List (List ℕ × ScriptForm)
@@ -36,7 +36,7 @@ slots_after form.Retiring = slot.Program ∷ []
 slots_after form.Setting =
     slot.Path ∷ slot.Channel ∷ slot.Program ∷ slot.Contract ∷ slot.Contract ∷ slot.Contract ∷ slot.Contract ∷ []
 slots_after form.Reloading = slot.Path ∷ slot.Channel ∷ slot.Program ∷ []
-slots_after form.Named = slot.Path ∷ slot.Channel ∷ []
+slots_after form.OneConnection = slot.Path ∷ slot.Channel ∷ []
 slots_after form.Arrival = slot.Moment ∷ slot.Digits ∷ []
 
 -- The side of a card, or the user side if there is none yet.

@@ -14,7 +14,7 @@ use Rattle.cmd_explain_script.specs.LoadedPrograms.{loaded_programs}
 use Rattle.cmd_explain_script.specs.ScriptReasons.{script_explanation}
 use Rattle.cmd_explain_script.specs.ScriptFaults.{is_fault_line}
 use Rattle.cmd_explain_script.specs.SetupHints.{setup_hint}
-use Rattle.cmd_explain_script.specs.declared.contract_numbers.NamesNone.{NamesNone}
+use Rattle.cmd_explain_script.specs.declared.contract_numbers.NamesNoContract.{NamesNoContract}
 
 -- The world of `run`, the number of lines so far, and whether one of them had a fault.
 pub record ScriptWorld : Type 0 where
@@ -29,7 +29,7 @@ one_line_more met = min (met + 1) 18446744073709551615
 -- The text for a line of this number with this answer of `run`, on a card of this side or before there is one, after these programs
 -- were loaded: the fault line and its explanation, or for an answer without a fault perhaps a hint. `faulty` says whether an earlier line
 -- had a fault.
-abbrev pub explained : List NamesNone → Bool → Option Side → ℕ → List ℕ → List ℕ → List ℕ
+abbrev pub explained : List NamesNoContract → Bool → Option Side → ℕ → List ℕ → List ℕ → List ℕ
 explained programs faulty side number content answer =
     if is_fault_line answer then answer ++ script_explanation faulty side number content answer else setup_hint programs number content
 

@@ -91,8 +91,8 @@ takes_text form.Setting false = codes "a VPI, a VCI, the name of a program, and 
 takes_text form.Setting true = codes "a VPI, `*`, the name of a program, and one to four contracts"
 takes_text form.Reloading false = codes "a VPI, a VCI and the name of a program"
 takes_text form.Reloading true = codes "a VPI, `*` and the name of a program"
-takes_text form.Named false = codes "a VPI and a VCI"
-takes_text form.Named true = codes "a VPI and `*`"
+takes_text form.OneConnection false = codes "a VPI and a VCI"
+takes_text form.OneConnection true = codes "a VPI and `*`"
 takes_text form.Arrival paths = codes "a moment, and one word with the octets of a cell"
 
 -- The sentence about the words that a command takes.

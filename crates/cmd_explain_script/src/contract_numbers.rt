@@ -7,7 +7,7 @@ use bpf_code::Instr;
 
 /// Whether a program names no contract of a connection that has one, two, three or four.
 #[derive(Clone, Copy)]
-pub struct NamesNone {
+pub struct NamesNoContract {
     /// No return names a contract if there is one contract.
     pub one: bool,
     /// No return names a contract if there are two.
@@ -44,10 +44,10 @@ fn names_no_contract(code: &[Instr], count: u32) -> bool
 }
 
 /// Returns for one, two, three and four contracts whether a code names none of them.
-pub(crate) fn names_none(code: &[Instr]) -> NamesNone
+pub(crate) fn names_none(code: &[Instr]) -> NamesNoContract
     ensures { result ≡ names_none code.now }
 {
-    NamesNone {
+    NamesNoContract {
         one: names_no_contract(code, 1),
         two: names_no_contract(code, 2),
         three: names_no_contract(code, 3),
@@ -56,7 +56,7 @@ pub(crate) fn names_none(code: &[Instr]) -> NamesNone
 }
 
 /// Returns whether a program names none of this many contracts.
-pub(crate) fn names_none_of(program: NamesNone, count: usize) -> bool
+pub(crate) fn names_none_of(program: NamesNoContract, count: usize) -> bool
     ensures { result ≡ names_none_of program count }
 {
     if count == 1 {

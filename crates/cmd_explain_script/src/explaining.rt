@@ -5,7 +5,7 @@ ghost use Rattle.text_io.specs.Serving.{IsServed};
 ghost use Rattle.cmd_explain_script.specs.ScriptFaults.{is_fault_line};
 ghost use Rattle.cmd_explain_script.specs.ScriptText.{IsScriptExplained, explained, lines_text, no_fault_line, one_line_more};
 
-use crate::contract_numbers::NamesNone;
+use crate::contract_numbers::NamesNoContract;
 use crate::loaded_programs::add_loaded;
 use crate::reasons::add_script_explanation;
 use crate::script_faults::is_fault_line;
@@ -45,7 +45,7 @@ fn add_no_fault(answers: &mut Vec<u8>, met: usize) -> Result<(), AllocError>
 fn add_explained(
     alloc: Global,
     answers: &mut Vec<u8>,
-    programs: &[NamesNone],
+    programs: &[NamesNoContract],
     faulty: bool,
     side: Option<Side>,
     number: usize,
@@ -86,7 +86,7 @@ struct Explaining {
     /// Whether one of them had a fault.
     faulty: bool,
     /// Of each loaded program for how many contracts it names none, in the order of the programs' names.
-    programs: Vec<NamesNone>,
+    programs: Vec<NamesNoContract>,
 }
 
 impl Machine for Explaining {

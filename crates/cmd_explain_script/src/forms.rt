@@ -9,7 +9,7 @@ ghost use Rattle.cmd_explain_script.specs.Tables.{value_among};
 use crate::found_words::{FoundWord, word_octets};
 use crate::tables::value_among;
 use text_card::named_side;
-use text_script::{channel_of, contract, number, program};
+use text_script::{channel_of, number, program, wanted_contract};
 use upc_cell::Side;
 
 /// What a command takes.
@@ -26,7 +26,7 @@ pub enum ScriptForm {
     /// A connection and the name of a program.
     Reloading,
     /// A connection.
-    Named,
+    OneConnection,
     /// A moment and the octets of a cell.
     Arrival,
 }
@@ -64,8 +64,8 @@ pub(crate) const COMMANDS: [(&[u8], ScriptForm); 7] = [
     (b"retire", ScriptForm::Retiring),
     (b"setup", ScriptForm::Setting),
     (b"reload", ScriptForm::Reloading),
-    (b"release", ScriptForm::Named),
-    (b"cut", ScriptForm::Named),
+    (b"release", ScriptForm::OneConnection),
+    (b"cut", ScriptForm::OneConnection),
 ];
 
 /// Returns what the command of this name takes, on a card of this side or before there is one.
@@ -103,7 +103,7 @@ pub(crate) fn slots_after(form: ScriptForm) -> &'static [ScriptSlot]
             ScriptSlot::Contract,
         ],
         ScriptForm::Reloading => &[ScriptSlot::Path, ScriptSlot::Channel, ScriptSlot::Program],
-        ScriptForm::Named => &[ScriptSlot::Path, ScriptSlot::Channel],
+        ScriptForm::OneConnection => &[ScriptSlot::Path, ScriptSlot::Channel],
         ScriptForm::Arrival => &[ScriptSlot::Moment, ScriptSlot::Digits],
     }
 }
@@ -139,7 +139,7 @@ fn fits(side: Side, slot: ScriptSlot, word: &[u8]) -> bool
         ScriptSlot::Path => is_at_most(side.last_vpi(), word),
         ScriptSlot::Channel => channel_of(side, word).is_some(),
         ScriptSlot::Program => program(word).is_some(),
-        ScriptSlot::Contract => contract(word).is_some(),
+        ScriptSlot::Contract => wanted_contract(word).is_some(),
         ScriptSlot::Moment => number(word).is_some(),
         ScriptSlot::Digits => true,
     }

@@ -16,7 +16,7 @@ mod setup_hints;
 mod tables;
 mod wrong_words;
 
-pub use contract_numbers::NamesNone;
+pub use contract_numbers::NamesNoContract;
 pub use explaining::explain_script;
 pub use forms::{ScriptForm, ScriptSlot};
 pub use found_words::{FoundWord, after, column_of, front, word_octets};

@@ -10,7 +10,7 @@ ghost use Rattle.text_words.specs.Hexadecimal.{octets_of_digits};
 ghost use Rattle.cmd_explain_script.specs.ContractNumbers.{names_none};
 ghost use Rattle.cmd_explain_script.specs.inner.ProgramsKept.{ProgramsAfter, is_loaded_answer, load_digits, loaded_digits};
 
-use crate::contract_numbers::{NamesNone, names_none};
+use crate::contract_numbers::{NamesNoContract, names_none};
 use crate::found_words::front;
 use bpf_code::{DecodeFault, decode};
 use std::alloc::{AllocError, Global};
@@ -68,7 +68,7 @@ fn loaded_digits<'a>(side: Option<Side>, line: &'a [u8], answer: &[u8]) -> Optio
 }
 
 /// Returns for how many contracts the program of these digits names none, if the digits spell a program.
-fn program_of_digits(alloc: Global, digits: &[u8]) -> Result<Option<NamesNone>, AllocError>
+fn program_of_digits(alloc: Global, digits: &[u8]) -> Result<Option<NamesNoContract>, AllocError>
     ensures { (octets : List ℕ) (code : List TheInstr) → octets_of_digits digits.now ≡ Some octets → SpellsCode octets code
         → IfOk result (λ found. found ≡ Some (names_none code)) }
 {
@@ -83,7 +83,7 @@ fn program_of_digits(alloc: Global, digits: &[u8]) -> Result<Option<NamesNone>, 
 }
 
 /// Adds what is kept of the program of these digits, if they spell one.
-fn add_program(alloc: Global, programs: &mut Vec<NamesNone>, digits: &[u8]) -> Added
+fn add_program(alloc: Global, programs: &mut Vec<NamesNoContract>, digits: &[u8]) -> Added
     ensures { OnOk result (ProgramsAfter (Some digits.now) programs.old.items programs.new.items) }
 {
     match program_of_digits(alloc, digits)? {
@@ -99,7 +99,7 @@ fn add_program(alloc: Global, programs: &mut Vec<NamesNone>, digits: &[u8]) -> A
 /// or None before there is a card.
 pub(crate) fn add_loaded(
     alloc: Global,
-    programs: &mut Vec<NamesNone>,
+    programs: &mut Vec<NamesNoContract>,
     side: Option<Side>,
     line: &[u8],
     answer: &[u8],

@@ -14,7 +14,7 @@ use crate::wrong_words::{add_wrong, word_at, wrong_word};
 use arrayvec::ArrayVec;
 use std::alloc::Global;
 use text_io::Added;
-use text_script::{Rate, Wanted, checked_contracts, contract};
+use text_script::{Rate, Wanted, checked_contracts, wanted_contract};
 use text_words::add_text;
 use upc_cell::Side;
 
@@ -40,7 +40,7 @@ fn bad_contract(line: &[u8], words: &[FoundWord]) -> usize
     let mut left = words;
     let mut place = 4;
     while let [word, rest @ ..] = left {
-        if has_bad_bucket(contract(word_octets(line, *word))) {
+        if has_bad_bucket(wanted_contract(word_octets(line, *word))) {
             return place;
         }
         place += 1;
@@ -260,7 +260,7 @@ fn contract_at(line: &[u8], word: Option<FoundWord>) -> Option<Wanted>
 {
     match word {
         None => None,
-        Some(word) => contract(word_octets(line, word)),
+        Some(word) => wanted_contract(word_octets(line, word)),
     }
 }
 

@@ -6,7 +6,7 @@ ghost use Rattle.line_record.specs.History.{numbered};
 ghost use Rattle.text_io.specs.Words.{words_of};
 ghost use Rattle.cmd_explain_script.specs.SetupHints.{is_setup, numbers_in_words, program_hint, range_in_words, setup_hint, unnamed_hint, unnamed_sentence, word_hint, words_hint};
 
-use crate::contract_numbers::{NamesNone, names_none_of};
+use crate::contract_numbers::{NamesNoContract, names_none_of};
 use crate::found_words::{FoundWord, word_octets, words_of};
 use crate::places::add_place;
 use crate::wrong_words::word_at;
@@ -64,7 +64,7 @@ fn add_program_hint(
     number: usize,
     column: usize,
     count: usize,
-    found: Option<NamesNone>,
+    found: Option<NamesNoContract>,
 ) -> Added
     ensures { OnOk result (answers.new.items ≡ answers.old.items ++ program_hint number column count found) }
 {
@@ -81,7 +81,7 @@ fn add_program_hint(
 }
 
 /// Returns the program of this number, counted from 1.
-fn program_numbered(programs: &[NamesNone], number: Option<u64>) -> Option<NamesNone>
+fn program_numbered(programs: &[NamesNoContract], number: Option<u64>) -> Option<NamesNoContract>
     ensures { result ≡ option_and_then (numbered programs.now) number }
 {
     match number {
@@ -99,7 +99,7 @@ fn program_numbered(programs: &[NamesNone], number: Option<u64>) -> Option<Names
 /// Appends the hint about a word that names a program among these.
 fn add_word_hint(
     answers: &mut Vec<u8>,
-    programs: &[NamesNone],
+    programs: &[NamesNoContract],
     number: usize,
     line: &[u8],
     count: usize,
@@ -119,7 +119,7 @@ fn add_word_hint(
 /// Appends the hint about a setup with these words.
 fn add_words_hint(
     answers: &mut Vec<u8>,
-    programs: &[NamesNone],
+    programs: &[NamesNoContract],
     number: usize,
     line: &[u8],
     words: &[FoundWord],
@@ -144,7 +144,7 @@ fn is_setup(line: &[u8]) -> bool
 pub(crate) fn add_setup_hint(
     alloc: Global,
     answers: &mut Vec<u8>,
-    programs: &[NamesNone],
+    programs: &[NamesNoContract],
     number: usize,
     line: &[u8],
 ) -> Added

@@ -151,8 +151,8 @@ pub(crate) fn takes_text(form: ScriptForm, paths: bool) -> &'static [u8]
         }
         (ScriptForm::Reloading, false) => b"a VPI, a VCI and the name of a program",
         (ScriptForm::Reloading, true) => b"a VPI, `*` and the name of a program",
-        (ScriptForm::Named, false) => b"a VPI and a VCI",
-        (ScriptForm::Named, true) => b"a VPI and `*`",
+        (ScriptForm::OneConnection, false) => b"a VPI and a VCI",
+        (ScriptForm::OneConnection, true) => b"a VPI and `*`",
         (ScriptForm::Arrival, _) => b"a moment, and one word with the octets of a cell",
     }
 }

@@ -15,7 +15,7 @@ equal_channels one other = one.port == other.port && one.connection == other.con
 
 abbrev equal_links : Link → Link → Bool
 equal_links one other =
-    option_eq ◌==◌ one.packet other.packet && (one.interface == other.interface && option_eq equal_channels one.channel other.channel)
+    option_eq ◌==◌ one.packet_interface other.packet_interface && (one.interface == other.interface && option_eq equal_channels one.channel other.channel)
 
 packets-equal : (one other : Option ℕ) → option_eq ◌==◌ one other ≡ same_packet_interface one other
 packets-equal None None = refl
@@ -38,8 +38,8 @@ turned false false c = refl
 -- It is the test of the same link.
 pub links-equal : (one other : Link) → equal_links one other ≡ same_link one other
 links-equal one other =
-    ap₂ (λ p c. p && (one.interface == other.interface && c)) (packets-equal one.packet other.packet) (channels-equal one.channel other.channel)
-    ∙ turned (same_packet_interface one.packet other.packet) (one.interface == other.interface) (same_channel one.channel other.channel)
+    ap₂ (λ p c. p && (one.interface == other.interface && c)) (packets-equal one.packet_interface other.packet_interface) (channels-equal one.channel other.channel)
+    ∙ turned (same_packet_interface one.packet_interface other.packet_interface) (one.interface == other.interface) (same_channel one.channel other.channel)
 
 -- A row is put where the map puts it.
 pub inserted : (rows : List (Link × LinkTally)) (link : Link) (tally : LinkTally) → insert_entry equal_links rows link tally ≡ with_row link tally rows

@@ -3,7 +3,7 @@
 use thiserror::Error;
 
 /// Why a cell ends a run. Printed as its number and its name.
-#[derive(Clone, Copy, Debug, PartialEq, Eq, Error)]
+#[derive(Clone, Copy, Debug, Error)]
 pub enum FitFault {
     /// It is of a 65,536th connection; with rules, of a 65,536th flow, which is a connection and a value.
     #[error("1 TooManyConnections")]

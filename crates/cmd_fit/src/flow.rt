@@ -3,7 +3,7 @@
 use upc_cell::Vc;
 
 /// What the cells of one line have in common: their connection and, if rules are given, their value.
-#[derive(Clone, Copy, PartialEq, Eq)]
+#[derive(Clone, Copy)]
 pub struct Flow {
     /// The connection.
     pub vc: Vc,

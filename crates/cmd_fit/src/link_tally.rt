@@ -6,7 +6,7 @@ ghost use Rattle.cmd_fit.specs.LinkTallies.{opening_tally, one_more_cell};
 use captures::Record;
 
 /// What is known of a link from the records of its cells.
-#[derive(Clone, Copy, PartialEq, Eq)]
+#[derive(Clone, Copy)]
 pub struct LinkTally {
     /// How many cells it has.
     pub cells: u64,

@@ -45,9 +45,9 @@ pub(crate) fn read_on<I: Input>(
     loop {
         match reading.step() {
             Err(_) => return Err(RunFault::NoMemory),
-            Ok(StepOutcome::On) => {}
+            Ok(StepOutcome::GoesOn) => {}
             Ok(StepOutcome::Broken(fault)) => return finish(answers, &reading.table, Some(fault)),
-            Ok(StepOutcome::Wants) => match reading.window.fill(input, READING_OCTETS) {
+            Ok(StepOutcome::NeedsOctets) => match reading.window.fill(input, READING_OCTETS) {
                 Err(_) => return Err(RunFault::ReadFailed),
                 Ok(0) => {
                     let ending = reading.reader.end(reading.window.octets());

@@ -10,12 +10,12 @@ use std::alloc::AllocError;
 use text_io::Window;
 
 /// How a reading goes on.
-#[derive(Clone, Copy, PartialEq, Eq)]
+#[derive(Clone, Copy)]
 pub(crate) enum StepOutcome {
     /// A frame was read, and there may be more among the octets that wait.
-    On,
+    GoesOn,
     /// More octets are wanted.
-    Wants,
+    NeedsOctets,
     /// The octets begin with no frame.
     Broken(Fault),
 }
@@ -35,17 +35,17 @@ impl LinksReading {
         ensures { IfOk result (λ outcome. StepsLinks self.old outcome self.new) }
     {
         match self.reader.next(self.window.octets()) {
-            Next::Unfinished => Ok(StepOutcome::Wants),
+            Next::Unfinished => Ok(StepOutcome::NeedsOctets),
             Next::Broken(fault) => Ok(StepOutcome::Broken(fault)),
             Next::Skipped(block, own) => {
                 self.table.skip_block(block);
                 self.window.skip(own);
-                Ok(StepOutcome::On)
+                Ok(StepOutcome::GoesOn)
             }
             Next::Taken(record_read, own) => {
                 self.table.take(&record_read)?;
                 self.window.skip(own);
-                Ok(StepOutcome::On)
+                Ok(StepOutcome::GoesOn)
             }
         }
     }

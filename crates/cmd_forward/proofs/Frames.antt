@@ -8,7 +8,7 @@ use Rattle.captures.specs.Framing.{Framed}
 use Rattle.captures.specs.Reading.{IsGiven, IsReading, TakesFrame, count_after}
 use Rattle.captures.specs.RecordContent.{IsContent}
 use Rattle.captures.specs.RecordOctets.{octets_held, octets_of_first}
-use Rattle.captures.specs.declared.block.Unread.{Unread}
+use Rattle.captures.specs.declared.block.SkippedKind.{SkippedKind}
 use Rattle.captures.specs.declared.fault.Fault.{Fault}
 use Rattle.captures.specs.declared.format.Format.{Format}
 use Rattle.captures.specs.declared.reader.SkippedBlock.{SkippedBlock}
@@ -60,7 +60,7 @@ some_frames format count at octets =
     (frames.0, read.1, frames.1)
 
 -- What is held by a frame of which a record is given is the content of the record.
-pub content_held : (count at : ℕ) (held : Result Framed Unread) (record_read : Record) → IsGiven count at held (Ok record_read)
+pub content_held : (count at : ℕ) (held : Result Framed SkippedKind) (record_read : Record) → IsGiven count at held (Ok record_read)
     → IsContent (octets_held held) record_read.content
 content_held count at (Ok framed) record_read is = is.content
 content_held count at (Err unread) record_read is = absurd is

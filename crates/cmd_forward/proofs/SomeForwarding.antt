@@ -5,7 +5,7 @@ use Rattle.captures.specs.Framing.{Framed}
 use Rattle.captures.specs.Reading.{IsGiven, count_after}
 use Rattle.captures.specs.RecordContent.{IsContent}
 use Rattle.captures.specs.RecordOctets.{octets_held}
-use Rattle.captures.specs.declared.block.Unread.{Unread}
+use Rattle.captures.specs.declared.block.SkippedKind.{SkippedKind}
 use Rattle.captures.specs.declared.content.NoCell.{NoCell}
 use Rattle.captures.specs.declared.fault.Fault.{Fault}
 use Rattle.captures.specs.declared.format.Format.{Format}
@@ -73,7 +73,7 @@ filtered_some rules total others world number octets (SecondLink one other) filt
 
 -- So is a frame.
 frame_some : {World : Type 0} (rules : JudgeRules World) → JudgesEachCell rules → (others : Others) (state : ForwardState World) (count at : ℕ)
-    (held : Result Framed Unread) (given : Result Record SkippedBlock) (octets : List ℕ) → rules.is_sound state.world → IsGiven count at held given → octets ≡ octets_held held
+    (held : Result Framed SkippedKind) (given : Result Record SkippedBlock) (octets : List ℕ) → rules.is_sound state.world → IsGiven count at held given → octets ≡ octets_held held
     → (here : List ℕ) × (next : Result (ForwardState World) (List ℕ)) × WritesFrame rules others state given octets here next × IsSoundNext rules next
 frame_some rules total others state count at held (Err block) octets sound is same =
     ([], Ok (record { filter = filter_block state.filter block; world = state.world }), (refl, refl), sound)

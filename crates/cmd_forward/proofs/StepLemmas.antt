@@ -126,7 +126,7 @@ ends_fault rules others shown before reader fault said said' next closes = λ wo
 
 -- How far the reading came by a frame.
 pub came_on : (before after : ForwardReading) (given : Result Record SkippedBlock) (own : ℕ) → TakesFrame before.reader before.window given own after.reader
-    → after.window ≡ drop own before.window → ForwardedSoFar outcome.On before after
+    → after.window ≡ drop own before.window → ForwardedSoFar outcome.GoesOn before after
 came_on before after given own takes cut =
     let long = length-take-le own before.window takes.within in (
       take own before.window,

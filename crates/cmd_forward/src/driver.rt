@@ -71,12 +71,12 @@ pub(crate) fn forward_on<I: Input, O: Output, J: CellJudge>(
         match reading.step(others, judge, &mut written, report) {
             Err(_) => return Err(RunFault::NoMemory),
             Ok(StepOutcome::Ended) => return give_last(output, &mut written, Done::Ended),
-            Ok(StepOutcome::On) => {
+            Ok(StepOutcome::GoesOn) => {
                 if give_if_enough(output, &mut written).is_err() {
                     return Err(RunFault::WriteFailed);
                 }
             }
-            Ok(StepOutcome::Wants) => match refill(
+            Ok(StepOutcome::NeedsOctets) => match refill(
                 &mut reading.window,
                 READING_OCTETS,
                 input,

@@ -1,7 +1,7 @@
 //! How a cell goes on.
 
 /// Whether a cell goes on to the output, and in which form.
-#[derive(Clone, Copy, PartialEq, Eq)]
+#[derive(Clone, Copy)]
 pub enum Onward {
     /// It doesn't go on: its record isn't written.
     Stays,

@@ -2,7 +2,7 @@
 
 /// What becomes of records without a cell that counts: those of another type, with an error, or cut short, of another
 /// link than the one that was asked for, and those whose time goes back.
-#[derive(Clone, Copy, PartialEq, Eq)]
+#[derive(Clone, Copy)]
 pub enum Others {
     /// They go on as they came.
     Pass,

@@ -15,12 +15,12 @@ use std::alloc::AllocError;
 use text_io::{Turn, Window};
 
 /// What a run does after a step.
-#[derive(Clone, Copy, PartialEq, Eq)]
+#[derive(Clone, Copy)]
 pub(crate) enum StepOutcome {
     /// It takes the next step: the window may have another whole frame.
-    On,
+    GoesOn,
     /// It reads more octets first: the window has no whole frame.
-    Wants,
+    NeedsOctets,
     /// The run ended.
     Ended,
 }
@@ -106,7 +106,7 @@ impl ForwardReading {
         let octets = self.window.octets();
         let whole = self.reader.record_octets(octets);
         match self.reader.next(octets) {
-            Next::Unfinished => Ok(StepOutcome::Wants),
+            Next::Unfinished => Ok(StepOutcome::NeedsOctets),
             Next::Broken(fault) => {
                 close_at(judge, &self.filter, fault, report)?;
                 Ok(StepOutcome::Ended)
@@ -114,7 +114,7 @@ impl ForwardReading {
             Next::Skipped(block, own) => {
                 self.filter.skip_block(block);
                 self.window.skip(own);
-                Ok(StepOutcome::On)
+                Ok(StepOutcome::GoesOn)
             }
             Next::Taken(record_read, own) => {
                 match forward_record(
@@ -129,7 +129,7 @@ impl ForwardReading {
                     Turn::Ends => Ok(StepOutcome::Ended),
                     Turn::GoesOn => {
                         self.window.skip(own);
-                        Ok(StepOutcome::On)
+                        Ok(StepOutcome::GoesOn)
                     }
                 }
             }

@@ -100,7 +100,7 @@ slashes port connection = refl
 -- The interface of a card and a channel.
 card_read : (packet : Option ℕ) (interface : ℕ) (channel : Option Channel) → interface ≤ 7 → HasChannelWithin channel
     → link_in_parts packet (decimal interface ++ channel_part channel) (cut_at 47 (decimal interface ++ channel_part channel))
-    ≡ Some (record { packet = packet; interface = interface; channel = channel })
+    ≡ Some (record { packet_interface = packet; interface = interface; channel = channel })
 card_read packet interface None few within =
     ap (λ word. link_in_parts packet word (cut_at 47 word)) (append-nil (decimal interface))
     ∙ ap (link_in_parts packet (decimal interface)) (not_cut 47 (decimal interface) (decimal_lacks 47 interface (inl (omega arith)) (omega arith)))
@@ -125,7 +125,7 @@ colon packet interface channel =
 
 link_read : (packet : Option ℕ) (interface : ℕ) (channel : Option Channel) → HasPacketWithin packet → interface ≤ 7 → HasChannelWithin channel
     → link_in_word ((packet_part packet ++ decimal interface) ++ channel_part channel)
-    ≡ Some (record { packet = packet; interface = interface; channel = channel })
+    ≡ Some (record { packet_interface = packet; interface = interface; channel = channel })
 link_read None interface channel near few within =
     let word = decimal interface ++ channel_part channel in
     ap (link_in_halves word)
@@ -139,4 +139,4 @@ link_read (Some packet) interface channel near few within =
     ∙ card_read (Some packet) interface channel few within
 
 pub links-spelled : LinksAreSpelled
-links-spelled link near few within = link_read link.packet link.interface link.channel near few within
+links-spelled link near few within = link_read link.packet_interface link.interface link.channel near few within

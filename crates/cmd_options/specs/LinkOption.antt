@@ -12,11 +12,11 @@ channel_with port connection = record { port = port; connection = connection }
 
 -- The link of a packet's interface, if the file has those, and a card's interface without a channel.
 abbrev pub plain_link : Option ℕ → ℕ → Link
-plain_link packet interface = record { packet = packet; interface = interface; channel = None }
+plain_link packet interface = record { packet_interface = packet; interface = interface; channel = None }
 
 -- The link of a packet's interface, if the file has those, a card's interface and a channel.
 abbrev pub channel_link : Option ℕ → ℕ → Channel → Link
-channel_link packet interface channel = record { packet = packet; interface = interface; channel = Some channel }
+channel_link packet interface channel = record { packet_interface = packet; interface = interface; channel = Some channel }
 
 -- The channel of a word that a slash (47) cuts into the port, 0 to 15, and the connection, 0 to 2047.
 abbrev pub channel_in_parts : Option (List ℕ × List ℕ) → Option Channel
@@ -54,5 +54,5 @@ HasChannelWithin (Some channel) = (channel.port ≤ 15) × (channel.connection �
 
 -- Each link that a record can have is spelled by its word.
 abbrev pub LinksAreSpelled : Type 0
-LinksAreSpelled = (link : Link) → HasPacketWithin link.packet → link.interface ≤ 7 → HasChannelWithin link.channel
+LinksAreSpelled = (link : Link) → HasPacketWithin link.packet_interface → link.interface ≤ 7 → HasChannelWithin link.channel
     → link_in_word (link_word link) ≡ Some link

@@ -17,7 +17,7 @@ use std::alloc::Global;
 use text_command_line::{Argument, Form, Options, Stop, Value, values_of_words};
 
 /// What `upc-lab cells` should do.
-#[derive(Clone, Copy, PartialEq, Eq)]
+#[derive(Clone, Copy)]
 pub struct CellsOptions {
     /// How long a tick is.
     pub tick: Tick,

@@ -37,7 +37,7 @@ pub enum Subcommand {
 }
 
 /// What the program should do.
-#[derive(PartialEq, Eq, Drop)]
+#[derive(Drop)]
 pub enum Asked {
     /// Run a subcommand without options.
     Plain(Subcommand),

@@ -13,7 +13,7 @@ use std::alloc::Global;
 use text_command_line::{Argument, Form, Options, Stop, Value, values_of_words};
 
 /// What `upc-lab differ` should do.
-#[derive(PartialEq, Eq, Drop)]
+#[derive(Drop)]
 pub struct DifferOptions {
     /// The name of the file with the old text.
     pub old: String,

@@ -12,7 +12,7 @@ use std::alloc::Global;
 use text_command_line::{Argument, Form, Options, Stop, Value, values_of_words};
 
 /// What `upc-lab explain` should do.
-#[derive(PartialEq, Eq, Drop)]
+#[derive(Drop)]
 pub struct ExplainOptions {
     /// The name of the file with a setup script, which is explained in place of the input, if one is given.
     pub setup: Option<String>,

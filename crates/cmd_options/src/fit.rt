@@ -18,7 +18,7 @@ use std::alloc::Global;
 use text_command_line::{Argument, Form, Options, Stop, Value, values_of_words};
 
 /// What `upc-lab fit` should do.
-#[derive(PartialEq, Eq, Drop)]
+#[derive(Drop)]
 pub struct FitOptions {
     /// What is asked for beside rules.
     pub choice: FitChoice,

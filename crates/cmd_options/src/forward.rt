@@ -17,7 +17,7 @@ use std::alloc::Global;
 use text_command_line::{Argument, Form, Options, Stop, Value, values_of_words};
 
 /// What `upc-lab forward` should do.
-#[derive(PartialEq, Eq, Drop)]
+#[derive(Drop)]
 pub struct ForwardOptions {
     /// The name of the file with the setup script.
     pub setup: String,

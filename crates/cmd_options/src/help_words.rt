@@ -17,7 +17,7 @@ use std::alloc::Global;
 use text_command_line::Stop;
 
 /// A subcommand with options.
-#[derive(Clone, Copy, PartialEq, Eq)]
+#[derive(Clone, Copy)]
 pub enum WithOptions {
     /// `why`.
     Why,

@@ -54,13 +54,13 @@ fn card_link(packet: Option<u64>, word: &[u8]) -> Option<Link>
 {
     let Some((interface, channel)) = cut(b'/', word) else {
         return Some(Link {
-            packet,
+            packet_interface: packet,
             interface: number_at_most(MOST_INTERFACE, word)? as u8,
             channel: None,
         });
     };
     Some(Link {
-        packet,
+        packet_interface: packet,
         interface: number_at_most(MOST_INTERFACE, interface)? as u8,
         channel: Some(channel_in(channel)?),
     })

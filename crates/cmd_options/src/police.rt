@@ -19,7 +19,7 @@ use std::alloc::Global;
 use text_command_line::{Argument, Form, Options, Stop, Value, values_of_words};
 
 /// What `upc-lab police` should do.
-#[derive(PartialEq, Eq, Drop)]
+#[derive(Drop)]
 pub struct PoliceOptions {
     /// The name of the file with the setup script.
     pub setup: String,

@@ -7,7 +7,7 @@ ghost use Rattle.cmd_options.specs.DifferOptions.{programs_named, programs_of};
 use text_command_line::{Value, text_of};
 
 /// Which of the texts before and after a change are programs. The others are rules.
-#[derive(Clone, Copy, PartialEq, Eq)]
+#[derive(Clone, Copy)]
 pub enum Programs {
     /// Both are rules.
     Neither,

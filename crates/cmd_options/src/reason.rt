@@ -10,7 +10,7 @@ use std::io::{Error, ErrorKind, Read, Write};
 use text_io::{Failed, Input, Output};
 
 /// What a device is used for.
-#[derive(Clone, Copy, PartialEq, Eq)]
+#[derive(Clone, Copy)]
 pub enum Work {
     Reading,
     Writing,

@@ -12,7 +12,7 @@ use std::alloc::Global;
 use text_command_line::{Argument, Form, Options, Stop, Value, values_of_words};
 
 /// What `upc-lab why` should do.
-#[derive(PartialEq, Eq, Drop)]
+#[derive(Drop)]
 pub struct WhyOptions {
     /// Whether the cells that each rule decides are counted, in place of an answer to each cell.
     pub count: bool,

@@ -4,7 +4,7 @@ use Rattle.rules_text.specs.TextOfRules.{PlacedRulesRead, placed_rules_in, place
 use Rattle.rules_text.specs.declared.fault.RuleFault.{RuleFault}
 use Rattle.rules_text.specs.declared.fault.RuleFaultKind.TheVariants.{TooLong}
 use Rattle.text_io.specs.Gathered.{gathered}
-use Rattle.text_io.specs.Lines.{Line, lines_of}
+use Rattle.text_io.specs.Lines.{Line, line_with_feed, lines_of}
 use Rattle.text_io.specs.declared.ending.Done.{Done}
 use Rattle.text_io.specs.declared.ending.Done.TheVariants.{Ended}
 use Rattle.cmd_police.specs.declared.scope.PoliceScope.{PoliceScope}
@@ -14,7 +14,6 @@ use Rattle.cmd_explain_rules.specs.RulesExplained.{IsFaultOfText}
 use Rattle.cmd_rules.specs.RuleFaults.{rule_fault}
 use Rattle.cmd_rules.specs.RulesAnswers.{most_rules_octets}
 use Rattle.text_words.specs.FaultLines.{too_long}
-use Rattle.cmd_setups.specs.LineWithFeed.{line_with_feed}
 use Rattle.cmd_police.specs.FaultyRules.{HasFaultIn, rules_place}
 use Rattle.cmd_police.specs.LoadedRules.{shown_rules}
 use Rattle.cmd_police.specs.PreparedSetups.{HasFaultySetup, IsPreparedAs}

@@ -28,19 +28,19 @@ joined old first second third heading columns ending one two three =
     three ∙ ap (λ xs. xs ++ ending) (two ∙ ap (λ xs. xs ++ columns) one)
     ∙ append_assoc (old ++ heading) columns ending ∙ append_assoc old heading (columns ++ ending)
 
-pub adds_line : (side : Side) (lines : LineChoice) (rules : ShownRules) (begun : Bool) (captured : CapturedCell) (vc : Vc) (given : Answer) (card : Held) (excess : Option Excess)
+pub adds_line : (side : Side) (lines : LineChoice) (rules : ShownRules) (has_heading : Bool) (captured : CapturedCell) (vc : Vc) (given : Answer) (card : Held) (excess : Option Excess)
     (old first second new : List ℕ) → has_line lines given ≡ true
-    → first ≡ old ++ (if begun then [] else verdict_heading rules)
+    → first ≡ old ++ (if has_heading then [] else verdict_heading rules)
     → second ≡ first ++ cell_columns side captured.number captured.moment vc (has_low_priority captured.cell) given excess
     → new ≡ second ++ line_end rules (number_of_judging card.names given) captured.cell
     → ((before after : World) → CoreAgrees card.core after → LeavesConnection before.connections after.connections vc (has_low_priority captured.cell) given
     → excess ≡ excess_of_answer before vc (has_low_priority captured.cell) given)
-    → AddsCell side lines rules begun captured vc given card old new true
-adds_line side lines rules begun captured vc given card excess old first second new wanted heading columns ending right = record {
+    → AddsCell side lines rules has_heading captured vc given card old new true
+adds_line side lines rules has_heading captured vc given card excess old first second new wanted heading columns ending right = record {
   excess = excess;
-  added = joined old first second new (if begun then [] else verdict_heading rules) (cell_columns side captured.number captured.moment vc (has_low_priority captured.cell) given excess)
+  added = joined old first second new (if has_heading then [] else verdict_heading rules) (cell_columns side captured.number captured.moment vc (has_low_priority captured.cell) given excess)
       (line_end rules (number_of_judging card.names given) captured.cell) heading columns ending
-      ∙ ap (λ b. old ++ (if b then headed_line side rules begun card.names captured vc given excess else [])) (sym wanted);
+      ∙ ap (λ b. old ++ (if b then headed_line side rules has_heading card.names captured vc given excess else [])) (sym wanted);
   right = λ _ before after agrees leaves. right before after agrees leaves;
-  written = or_true begun ∙ ap (λ b. begun || b) (sym wanted);
+  written = or_true has_heading ∙ ap (λ b. has_heading || b) (sym wanted);
 }

@@ -67,29 +67,29 @@ FollowsArrived shown captured shown' old new =
 
 -- The run after a cell.
 abbrev run_after : PoliceRun → CoreView → Bool → Spans → NotJudged → PoliceRun
-run_after before core begun spans not_judged = record before {
+run_after before core has_heading spans not_judged = record before {
   timed = record before.timed { card = record before.timed.card { core = core } };
-  begun = begun;
+  has_heading = has_heading;
   spans = spans;
   not_judged = not_judged;
 }
 
 -- A cell that arrived, with the text for it.
 pub polices_by : (before : PoliceRun) (core : CoreView) (given : Answer) (captured : CapturedCell)
-    (begun : Bool) (at_moment spans : Spans) (not_judged : NotJudged) (old ended new : List ℕ)
+    (has_heading : Bool) (at_moment spans : Spans) (not_judged : NotJudged) (old ended new : List ℕ)
     → SpansGoOn before.spans captured.moment at_moment old ended
     → ArrivesWithRoom before.timed.card.core captured.cell captured.moment (Some given) core
-    → AddsCell before.timed.card.core.shape.side before.lines (shown_stored before.rules) before.begun captured (vc_of before.timed.card.core.shape.side captured.cell) given
-    (record before.timed.card { core = core }) ended new begun
+    → AddsCell before.timed.card.core.shape.side before.lines (shown_stored before.rules) before.has_heading captured (vc_of before.timed.card.core.shape.side captured.cell) given
+    (record before.timed.card { core = core }) ended new has_heading
     → SpansCount at_moment (vc_of before.timed.card.core.shape.side captured.cell) given spans
     → not_judged ≡ not_judged_after before.not_judged captured.number given
-    → FollowsArrived (ShowsPolice before) captured (ShowsPolice (run_after before core begun spans not_judged)) old new
-polices_by before core given captured begun at_moment spans not_judged old ended new goes arrives adds more counts = (
+    → FollowsArrived (ShowsPolice before) captured (ShowsPolice (run_after before core has_heading spans not_judged)) old new
+polices_by before core given captured has_heading at_moment spans not_judged old ended new goes arrives adds more counts = (
   own_ended_text before.spans captured.moment
-      ++ lined before.timed.card.core.shape.side before.lines (shown_stored before.rules) before.begun before.timed.card.names captured
+      ++ lined before.timed.card.core.shape.side before.lines (shown_stored before.rules) before.has_heading before.timed.card.names captured
       (vc_of before.timed.card.core.shape.side captured.cell) given adds.excess,
   adds.added
-      ∙ ap (λ xs. xs ++ lined before.timed.card.core.shape.side before.lines (shown_stored before.rules) before.begun before.timed.card.names captured
+      ∙ ap (λ xs. xs ++ lined before.timed.card.core.shape.side before.lines (shown_stored before.rules) before.has_heading before.timed.card.names captured
       (vc_of before.timed.card.core.shape.side captured.cell) given adds.excess) goes.added
       ∙ append_assoc old (own_ended_text before.spans captured.moment) _,
   λ world led shown.
@@ -107,18 +107,18 @@ polices_by before core given captured begun at_moment spans not_judged old ended
       (room_leaves world.card on.2 cell moment on.0 led on.3)) in
       let rules = shown_stored before.rules in
       let names = before.timed.card.names in
-      let Text : Side → LineChoice → ShownRules → List Id → Bool → Vc → Answer → List ℕ = λ side lines rules names begun vc given.
-      lined side lines rules begun names captured vc given (excess_of_answer world.card.world vc clp given) in
-      let text : lined before.timed.card.core.shape.side before.lines rules before.begun names captured vc given adds.excess ≡ policed_text world captured on.0 =
-      lined_same (has_line before.lines given) (λ excess. headed_line before.timed.card.core.shape.side rules before.begun names captured vc given excess)
+      let Text : Side → LineChoice → ShownRules → List Id → Bool → Vc → Answer → List ℕ = λ side lines rules names has_heading vc given.
+      lined side lines rules has_heading names captured vc given (excess_of_answer world.card.world vc clp given) in
+      let text : lined before.timed.card.core.shape.side before.lines rules before.has_heading names captured vc given adds.excess ≡ policed_text world captured on.0 =
+      lined_same (has_line before.lines given) (λ excess. headed_line before.timed.card.core.shape.side rules before.has_heading names captured vc given excess)
       adds.excess (excess_of_answer world.card.world vc clp given) (λ wanted. adds.right wanted world.card.world on.2.world on.4 leaves)
-      ∙ ap (λ (shape : Shape). Text shape.side before.lines rules names before.begun vc given) shown.timed.held.agrees.shape
-      ∙ ap (λ (lines : LineChoice). Text world.card.world.shape.side lines rules names before.begun vc given) shown.lines
-      ∙ ap (λ (rules : ShownRules). Text world.card.world.shape.side world.lines rules names before.begun vc given) shown.rules
-      ∙ ap (λ (names : List Id). Text world.card.world.shape.side world.lines world.rules names before.begun vc given) shown.timed.held.names
-      ∙ ap (λ b. Text world.card.world.shape.side world.lines world.rules world.card.names b vc given) shown.begun
-      ∙ ap (λ (v : Vc). Text world.card.world.shape.side world.lines world.rules world.card.names world.begun v given) here
-      ∙ ap (λ (a : Answer). Text world.card.world.shape.side world.lines world.rules world.card.names world.begun (connection_of_cell world.card cell) a) same
+      ∙ ap (λ (shape : Shape). Text shape.side before.lines rules names before.has_heading vc given) shown.timed.held.agrees.shape
+      ∙ ap (λ (lines : LineChoice). Text world.card.world.shape.side lines rules names before.has_heading vc given) shown.lines
+      ∙ ap (λ (rules : ShownRules). Text world.card.world.shape.side world.lines rules names before.has_heading vc given) shown.rules
+      ∙ ap (λ (names : List Id). Text world.card.world.shape.side world.lines world.rules names before.has_heading vc given) shown.timed.held.names
+      ∙ ap (λ b. Text world.card.world.shape.side world.lines world.rules world.card.names b vc given) shown.has_heading
+      ∙ ap (λ (v : Vc). Text world.card.world.shape.side world.lines world.rules world.card.names world.has_heading v given) here
+      ∙ ap (λ (a : Answer). Text world.card.world.shape.side world.lines world.rules world.card.names world.has_heading (connection_of_cell world.card cell) a) same
       in (
         after_cell world captured on.0 on.2,
         record {
@@ -131,8 +131,8 @@ polices_by before core given captured begun at_moment spans not_judged old ended
             waits = shown.timed.waits;
           };
           commanded = shown.commanded;
-          begun = adds.written ∙ ap (λ b. b || has_line before.lines given) shown.begun ∙ ap (λ (lines : LineChoice). world.begun || has_line lines given) shown.lines
-              ∙ ap (λ (a : Answer). world.begun || has_line world.lines a) same;
+          has_heading = adds.written ∙ ap (λ b. b || has_line before.lines given) shown.has_heading ∙ ap (λ (lines : LineChoice). world.has_heading || has_line lines given) shown.lines
+              ∙ ap (λ (a : Answer). world.has_heading || has_line world.lines a) same;
           spans = subst (λ (v : Vc). ShowsSpans spans (spans_after (spans_at world.spans moment) v on.0)) here
               (subst (λ (a : Answer). ShowsSpans spans (spans_after (spans_at world.spans moment) vc a)) same
               (more (spans_at world.spans moment) (goes.spans world.spans shown.spans)));
@@ -143,7 +143,7 @@ polices_by before core given captured begun at_moment spans not_judged old ended
           given = on.0;
           card = on.2;
           taken = on.3;
-          written = ap (λ xs. xs ++ lined before.timed.card.core.shape.side before.lines rules before.begun names captured vc given adds.excess) (ended_same before.spans world.spans moment shown.spans)
+          written = ap (λ xs. xs ++ lined before.timed.card.core.shape.side before.lines rules before.has_heading names captured vc given adds.excess) (ended_same before.spans world.spans moment shown.spans)
               ∙ ap (λ xs. ended_text world.spans moment ++ xs) text;
           after = refl;
         },
@@ -174,7 +174,7 @@ commanded_state before timed moment carried commanded text world filled either s
         tick = shown.tick;
         timed = record { held = to.shown; at_setup = to.at_setup; waits = refl };
         commanded = either ∙ ap (λ b. before.commanded || b) filled ∙ ap (λ b. b || is_filled text) shown.commanded;
-        begun = shown.begun;
+        has_heading = shown.has_heading;
         spans = shown.spans;
         not_judged = shown.not_judged;
       },
@@ -220,28 +220,28 @@ joined old spans gap heading counts cells waiting comments closing =
 -- The end of a capture.
 pub closes_by : (run : PoliceRun) (world : PoliceWorld) (summary : ReadingSummary) (ending : Option Fault) (old one two three four five six new : List ℕ)
     → ShowsPolice run world → one ≡ old ++ own_text run.spans
-    → two ≡ one ++ police_gap ((run.begun || own_begun_after run.spans) || run.commanded) → three ≡ two ++ (counts_heading ++ counts_lines world.card.world)
+    → two ≡ one ++ police_gap ((run.has_heading || own_begun_after run.spans) || run.commanded) → three ≡ two ++ (counts_heading ++ counts_lines world.card.world)
     → four ≡ three ++ not_judged_lines run.not_judged → five ≡ four ++ waiting_comment (waiting_in run.timed.commands)
     → six ≡ five ++ run_comments run.tick.nanoseconds summary → new ≡ six ++ closing_lines summary ending
     → new ≡ old ++ police_closes world summary ending
 closes_by run world summary ending old one two three four five six new shown zeroth first second third waits fourth last =
     let after = own_begun_after run.spans in
     let here = own_text run.spans in
-    let gap = police_gap ((run.begun || after) || run.commanded) in
+    let gap = police_gap ((run.has_heading || after) || run.commanded) in
     let counts = counts_lines world.card.world in
     let closing = closing_lines summary ending in
     let waiting = waiting_comment (waiting_in run.timed.commands) in
-    let Closes : List ℕ → Bool → NotJudged → List WaitingCommand → ℕ → List ℕ = λ here begun cells commands tick.
-    old ++ (here ++ (police_gap begun ++ (counts_heading ++ (counts ++ (not_judged_lines cells ++ (waiting_comment commands ++ (run_comments tick summary ++ closing))))))) in
+    let Closes : List ℕ → Bool → NotJudged → List WaitingCommand → ℕ → List ℕ = λ here has_heading cells commands tick.
+    old ++ (here ++ (police_gap has_heading ++ (counts_heading ++ (counts ++ (not_judged_lines cells ++ (waiting_comment commands ++ (run_comments tick summary ++ closing))))))) in
     let left = waiting_in run.timed.commands in
     last ∙ ap (λ xs. xs ++ closing) (fourth ∙ ap (λ xs. xs ++ run_comments run.tick.nanoseconds summary) (waits ∙ ap (λ xs. xs ++ waiting)
     (third ∙ ap (λ xs. xs ++ not_judged_lines run.not_judged)
     (second ∙ ap (λ xs. xs ++ (counts_heading ++ counts)) (first ∙ ap (λ xs. xs ++ gap) zeroth)))))
     ∙ joined old here gap counts_heading counts (not_judged_lines run.not_judged) waiting (run_comments run.tick.nanoseconds summary) closing
-    ∙ ap (λ here. Closes here ((run.begun || after) || run.commanded) run.not_judged left run.tick.nanoseconds) (text_same run.spans world.spans shown.spans)
-    ∙ ap (λ b. Closes (present_text world.spans) ((b || after) || run.commanded) run.not_judged left run.tick.nanoseconds) shown.begun
-    ∙ ap (λ b. Closes (present_text world.spans) ((world.begun || b) || run.commanded) run.not_judged left run.tick.nanoseconds) (begun_same run.spans world.spans shown.spans)
-    ∙ ap (λ b. Closes (present_text world.spans) ((world.begun || is_begun_after world.spans) || b) run.not_judged left run.tick.nanoseconds) shown.commanded
+    ∙ ap (λ here. Closes here ((run.has_heading || after) || run.commanded) run.not_judged left run.tick.nanoseconds) (text_same run.spans world.spans shown.spans)
+    ∙ ap (λ b. Closes (present_text world.spans) ((b || after) || run.commanded) run.not_judged left run.tick.nanoseconds) shown.has_heading
+    ∙ ap (λ b. Closes (present_text world.spans) ((world.has_heading || b) || run.commanded) run.not_judged left run.tick.nanoseconds) (begun_same run.spans world.spans shown.spans)
+    ∙ ap (λ b. Closes (present_text world.spans) ((world.has_heading || is_begun_after world.spans) || b) run.not_judged left run.tick.nanoseconds) shown.commanded
     ∙ ap (λ (cells : NotJudged). Closes (present_text world.spans) (has_lines_before world) cells left run.tick.nanoseconds) shown.not_judged
     ∙ ap (λ (commands : List WaitingCommand). Closes (present_text world.spans) (has_lines_before world) world.not_judged commands run.tick.nanoseconds) shown.timed.waits
     ∙ ap (λ tick. Closes (present_text world.spans) (has_lines_before world) world.not_judged world.waiting tick) shown.tick

@@ -1,8 +1,7 @@
 -- A script without a line that names rules stays as it is.
 use Rattle.std.proofs.Common.{◌≡◌, ℕ, ◌==◌, Bool, true, false, if◌then◌else◌, List, [], ◌∷◌, ◌++◌, codes, Option, Some, None, refl, sym, ap, subst, ◌∙◌}
 use Rattle.std.proofs.lemmas.Bool.{eqb-true}
-use Rattle.text_io.specs.Lines.{Line, begun_with, lines_of, line_content}
-use Rattle.cmd_setups.specs.LineWithFeed.{line_with_feed}
+use Rattle.text_io.specs.Lines.{Line, begun_with, line_with_feed, lines_of}
 use Rattle.cmd_setups.specs.RulesLines.{named_rules, names_in, rules_names, with_rules_name}
 use Rattle.cmd_police.specs.SetupLaws.{ScriptsWithoutRulesStay}
 use Rattle.cmd_police.specs.SetupPrograms.{HasPrograms, HasProgramsIn}

@@ -2,10 +2,9 @@
 -- without one, the hints and a line that says so. And the hints as comments.
 use Rattle.std.specs.Prelude.{◌≡◌, ◌⊎◌, ℕ, Bool, eqb, if◌then◌else◌, List, [], ◌∷◌, ◌++◌, codes, Option}
 use Rattle.std.specs.List.{starts_with}
-use Rattle.cmd_setups.specs.LineWithFeed.{line_with_feed}
+use Rattle.text_io.specs.Lines.{Line, line_content, line_with_feed, lines_of}
 use Rattle.cmd_explain_script.specs.ScriptText.{IsScriptExplained}
 use Rattle.text_io.specs.Devices.{IsPart}
-use Rattle.text_io.specs.Lines.{Line, lines_of, line_content}
 use Rattle.text_io.specs.declared.ending.Done.{Done}
 use Rattle.text_io.specs.declared.ending.Done.TheVariants.{Ended, Whole}
 use Rattle.cmd_setups.specs.SetUpScripts.{IsFaultAtTimes}

@@ -39,7 +39,7 @@ pub record PoliceWorld : Type 0 where
   pub card : Card
   pub waiting : List WaitingCommand
   pub commanded : Bool
-  pub begun : Bool
+  pub has_heading : Bool
   pub spans : SpansWorld
   pub not_judged : NotJudged
 
@@ -52,7 +52,7 @@ police_start scope tick rules card waiting = record {
   card = card;
   waiting = waiting;
   commanded = false;
-  begun = false;
+  has_heading = false;
   spans = spans_start card.world.shape.side (option_map (λ nanoseconds. ticks_of_span nanoseconds tick) scope.every);
   not_judged = all_judged;
 }
@@ -61,7 +61,7 @@ police_start scope tick rules card waiting = record {
 abbrev pub policed_text : PoliceWorld → CapturedCell → Answer → List ℕ
 policed_text before captured given =
     if has_line before.lines given
-    then (if before.begun then [] else verdict_heading before.rules)
+    then (if before.has_heading then [] else verdict_heading before.rules)
     ++ (cell_columns before.card.world.shape.side captured.number captured.moment (connection_of_cell before.card captured.cell) (has_low_priority captured.cell) given
     (excess_of_answer before.card.world (connection_of_cell before.card captured.cell) (has_low_priority captured.cell) given)
     ++ line_end before.rules (number_of_judging before.card.names given) captured.cell)
@@ -71,7 +71,7 @@ policed_text before captured given =
 abbrev pub after_cell : PoliceWorld → CapturedCell → Answer → Card → PoliceWorld
 after_cell before captured given card = record before {
   card = card;
-  begun = before.begun || has_line before.lines given;
+  has_heading = before.has_heading || has_line before.lines given;
   spans = spans_after (spans_at before.spans captured.moment) (connection_of_cell before.card captured.cell) given;
   not_judged = not_judged_after before.not_judged captured.number given;
 }
@@ -103,11 +103,11 @@ pub record PolicesCaptured (before : PoliceWorld) (captured : CapturedCell) (tex
 
 -- Whether lines are written before the table: those of cells, of spans or of commands.
 abbrev pub has_lines_before : PoliceWorld → Bool
-has_lines_before world = (world.begun || is_begun_after world.spans) || world.commanded
+has_lines_before world = (world.has_heading || is_begun_after world.spans) || world.commanded
 
 -- An empty line, if there are lines before it.
 abbrev pub police_gap : Bool → List ℕ
-police_gap begun = if begun then codes "\n" else []
+police_gap has_lines = if has_lines then codes "\n" else []
 
 -- The text at the end: the lines of the last span; an empty line after the lines about cells, spans and commands, if
 -- there are any; the table of the connections; the comments; and the fault at which the reading ended.

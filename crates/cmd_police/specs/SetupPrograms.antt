@@ -1,8 +1,7 @@
 -- A setup script with the programs of its files of rules.
 use Rattle.std.specs.Prelude.{◌≡◌, ℕ, List, [], ◌∷◌, ◌++◌, codes, MatchOption}
 use Rattle.bpf_code.specs.declared.instr.Instr.{Instr}
-use Rattle.text_io.specs.Lines.{Line, lines_of, line_content}
-use Rattle.cmd_setups.specs.LineWithFeed.{line_with_feed}
+use Rattle.text_io.specs.Lines.{Line, line_with_feed, lines_of}
 use Rattle.text_words.specs.FaultLines.{line as ended_by_feed}
 use Rattle.cmd_police.specs.RulesFiles.{IsProgramOfRules, later_texts, next_text, program_digits}
 use Rattle.cmd_setups.specs.RulesLines.{named_rules}

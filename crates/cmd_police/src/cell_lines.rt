@@ -28,12 +28,12 @@ fn add_verdict_heading(answers: &mut Vec<u8>, rules: &Option<LoadedRules>) -> Ad
 /// Appends the heading, if it isn't written yet.
 pub(crate) fn add_heading_once(
     answers: &mut Vec<u8>,
-    begun: bool,
+    has_heading: bool,
     rules: &Option<LoadedRules>,
 ) -> Added
-    ensures { OnOk result (answers.new.items ≡ answers.old.items ++ (if begun then [] else verdict_heading (shown_stored rules.now))) }
+    ensures { OnOk result (answers.new.items ≡ answers.old.items ++ (if has_heading then [] else verdict_heading (shown_stored rules.now))) }
 {
-    if begun {
+    if has_heading {
         return Ok(());
     }
     add_verdict_heading(answers, rules)

@@ -2,7 +2,6 @@
 
 ghost use Rattle.std.specs.Prelude.{◌≡◌, ◌≤◌, ◌++◌, ◌||◌, List, ℕ, IfOk, OnOk, option_map};
 ghost use Rattle.card_core.specs.Sections.{answer_to};
-ghost use Rattle.text_io.specs.Lines.{lines_of};
 ghost use Rattle.card_core.specs.Agreement.{CoreAgrees};
 ghost use Rattle.card_core.specs.World.{Connection, World};
 ghost use Rattle.line_record.specs.History.{numbered};
@@ -105,22 +104,22 @@ fn add_cell(
     side: Side,
     lines: LineChoice,
     rules: &Option<LoadedRules>,
-    begun: bool,
+    has_heading: bool,
     captured: &CapturedCell,
     decision: &Result<Judgement, Unjudged>,
     card: &ScriptCard,
 ) -> Result<bool, AllocError>
-    ensures { IfOk result (AddsCell side lines (shown_stored rules.now) begun captured.now (vc_of side captured.now.cell)
+    ensures { IfOk result (AddsCell side lines (shown_stored rules.now) has_heading captured.now (vc_of side captured.now.cell)
         (answer_to captured.now.cell decision.now) card.now answers.old.items answers.new.items) }
 {
     if !has_line(lines, decision) {
-        return Ok(begun);
+        return Ok(has_heading);
     }
     let cell = &captured.cell;
     let vc = cell.vc_at(side);
     let clp = cell.clp();
     let excess = excess_of(card.core(), vc, clp, decision);
-    add_heading_once(answers, begun, rules)?;
+    add_heading_once(answers, has_heading, rules)?;
     add_cell_columns(
         answers,
         side,
@@ -136,10 +135,10 @@ fn add_cell(
 }
 
 /// Appends an empty line if there are lines before it.
-pub(crate) fn add_gap(answers: &mut Vec<u8>, begun: bool) -> Added
-    ensures { OnOk result (answers.new.items ≡ answers.old.items ++ police_gap begun) }
+pub(crate) fn add_gap(answers: &mut Vec<u8>, has_lines: bool) -> Added
+    ensures { OnOk result (answers.new.items ≡ answers.old.items ++ police_gap has_lines) }
 {
-    if !begun {
+    if !has_lines {
         return Ok(());
     }
     answers.push(b'\n')?;
@@ -147,10 +146,10 @@ pub(crate) fn add_gap(answers: &mut Vec<u8>, begun: bool) -> Added
 }
 
 /// Returns whether lines are written before the table.
-fn has_lines_before(begun: bool, spans: &Spans, commanded: bool) -> bool
-    ensures { result ≡ ((begun || own_begun_after spans.now) || commanded) }
+fn has_lines_before(has_heading: bool, spans: &Spans, commanded: bool) -> bool
+    ensures { result ≡ ((has_heading || own_begun_after spans.now) || commanded) }
 {
-    begun || spans.is_begun_after() || commanded
+    has_heading || spans.is_begun_after() || commanded
 }
 
 /// What is chosen for a run of `police`.
@@ -175,7 +174,7 @@ pub(crate) struct PoliceRun {
     /// Whether commands were carried out.
     commanded: bool,
     /// Whether the heading was written.
-    begun: bool,
+    has_heading: bool,
     spans: Spans,
     not_judged: NotJudged,
 }
@@ -202,12 +201,12 @@ impl CellFollower for PoliceRun {
         let Some(decision) = self.timed.arrive(cell, moment) else {
             return Ok(Turn::GoesOn);
         };
-        self.begun = add_cell(
+        self.has_heading = add_cell(
             answers,
             side,
             self.lines,
             &self.rules,
-            self.begun,
+            self.has_heading,
             captured,
             &decision,
             &self.timed.card,
@@ -221,7 +220,7 @@ impl CellFollower for PoliceRun {
         self.spans.add_present(answers)?;
         add_gap(
             answers,
-            has_lines_before(self.begun, &self.spans, self.commanded),
+            has_lines_before(self.has_heading, &self.spans, self.commanded),
         )?;
         add_counts(answers, self.timed.core(), &self.timed.at_setup)?;
         add_not_judged(answers, &self.not_judged)?;
@@ -246,8 +245,8 @@ fn spans_of(alloc: Global, side: Side, scope: PoliceScope, tick: Tick) -> Spans
 
 /// Polices the cells of a capture by a card that a setup script opens. `times` has for each line of the script its time in nanoseconds from
 /// moment 0 on, or None. A line with a time is carried out before the first cell at or after that time. A script with a fault is explained,
-/// and nothing is policed. Cells count, and have their moments, as in `upc-lab cells`. Long journals are dropped, so that any number of
-/// cells is judged. If rules are given, the line of each cell shows the rule that gave the cell its value. If spans are asked for, lines
+/// and nothing is policed. Cells count, and have their moments, as in `upc-lab cells`. Long journals are dropped, so that 2^62 cells are
+/// judged on each line. If rules are given, the line of each cell shows the rule that gave the cell its value. If spans are asked for, lines
 /// after the last cell of each span have the counts of each connection in that span. At the end a table has the counts of each connection
 /// since its setup. docs/LAB.md has the format.
 ///
@@ -283,7 +282,7 @@ pub fn police_capture<R: Threads, I: Input + Send, O: Output>(
                 tick,
                 timed,
                 commanded: false,
-                begun: false,
+                has_heading: false,
                 spans,
                 not_judged: NotJudged::none(),
             };

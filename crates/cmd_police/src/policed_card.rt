@@ -53,7 +53,7 @@ fn is_filled(text: &[u8]) -> bool
 
 impl PolicedCard {
     /// Carries out the commands whose moment has come, takes all steps of a cell at port 0, and returns its verdict, or None if it isn't
-    /// judged. Long journals are dropped, so that any number of cells is judged.
+    /// judged. Long journals are dropped, so that 2^62 cells are judged on each line.
     ///
     /// # Errors
     ///

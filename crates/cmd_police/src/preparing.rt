@@ -15,7 +15,8 @@ pub(crate) struct ReadySetup {
     pub plain: Vec<u8>,
     /// The same with the programs of its rules, if it names any.
     pub replaced: Option<Vec<u8>>,
-    /// The time of each line in nanoseconds. A line without one is carried out before all cells.
+    /// For each line its own time, or that of the nearest line before it with one, in nanoseconds. Lines before the first time have None,
+    /// and are carried out before all cells.
     pub times: Vec<Option<u64>>,
 }
 

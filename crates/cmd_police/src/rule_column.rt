@@ -79,7 +79,7 @@ fn number_of_judging(card: &ScriptCard, decision: &Result<Judgement, Unjudged>) 
     }
 }
 
-/// Ends the line of a cell with the rule that gave it its value, if rules are shown.
+/// Ends the line of a cell with the rule that gave it its value, or with a minus sign if its program has no rules.
 #[tactic(auto, using(std::proofs::lemmas::List::append_assoc))]
 fn end_with_rule(answers: &mut Vec<u8>, loaded: &LoadedRules, number: usize, cell: &Cell) -> Added
     ensures { OnOk result (answers.new.items ≡ answers.old.items ++ line_end (Some (all_rules_stored loaded.now)) number cell.now) }

@@ -19,8 +19,8 @@ use text_io::{Ending, Input, Output, RunFault};
 /// Polices the cells of a capture, as [`police_capture`] does, by a setup script that may name files of rules and times. `texts` are the
 /// octets of these files, in the order of [`files_read`](cmd_setups::files_read). Each line `rules NAME` loads the program of its text, as the
 /// next program of the script. If a text has a fault, the output is its fault line, and where the script names it; no cell is
-/// policed then. A line `at TIME COMMAND` is carried out before the first cell at or after that time, and so are the lines after it.
-/// docs/LAB.md has the format.
+/// policed then. A line `at TIME COMMAND` is carried out before the first cell at or after that time, and so are the lines after it up to
+/// the next line with a time. docs/LAB.md has the format.
 ///
 /// Memory is that of [`police_capture`], the script with the programs of its rules in hexadecimal digits, its lines that wait, and what
 /// compiling one text of rules takes.

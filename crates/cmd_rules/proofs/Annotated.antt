@@ -1,13 +1,13 @@
 -- What the loops of the annotated listing keep.
 use Rattle.std.proofs.Common.{◌≡◌, ◌≢◌, ℕ, ◌+◌, ◌<◌, true, false, List, [], ◌∷◌, ◌++◌, drop, take, length, get_or, refl, sym, ap, subst, ◌∙◌, arith, append-nil, append_assoc, take-append-drop}
 use Rattle.std.proofs.lemmas.List.{drop_all, drop_more, get_or-take, length-take, take_more}
-use Rattle.text_io.specs.Lines.{Line, lines_of}
+use Rattle.text_io.specs.Lines.{Line, line_with_feed, lines_of}
 use Rattle.text_io.proofs.LinesLemmas.{NoFeed, lines-at_feed, lines-of_rest}
-use Rattle.cmd_rules.specs.AsmText.{lines_with, whole_line}
+use Rattle.cmd_rules.specs.AsmText.{lines_with}
 
 -- The text begins with this line, and the rest follows.
 abbrev pub IsFirst : List ℕ → List ℕ → List ℕ → Type 0
-IsFirst text first rest = (line : Line) × (lines_of text ≡ line ∷ lines_of rest) × (first ≡ whole_line line)
+IsFirst text first rest = (line : Line) × (lines_of text ≡ line ∷ lines_of rest) × (first ≡ line_with_feed line)
 
 pub first_ended : (text : List ℕ) (at : ℕ) → at < length text → get_or text at 0 ≡ 10 → ((k : ℕ) → k < at → get_or text k 0 ≢ 10) → IsFirst text (take (at + 1) text) (drop (at + 1) text)
 first_ended text at lt feed before =

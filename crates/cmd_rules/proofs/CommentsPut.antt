@@ -9,10 +9,10 @@ use Rattle.bpf_asm.specs.Meaning.{IsMeaning}
 use Rattle.bpf_asm.specs.SourceLines.{source_lines}
 use Rattle.bpf_code.specs.declared.instr.Instr.{Instr}
 use Rattle.rules_text.specs.declared.compiler.CodeWithPlaces.{CodeWithPlaces}
-use Rattle.text_io.specs.Lines.{Line, begun_with, lines_of, line_content, without_return}
+use Rattle.text_io.specs.Lines.{Line, begun_with, line_content, line_with_feed, lines_of, without_return}
 use Rattle.rules_text.specs.declared.place.RulePlace.{RulePlace}
 use Rattle.cmd_rules.specs.RuleBegins.{begin_at, begin_text, column_text}
-use Rattle.cmd_rules.specs.AsmText.{asm_text, comment_at, comment_line, comments_from, from_column, lines_with, next_start_from_end, rule_comment, whole_line}
+use Rattle.cmd_rules.specs.AsmText.{asm_text, comment_at, comment_line, comments_from, from_column, lines_with, next_start_from_end, rule_comment}
 use Rattle.cmd_rules.specs.CommentLines.{AddsComments, is_comment}
 use Rattle.cmd_rules.proofs.CommentsAdded.{comments_mean_nothing}
 
@@ -183,39 +183,39 @@ module _ (lines : List (List ℕ)) (begins : List RulePlace) (free : AllLinesFre
 
 module _ (put : ℕ → List ℕ) (puts : (place : ℕ) → PutsComments (put place)) where
   line_put : (line : Line) (lines : List Line) (rest : List ℕ) → AllFree line.octets → AddsComments (map line_content lines) (source_lines rest) → line.ended ≡ true
-      → AddsComments (line_content line ∷ map line_content lines) (source_lines (whole_line line ++ rest))
+      → AddsComments (line_content line ∷ map line_content lines) (source_lines (line_with_feed line ++ rest))
   line_put line lines rest f adds ended =
-      let whole : whole_line line ++ rest ≡ line.octets ++ 10 ∷ rest =
+      let whole : line_with_feed line ++ rest ≡ line.octets ++ 10 ∷ rest =
       ap (λ (is : Bool). (if is then line.octets ++ codes "\n" else line.octets) ++ rest) ended ∙ append_assoc line.octets (codes "\n") rest in
       let says : without_return line.octets ≡ line_content line = sym (ap (λ (is : Bool). if is then without_return line.octets else line.octets) ended) in
-      let split : source_lines (whole_line line ++ rest) ≡ line_content line ∷ source_lines rest =
+      let split : source_lines (line_with_feed line ++ rest) ≡ line_content line ∷ source_lines rest =
       ap source_lines whole ∙ ended_source line.octets rest f ∙ ap (λ (l : List ℕ). l ∷ source_lines rest) says in
       subst (λ (ls : List (List ℕ)). AddsComments (line_content line ∷ map line_content lines) ls) (sym split) (inr (map line_content lines, refl, adds))
 
-  last_put : (line : Line) (octets : List ℕ) → line.octets ≡ octets → AllFree octets → 0 < length octets → line.ended ≡ false → source_lines (whole_line line) ≡ line_content line ∷ []
+  last_put : (line : Line) (octets : List ℕ) → line.octets ≡ octets → AllFree octets → 0 < length octets → line.ended ≡ false → source_lines (line_with_feed line) ≡ line_content line ∷ []
   unfolding source_lines
   last_put line [] is f some ended = absurd (omega arith)
   last_put line (octet ∷ octets) is f some ended =
-      let whole : whole_line line ≡ octet ∷ octets = ap (λ (e : Bool). if e then line.octets ++ codes "\n" else line.octets) ended ∙ is in
+      let whole : line_with_feed line ≡ octet ∷ octets = ap (λ (e : Bool). if e then line.octets ++ codes "\n" else line.octets) ended ∙ is in
       let says : line_content line ≡ octet ∷ octets = ap (λ (e : Bool). if e then without_return line.octets else line.octets) ended ∙ is in
       ap (λ (t : List ℕ). map line_content (lines_of t)) whole ∙ ap (map line_content) (last_line octet octets f) ∙ ap (λ (l : List ℕ). l ∷ []) (sym says)
 
   one_put : (line : Line) (lines : List Line) (place : ℕ) → AllFree line.octets
       → ((line.ended ≡ true) ⊎ ((line.ended ≡ false) × (lines ≡ []) × (0 < length line.octets)))
       → AddsComments (map line_content lines) (source_lines (lines_with put place lines))
-      → AddsComments (line_content line ∷ map line_content lines) (source_lines (whole_line line ++ lines_with put place lines))
+      → AddsComments (line_content line ∷ map line_content lines) (source_lines (line_with_feed line ++ lines_with put place lines))
   one_put line lines place f (inl e) adds = line_put line lines (lines_with put place lines) f adds e
   one_put line lines place f (inr h) adds =
-      let alone : source_lines (whole_line line ++ []) ≡ line_content line ∷ [] = ap source_lines (append-nil (whole_line line)) ∙ last_put line line.octets refl f h.2 h.0 in
+      let alone : source_lines (line_with_feed line ++ []) ≡ line_content line ∷ [] = ap source_lines (append-nil (line_with_feed line)) ∙ last_put line line.octets refl f h.2 h.0 in
       let none : AddsComments (line_content line ∷ []) (line_content line ∷ []) = inr ([], refl, refl) in
-      subst (λ (ls : List Line). AddsComments (line_content line ∷ map line_content ls) (source_lines (whole_line line ++ lines_with put place ls))) (sym h.1)
+      subst (λ (ls : List Line). AddsComments (line_content line ∷ map line_content ls) (source_lines (line_with_feed line ++ lines_with put place ls))) (sym h.1)
       (subst (λ (ls : List (List ℕ)). AddsComments (line_content line ∷ []) ls) (sym alone) none)
 
   lines_put : (place : ℕ) (lines : List Line) → AreCut lines → AddsComments (map line_content lines) (source_lines (lines_with put place lines))
   unfolding source_lines
   lines_put place [] c = refl
   lines_put place (line ∷ lines) c =
-      puts place (line_content line ∷ map line_content lines) (whole_line line ++ lines_with put (place + 1) lines)
+      puts place (line_content line ∷ map line_content lines) (line_with_feed line ++ lines_with put (place + 1) lines)
       (one_put line lines (place + 1) c.0 c.1 (lines_put (place + 1) lines c.2))
 
 text_put : (put : ℕ → List ℕ) → ((place : ℕ) → PutsComments (put place)) → (text : List ℕ) → AddsComments (source_lines text) (source_lines (lines_with put 0 (lines_of text)))

@@ -9,14 +9,13 @@ use Rattle.rules_text.specs.TextOfRules.{PlacedRulesRead, placed_rules_in, rules
 use Rattle.rules_text.specs.declared.fault.RuleFault.{RuleFault}
 use Rattle.rules_text.proofs.Public.{one_code}
 use Rattle.text_io.specs.Gathered.{gathered}
-use Rattle.text_io.specs.Lines.{Line, begun_with, lines_of}
+use Rattle.text_io.specs.Lines.{Line, begun_with, line_with_feed, lines_of}
 use Rattle.text_io.specs.Printing.{IsFunctional, Prints}
 use Rattle.text_io.proofs.Public.{one-text}
 use Rattle.text_io.specs.declared.ending.Done.{Done}
 use Rattle.cmd_rules.specs.RuleFaults.{rule_fault}
 use Rattle.cmd_rules.specs.RulesAnswers.{AnswersBy, PrintsFault, most_rules_octets}
 use Rattle.cmd_rules.specs.RulesLaws.{RulesHaveOneText}
-use Rattle.cmd_rules.specs.AsmText.{whole_line}
 use Rattle.cmd_rules.specs.RulesText.{PrintsRules}
 use Rattle.cmd_rules.specs.WhyLaws.{RulesBeginTheInput, WhyHasOneText}
 use Rattle.cmd_rules.specs.WhyText.{PrintsDecisions, first_world, is_cells_line, lines_after, rules_before, rules_of_why, why_rules}
@@ -97,7 +96,7 @@ BeginsWith octets front = (more : List ℕ) × (octets ≡ front ++ more)
 -- The octets of lines.
 abbrev all_octets : List Line → List ℕ
 all_octets [] = []
-all_octets (line ∷ lines) = whole_line line ++ all_octets lines
+all_octets (line ∷ lines) = line_with_feed line ++ all_octets lines
 
 put_before : (octet : ℕ) (lines : List Line) → all_octets (begun_with octet lines) ≡ octet ∷ all_octets lines
 put_before octet [] = refl
@@ -117,10 +116,10 @@ octets_kept [] = refl
 octets_kept (octet ∷ octets) = octets_kept_by (octet == 10) octet octets refl (octets_kept octets)
 
 rules_first_by : (b : Bool) (line : Line) (lines : List Line) → BeginsWith (all_octets lines) (rules_before lines)
-    → BeginsWith (all_octets (line ∷ lines)) (if b then [] else whole_line line ++ rules_before lines)
+    → BeginsWith (all_octets (line ∷ lines)) (if b then [] else line_with_feed line ++ rules_before lines)
 rules_first_by true line lines later = (all_octets (line ∷ lines), refl)
 rules_first_by false line lines later =
-    (later.0, ap (λ (os : List ℕ). whole_line line ++ os) later.1 ∙ sym (append_assoc (whole_line line) (rules_before lines) later.0))
+    (later.0, ap (λ (os : List ℕ). line_with_feed line ++ os) later.1 ∙ sym (append_assoc (line_with_feed line) (rules_before lines) later.0))
 
 rules_first : (lines : List Line) → BeginsWith (all_octets lines) (rules_before lines)
 rules_first [] = ([], refl)

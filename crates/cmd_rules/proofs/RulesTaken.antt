@@ -4,9 +4,8 @@ use Rattle.std.proofs.lemmas.List.{drop-append-le, drop_all, get_or_append_left,
 use Rattle.std.proofs.lemmas.Bool.{le-ltb, leb-false, leb-true, lt-leb, lt-ltb}
 use Rattle.text_io.specs.Gathered.{gathered}
 use Rattle.text_io.specs.Limits.{most_line_octets}
-use Rattle.text_io.specs.Lines.{Line, lines_of, line_content}
+use Rattle.text_io.specs.Lines.{Line, line_content, line_with_feed, lines_of}
 use Rattle.text_io.proofs.LinesLemmas.{NoFeed, FirstLine, lines-at_feed, lines-first, lines-of_rest}
-use Rattle.cmd_rules.specs.AsmText.{whole_line}
 use Rattle.cmd_rules.specs.RulesAnswers.{most_rules_octets}
 use Rattle.cmd_rules.specs.WhyText.{is_cells_line, lines_after, rules_before, says_cells}
 use Rattle.cmd_rules.specs.inner.RulesTaken.{AreRulesLines, FindsTextOfRules, HasRulesBefore, IsUpTo, TakesRules}
@@ -21,14 +20,14 @@ ended_line octets = record { octets = octets; ended = true }
 abbrev last_line : List ℕ → Line
 last_line octets = record { octets = octets; ended = false }
 
-rules_next : (line : Line) (lines : List Line) → is_cells_line line ≡ false → rules_before (line ∷ lines) ≡ whole_line line ++ rules_before lines
-rules_next line lines other = ap (λ (b : Bool). if b then [] else whole_line line ++ rules_before lines) other
+rules_next : (line : Line) (lines : List Line) → is_cells_line line ≡ false → rules_before (line ∷ lines) ≡ line_with_feed line ++ rules_before lines
+rules_next line lines other = ap (λ (b : Bool). if b then [] else line_with_feed line ++ rules_before lines) other
 
 after_next : (line : Line) (lines : List Line) → is_cells_line line ≡ false → lines_after (line ∷ lines) ≡ lines_after lines
 after_next line lines other = ap (λ (b : Bool). if b then lines else lines_after lines) other
 
 rules_none : (line : Line) (lines : List Line) → is_cells_line line ≡ true → rules_before (line ∷ lines) ≡ []
-rules_none line lines cells = ap (λ (b : Bool). if b then [] else whole_line line ++ rules_before lines) cells
+rules_none line lines cells = ap (λ (b : Bool). if b then [] else line_with_feed line ++ rules_before lines) cells
 
 after_all : (line : Line) (lines : List Line) → is_cells_line line ≡ true → lines_after (line ∷ lines) ≡ lines
 after_all line lines cells = ap (λ (b : Bool). if b then lines else lines_after lines) cells
@@ -78,7 +77,7 @@ long_line : (line : Line) → most_line_octets < length line.octets → is_cells
 long_line line long = ap (λ (b : Bool). b && says_cells (line_content line)) (lt-leb (length line.octets) most_line_octets long)
 
 -- A line feed only adds to a line.
-whole_size : (line : Line) → length line.octets ≤ length (whole_line line)
+whole_size : (line : Line) → length line.octets ≤ length (line_with_feed line)
 whole_size line = by line.ended
   where
     by : (b : Bool) → length line.octets ≤ length (if b then line.octets ++ codes "\n" else line.octets)
@@ -203,8 +202,8 @@ module _ (octets : List ℕ) (start : ℕ) (up : IsUpTo octets start) where
       let dropped : length (drop start octets) ≡ length octets - start = length-drop start octets in
       let first = first_of (drop start octets) (omega (arith, long, dropped)) up.last in
       let other : is_cells_line first.line ≡ false = long_line first.line (let far = first.long in omega (arith, far, long, dropped)) in
-      let here : rules_before (lines_of (drop start octets ++ more)) ≡ whole_line first.line ++ rules_before first.lines = ap rules_before first.cut ∙ rules_next first.line first.lines other in
-      let sized = ap length here ∙ length-append (whole_line first.line) (rules_before first.lines) in
+      let here : rules_before (lines_of (drop start octets ++ more)) ≡ line_with_feed first.line ++ rules_before first.lines = ap rules_before first.cut ∙ rules_next first.line first.lines other in
+      let sized = ap length here ∙ length-append (line_with_feed first.line) (rules_before first.lines) in
       let size = size_at_least more in
       let whole = whole_size first.line in
       let far = first.long in

@@ -9,20 +9,16 @@ use Rattle.rules_text.specs.PlacesOfText.{IsCodeWithPlaces}
 use Rattle.rules_text.specs.ValuesRead.{FollowsText}
 use Rattle.rules_text.specs.declared.compiler.CodeWithPlaces.{CodeWithPlaces}
 use Rattle.rules_text.specs.declared.place.RulePlace.{RulePlace}
-use Rattle.text_io.specs.Lines.{Line, lines_of}
+use Rattle.text_io.specs.Lines.{Line, line_with_feed, lines_of}
 use Rattle.text_io.specs.declared.ending.Done.{Done}
 use Rattle.text_io.specs.declared.ending.Done.TheVariants.{Whole}
 use Rattle.cmd_rules.specs.RuleBegins.{begin_at, begin_text}
 use Rattle.cmd_rules.specs.RulesAnswers.{IsAnswerBy, MayBeAnswerBy, PrintsFault}
 
--- The octets of a line, with its line feed if one ends it.
-abbrev pub whole_line : Line → List ℕ
-whole_line line = if line.ended then line.octets ++ codes "\n" else line.octets
-
 -- These lines, each after what `put` gives for its place. The first of them is at this place.
 abbrev pub lines_with : (ℕ → List ℕ) → ℕ → List Line → List ℕ
 lines_with put place [] = []
-lines_with put place (line ∷ lines) = put place ++ (whole_line line ++ lines_with put (place + 1) lines)
+lines_with put place (line ∷ lines) = put place ++ (line_with_feed line ++ lines_with put (place + 1) lines)
 
 -- A comment line of assembly.
 abbrev pub comment_line : List ℕ → List ℕ

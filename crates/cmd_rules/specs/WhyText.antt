@@ -12,14 +12,13 @@ use Rattle.rules_text.specs.TextOfRules.{PlacedRulesRead, placed_rules_in}
 use Rattle.rules_text.specs.declared.place.RulePlace.{RulePlace}
 use Rattle.text_io.specs.Gathered.{gathered}
 use Rattle.text_io.specs.Limits.{most_line_octets}
-use Rattle.text_io.specs.Lines.{Line, lines_of, line_content}
+use Rattle.text_io.specs.Lines.{Line, line_content, line_with_feed, lines_of}
 use Rattle.text_io.specs.Printing.{Rules, Prints}
 use Rattle.text_io.specs.Words.{is_digit, is_silent, words_of}
 use Rattle.text_io.specs.declared.ending.Done.{Done}
 use Rattle.text_io.specs.declared.ending.Done.TheVariants.{Whole}
 use Rattle.text_words.specs.FaultLines.{line, bad_line, bad_hex, too_long, wrong_length}
 use Rattle.text_words.specs.Hexadecimal.{octets_of_digits, cell_of_octets}
-use Rattle.cmd_rules.specs.AsmText.{whole_line}
 use Rattle.cmd_rules.specs.CountText.{counts_text, decider_text}
 use Rattle.cmd_rules.specs.RulesAnswers.{AnswersBy, AreRulesOf, PrintsFault, PrintsLongCode, most_rules_octets}
 
@@ -45,7 +44,7 @@ is_cells_line line = nat_le (length line.octets) most_line_octets && says_cells 
 -- The octets of the lines before the first line `cells`, or of all lines if there is none. They are the text of the rules.
 abbrev pub rules_before : List Line → List ℕ
 rules_before [] = []
-rules_before (line ∷ lines) = if is_cells_line line then [] else whole_line line ++ rules_before lines
+rules_before (line ∷ lines) = if is_cells_line line then [] else line_with_feed line ++ rules_before lines
 
 -- The lines after the first line `cells`.
 abbrev pub lines_after : List Line → List Line

@@ -4,8 +4,8 @@ ghost use Rattle.std.specs.Prelude.{◌≡◌, ◌≤◌, ◌<◌, ◌-◌, ◌+
 ghost use Rattle.bpf_asm.specs.Listing.{listing_of};
 ghost use Rattle.bpf_asm.specs.Meaning.{IsMeaning};
 ghost use Rattle.bpf_asm.specs.SourceLines.{source_lines};
-ghost use Rattle.text_io.specs.Lines.{Line, lines_of};
-ghost use Rattle.cmd_rules.specs.AsmText.{asm_text, comment_line, comments_from, from_column, lines_with, next_start_from_end, whole_line};
+ghost use Rattle.text_io.specs.Lines.{Line, line_with_feed, lines_of};
+ghost use Rattle.cmd_rules.specs.AsmText.{asm_text, comment_line, comments_from, from_column, lines_with, next_start_from_end};
 ghost use Rattle.cmd_rules.specs.RuleBegins.{begin_text};
 ghost use Rattle.cmd_rules.specs.inner.Comments.{comment_if, otherwise_comment, written_at};
 
@@ -28,7 +28,7 @@ pub(crate) struct Comment {
 /// The first line of a text with its line feed, and the rest.
 fn whole_line(text: &[u8]) -> Option<(&[u8], &[u8])>
     ensures lines { MatchOption result (lines_of text.now ≡ [])
-        (λ found. (line : Line) × (lines_of text.now ≡ line ∷ lines_of found.1.now) × (found.0.now ≡ whole_line line)) }
+        (λ found. (line : Line) × (lines_of text.now ≡ line ∷ lines_of found.1.now) × (found.0.now ≡ line_with_feed line)) }
     ensures shorter { IfSome result (λ found. length found.1.now < length text.now) }
 {
     if text.is_empty() {

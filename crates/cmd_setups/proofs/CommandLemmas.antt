@@ -18,7 +18,7 @@ use Rattle.cmd_run.specs.RunText.{Card, IsLed, RefusesLine, RunSteps, id_loaded}
 use Rattle.text_script.specs.ScriptCommands.{command_of, cut}
 use Rattle.cmd_run.specs.ShownCard.{AnswersLine, Held, ShowsCard}
 use Rattle.text_words.specs.FaultLines.{bad_line}
-use Rattle.cmd_setups.specs.CommandsUnderTraffic.{AnswersUnderTraffic, AnswersWithCounts, CarriesOutWaiting, command_line, counted_answer, ended_journal, is_taken_under_traffic, waiting_comment, waiting_text}
+use Rattle.cmd_setups.specs.CommandsUnderTraffic.{AnswersUnderTraffic, AnswersWithCounts, CarriesOutWaiting, command_line, counted_answer, ended_journal, is_answered_plainly, waiting_comment, waiting_text}
 use Rattle.cmd_setups.specs.ConnectionCounts.{own_counts}
 use Rattle.cmd_setups.specs.inner.CountsSince.{AreOwnCounts}
 use Rattle.cmd_setups.specs.Columns.{in_column}
@@ -36,7 +36,7 @@ use Rattle.cmd_setups.specs.StoredCommands.{shown_command, waiting_in}
 use Rattle.cmd_setups.specs.inner.TimedScripts.{IsDue, IsNoneDue, after_first_left}
 
 -- A command that is taken is answered as in `run`.
-pub taken_moves : (line : List ℕ) (held held' : Held) (at_setup at_setup' : List Tally) (old new : List ℕ) → is_taken_under_traffic (words_of line) ≡ true
+pub taken_moves : (line : List ℕ) (held held' : Held) (at_setup at_setup' : List Tally) (old new : List ℕ) → is_answered_plainly (words_of line) ≡ true
     → MovesNoting (AnswersLine line) held at_setup held' at_setup' old new → MovesNoting (λ before. AnswersPlainly before line) held at_setup held' at_setup' old new
 taken_moves line held held' at_setup at_setup' old new is moves = (
   moves.0,

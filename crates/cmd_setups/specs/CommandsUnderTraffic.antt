@@ -12,10 +12,10 @@ use Rattle.cmd_setups.specs.ConnectionCounts.{own_counts}
 use Rattle.cmd_setups.specs.Columns.{in_column}
 use Rattle.cmd_setups.specs.TimedLines.{WaitingCommand}
 
--- The commands that are taken while cells arrive, and answered as in `upc run`.
-abbrev pub is_taken_under_traffic : List (List ℕ) → Bool
-is_taken_under_traffic [] = false
-is_taken_under_traffic (word ∷ words) =
+-- Whether the words are a command that is answered between cells as in `upc run`. `release` and `cut` are answered otherwise.
+abbrev pub is_answered_plainly : List (List ℕ) → Bool
+is_answered_plainly [] = false
+is_answered_plainly (word ∷ words) =
     bytes_eq word (codes "load") || (bytes_eq word (codes "retire") || (bytes_eq word (codes "setup") || bytes_eq word (codes "reload")))
 
 -- The connection of a command that ends a journal, and the beginning of its answer.
@@ -25,8 +25,8 @@ ended_journal (Some (release vc)) = Some (codes "released ", vc)
 ended_journal (Some (cut vc)) = Some (codes "cut ", vc)
 ended_journal (Some _) = None
 
--- The answer to such a command: the counts of the connection, as the table has them. Those of the journal would
--- say when `police` dropped it last. Without a connection it is the answer of `upc run`.
+-- The answer to such a command: the counts of the connection, as the table has them. The journal has only
+-- the cells since `police` dropped it last. Without a connection it is the answer of `upc run`.
 abbrev pub counted_answer : World → List ℕ × Vc → Option Connection → List ℕ → List ℕ
 counted_answer world ended None given = given
 counted_answer world ended (Some connection) given =
@@ -41,7 +41,7 @@ pub record AnswersWithCounts (before : Card) (content : List ℕ) (ended : List 
 -- The card answers the command as in `upc run`, and one that ends a journal with counts. Another command is BadLine, and nothing changes.
 abbrev pub AnswersUnderTraffic : Card → List ℕ → List ℕ → Card → Type 0
 AnswersUnderTraffic before content text after = MatchOption (ended_journal (command_of before.world.shape.side (words_of content)))
-    (MatchBool (is_taken_under_traffic (words_of content)) (RunSteps (Some before) content text (Some (Some after)))
+    (MatchBool (is_answered_plainly (words_of content)) (RunSteps (Some before) content text (Some (Some after)))
     (RefusesLine bad_line before text after))
     (λ ended. AnswersWithCounts before content ended text after)
 

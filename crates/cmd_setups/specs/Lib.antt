@@ -7,7 +7,6 @@ pub mod OrderNumber
 pub mod SpanCounts
 pub mod SpansShown
 pub mod RunComments
-pub mod LineWithFeed
 pub mod ScriptLine
 pub mod TimedLines
 pub mod CommandsUnderTraffic

@@ -1,7 +1,6 @@
 -- The first line of a text, as the code cuts it off.
 use Rattle.std.specs.Prelude.{◌≡◌, ℕ, List, ◌∷◌, length}
-use Rattle.text_io.specs.Lines.{Line, lines_of, line_content}
-use Rattle.cmd_setups.specs.LineWithFeed.{line_with_feed}
+use Rattle.text_io.specs.Lines.{Line, line_content, line_with_feed, lines_of}
 
 -- The text begins with a line that has this content, this number of octets and, with its line feed, these octets. The rest follows.
 pub record BeginsWithLine (text content : List ℕ) (size : ℕ) (whole rest : List ℕ) : Type 0 where

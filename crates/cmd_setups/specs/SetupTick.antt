@@ -2,9 +2,8 @@
 use Rattle.std.specs.Prelude.{◌+◌, ◌==◌, if◌then◌else◌, ℕ, List, [], ◌∷◌, ◌++◌, codes, decimal, drop, length, replicate, take, Option, Some, None, option_and_then, option_map, Result, Ok, Err}
 use Rattle.std.specs.Str.{bytes_eq}
 use Rattle.captures.specs.declared.clock.Tick.{Tick}
-use Rattle.cmd_setups.specs.LineWithFeed.{line_with_feed}
+use Rattle.text_io.specs.Lines.{Line, line_content, line_with_feed, lines_of}
 use Rattle.cmd_size.specs.SizeWords.{duration_of}
-use Rattle.text_io.specs.Lines.{Line, lines_of, line_content}
 use Rattle.text_io.specs.Words.{is_silent, words_of}
 use Rattle.text_words.specs.FaultLines.{line}
 use Rattle.cmd_setups.specs.declared.setup_tick.TicksDiffer.{TicksDiffer}

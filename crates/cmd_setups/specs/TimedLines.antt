@@ -2,9 +2,8 @@
 use Rattle.std.specs.Prelude.{ℕ, ◌+◌, ◌/◌, ◌%◌, ◌==◌, nat_lt, Bool, true, false, ◌||◌, if◌then◌else◌, List, [], ◌∷◌, ◌++◌, codes, decimal, drop, flat_map, replicate, Option, Some, None, suc}
 use Rattle.std.specs.Str.{bytes_eq}
 use Rattle.cmd_explain_script.specs.Places.{place_words}
-use Rattle.cmd_setups.specs.LineWithFeed.{line_with_feed}
+use Rattle.text_io.specs.Lines.{Line, line_content, line_with_feed, lines_of}
 use Rattle.cmd_size.specs.SizeWords.{duration_of}
-use Rattle.text_io.specs.Lines.{Line, lines_of, line_content}
 use Rattle.text_io.specs.Words.{is_blank, is_silent, words_of}
 use Rattle.text_words.specs.FaultLines.{line}
 

@@ -1,4 +1,5 @@
-//! What the lines of a setup script and its card need where no rules are read, and the counts and comments of a run about it.
+//! What `police` and `forward` need of a setup script where no rules are read: its lines, its card, and the counts and
+//! comments about the cells of that card.
 #![tactic(auto)]
 
 mod card_room;

@@ -11,7 +11,7 @@ use text_io::Added;
 use text_words::{add_number, add_text};
 
 /// The cells that were not judged, by reason.
-#[derive(Clone, Copy, PartialEq, Eq)]
+#[derive(Clone, Copy)]
 pub struct NotJudged {
     /// They belong to no connection.
     pub no_connection: CountAndFirst,

@@ -16,10 +16,10 @@ use cmd_run::ScriptCard;
 use std::alloc::{AllocError, Global};
 use text_io::{Done, ReaderInput, WriterOutput, answer_lines};
 
-/// What carrying out the lines of a setup script before the first one with a time leads to.
+/// What a setup script leads to before the first cell.
 #[derive(Drop)]
 pub enum SetUp {
-    /// It has faults, which this text explains.
+    /// The script has faults, perhaps in lines that would wait. This text explains them.
     Faulty(Vec<u8>),
     /// A card, and the commands that wait.
     Ready(TimedCard),

@@ -28,7 +28,7 @@ pub(crate) struct TickLine {
 }
 
 /// The ticks of a run for which a setup script names one, and another was asked for.
-#[derive(Clone, Copy, PartialEq, Eq)]
+#[derive(Clone, Copy)]
 pub struct TicksDiffer {
     /// The nanoseconds of the one that the script names.
     pub named: u64,
@@ -69,7 +69,7 @@ fn is_silent(line: &[u8]) -> bool
     }
 }
 
-/// Returns the first line with words, if it names a tick.
+/// Returns the first line that isn't blank or a remark, if it names a tick.
 fn tick_line(script: &[u8]) -> Option<TickLine>
     ensures found { option_map place_and_size result ≡ tick_line_in 0 (lines_of script.now) }
     ensures within { IfSome result (λ found. found.at + found.size ≤ length script.now) }
@@ -89,7 +89,7 @@ fn tick_line(script: &[u8]) -> Option<TickLine>
     None
 }
 
-/// Returns the tick that a setup script names on its first line with words, `tick TIME`, if it does. Blanks take the place of that line, so
+/// Returns the tick of a setup script whose first line that isn't blank or a remark is `tick TIME`. Blanks take the place of that line, so
 /// that each other line keeps its number. docs/LAB.md has the format.
 pub fn take_tick(script: &mut Vec<u8>) -> Option<Tick>
     ensures tick { option_map (λ tick. tick.nanoseconds) result ≡ setup_tick script.old.items }

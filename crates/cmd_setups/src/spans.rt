@@ -65,7 +65,7 @@ impl Spans {
         add_rows(answers, self.side, self.begun, self.begin, &self.rows)
     }
 
-    /// Returns whether the heading is written after the present span.
+    /// Returns whether the heading is written once the present span has its lines.
     pub fn is_begun_after(&self) -> bool
         ensures { result ≡ own_begun_after self.now }
     {

@@ -3,7 +3,7 @@
 ghost use Rattle.std.specs.Prelude.{◌≡◌, ◌++◌, [], IfOk, OnOk, option_map};
 ghost use Rattle.card_core.specs.Sections.{answer_to};
 ghost use Rattle.text_io.specs.Words.{words_of};
-ghost use Rattle.cmd_setups.specs.CommandsUnderTraffic.{AnswersUnderTraffic, AnswersWithCounts, command_line, ended_journal, is_taken_under_traffic};
+ghost use Rattle.cmd_setups.specs.CommandsUnderTraffic.{AnswersUnderTraffic, AnswersWithCounts, command_line, ended_journal, is_answered_plainly};
 ghost use Rattle.cmd_setups.specs.CardArrival.{ArrivesWithRoom};
 ghost use Rattle.cmd_setups.specs.inner.CommandsShown.{AnswersPlainly, answer_of_counts};
 ghost use Rattle.cmd_setups.specs.CommandsShown.{CarriesShown};
@@ -42,9 +42,9 @@ pub struct TimedCard {
     pub commands: StoredCommands,
 }
 
-/// Returns whether a line is a command that is taken while cells arrive.
-fn is_taken_under_traffic(line: &[u8]) -> bool
-    ensures { result ≡ is_taken_under_traffic (words_of line.now) }
+/// Returns whether a line is a command that is answered between cells as in `upc run`. `release` and `cut` are answered otherwise.
+fn is_answered_plainly(line: &[u8]) -> bool
+    ensures { result ≡ is_answered_plainly (words_of line.now) }
 {
     match first_word(line) {
         Some((word, _)) => {
@@ -57,8 +57,8 @@ fn is_taken_under_traffic(line: &[u8]) -> bool
     }
 }
 
-/// Appends the answer to a line other than `release` and `cut`, which end a journal. A line that isn't taken while cells arrive is
-/// `BadLine`.
+/// Appends the answer to a line other than `release` and `cut`, which end a journal. A line that isn't a command to answer between
+/// cells is `BadLine`.
 fn answer_other(
     alloc: Global,
     card: &mut ScriptCard,
@@ -69,7 +69,7 @@ fn answer_other(
     ensures { OnOk result (MovesNoting (λ before. AnswersPlainly before line.now) card.old at_setup.old.counts.items
         card.new at_setup.new.counts.items answers.old.items answers.new.items) }
 {
-    if is_taken_under_traffic(line) {
+    if is_answered_plainly(line) {
         answer_and_record(alloc, card, at_setup, line, answers)
     } else {
         add_bad_line(answers)

@@ -16,7 +16,8 @@ use text_words::{add_number, add_text};
 /// A setup script without its times.
 #[derive(Drop)]
 pub enum TimedScript {
-    /// The script, and the time of each of its lines in nanoseconds. A line without one is carried out before all cells.
+    /// The script, and for each line its own time, or that of the nearest line before it with one, in nanoseconds. Lines before the first
+    /// time have None, and are carried out before all cells.
     Ready(Vec<u8>, Vec<Option<u64>>),
     /// The answer to a script with a line whose time is before one that an earlier line names.
     Falls(Vec<u8>),

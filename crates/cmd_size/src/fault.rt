@@ -7,7 +7,7 @@ use std::error::Error;
 use std::fmt;
 
 /// Why a line has no answer but a fault line. Printed as its number and its name.
-#[derive(Clone, Copy, Debug, PartialEq, Eq)]
+#[derive(Clone, Copy, Debug)]
 pub enum SizeFault {
     /// The words aren't a contract.
     BadLine,

@@ -15,7 +15,7 @@ use leaky::{BtFault, MOST_TICKS, burst_tolerance};
 const SECOND: u64 = 1000000000;
 
 /// A bucket, and the rate that it polices.
-#[derive(Clone, Copy, PartialEq, Eq)]
+#[derive(Clone, Copy)]
 pub struct SizedRate {
     /// The increment, in ticks.
     pub increment: u64,
@@ -31,7 +31,7 @@ pub struct SizedRate {
 }
 
 /// The buckets of a contract.
-#[derive(Clone, Copy, PartialEq, Eq)]
+#[derive(Clone, Copy)]
 pub struct Sizes {
     /// The bucket of the peak rate.
     pub peak: SizedRate,

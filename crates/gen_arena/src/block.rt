@@ -3,6 +3,9 @@
 //! A box has a value or is blank. Only the proofs know which, so reading requires that the box has a value, and
 //! writing that it is blank. No value is read twice or overwritten, and no box is read before it is written. Only
 //! the functions of this file use a pointer.
+//!
+//! `also_owns` says what memory a type owns besides its fields, and `also_shares` what a `&` to it has of that (`ftrue`:
+//! nothing). specs/inner/BlockMemory.antt has the definitions that both use.
 
 ghost use Rattle.std.specs.Prelude.{◌≡◌, ℕ, ◌<◌, List, Option, Some, None, length, replicate, get_or, slice_set, IfOk, ⊤};
 ghost use Rattle.std.specs.Borrow.{sem};
@@ -137,7 +140,7 @@ impl<E> Boxes<E> {
         unsafe { &*start.to.add(k) }
     }
 
-    /// Borrows the value in a box mutably.
+    /// Borrows the value in a box mutably. When the borrow ends, the box has the value that was last written through it.
     pub(crate) fn lend_mut(&mut self, start: Start<E>, k: usize) -> &mut E
         requires { (start.to ≡ self.old.start) × BoxHolds self.old.held k }
         ensures* writes_back { sem 𝓛 (lends_box E.row self.entry k result) }

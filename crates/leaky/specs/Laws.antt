@@ -87,7 +87,8 @@ LevelsFollowBuckets = (contract : Contract) (levels : Levels) (buckets : Buckets
     → All (λ a. a.moment ≤ 2 ^ 62) arrivals
     → (after : Levels) × Agrees after (buckets_left contract buckets arrivals)
 
--- If no bucket was charged after the cell's moment before the cell, none is after it.
+-- Take buckets of which none was charged later than the moment of a cell. After this cell, too, none was charged later than that
+-- moment.
 abbrev pub ChargesKeepUp : Type 0
 ChargesKeepUp = (contract : Contract) (buckets : Buckets) (clp : Bool) (moment : ℕ)
     → IsChargedBy buckets moment

@@ -1,4 +1,4 @@
--- Pieces of a connection's record: journals that were taken out of their lines.
+-- Pieces: journals of connections that were taken out of their lines.
 use Rattle.std.specs.Prelude.{◌≡◌, ℕ, suc, ◌-◌, ◌<◌, Some, List, [], ◌∷◌, ◌++◌, ⊤, slice_get}
 use Rattle.leaky.specs.declared.contract.Contract.{Contract}
 use Rattle.line_record.specs.declared.entry.Entry.{Entry}

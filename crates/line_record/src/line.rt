@@ -22,7 +22,7 @@ pub const MOST_CELLS: u64 = 4611686018427387904;
 pub const MOST_ENTRIES: u32 = 65536;
 
 /// A line of the card: the connection that it serves, if any, with its contracts and their state, and the journal of
-/// the cells that were judged since the last piece was taken out.
+/// the cells that were judged since it began: at the setup, at the last cut, or when the journal was last dropped.
 ///
 /// The entries of the journal are a run from the state at its beginning to the present state. The counts are those of
 /// all cells ever judged on the line.
@@ -70,7 +70,7 @@ impl Line {
     ///
     /// # Errors
     ///
-    /// `NoMemory` if an allocation fails. Space for a journal is allocated later, by [`Line::prepare`] or [`Line::open`].
+    /// The contract allows `NoMemory`. The body allocates nothing: [`Line::prepare`] and [`Line::open`] allocate the journal.
     pub fn new(alloc: Global, journal: u32) -> Result<Self, LineFault>
         requires some { 1 ≤ journal }
         requires most { journal ≤ MOST_ENTRIES }
@@ -161,7 +161,7 @@ impl Line {
         self.state.last
     }
 
-    /// Returns the journal: the cells judged since the last piece was taken out.
+    /// Returns the journal: the cells judged since it began.
     pub fn entries(&self) -> &[Entry]
         ensures entries { result.now ≡ self.now.entries }
         ensures line { IsLine self.now }
@@ -273,7 +273,7 @@ impl Line {
             ≡ record { moment = moment; clp = clp; value = value; program = program }) }
         ensures gained { IfOk result (λ entry. Gains self.old entry self.new) }
 
-        // A line has at most four contracts, so no other number names one.
+        // A line has at most four contracts, so 0 and any number above 4 name none.
         ensures unnamed { IfOk result (λ entry. IsNoNumber value → entry.verdict ≡ Verdict.Refuse) }
 
         // For any history that the line's state agrees with, the verdict is that of the history, and the new state

@@ -118,9 +118,9 @@ impl Piece {
     }
 }
 
-/// Checks that the pieces, in order, are one whole record: each has the owner and the contracts of the piece before it,
-/// and starts in the state in which that ends. All their entries are then one run. No piece or one piece is always a
-/// whole record. Doesn't allocate.
+/// Checks that the pieces, in order, are a chain: each has the owner and the contracts of the piece before it, and starts
+/// in the state in which that ends. All their entries are then one run. No piece or one piece is always a chain. Doesn't
+/// allocate.
 ///
 /// # Errors
 ///

@@ -9,8 +9,8 @@ use std::marker::Model;
 /// For each place, the number of connections that name a program of this place. A program's place is its slot modulo
 /// the number of places.
 ///
-/// A program can be removed only if no connection names it, and to look at each connection costs as much as the card
-/// has connections. A count of 0 shows that no connection names the program. Programs can have the same place, so with any
+/// A program can be removed only if no connection names it, and a search for one takes as many steps as the card has
+/// connections. A count of 0 shows that no connection names the program. Programs can have the same place, so with any
 /// other count the connections have to be looked at.
 #[derive(Debug, Drop)]
 pub(crate) struct ProgramUses {

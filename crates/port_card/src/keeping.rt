@@ -9,7 +9,7 @@ use gen_arena::Id;
 use line_record::{Directory, Line};
 
 /// Line: its entries are a run from the state at the start of the journal to the present state.
-// no edit: the body only reads, and edits of the type turn its invariant
+// no edit: the body only reads. Planted bugs of the type itself break its invariant
 pub fn lines_hold_runs(line: &Line)
     ensures { IsLine line.now }
 {
@@ -17,7 +17,7 @@ pub fn lines_hold_runs(line: &Line)
 }
 
 /// Directory: no two connections have the same line.
-// no edit: the body only reads, and edits of the type turn its invariant
+// no edit: the body only reads. Planted bugs of the type itself break its invariant
 pub fn connections_are_apart(directory: &Directory)
     ensures { IsDirectory directory.now }
 {
@@ -25,7 +25,7 @@ pub fn connections_are_apart(directory: &Directory)
 }
 
 /// Programs: each program is accepted, whichever id names it.
-// no edit: the body only reads, and edits of the type turn its invariant
+// no edit: the body only reads. Planted bugs of the type itself break its invariant
 pub fn programs_are_accepted(store: &Store, id: Id)
     ensures { IsOfAccepted store.now id }
 {

@@ -19,10 +19,10 @@ pub(crate) struct Seatings<S: Ledgers> {
     ghost all_lines: { directory.lines ≡ S.names.lines },
 }
 
-/// A connection that was looked up for a cell, and the programs that were read before.
+/// A connection that was looked up for a cell, and the programs, whose read lock was taken before.
 ///
-/// Only [`Seatings::look_up`] makes one, and it borrows the programs. So they were read before the look-up, and are read
-/// until the cell is answered: no program is retired between the two, and the connection's program is among them.
+/// Only [`Seatings::look_up`] makes one, and it borrows the programs. So their read lock is held from before the look-up until
+/// the cell is answered, and no program is retired in between. That the connection's program is among them is only tested.
 #[derive(Clone, Copy)]
 pub(crate) struct Found<'s> {
     seating: Seating,
@@ -44,7 +44,7 @@ impl Found<'_> {
         &self.seating
     }
 
-    /// Runs the connection's program on the cell, and returns the number that it gives. None if and only if the program
+    /// Runs the connection's program on the cell, and returns both with the program's value. None if and only if the program
     /// isn't live.
     #[inline]
     pub(crate) fn name(&self, cell: &Cell) -> Option<Named>

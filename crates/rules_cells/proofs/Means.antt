@@ -22,7 +22,7 @@ use Rattle.rules_cells.specs.declared.field.Field.{Field}
 use Rattle.rules_cells.specs.declared.field.Field.TheVariants.{Gfc, Vpi, Vci, Pti, Clp, Octets}
 use Rattle.rules_cells.specs.declared.relation.Relation.{Relation}
 use Rattle.rules_cells.specs.declared.relation.Relation.TheVariants.{Equal, Unequal, Less, AtMost, Greater, AtLeast, In}
-use Rattle.rules_cells.specs.declared.test.Test.{Test, Any, Oam, User, Compare, Not', AllOf', AnyOf', Row_of-Test, end_of-Test, more_of-Test}
+use Rattle.rules_cells.specs.declared.test.Test.{Test, Any, F5, User, Compare, Not', AllOf', AnyOf', Row_of-Test, end_of-Test, more_of-Test}
 use Rattle.rules_cells.specs.PlainOf.{IsPartOf, IsAmongOf, IsAnyOf, IsCompareOf, IsPlainOf, ArePlainOf, most_of, unit_of, placed_span, span_of_one, span_below, span_up_to, some_spans}
 use Rattle.rules_cells.proofs.Bits.{IsInHeader, gfc_in, vpi_in, vci_in, pti_in, clp_in, number_le, number_placed, part_fits}
 use Rattle.rules_cells.proofs.Spans.{among_placed, among_there, only_is, below_is, up_to_is, above_is, at_least_is, some_is}
@@ -101,7 +101,7 @@ module _ (side : Side) (cell : List ℕ) (is : IsCell cell) where
   mutual
     pub plain_means : (of : Test) (test : PlainTest) → IsPlainOf side of test → holds test cell ≡ is_met side of cell
     plain_means Any test so = ap (λ (t : PlainTest). holds t cell) so
-    plain_means Oam test so = among_means Pti (Some 6) (span_of_one 4 ∷ []) test so ∙ (only_is 4 (bit_and (pti_of cell) 6) ∙ oam_is)
+    plain_means F5 test so = among_means Pti (Some 6) (span_of_one 4 ∷ []) test so ∙ (only_is 4 (bit_and (pti_of cell) 6) ∙ oam_is)
     plain_means User test so = among_means Pti (Some 4) (span_of_one 0 ∷ []) test so ∙ (only_is 0 (bit_and (pti_of cell) 4) ∙ user_is)
     plain_means (Compare field mask relation) test so = compare_means field mask relation test so
     plain_means (Not' p of) test so = not_means (IsPlainOf side of) (is_met side of cell) (plain_means of) test so

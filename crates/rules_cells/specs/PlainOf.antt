@@ -131,7 +131,7 @@ abbrev mutual
   -- The test that a test of cells becomes. In the test that each of several holds, two comparisons of neighbouring bits become one.
   pub IsPlainOf : Side → Test → PlainTest → Type 0
   IsPlainOf side asked.Any test = test ≡ plain.Always
-  IsPlainOf side asked.Oam test = IsAmongOf side Pti (Some 6) (span_of_one 4 ∷ []) test
+  IsPlainOf side asked.F5 test = IsAmongOf side Pti (Some 6) (span_of_one 4 ∷ []) test
   IsPlainOf side asked.User test = IsAmongOf side Pti (Some 4) (span_of_one 0 ∷ []) test
   IsPlainOf side (asked.Compare field mask relation) test = IsCompareOf side field mask relation test
   IsPlainOf side (asked.Not' p of) test = IsNotOf (IsPlainOf side of) test

@@ -11,7 +11,7 @@ abbrev mutual
   -- Whether the test holds of a cell, its header read at this side. A mask keeps bits of the number before it is compared.
   pub is_met : Side → Test → List ℕ → Bool
   is_met side asked.Any cell = true
-  is_met side asked.Oam cell = (pti_of cell == 4) || (pti_of cell == 5)
+  is_met side asked.F5 cell = (pti_of cell == 4) || (pti_of cell == 5)
   is_met side asked.User cell = nat_le (pti_of cell) 3
   is_met side (asked.Compare field mask relation) cell = is_so relation (kept_bits mask (number_in side field cell))
   is_met side (asked.Not' p test) cell = not (is_met side test cell)

@@ -30,8 +30,8 @@ fn lines_of(alloc: Global, side: Side, lines: &[RuleLine]) -> Result<Vec<Line>, 
 ///
 /// # Errors
 ///
-/// `TooLong` exactly if the code that is defined for the rules has more than 4096 instructions: the code of the lines
-/// that they become (`ArePlainLines`, `lines_code`). `NoMemory` if an allocation failed.
+/// `NoMemory` if an allocation failed. Otherwise `TooLong` exactly if the code that is defined for the rules has more than
+/// 4096 instructions: the code of the lines that they become (`ArePlainLines`, `lines_code`).
 pub fn compile(alloc: Global, rules: &Rules) -> Result<Vec<Instr>, CodeFault>
     ensures accepted { IfOk result (λ code. IsAccepted code.items) }
     ensures value { IfOk result (λ code. FollowsRules rules.now code.items) }

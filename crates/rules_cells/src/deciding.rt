@@ -19,7 +19,7 @@ use rules_code::Span;
 use upc_cell::{Cell, Side};
 
 /// What rules decide for a cell.
-#[derive(Clone, Copy, PartialEq, Eq)]
+#[derive(Clone, Copy)]
 pub struct Decision {
     /// The rule that decides: its index among the lines of rules, counted from 0. None if no rule decides.
     pub line: Option<usize>,
@@ -104,7 +104,7 @@ fn is_met(side: Side, test: &Test, cell: &Cell) -> bool
 {
     match test {
         Test::Any => true,
-        Test::Oam => cell.pti() == 4 || cell.pti() == 5,
+        Test::F5 => cell.pti() == 4 || cell.pti() == 5,
         Test::User => cell.pti() <= 3,
         Test::Compare {
             field,

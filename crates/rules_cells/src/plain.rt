@@ -246,7 +246,7 @@ fn plain_of(alloc: Global, side: Side, test: &Test) -> Result<PlainTest, AllocEr
 {
     match test {
         Test::Any => Ok(PlainTest::Always),
-        Test::Oam => within(alloc, side, Field::Pti, Some(6), span_of_one(4)),
+        Test::F5 => within(alloc, side, Field::Pti, Some(6), span_of_one(4)),
         Test::User => within(alloc, side, Field::Pti, Some(4), span_of_one(0)),
         Test::Compare {
             field,

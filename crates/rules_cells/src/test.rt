@@ -10,7 +10,7 @@ pub enum Test {
     Any,
     /// The payload type is 4 or 5, whatever else the header has: OAM of a virtual channel (F5). OAM of a virtual path (F4) is known by its
     /// VCI, 3 or 4, at which this test doesn't look.
-    Oam,
+    F5,
     /// A cell of user data: the payload type is 0 to 3.
     User,
     /// A comparison of a number of the cell, of which a mask may keep some bits.

@@ -1,9 +1,9 @@
-//! Why tests have no code.
+//! Why lines have no code.
 
 use thiserror::Error;
 
 /// Why no code was made of lines.
-#[derive(Clone, Copy, Debug, PartialEq, Eq, Error)]
+#[derive(Clone, Copy, Debug, Error)]
 pub enum CodeFault {
     /// The code has more than 4096 instructions.
     #[error("TooLong")]

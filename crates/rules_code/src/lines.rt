@@ -195,8 +195,8 @@ pub struct PlacedCode {
 ///
 /// # Errors
 ///
-/// `TooLong` exactly if the code that is defined for the lines (`lines_code`) has more than 4096 instructions, and
-/// `NoMemory` if an allocation failed.
+/// `NoMemory` if an allocation failed. Otherwise `TooLong` exactly if the code that is defined for the lines (`lines_code`)
+/// has more than 4096 instructions.
 pub fn generate_placed(
     alloc: Global,
     lines: &[Line],

@@ -19,7 +19,7 @@ pub struct Part {
 }
 
 /// An inclusive range of numbers.
-#[derive(Clone, Copy, PartialEq, Eq)]
+#[derive(Clone, Copy)]
 pub struct Span {
     /// The lowest number.
     pub low: u32,

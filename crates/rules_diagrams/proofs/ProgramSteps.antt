@@ -20,7 +20,7 @@ use Rattle.rules_diagrams.specs.inner.WordTests.{GivesTruth}
 use Rattle.rules_diagrams.specs.declared.contents.Contents.{Contents}
 use Rattle.rules_diagrams.specs.declared.contents.Followed.{Followed}
 use Rattle.rules_diagrams.specs.declared.contents.Followed.TheVariants.{Ends, Continues, Branches}
-use Rattle.rules_diagrams.specs.declared.contents.Told.{Told}
+use Rattle.rules_diagrams.specs.declared.contents.DiagramAt.{DiagramAt}
 use Rattle.rules_diagrams.specs.declared.diagram.Diagram.{Diagram}
 use Rattle.rules_diagrams.specs.declared.diagram.Diagram.TheVariants.{Leaf}
 use Rattle.rules_diagrams.specs.declared.diagram.Node.{Node}
@@ -28,10 +28,10 @@ use Rattle.rules_diagrams.specs.declared.word.Bit.{Bit}
 use Rattle.rules_diagrams.proofs.WordDiagrams.{shown_kept}
 
 -- What is told of a place, with these contents.
-abbrev pub telling : ℕ → Contents → Diagram → Told
+abbrev pub telling : ℕ → Contents → Diagram → DiagramAt
 telling place contents diagram = record { place = place; contents = contents; diagram = diagram }
 
-is_told_kept : (old new : List Node) (code : List Instr) → Keeps old new → (told : Told) → IsTold old code told → IsTold new code told
+is_told_kept : (old new : List Node) (code : List Instr) → Keeps old new → (told : DiagramAt) → IsTold old code told → IsTold new code told
 is_told_kept old new code keeps told is =
     let same = keeps.same told.diagram is.within in
     record {
@@ -42,10 +42,10 @@ is_told_kept old new code keeps told is =
     }
 
 -- All that is told is told by the nodes that are kept.
-pub told_kept : (old new : List Node) (code : List Instr) (told : List Told) → Keeps old new → All (IsTold old code) told → All (IsTold new code) told
+pub told_kept : (old new : List Node) (code : List Instr) (told : List DiagramAt) → Keeps old new → All (IsTold old code) told → All (IsTold new code) told
 told_kept old new code told keeps all = All-weaker (IsTold old code) (IsTold new code) (is_told_kept old new code keeps) told all
 
-pub told_of : (nodes : List Node) (code : List Instr) (told : List Told) (place : ℕ) (contents : Contents) (diagram : Diagram) → All (IsTold nodes code) told
+pub told_of : (nodes : List Node) (code : List Instr) (told : List DiagramAt) (place : ℕ) (contents : Contents) (diagram : Diagram) → All (IsTold nodes code) told
     → Contains told (telling place contents diagram) → IsTold nodes code (telling place contents diagram)
 told_of nodes code told place contents diagram all there = All-contains (IsTold nodes code) told (telling place contents diagram) all there
 
@@ -128,7 +128,7 @@ ends_at nodes code first place value contents followed lt e follows =
     let i = slice_index_or code place first in
     ends_told nodes code i place value contents (instr_here code place first lt) (subst (λ (f : Followed). IsFollowed i place contents f) e follows)
 
-pub continues_at : (nodes : List Node) (code : List Instr) (first : Instr) (told : List Told) (place next : ℕ) (contents after : Contents) (diagram : Diagram) (followed : Followed) → place < length code
+pub continues_at : (nodes : List Node) (code : List Instr) (first : Instr) (told : List DiagramAt) (place next : ℕ) (contents after : Contents) (diagram : Diagram) (followed : Followed) → place < length code
     → followed ≡ Continues next after → IsFollowed (slice_index_or code place first) place contents followed → All (IsTold nodes code) told → Contains told (telling next after diagram)
     → IsTold nodes code (telling place contents diagram)
 continues_at nodes code first told place next contents after diagram followed lt e follows all there =
@@ -136,7 +136,7 @@ continues_at nodes code first told place next contents after diagram followed lt
     continues_told nodes code i place next contents after diagram (instr_here code place first lt) (subst (λ (f : Followed). IsFollowed i place contents f) e follows)
     (told_of nodes code told next after diagram all there)
 
-pub branches_at : (old new : List Node) (code : List Instr) (begin : Instr) (told : List Told) (place : ℕ) (test : Test) (k one other : ℕ) (contents : Contents) (first second made : Diagram) (followed : Followed)
+pub branches_at : (old new : List Node) (code : List Instr) (begin : Instr) (told : List DiagramAt) (place : ℕ) (test : Test) (k one other : ℕ) (contents : Contents) (first second made : Diagram) (followed : Followed)
     → place < length code → followed ≡ Branches test k one other → IsFollowed (slice_index_or code place begin) place contents followed → All (IsTold old code) told
     → Contains told (telling one contents first) → Contains told (telling other contents second) → IsBranch old new test contents.a k first second made → IsTold new code (telling place contents made)
 branches_at old new code begin told place test k one other contents first second made followed lt e follows all there also branch =

@@ -173,7 +173,7 @@ pub(crate) enum Followed {
 
 /// What a program gives each cell from a place on.
 #[derive(Clone, Copy)]
-pub(crate) struct Told {
+pub(crate) struct DiagramAt {
     /// The place.
     pub place: usize,
     /// The contents there.

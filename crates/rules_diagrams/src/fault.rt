@@ -8,7 +8,7 @@ use thiserror::Error;
 pub(crate) type Drawn = Result<Diagram, Undecided>;
 
 /// Why no diagram was made, or diagrams weren't compared.
-#[derive(Clone, Copy, Debug, PartialEq, Eq, Error)]
+#[derive(Clone, Copy, Debug, Error)]
 pub enum Undecided {
     /// A limit was met: of nodes, of steps, of cases, of lines of rules, or of what is remembered of a program.
     #[error("TooLarge")]
@@ -43,7 +43,7 @@ impl<T: Drop> From<AllocFailed<T>> for Undecided {
 }
 
 /// Why a program has no diagram.
-#[derive(Clone, Copy, PartialEq, Eq)]
+#[derive(Clone, Copy)]
 pub(crate) enum Unfollowed {
     /// The instruction at this place isn't followed: what it does depends on the cell in a way that no constant and no single bits of the
     /// cell express, such as a sum of octets.
@@ -78,7 +78,7 @@ impl<T: Drop> From<AllocFailed<T>> for Unfollowed {
 }
 
 /// Why old and new rules or programs weren't compared.
-#[derive(Clone, Copy, Debug, PartialEq, Eq, Error)]
+#[derive(Clone, Copy, Debug, Error)]
 pub enum Uncompared {
     /// The old program isn't followed at the instruction at this place, counted from 0.
     #[error("old: not decided at instruction {0}")]

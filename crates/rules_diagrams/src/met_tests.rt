@@ -226,7 +226,7 @@ pub(crate) fn met(diagrams: &mut Diagrams, side: Side, test: &Test) -> Drawn
 {
     match test {
         Test::Any => Ok(Diagram::Leaf(1)),
-        Test::Oam => reached(
+        Test::F5 => reached(
             diagrams,
             side,
             Field::Pti,

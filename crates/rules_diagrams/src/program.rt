@@ -7,9 +7,9 @@ ghost use Rattle.bpf_code.specs.declared.instr.Instr.{Instr as Written};
 ghost use Rattle.rules_diagrams.specs.inner.Following.{IsTold};
 ghost use Rattle.rules_diagrams.specs.inner.Programs.{GivesValue, IsBranch};
 ghost use Rattle.rules_diagrams.specs.inner.Values.{IsWithin, Keeps};
-ghost use Rattle.rules_diagrams.specs.declared.contents.Told.{Told as Known};
+ghost use Rattle.rules_diagrams.specs.declared.contents.DiagramAt.{DiagramAt as Known};
 
-use crate::contents::{Contents, FIRST, Followed, Told, are_same};
+use crate::contents::{Contents, DiagramAt, FIRST, Followed, are_same};
 use crate::diagram::Diagram;
 use crate::fault::{Drawn, Undecided, Unfollowed};
 use crate::following::follow;
@@ -22,15 +22,15 @@ use std::alloc::{AllocError, Global};
 
 /// The diagrams of the values of a program from its places on, as far as they were made.
 #[derive(Drop)]
-struct Tellings {
+struct DiagramTable {
     /// All of them, those of later places first.
-    told: Vec<Told>,
+    told: Vec<DiagramAt>,
     /// For each place the index in `told` of the first that is of this place.
     firsts: Vec<usize>,
 }
 
 /// The diagram that was told, if it is of this place with these contents.
-fn diagram_if(told: &Told, place: usize, contents: &Contents) -> Option<Diagram>
+fn diagram_if(told: &DiagramAt, place: usize, contents: &Contents) -> Option<Diagram>
     ensures { IfSome result (λ diagram. told.now ≡ record { place = place; contents = contents.now; diagram = diagram }) }
 {
     if told.place == place && are_same(&told.contents, contents) {
@@ -41,7 +41,7 @@ fn diagram_if(told: &Told, place: usize, contents: &Contents) -> Option<Diagram>
 }
 
 /// The diagram that was told of a place with these contents. What was told of the place begins at index `first` of `told`, without gaps.
-fn find(told: &[Told], first: usize, place: usize, contents: &Contents) -> Option<Diagram>
+fn find(told: &[DiagramAt], first: usize, place: usize, contents: &Contents) -> Option<Diagram>
     ensures { IfSome result (λ diagram. Contains told.now (record { place = place; contents = contents.now; diagram = diagram })) }
 {
     for at in first..told.len() {
@@ -57,16 +57,16 @@ fn find(told: &[Told], first: usize, place: usize, contents: &Contents) -> Optio
     None
 }
 
-impl Tellings {
+impl DiagramTable {
     /// No diagram, for a program of this many instructions.
-    fn new(alloc: Global, places: usize) -> Result<Tellings, Unfollowed>
+    fn new(alloc: Global, places: usize) -> Result<DiagramTable, Unfollowed>
         ensures { IfOk result (λ tellings. tellings.told.items ≡ []) }
     {
         let mut firsts = Vec::new(alloc);
         for _ in 0..places {
             firsts.push(0)?;
         }
-        Ok(Tellings {
+        Ok(DiagramTable {
             told: Vec::new(alloc),
             firsts,
         })
@@ -122,7 +122,7 @@ fn branched(
 fn diagram_from(
     alloc: Global,
     diagrams: &mut Diagrams,
-    tellings: &Tellings,
+    tellings: &DiagramTable,
     code: &[Instr],
     place: usize,
     contents: &Contents,
@@ -158,7 +158,7 @@ fn diagram_from(
 fn tell(
     alloc: Global,
     diagrams: &mut Diagrams,
-    tellings: &mut Tellings,
+    tellings: &mut DiagramTable,
     code: &[Instr],
     place: usize,
     contents: Option<Contents>,
@@ -173,7 +173,7 @@ fn tell(
         return Ok(());
     };
     let diagram = diagram_from(alloc, diagrams, tellings, code, place, &contents)?;
-    tellings.told.push(Told {
+    tellings.told.push(DiagramAt {
         place,
         contents,
         diagram,
@@ -185,7 +185,7 @@ fn tell(
 fn tell_place(
     alloc: Global,
     diagrams: &mut Diagrams,
-    tellings: &mut Tellings,
+    tellings: &mut DiagramTable,
     code: &[Instr],
     place: usize,
     reached: &Reached,
@@ -210,12 +210,12 @@ fn tell_all(
     diagrams: &mut Diagrams,
     code: &[Instr],
     reached: &Reached,
-) -> Result<Tellings, Unfollowed>
+) -> Result<DiagramTable, Unfollowed>
     requires { length code.now < 2 ^ 32 }
     ensures keeps { Keeps diagrams.old diagrams.new }
     ensures told { IfOk result (λ tellings. All (IsTold diagrams.new code.now) tellings.told.items) }
 {
-    let mut tellings = Tellings::new(alloc, code.len())?;
+    let mut tellings = DiagramTable::new(alloc, code.len())?;
     let mut left = code.len();
     while left > 0 {
         left -= 1;

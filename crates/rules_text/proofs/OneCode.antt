@@ -303,7 +303,7 @@ module _ (side : Side) where
   mutual
     test_bare : (test : Test) (made : PlainTest) → IsPlainOf side test made → IsBareOf (test_read test) (bare made)
     test_bare asked.Any made is = ap bare is
-    test_bare asked.Oam made is = among_bare side Pti (Some 6) (span_of_one 4 ∷ []) made is
+    test_bare asked.F5 made is = among_bare side Pti (Some 6) (span_of_one 4 ∷ []) made is
     test_bare asked.User made is = among_bare side Pti (Some 4) (span_of_one 0 ∷ []) made is
     test_bare (asked.Compare field mask relation) made is =
         subst (λ (it : Placing). IsBareRelation it mask (relation_read relation) (bare made)) (placing_same side field) (relation_bare side field mask relation made is)

@@ -54,7 +54,7 @@ module _ (side : Side) (cell : List ℕ) where
   mutual
     pub test_same : (test : Test) → is_met side test cell ≡ test_holds side (test_read test) cell
     test_same asked.Any = refl
-    test_same asked.Oam = refl
+    test_same asked.F5 = refl
     test_same asked.User = refl
     test_same (asked.Compare field mask relation) =
         relation_same relation (kept_bits mask (number_in side field cell))

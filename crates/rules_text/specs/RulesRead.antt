@@ -100,7 +100,7 @@ abbrev mutual
   -- A test as it is written.
   pub test_read : Test → TestRead
   test_read asked.Any = any_cell
-  test_read asked.Oam = f5_cell
+  test_read asked.F5 = f5_cell
   test_read asked.User = user_cell
   test_read (asked.Compare field mask relation) = comparing (field_read field) mask (relation_read relation)
   test_read (asked.Not' p test) = negation (test_read test)

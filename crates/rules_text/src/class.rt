@@ -53,11 +53,11 @@ pub(crate) fn test_of(alloc: Global, class: Class) -> Result<Test, AllocError>
     match class {
         Class::Any => Ok(Test::Any),
         Class::User => Ok(Test::User),
-        Class::Oam => any_of_two(alloc, f4(alloc), Test::Oam),
+        Class::Oam => any_of_two(alloc, f4(alloc), Test::F5),
         Class::F4 => Ok(f4(alloc)),
         Class::F4Segment => Ok(equal(Field::Vci, 3)),
         Class::F4End => Ok(equal(Field::Vci, 4)),
-        Class::F5 => Ok(Test::Oam),
+        Class::F5 => Ok(Test::F5),
         Class::F5Segment => Ok(equal(Field::Pti, 4)),
         Class::F5End => Ok(equal(Field::Pti, 5)),
         Class::Rm => Ok(equal(Field::Pti, 6)),

@@ -22,7 +22,7 @@ use std::alloc::Global;
 /// # Errors
 ///
 /// The first fault of the text, as [`read_rules`] returns it. If the text has none, `TooLong` with line and column 0 if the code has more
-/// than 4096 instructions.
+/// than 4096 instructions. `NoMemory`, with line and column 0, if an allocation failed.
 #[tactic(auto, using(crate::proofs::Values::follows_text))]
 pub fn compile_text(alloc: Global, text: &[u8]) -> Result<Vec<Instr>, RuleFault>
     ensures accepted { IfOk result (λ code. IsAccepted code.items) }

@@ -7,7 +7,7 @@ use std::alloc::{AllocError, AllocFailed};
 use thiserror::Error;
 
 /// The kind of a fault.
-#[derive(Clone, Copy, Debug, PartialEq, Eq, Error)]
+#[derive(Clone, Copy, Debug, Error)]
 pub enum RuleFaultKind {
     /// The token here, or the end of the line here, doesn't fit the grammar.
     #[error("1 BadLine")]
@@ -21,7 +21,7 @@ pub enum RuleFaultKind {
     /// The octets aren't all in the cell.
     #[error("4 OutsideCell")]
     OutsideCell,
-    /// A line comes after `otherwise`.
+    /// A line with tokens comes after `otherwise`.
     #[error("5 AfterOtherwise")]
     AfterOtherwise,
     /// A parenthesis or a block lacks its other end.
@@ -30,8 +30,8 @@ pub enum RuleFaultKind {
     /// Blocks and parentheses are nested more than 64 deep.
     #[error("7 TooDeep")]
     TooDeep,
-    /// The code has more than 4096 instructions, a test more than 4096 comparisons, a definition more than 4096 tokens, the text more than
-    /// 4096 names, or names add more than 262,144 tokens.
+    /// The code has more than 4096 instructions, a test more than 4096 comparisons and words, a definition more than 4096 tokens, the text
+    /// more than 4096 names, or names add more than 262,144 tokens.
     #[error("8 TooLong")]
     TooLong,
     /// An allocation failed.
@@ -73,7 +73,7 @@ impl<T: Drop> From<AllocFailed<T>> for RuleFaultKind {
 }
 
 /// The fault of a text of rules.
-#[derive(Clone, Copy, Debug, PartialEq, Eq, Error)]
+#[derive(Clone, Copy, Debug, Error)]
 #[error("{kind} {line} {column}")]
 pub struct RuleFault {
     /// The source line, counted from 1; 0 if the fault has no place, or while only its column in its line of rules is known.

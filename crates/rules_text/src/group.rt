@@ -143,7 +143,7 @@ fn joined_by_and(alloc: Global, parts: Test, test: Test) -> Result<Test, AllocEr
     match parts {
         Test::AllOf(tests) => one_more_of_all(tests, test),
         Test::Any => all_of_two(alloc, Test::Any, test),
-        Test::Oam => all_of_two(alloc, Test::Oam, test),
+        Test::F5 => all_of_two(alloc, Test::F5, test),
         Test::User => all_of_two(alloc, Test::User, test),
         Test::Compare {
             field,
@@ -193,7 +193,7 @@ fn joined_by_or(
     match alternatives {
         Test::AnyOf(tests) => one_more_of_any(tests, last_alternative),
         Test::Any => any_of_two(alloc, Test::Any, last_alternative),
-        Test::Oam => any_of_two(alloc, Test::Oam, last_alternative),
+        Test::F5 => any_of_two(alloc, Test::F5, last_alternative),
         Test::User => any_of_two(alloc, Test::User, last_alternative),
         Test::Compare {
             field,

@@ -7,7 +7,7 @@ ghost use Rattle.rules_text.specs.TextOfRules.{fault_of_line};
 use crate::fault::RuleFault;
 
 /// Where a line of rules begins, as it is printed: the number of its source line, and a column if the line doesn't begin that source line.
-#[derive(Clone, Copy, PartialEq, Eq)]
+#[derive(Clone, Copy)]
 pub struct RulePlace {
     /// The number of the source line, counted from 1.
     pub line: usize,
@@ -16,7 +16,7 @@ pub struct RulePlace {
 }
 
 /// A place in a text, both numbers counted from 1.
-#[derive(Clone, Copy, PartialEq, Eq)]
+#[derive(Clone, Copy)]
 pub struct TextPlace {
     /// The number of the source line.
     pub line: usize,

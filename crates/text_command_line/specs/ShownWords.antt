@@ -8,7 +8,7 @@ abbrev pub IsLonger : ℕ → Option (List ℕ) → Type 0
 IsLonger most None = ⊥
 IsLonger most (Some word) = most < length word
 
--- Each command line has fewer words than this.
+-- Each command line has fewer words than this, 2^64 - 1.
 abbrev pub most_words : ℕ
 most_words = 18446744073709551615
 
@@ -20,11 +20,11 @@ most_word_octets = 1024
 abbrev pub shown_character : ℕ → ℕ
 shown_character character = if is_control character then 65533 else character
 
--- The octets as they are shown: their characters, with U+FFFD in place of octets that aren't UTF-8.
+-- The octets as they are shown: their characters, with U+FFFD for each control character and for octets that aren't UTF-8.
 abbrev pub shown_text : List ℕ → List ℕ
 shown_text octets = encode_utf8_all (map shown_character (chars (utf8_lossy octets)))
 
--- The word as it is shown. Of a word that is too long only U+FFFD is shown, as of an octet that is no UTF-8 (255).
+-- The word as it is shown. A word that is too long is shown as U+FFFD: octet 255 stands for it, which is never UTF-8.
 abbrev pub shown_word : List ℕ → List ℕ
 shown_word word = shown_text (if nat_lt most_word_octets (length word) then 255 ∷ [] else word)
 

@@ -5,8 +5,8 @@ ghost use Rattle.text_command_line.specs.ExitStatus.{status_of};
 
 use text_io::{Done, Ending};
 
-/// The exit status for the result of a run: 0 if the whole input was answered, 1 if a fault line ended the run early,
-/// 3 if it failed.
+/// The exit status for the result of a run: 0 if the whole input was answered, 1 if a fault line ended the run, 3 if it
+/// failed.
 pub fn status(ended: &Ending) -> u8
     ensures { result ≡ status_of ended.now }
 {

@@ -1,5 +1,5 @@
 -- The lines of a text.
-use Rattle.std.specs.Prelude.{ℕ, ◌==◌, ◌-◌, Bool, true, false, if◌then◌else◌, List, [], ◌∷◌, length, slice_index, take}
+use Rattle.std.specs.Prelude.{ℕ, ◌==◌, ◌-◌, Bool, true, false, if◌then◌else◌, List, [], ◌∷◌, ◌++◌, codes, length, slice_index, take}
 
 -- A line: its octets, and whether a line feed ended it.
 pub record Line : Type 0 where
@@ -26,3 +26,7 @@ without_return octets =
 -- The content of a line: its octets, without a carriage return just before its line feed.
 abbrev pub line_content : Line → List ℕ
 line_content line = if line.ended then without_return line.octets else line.octets
+
+-- The octets of a line, with its line feed if one ends it.
+abbrev pub line_with_feed : Line → List ℕ
+line_with_feed line = if line.ended then line.octets ++ codes "\n" else line.octets

@@ -8,7 +8,7 @@ use crate::ending::{Added, Answered};
 use std::alloc::AllocError;
 
 /// Whether the run continues after a line, or after a cell of a capture.
-#[derive(Clone, Copy, PartialEq, Eq, Debug)]
+#[derive(Clone, Copy)]
 pub enum Turn {
     /// The next line is answered too.
     GoesOn,

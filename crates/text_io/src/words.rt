@@ -44,7 +44,7 @@ pub enum LineWords<'a> {
     Several,
 }
 
-/// Sorts a line by the number of its words.
+/// Returns whether a line has no words, one word or several. A comment counts as a line without words.
 pub fn line_words(line: &[u8]) -> LineWords<'_>
     ensures { IsLineWords (words_of line.now) result }
 {

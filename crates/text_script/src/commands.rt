@@ -7,7 +7,7 @@ ghost use Rattle.text_script.specs.CommandSeen.{command_seen};
 ghost use Rattle.text_script.specs.inner.OnlyWord.{only_of};
 ghost use Rattle.text_io.specs.Words.{is_silent, words_of};
 
-use crate::script_words::{Wanted, connection, contract, number, program};
+use crate::script_words::{Wanted, connection, number, program, wanted_contract};
 use arrayvec::ArrayVec;
 use text_io::first_word;
 use upc_cell::{Side, Vc};
@@ -148,7 +148,7 @@ pub fn wanted_contracts(line: &[u8]) -> Option<ArrayVec<Wanted, 4>>
     let mut wanted = ArrayVec::new();
     let mut rest = line;
     while let Some((word, after)) = first_word(rest) {
-        let Some(next) = contract(word) else {
+        let Some(next) = wanted_contract(word) else {
             return None;
         };
         if wanted.len() >= 4 {

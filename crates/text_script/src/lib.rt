@@ -23,4 +23,4 @@ pub use dealing::{Answerer, Deal, deal_lines};
 pub use names::Names;
 pub use rates::checked_contracts;
 pub use script_lines::{first_line, is_cell_line};
-pub use script_words::{Rate, Wanted, channel_of, contract, number, program};
+pub use script_words::{Rate, Wanted, channel_of, number, program, wanted_contract};

@@ -10,7 +10,7 @@ use memchr::memchr;
 use upc_cell::{Side, Vc};
 
 /// A rate as a script requests it. Its numbers may be outside the limits of a rate.
-#[derive(Clone, Copy, PartialEq, Eq)]
+#[derive(Clone, Copy)]
 pub struct Rate {
     /// The time between two cells, in ticks.
     pub increment: u64,
@@ -19,7 +19,7 @@ pub struct Rate {
 }
 
 /// A contract as a script requests it. Of two rates the first is that of the peak.
-#[derive(Clone, Copy, PartialEq, Eq)]
+#[derive(Clone, Copy)]
 pub enum Wanted {
     Cbr1(Rate),
     Vbr1(Rate, Rate),
@@ -175,6 +175,7 @@ pub fn connection(side: Side, path: &[u8], channel: &[u8]) -> Option<Vc>
     let Some(vci) = channel_of(side, channel) else {
         return None;
     };
+    // A path above the last one of the side is refused where it is read, so there is no error here.
     match Vc::new_at(side, vpi, vci) {
         Ok(vc) => Some(vc),
         Err(_) => None,
@@ -182,7 +183,7 @@ pub fn connection(side: Side, path: &[u8], channel: &[u8]) -> Option<Vc>
 }
 
 /// Returns the text before the first `mark` and that after it. None if there is no `mark`.
-fn cut(mark: u8, text: &[u8]) -> Option<(&[u8], &[u8])>
+fn split_at_mark(mark: u8, text: &[u8]) -> Option<(&[u8], &[u8])>
     ensures { option_map (λ parts. (parts.0.now, parts.1.now)) result ≡ cut_at mark text.now }
 {
     match memchr(mark, text) {
@@ -195,7 +196,7 @@ fn cut(mark: u8, text: &[u8]) -> Option<(&[u8], &[u8])>
 fn one_rate(word: &[u8]) -> Option<Rate>
     ensures { result ≡ rate_of word.now }
 {
-    let (increment, limit) = cut(b'/', word)?;
+    let (increment, limit) = split_at_mark(b'/', word)?;
     Some(Rate {
         increment: number(increment)?,
         limit: number(limit)?,
@@ -206,15 +207,15 @@ fn one_rate(word: &[u8]) -> Option<Rate>
 fn both_rates(word: &[u8]) -> Option<(Rate, Rate)>
     ensures { (join : TheRate → TheRate → TheWanted) → option_map (λ both. join both.0 both.1) result ≡ two_rates join word.now }
 {
-    let (peak, sustained) = cut(b':', word)?;
+    let (peak, sustained) = split_at_mark(b':', word)?;
     Some((one_rate(peak)?, one_rate(sustained)?))
 }
 
 /// Returns the contract of a word, such as `cbr1:10/5` or `vbr1:10/5:20/100`. None if the word has another form.
-pub fn contract(word: &[u8]) -> Option<Wanted>
+pub fn wanted_contract(word: &[u8]) -> Option<Wanted>
     ensures { result ≡ wanted_of word.now }
 {
-    let (kind, after) = cut(b':', word)?;
+    let (kind, after) = split_at_mark(b':', word)?;
     if kind == b"cbr1".as_slice() {
         return Some(Wanted::Cbr1(one_rate(after)?));
     }

@@ -40,7 +40,7 @@ fn rate_of(bucket: usize, increment: u64, limit: u64) -> ForC<Gcra>
     }
 }
 
-/// Returns the contract with these numbers.
+/// Returns the contract of this kind with these buckets.
 #[inline]
 pub(crate) fn contract_of(given: &UpcContract) -> ForC<Contract>
     ensures contract { IfOk result (IsGivenContract given.now) }

@@ -12,7 +12,7 @@ use leaky::Contract;
 /// The greatest number of contracts of a connection.
 const MOST_CONTRACTS: usize = 4;
 
-/// Returns the contracts with these numbers, in order.
+/// Returns the contracts of these kinds with these buckets, in order. Or returns the fault: more than four, or the first bad one.
 pub(crate) fn contracts_of(given: &[UpcContract]) -> Result<ArrayVec<Contract, 4>, UpcFault>
     ensures few { IfOk result (λ _. length given.now ≤ 4) }
     ensures contracts { IfOk result (λ contracts. AreGivenContracts given.now contracts.items) }

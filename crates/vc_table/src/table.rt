@@ -114,7 +114,8 @@ fn path_place(vc: Vc) -> usize
     usize::from(vc.vci) / 4096 * 4096 + usize::from(vc.vpi)
 }
 
-/// Returns the place of the connection's mark.
+/// Returns the place of the connection's mark. Group 0 and block 0 have only zeros, so a connection without a group or a
+/// block gets the mark 0.
 #[inline]
 fn place_of(row: &Vec<u16>, groups: &Blocks, vc: Vc) -> usize
     requires rows { length row.now.items ≡ 65536 }

@@ -32,7 +32,7 @@ IsQueuedText rules reading cells world octets text done =
 
 -- After what was read, and if these octets follow those that wait, these cells count, and end so.
 abbrev pub ComesAfter : ReadingAhead → StopReason → List ℕ → List CapturedCell → CellsEnd → Type 0
-ComesAfter after stop.Wants more later end = HasCellsFrom after (after.window ++ more) later end
+ComesAfter after stop.NeedsOctets more later end = HasCellsFrom after (after.window ++ more) later end
 ComesAfter after stop.Enough more later end = HasCellsFrom after (after.window ++ more) later end
 ComesAfter after (stop.SecondLink one other) more later end = (later ≡ []) × (end ≡ Crosses one other)
 ComesAfter after (stop.Broken fault) more later end = (later ≡ []) × (end ≡ Closes after.filter.summary (Some fault))
@@ -70,7 +70,7 @@ ReadsUsual link_clock reader octets cells found cells' = (first : ReadingAhead) 
 
 -- How far the reading came: to where more octets are wanted, or through one frame at least.
 abbrev pub CameTo : StopReason → ReadingAhead → ReadingAhead → List CapturedCell → List CapturedCell → Type 0
-CameTo stop.Wants before after old new = WentOn before after × (first_frame after.reader.format after.reader.at after.window ≡ None)
+CameTo stop.NeedsOctets before after old new = WentOn before after × (first_frame after.reader.format after.reader.at after.window ≡ None)
     × (length after.window < 131072) × ((new ≡ old) ⊎ (before.reader.at < after.reader.at))
 CameTo stop.Enough before after old new = WentOn before after × (before.reader.at < after.reader.at)
 CameTo (stop.SecondLink one other) before after old new = Unit {0}
@@ -99,14 +99,14 @@ pub record EndsAfter {World : Type 0} (rules : CellRules World) (after : Reading
 
 -- Unless it ends, a run goes on by what comes after what was read.
 abbrev pub GoesBy : StepOutcome → StopReason → Type 0
-GoesBy outcome.On how = how ≡ stop.Enough
-GoesBy outcome.Wants how = how ≡ stop.Wants
+GoesBy outcome.GoesOn how = how ≡ stop.Enough
+GoesBy outcome.NeedsOctets how = how ≡ stop.NeedsOctets
 GoesBy outcome.Ended how = Unit {0}
 
 -- How far the reading came, by how the run goes on: by one frame at least, or to where more octets are wanted, and then no cell waits.
 abbrev pub CameSoFar : StepOutcome → ReadingAhead → ReadingAhead → List CapturedCell → Type 0
-CameSoFar outcome.On before after cells = WentOn before after × (before.reader.at < after.reader.at)
-CameSoFar outcome.Wants before after cells = WentOn before after
+CameSoFar outcome.GoesOn before after cells = WentOn before after × (before.reader.at < after.reader.at)
+CameSoFar outcome.NeedsOctets before after cells = WentOn before after
     × (first_frame after.reader.format after.reader.at after.window ≡ None) × (length after.window < 131072) × (cells ≡ [])
 CameSoFar outcome.Ended before after cells = Unit {0}
 
@@ -129,8 +129,8 @@ FillsAndReads Known rest rest' before (Some how) after old new =
 
 -- How far the reading came after more octets were read, by how the run goes on.
 abbrev pub CameAhead : StepOutcome → ReadingAhead → List ℕ → ReadingAhead → List CapturedCell → Type 0
-CameAhead outcome.On before near after cells = WentOn (with_window before near) after × (length before.window < length near)
-CameAhead outcome.Wants before near after cells = (near ≡ before.window) × (after ≡ before) × (cells ≡ [])
+CameAhead outcome.GoesOn before near after cells = WentOn (with_window before near) after × (length before.window < length near)
+CameAhead outcome.NeedsOctets before near after cells = (near ≡ before.window) × (after ≡ before) × (cells ≡ [])
 CameAhead outcome.Ended before near after cells = Unit {0}
 
 -- From this world, the answers grew by a text that leads to a sound world that is shown. Any text for the cells and the

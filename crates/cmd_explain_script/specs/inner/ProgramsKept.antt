@@ -8,7 +8,7 @@ use Rattle.upc_cell.specs.declared.side.Side.{Side}
 use Rattle.text_script.specs.ScriptCommands.{Command, load, retire, setup, reload, release, cut, cell, command_of}
 use Rattle.text_words.specs.Hexadecimal.{octets_of_digits}
 use Rattle.cmd_explain_script.specs.ContractNumbers.{names_none}
-use Rattle.cmd_explain_script.specs.declared.contract_numbers.NamesNone.{NamesNone}
+use Rattle.cmd_explain_script.specs.declared.contract_numbers.NamesNoContract.{NamesNoContract}
 
 -- The digits of a `load`.
 abbrev pub load_digits : Option Command → Option (List ℕ)
@@ -31,7 +31,7 @@ loaded_digits None content answer = None
 loaded_digits (Some side) content answer = if is_loaded_answer answer then load_digits (command_of side (words_of content)) else None
 
 -- What is kept after a line that loads the program of these digits, or loads none.
-abbrev pub ProgramsAfter : Option (List ℕ) → List NamesNone → List NamesNone → Type 0
+abbrev pub ProgramsAfter : Option (List ℕ) → List NamesNoContract → List NamesNoContract → Type 0
 ProgramsAfter None before after = after ≡ before
 ProgramsAfter (Some digits) before after =
     (octets : List ℕ) (code : List Instr) → octets_of_digits digits ≡ Some octets → SpellsCode octets code → after ≡ before ++ names_none code ∷ []

@@ -9,12 +9,12 @@ use Rattle.text_card.specs.CardFaults.{no_card}
 use Rattle.cmd_run.specs.RunText.{IsSoundRun, RunSteps, RunWorld}
 use Rattle.cmd_run.specs.inner.RunLaws.{run-total}
 use Rattle.cmd_explain_script.specs.LoadedPrograms.{loaded_programs}
-use Rattle.cmd_explain_script.specs.declared.contract_numbers.NamesNone.{NamesNone}
+use Rattle.cmd_explain_script.specs.declared.contract_numbers.NamesNoContract.{NamesNoContract}
 use Rattle.cmd_explain_script.specs.ScriptText.{ClosesScript, ScriptWorld, after_answer, explained, no_card_at_all, no_fault_line, one_line_more, script_rules}
 use Rattle.cmd_run.specs.RunSide.{run_side}
 
 -- The machine shows the world with what it counts and keeps of programs, if its part for `run` shows the world of `run`.
-pub record ShowsScript (ShowsRun : RunWorld → Type 0) (met : ℕ) (faulty : Bool) (programs : List NamesNone) (world : ScriptWorld) : Type 0 where
+pub record ShowsScript (ShowsRun : RunWorld → Type 0) (met : ℕ) (faulty : Bool) (programs : List NamesNoContract) (world : ScriptWorld) : Type 0 where
   pub runs : ShowsRun world.run
   pub counts : world.met ≡ met
   pub blames : world.faulty ≡ faulty

@@ -35,7 +35,7 @@ pub record WantsMore (before after : LinksReading) : Type 0 where
 
 -- What a step of the reading does.
 abbrev pub StepsLinks : LinksReading → StepOutcome → LinksReading → Type 0
-StepsLinks before outcome.On after = ReadsFrame before after
-StepsLinks before outcome.Wants after = WantsMore before after
+StepsLinks before outcome.GoesOn after = ReadsFrame before after
+StepsLinks before outcome.NeedsOctets after = WantsMore before after
 StepsLinks before (outcome.Broken fault) after =
     ComesNext before.reader before.window (BrokenNext fault) after.reader × (after.table ≡ before.table)

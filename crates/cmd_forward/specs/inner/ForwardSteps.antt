@@ -58,9 +58,9 @@ pub record ForwardsToEnd {World : Type 0} (rules : JudgeRules World) (others : O
 
 -- How far the reading came: by one frame, or to where more octets are wanted.
 abbrev pub ForwardedSoFar : StepOutcome → ForwardReading → ForwardReading → Type 0
-ForwardedSoFar outcome.On before after =
+ForwardedSoFar outcome.GoesOn before after =
     (own : List ℕ) × (before.window ≡ own ++ after.window) × (0 < length own) × (after.reader.at ≡ before.reader.at + length own) × (after.reader.at < 2 ^ 64)
-ForwardedSoFar outcome.Wants before after =
+ForwardedSoFar outcome.NeedsOctets before after =
     (after.window ≡ before.window) × (after.reader.at ≡ before.reader.at)
     × (first_frame after.reader.format after.reader.at after.window ≡ None) × (length after.window < 131072)
 ForwardedSoFar outcome.Ended before after = Unit {0}

@@ -24,7 +24,7 @@ use Rattle.cmd_run.proofs.one_script.Seen.{SeenConnection, found_at, seen, seen_
 use Rattle.cmd_run.proofs.one_script.SeenCells.{judged-nameless, verdict_in}
 use Rattle.cmd_run.proofs.one_script.SeenConnections.{found-seen}
 use Rattle.cmd_run.specs.RunText.{Card, IsLed, RefusesLine, RunSteps}
-use Rattle.cmd_setups.specs.CommandsUnderTraffic.{AnswersUnderTraffic, AnswersWithCounts, CarriesFirst, CarriesNothing, CarriesOutWaiting, command_line, counted_answer, ended_journal, is_taken_under_traffic}
+use Rattle.cmd_setups.specs.CommandsUnderTraffic.{AnswersUnderTraffic, AnswersWithCounts, CarriesFirst, CarriesNothing, CarriesOutWaiting, command_line, counted_answer, ended_journal, is_answered_plainly}
 use Rattle.cmd_setups.specs.ConnectionCounts.{own_counts}
 use Rattle.cmd_setups.specs.TimedLines.{WaitingCommand}
 use Rattle.cmd_setups.specs.inner.CommandLaws.{under_traffic_led}
@@ -77,7 +77,7 @@ module _ (side : Side) where
   by_name false false false false false true words = none_mapped (λ vc. cut vc) (λ vc. tt) (only_vc side words)
   by_name false false false false false false words = tt
 
-  no_cell_named : (name : List ℕ) (words : List (List ℕ)) (b : Bool) → bytes_eq name (codes "cell") ≡ b → is_taken_under_traffic (name ∷ words) ≡ true
+  no_cell_named : (name : List ℕ) (words : List (List ℕ)) (b : Bool) → bytes_eq name (codes "cell") ≡ b → is_answered_plainly (name ∷ words) ≡ true
       → HasNoCell (if b then cell_of_words words else if bytes_eq name (codes "load") then load_of words
       else if bytes_eq name (codes "retire") then retire_of words
       else if bytes_eq name (codes "setup") then setup_of side words
@@ -87,12 +87,12 @@ module _ (side : Side) where
       else None)
   no_cell_named name words true e taken =
       let same : name ≡ codes "cell" = (bytes_eq-Decides name (codes "cell")).0 e in
-      let no : false ≡ true = subst (λ word. is_taken_under_traffic (word ∷ words) ≡ true) same taken in absurd (cc)
+      let no : false ≡ true = subst (λ word. is_answered_plainly (word ∷ words) ≡ true) same taken in absurd (cc)
   no_cell_named name words false e taken =
       by_name (bytes_eq name (codes "load")) (bytes_eq name (codes "retire")) (bytes_eq name (codes "setup")) (bytes_eq name (codes "reload"))
       (bytes_eq name (codes "release")) (bytes_eq name (codes "cut")) words
 
-  taken_none : (words : List (List ℕ)) → is_taken_under_traffic words ≡ true → HasNoCell (command_of side words)
+  taken_none : (words : List (List ℕ)) → is_answered_plainly words ≡ true → HasNoCell (command_of side words)
   taken_none [] taken = absurd (cc)
   taken_none (name ∷ words) taken = no_cell_named name words (bytes_eq name (codes "cell")) refl taken
 
@@ -156,7 +156,7 @@ module _ (met most : ℕ) (few : met < greatest_generation) (unworn : most < 2 ^
         subst (λ (card : Card). CardsAlike (met + 1) (most + 1) card after') (sym p.1) (subst (λ (card : Card). CardsAlike (met + 1) (most + 1) before card) (sym q.1) stay),
       )
 
-  plain_alike : (HaveOneText (seen before.world) found_command one other → one ≡ other) → (taken : Bool) → is_taken_under_traffic (words_of content) ≡ taken
+  plain_alike : (HaveOneText (seen before.world) found_command one other → one ≡ other) → (taken : Bool) → is_answered_plainly (words_of content) ≡ taken
       → MatchBool taken (RunSteps (Some before) content one (Some (Some after))) (RefusesLine bad_line before one after)
       → MatchBool taken (RunSteps (Some before') content other (Some (Some after'))) (RefusesLine bad_line before' other after')
       → AnsweredAlike met most one other after after'
@@ -179,17 +179,17 @@ module _ (met most : ℕ) (few : met < greatest_generation) (unworn : most < 2 ^
 
   abbrev Answers : Card → List ℕ → Card → Option Command → Type 0
   Answers card text next found = MatchOption (ended_journal found)
-      (MatchBool (is_taken_under_traffic (words_of content)) (RunSteps (Some card) content text (Some (Some next))) (RefusesLine bad_line card text next))
+      (MatchBool (is_answered_plainly (words_of content)) (RunSteps (Some card) content text (Some (Some next))) (RefusesLine bad_line card text next))
       (λ ended. AnswersWithCounts card content ended text next)
 
   by_command : (found : Option Command) → found_command ≡ found → Answers before one after found → Answers before' other after' found
       → AnsweredAlike met most one other after after'
-  by_command None e p q = plain_alike (λ texts. subst (λ (f : Option Command). HaveOneText (seen before.world) f one other) e texts) (is_taken_under_traffic (words_of content)) refl p q
-  by_command (Some (load digits)) e p q = plain_alike (λ texts. subst (λ (f : Option Command). HaveOneText (seen before.world) f one other) e texts) (is_taken_under_traffic (words_of content)) refl p q
-  by_command (Some (retire number)) e p q = plain_alike (λ texts. subst (λ (f : Option Command). HaveOneText (seen before.world) f one other) e texts) (is_taken_under_traffic (words_of content)) refl p q
-  by_command (Some (setup vc number wanted)) e p q = plain_alike (λ texts. subst (λ (f : Option Command). HaveOneText (seen before.world) f one other) e texts) (is_taken_under_traffic (words_of content)) refl p q
-  by_command (Some (reload vc number)) e p q = plain_alike (λ texts. subst (λ (f : Option Command). HaveOneText (seen before.world) f one other) e texts) (is_taken_under_traffic (words_of content)) refl p q
-  by_command (Some (cell moment digits)) e p q = plain_alike (λ texts. subst (λ (f : Option Command). HaveOneText (seen before.world) f one other) e texts) (is_taken_under_traffic (words_of content)) refl p q
+  by_command None e p q = plain_alike (λ texts. subst (λ (f : Option Command). HaveOneText (seen before.world) f one other) e texts) (is_answered_plainly (words_of content)) refl p q
+  by_command (Some (load digits)) e p q = plain_alike (λ texts. subst (λ (f : Option Command). HaveOneText (seen before.world) f one other) e texts) (is_answered_plainly (words_of content)) refl p q
+  by_command (Some (retire number)) e p q = plain_alike (λ texts. subst (λ (f : Option Command). HaveOneText (seen before.world) f one other) e texts) (is_answered_plainly (words_of content)) refl p q
+  by_command (Some (setup vc number wanted)) e p q = plain_alike (λ texts. subst (λ (f : Option Command). HaveOneText (seen before.world) f one other) e texts) (is_answered_plainly (words_of content)) refl p q
+  by_command (Some (reload vc number)) e p q = plain_alike (λ texts. subst (λ (f : Option Command). HaveOneText (seen before.world) f one other) e texts) (is_answered_plainly (words_of content)) refl p q
+  by_command (Some (cell moment digits)) e p q = plain_alike (λ texts. subst (λ (f : Option Command). HaveOneText (seen before.world) f one other) e texts) (is_answered_plainly (words_of content)) refl p q
   by_command (Some (release vc)) e p q =
       counted_alike (codes "released ", vc) (subst HasNoCell (sym e) tt)
       (λ given given' texts. subst (λ (f : Option Command). HaveOneText (seen before.world) f given given') e texts) p q

@@ -7,7 +7,7 @@ use Rattle.captures.specs.Frames.{Frame, first_frame, frame_held, frame_of_size,
 use Rattle.captures.specs.Framing.{Framed, number_in_order, or_fault, sized}
 use Rattle.captures.specs.Reading.{IsReading, count_after}
 use Rattle.captures.specs.Record.{record_length}
-use Rattle.captures.specs.declared.block.Unread.{Unread}
+use Rattle.captures.specs.declared.block.SkippedKind.{SkippedKind}
 use Rattle.captures.specs.declared.fault.RecordFault.{RecordFault}
 use Rattle.captures.specs.declared.fault.RecordFault.TheVariants.{LongLength, OddLength, ShortLength, TooFar}
 use Rattle.captures.specs.declared.fault.Fault.{Fault}
@@ -60,7 +60,7 @@ size_least (Pcap order times) octets size is = let least = sized_least 16 16 655
 size_least (PcapNg section) octets size is = block_least (block_order section octets) octets size is
 
 -- It ends before octet 2^64.
-held_near : (at size : ℕ) (held : Result (Format × Result Framed Unread) RecordFault) (frame : Frame) → held_frame at size held ≡ Ok frame
+held_near : (at size : ℕ) (held : Result (Format × Result Framed SkippedKind) RecordFault) (frame : Frame) → held_frame at size held ≡ Ok frame
     → (frame.size ≡ size) × (at + size < 2 ^ 64)
 held_near at size (Err reason) frame never = absurd (cc)
 held_near at size (Ok it) frame is = by (nat_lt (at + size) (2 ^ 64)) refl is

@@ -65,10 +65,10 @@ text_alike world card captured given given' sides named wanted excess line numbe
     let clp = has_low_priority captured.cell in
     let own = excess_of_answer world.card.world (connection_of_cell world.card captured.cell) clp given in
     (λ i. if wanted i
-    then (if world.begun then [] else verdict_heading world.rules) ++ (line own i ++ line_end world.rules (number i) captured.cell)
+    then (if world.has_heading then [] else verdict_heading world.rules) ++ (line own i ++ line_end world.rules (number i) captured.cell)
     else [])
     ∙ (λ i. if has_line world.lines given'
-    then (if world.begun then [] else verdict_heading world.rules)
+    then (if world.has_heading then [] else verdict_heading world.rules)
     ++ (cell_columns (sides i) captured.number captured.moment (named i) clp given' (excess i) ++ line_end world.rules (number_of_judging card.names given') captured.cell)
     else [])
 
@@ -106,7 +106,7 @@ module _ (lines counts : ℕ) (few : lines < greatest_generation) (unworn : coun
         cards = done.cards;
         lines_left = lines_left;
         counts_left = omega (arith, counts_left);
-        rest = λ i. record world { card = q.card; begun = world.begun || wanted i; spans = spans i; not_judged = not_judged i };
+        rest = λ i. record world { card = q.card; has_heading = world.has_heading || wanted i; spans = spans i; not_judged = not_judged i };
       } in (
         p.written ∙ ap (λ xs. ended_text world.spans captured.moment ++ xs) text ∙ sym q.written,
         subst (λ (n : Option PoliceWorld). LeadAlike (StatesAlike lines counts left) n next') (sym p.after)

@@ -28,26 +28,26 @@ pub record ShowsPolice (run : PoliceRun) (world : PoliceWorld) : Type 0 where
   pub tick : run.tick.nanoseconds ≡ world.tick
   pub timed : ShowsTimed run.timed world.card world.waiting
   pub commanded : run.commanded ≡ world.commanded
-  pub begun : run.begun ≡ world.begun
+  pub has_heading : run.has_heading ≡ world.has_heading
   pub spans : ShowsSpans run.spans world.spans
   pub not_judged : run.not_judged ≡ world.not_judged
 
 -- The line of a cell with this answer and this excess, after the heading if that isn't written yet.
 abbrev pub headed_line : Side → ShownRules → Bool → List Id → CapturedCell → Vc → Answer → Option Excess → List ℕ
-headed_line side rules begun names captured vc given excess =
-    (if begun then [] else verdict_heading rules)
+headed_line side rules has_heading names captured vc given excess =
+    (if has_heading then [] else verdict_heading rules)
     ++ (cell_columns side captured.number captured.moment vc (has_low_priority captured.cell) given excess ++ line_end rules (number_of_judging names given) captured.cell)
 
 -- The text for a cell with this answer and this excess.
 abbrev pub lined : Side → LineChoice → ShownRules → Bool → List Id → CapturedCell → Vc → Answer → Option Excess → List ℕ
-lined side lines rules begun names captured vc given excess =
-    if has_line lines given then headed_line side rules begun names captured vc given excess else []
+lined side lines rules has_heading names captured vc given excess =
+    if has_line lines given then headed_line side rules has_heading names captured vc given excess else []
 
 -- The answers grew by such a text, whose excess is right if the card is as the cell left it, and this is whether the heading is written.
-pub record AddsCell (side : Side) (lines : LineChoice) (rules : ShownRules) (begun : Bool) (captured : CapturedCell) (vc : Vc) (given : Answer) (card : Held)
+pub record AddsCell (side : Side) (lines : LineChoice) (rules : ShownRules) (has_heading : Bool) (captured : CapturedCell) (vc : Vc) (given : Answer) (card : Held)
     (old new : List ℕ) (now : Bool) : Type 0 where
   pub excess : Option Excess
-  pub added : new ≡ old ++ lined side lines rules begun card.names captured vc given excess
+  pub added : new ≡ old ++ lined side lines rules has_heading card.names captured vc given excess
   pub right : has_line lines given ≡ true → (before after : World) → CoreAgrees card.core after
       → LeavesConnection before.connections after.connections vc (has_low_priority captured.cell) given → excess ≡ excess_of_answer before vc (has_low_priority captured.cell) given
-  pub written : now ≡ (begun || has_line lines given)
+  pub written : now ≡ (has_heading || has_line lines given)

@@ -9,7 +9,7 @@ use Rattle.text_io.specs.Words.{is_silent, words_of}
 use Rattle.cmd_run.specs.RunText.{Card, IsLed, OpensOrObeys, RefusesLine, RunSteps, RunWorld}
 use Rattle.cmd_run.specs.inner.RunLaws.{run-total}
 use Rattle.text_words.specs.FaultLines.{bad_line}
-use Rattle.cmd_setups.specs.CommandsUnderTraffic.{AnswersUnderTraffic, AnswersWithCounts, CarriesFirst, CarriesNothing, CarriesOutWaiting, command_line, counted_answer, ended_journal, is_taken_under_traffic}
+use Rattle.cmd_setups.specs.CommandsUnderTraffic.{AnswersUnderTraffic, AnswersWithCounts, CarriesFirst, CarriesNothing, CarriesOutWaiting, command_line, counted_answer, ended_journal, is_answered_plainly}
 use Rattle.cmd_setups.specs.TimedLines.{WaitingCommand}
 
 -- A command leads to a card that a log leads to.
@@ -20,9 +20,9 @@ plain_led before after content text false led refused = subst IsLed (sym refused
 
 answered_led : (before after : Card) (content text : List ℕ) (ended : Option (List ℕ × Vc)) → IsLed before
     → MatchOption ended
-    (MatchBool (is_taken_under_traffic (words_of content)) (RunSteps (Some before) content text (Some (Some after))) (RefusesLine bad_line before text after))
+    (MatchBool (is_answered_plainly (words_of content)) (RunSteps (Some before) content text (Some (Some after))) (RefusesLine bad_line before text after))
     (λ ended. AnswersWithCounts before content ended text after) → IsLed after
-answered_led before after content text None led answers = plain_led before after content text (is_taken_under_traffic (words_of content)) led answers
+answered_led before after content text None led answers = plain_led before after content text (is_answered_plainly (words_of content)) led answers
 answered_led before after content text (Some ended) led answers = run-total.keeps (Some before) content answers.given (Some after) led answers.steps
 
 pub under_traffic_led : (before after : Card) (content text : List ℕ) → IsLed before → AnswersUnderTraffic before content text after → IsLed after
@@ -50,9 +50,9 @@ plain_some before content false led = (bad_line, before, (refl, refl))
 
 answered_some : (before : Card) (content : List ℕ) (ended : Option (List ℕ × Vc)) → IsLed before
     → (text : List ℕ) × (after : Card) × MatchOption ended
-    (MatchBool (is_taken_under_traffic (words_of content)) (RunSteps (Some before) content text (Some (Some after))) (RefusesLine bad_line before text after))
+    (MatchBool (is_answered_plainly (words_of content)) (RunSteps (Some before) content text (Some (Some after))) (RefusesLine bad_line before text after))
     (λ ended. AnswersWithCounts before content ended text after)
-answered_some before content None led = plain_some before content (is_taken_under_traffic (words_of content)) led
+answered_some before content None led = plain_some before content (is_answered_plainly (words_of content)) led
 answered_some before content (Some ended) led =
     let step = plain_some before content true led in (
       counted_answer before.world ended (connection_in before.world.connections ended.1) step.0,

@@ -8,7 +8,7 @@ use Rattle.cmd_run.specs.RunText.{Card, IsLed, RefusesLine, RunSteps}
 use Rattle.cmd_run.specs.ShownCard.{ShowsCard}
 use Rattle.text_script.specs.ReplyTexts.{connection_name, tally_text}
 use Rattle.text_words.specs.FaultLines.{bad_line, line}
-use Rattle.cmd_setups.specs.CommandsUnderTraffic.{CarriesOutWaiting, is_taken_under_traffic}
+use Rattle.cmd_setups.specs.CommandsUnderTraffic.{CarriesOutWaiting, is_answered_plainly}
 use Rattle.cmd_setups.specs.CountsAtSetup.{AreCountsAtSetup}
 use Rattle.cmd_setups.specs.TimedLines.{WaitingCommand}
 use Rattle.cmd_setups.specs.declared.timed_card.TimedCard.{TimedCard}
@@ -32,7 +32,7 @@ CarriesSoFar timed moment carried timed' old new =
 -- The answer to a command that ends no journal.
 abbrev pub AnswersPlainly : Card → List ℕ → List ℕ → Card → Type 0
 AnswersPlainly before content text after =
-    MatchBool (is_taken_under_traffic (words_of content)) (RunSteps (Some before) content text (Some (Some after)))
+    MatchBool (is_answered_plainly (words_of content)) (RunSteps (Some before) content text (Some (Some after)))
     (RefusesLine bad_line before text after)
 
 -- The answer with these counts, or the one that was given.

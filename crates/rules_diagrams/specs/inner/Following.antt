@@ -23,7 +23,7 @@ use Rattle.rules_diagrams.specs.declared.contents.Followed.TheVariants.{Ends, Co
 use Rattle.rules_diagrams.specs.declared.contents.Made.{Made}
 use Rattle.rules_diagrams.specs.declared.contents.Made.TheVariants.{Word, Ends as MadeEnd, Unknown}
 use Rattle.rules_diagrams.specs.declared.contents.Register.{Register}
-use Rattle.rules_diagrams.specs.declared.contents.Told.{Told}
+use Rattle.rules_diagrams.specs.declared.contents.DiagramAt.{DiagramAt}
 use Rattle.rules_diagrams.specs.declared.diagram.Node.{Node}
 use Rattle.rules_diagrams.specs.declared.word.Bit.{Bit}
 
@@ -94,6 +94,6 @@ pub record IsComputed (op : Op) (a k number : ℕ) : Type 0 where
   pub is : number ≡ result_of op a k
 
 -- The diagram gives each cell the value with which the machine ends from this place with these contents.
-pub record IsTold (nodes : List Node) (code : List Instr) (told : Told) : Type 0 where
+pub record IsTold (nodes : List Node) (code : List Instr) (told : DiagramAt) : Type 0 where
   pub within : IsWithin nodes told.diagram
   pub ends : OnEach told.contents (λ cell a x m. (steps : ℕ) × EndsIn code cell (At told.place a x m) (diagram_value nodes told.diagram (octets_number cell)) steps)

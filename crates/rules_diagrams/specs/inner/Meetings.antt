@@ -13,7 +13,7 @@ abbrev pub has_pair : List Meeting → ℕ → ℕ → Bool
 has_pair [] one other = false
 has_pair (meeting ∷ more) one other = ((meeting.one == one) && (meeting.other == other)) || has_pair more one other
 
--- The two functions give the cell of a meeting its numbers, and no cell less than it both of them.
+-- The two functions give the meeting's cell the two numbers of the meeting. No lesser cell gets both numbers.
 pub record IsLeast (one other : ℕ → ℕ) (meeting : Meeting) : Type 0 where
   pub cell : IsCell meeting.cell
   pub one_is : one (octets_number meeting.cell) ≡ meeting.one

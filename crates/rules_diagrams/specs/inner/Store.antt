@@ -9,7 +9,7 @@ use Rattle.rules_diagrams.specs.declared.diagram.Diagram.TheVariants.{Leaf, Inne
 use Rattle.rules_diagrams.specs.declared.diagram.Node.{Node}
 use Rattle.rules_diagrams.specs.declared.step.Step.{Step}
 
--- A number above the first bit that a diagram can ask for.
+-- A number above `top_of` of the diagram: that is at most 415 for a node, and 416 for a leaf.
 abbrev pub above : Diagram → ℕ
 above (Leaf value) = 417
 above (Inner number) = 416
@@ -33,13 +33,13 @@ pub record HasNode (nodes : List Node) (number : ℕ) (node : Node) : Type 0 whe
   pub top : node_top nodes number ≡ node.bit
   pub value : (cell : ℕ) → node_value nodes cell number ≡ diagram_value nodes (taken_side node cell) cell
 
--- The diagram decides by a bit between two others.
+-- The diagram `made` gives each cell what `high` gives it if this bit of the cell is set, else what `low` gives it.
 pub record DecidesByBit (nodes : List Node) (bit : ℕ) (low high made : Diagram) : Type 0 where
   pub within : IsWithin nodes made
   pub top : bit ≤ top_of nodes made
   pub value : (cell : ℕ) → diagram_value nodes made cell ≡ diagram_value nodes (if is_set cell bit then high else low) cell
 
--- The nodes and tables of a store: the tables have their lengths, and each choice in them was made.
+-- The nodes and tables of a store: the tables have their lengths, and each choice in the table of choices has its right answer.
 pub record IsStore (nodes : List Node) (places : List ℕ) (steps : List Step) : Type 0 where
   pub nodes_are : AreNodes nodes
   pub places_are : length places ≡ 65536

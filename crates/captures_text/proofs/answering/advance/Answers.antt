@@ -22,8 +22,8 @@ returns-in-Ends-clause-ends g c = λ end.
     (answers_same f.rules shown shown' c.deref.result.now cells Ends old new c.deref.ensures.value
     (answers_turn f.rules shown shown' c.deref.result.now c.in_ok-answer_cells.field-0 Ends old new c.in-Ends.is c.in_ok-answer_cells.ensures))
 
-pub returns-in-Wants-clause-goes_on : goal.returns-in-Wants-clause-goes_on
-returns-in-Wants-clause-goes_on g c = λ on.
+pub returns-in-NeedsOctets-clause-goes_on : goal.returns-in-NeedsOctets-clause-goes_on
+returns-in-NeedsOctets-clause-goes_on g c = λ on.
     let f = g.F.CellFollower in
     let shown = f.shows c.args.follower.now in
     let shown' = f.shows c.answer_cells.new.follower in
@@ -37,7 +37,7 @@ returns-in-Wants-clause-goes_on g c = λ on.
     let answers = answers_same f.rules shown shown' c.deref.result.now cells GoesOn old between c.deref.ensures.value
     (answers_turn f.rules shown shown' c.deref.result.now c.in_ok-answer_cells.field-0 GoesOn old between c.in-GoesOn.is c.in_ok-answer_cells.ensures) in
     let reads = subst (λ (cells : List CapturedCell). ReadsCells first c.in_ok-stop.stop last spare cells) (sym c.take_next_cells.ensures.cells) c.in_ok-stop.ensures in
-    advances_read f.rules shown shown' first last outcome.Wants c.in_ok-stop.stop cells spare fresh old between answers reads c.requires (λ e. cc) c.in-Wants.is
+    advances_read f.rules shown shown' first last outcome.NeedsOctets c.in_ok-stop.stop cells spare fresh old between answers reads c.requires (λ e. cc) c.in-NeedsOctets.is
 
 pub returns-clause-goes_on : goal.returns-clause-goes_on
 returns-clause-goes_on g c =

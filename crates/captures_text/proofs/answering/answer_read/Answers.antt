@@ -22,8 +22,8 @@ returns-in-Ends-clause-ends g c = λ end.
     (answers_same f.rules shown shown' c.deref.result.now cells Ends old new c.deref.ensures.value
     (answers_turn f.rules shown shown' c.deref.result.now c.in_ok-answer_cells.field-0 Ends old new c.in-Ends.is c.in_ok-answer_cells.ensures))
 
-pub returns-in-Wants-clause-goes_on : goal.returns-in-Wants-clause-goes_on
-returns-in-Wants-clause-goes_on g c = λ on.
+pub returns-in-NeedsOctets-clause-goes_on : goal.returns-in-NeedsOctets-clause-goes_on
+returns-in-NeedsOctets-clause-goes_on g c = λ on.
     let f = g.F.CellFollower in
     let shown = f.shows c.args.follower.now in
     let shown' = f.shows c.answer_cells.new.follower in

@@ -59,11 +59,11 @@ pub returns-in-Err-refill-clause-front : goal.returns-in-Err-refill-clause-front
 returns-in-Err-refill-clause-front g c = λ ki ko.
     let f = g.F.CellFollower in
     let reading = c.advance.new.reading in
-    let came = subst (λ (outcome : StepOutcome). CameSoFar outcome c.loop-reading.reading c.advance.new.reading c.advance.new.queue.cells.items) c.in-Ok-Wants-advance.field-0-is c.in-Ok-Wants-advance.ensures.came in
+    let came = subst (λ (outcome : StepOutcome). CameSoFar outcome c.loop-reading.reading c.advance.new.reading c.advance.new.queue.cells.items) c.in-Ok-NeedsOctets-advance.field-0-is c.in-Ok-NeedsOctets-advance.ensures.came in
     let wants = came.0 in
     let on = queue_advanced (f.shows c.advance.new.follower) reading c.advance.new.queue.cells.items wants.own c.advance.new.answers.items
-    c.loop-reading.invariant.goes wants.cut (c.in-Ok-Wants-advance.ensures.goes_on
-    (λ ended. let bad : outcome.Wants ≡ outcome.Ended = sym c.in-Ok-Wants-advance.field-0-is ∙ ended in cc)) in
+    c.loop-reading.invariant.goes wants.cut (c.in-Ok-NeedsOctets-advance.ensures.goes_on
+    (λ ended. let bad : outcome.NeedsOctets ≡ outcome.Ended = sym c.in-Ok-NeedsOctets-advance.field-0-is ∙ ended in cc)) in
     queue_front (g.O.Output.held c.refill.new.output) c.answers_each_cell.ensures on ki ko (c.in-Err-refill.ensures.front ko)
 
 pub loop-reading-preserved : goal.loop-reading-preserved
@@ -74,15 +74,15 @@ loop-reading-preserved g c =
     let now = g.O.Output.held c.loop-reading.output in
     let now' = g.O.Output.held c.refill.new.output in
     let rest' = g.I.Input.rest c.refill.new.input in
-    let came = subst (λ (outcome : StepOutcome). CameSoFar outcome c.loop-reading.reading c.advance.new.reading c.advance.new.queue.cells.items) c.in-Ok-Wants-advance.field-0-is c.in-Ok-Wants-advance.ensures.came in
+    let came = subst (λ (outcome : StepOutcome). CameSoFar outcome c.loop-reading.reading c.advance.new.reading c.advance.new.queue.cells.items) c.in-Ok-NeedsOctets-advance.field-0-is c.in-Ok-NeedsOctets-advance.ensures.came in
     let wants = came.0 in
     let on = queue_advanced (f.shows c.advance.new.follower) reading c.advance.new.queue.cells.items wants.own c.advance.new.answers.items
-    c.loop-reading.invariant.goes wants.cut (c.in-Ok-Wants-advance.ensures.goes_on
-    (λ ended. let bad : outcome.Wants ≡ outcome.Ended = sym c.in-Ok-Wants-advance.field-0-is ∙ ended in cc)) in
+    c.loop-reading.invariant.goes wants.cut (c.in-Ok-NeedsOctets-advance.ensures.goes_on
+    (λ ended. let bad : outcome.NeedsOctets ≡ outcome.Ended = sym c.in-Ok-NeedsOctets-advance.field-0-is ∙ ended in cc)) in
     record {
       bounded = c.in-Ok.ensures.bounded;
       near = wants.near c.loop-reading.invariant.near;
-      spare = c.in-Ok-Wants-advance.ensures.spare;
+      spare = c.in-Ok-NeedsOctets-advance.ensures.spare;
       read = c.in-Ok.ensures.reading ∙ c.loop-reading.invariant.read;
       written = c.in-Ok.ensures.writing ∙ c.loop-reading.invariant.written;
       goes = queue_refilled reading' rest' now' c.refill.new.answers.items on refl c.in-Ok.ensures.front_octets c.in-Ok.ensures.octets
@@ -92,26 +92,26 @@ loop-reading-preserved g c =
 pub returns-then-is_err-clause-front : goal.returns-then-is_err-clause-front
 returns-then-is_err-clause-front g c = λ ki ko.
     let f = g.F.CellFollower in
-    let came = subst (λ (outcome : StepOutcome). CameSoFar outcome c.loop-reading.reading c.advance.new.reading c.advance.new.queue.cells.items) c.in-Ok-On-advance.field-0-is c.in-Ok-On-advance.ensures.came in
+    let came = subst (λ (outcome : StepOutcome). CameSoFar outcome c.loop-reading.reading c.advance.new.reading c.advance.new.queue.cells.items) c.in-Ok-GoesOn-advance.field-0-is c.in-Ok-GoesOn-advance.ensures.came in
     let on = queue_advanced (f.shows c.advance.new.follower) c.advance.new.reading c.advance.new.queue.cells.items came.0.own c.advance.new.answers.items
-    c.loop-reading.invariant.goes came.0.cut (c.in-Ok-On-advance.ensures.goes_on
-    (λ ended. let bad : outcome.On ≡ outcome.Ended = sym c.in-Ok-On-advance.field-0-is ∙ ended in cc)) in
+    c.loop-reading.invariant.goes came.0.cut (c.in-Ok-GoesOn-advance.ensures.goes_on
+    (λ ended. let bad : outcome.GoesOn ≡ outcome.Ended = sym c.in-Ok-GoesOn-advance.field-0-is ∙ ended in cc)) in
     queue_front (g.O.Output.held c.give_if_enough.new.output) c.answers_each_cell.ensures on ki ko
     (at-err c.give_if_enough.result _ (sym c.is_err.ensures.value ∙ c.if-is_err.true) (c.give_if_enough.ensures.front ko))
 
 pub loop-reading-preserved-else-is_err : goal.loop-reading-preserved-else-is_err
 loop-reading-preserved-else-is_err g c =
     let f = g.F.CellFollower in
-    let came = subst (λ (outcome : StepOutcome). CameSoFar outcome c.loop-reading.reading c.advance.new.reading c.advance.new.queue.cells.items) c.in-Ok-On-advance.field-0-is c.in-Ok-On-advance.ensures.came in
+    let came = subst (λ (outcome : StepOutcome). CameSoFar outcome c.loop-reading.reading c.advance.new.reading c.advance.new.queue.cells.items) c.in-Ok-GoesOn-advance.field-0-is c.in-Ok-GoesOn-advance.ensures.came in
     let cut = ap (λ (xs : List ℕ). length xs) came.0.cut in
     let on = queue_advanced (f.shows c.advance.new.follower) c.advance.new.reading c.advance.new.queue.cells.items came.0.own c.advance.new.answers.items
-    c.loop-reading.invariant.goes came.0.cut (c.in-Ok-On-advance.ensures.goes_on
-    (λ ended. let bad : outcome.On ≡ outcome.Ended = sym c.in-Ok-On-advance.field-0-is ∙ ended in cc)) in
+    c.loop-reading.invariant.goes came.0.cut (c.in-Ok-GoesOn-advance.ensures.goes_on
+    (λ ended. let bad : outcome.GoesOn ≡ outcome.Ended = sym c.in-Ok-GoesOn-advance.field-0-is ∙ ended in cc)) in
     let fine = sym c.is_err.ensures.value ∙ c.if-is_err.false in
     record {
       bounded = omega (arith, cut, length-append came.0.own c.advance.new.reading.window, c.loop-reading.invariant.bounded);
       near = came.0.near c.loop-reading.invariant.near;
-      spare = c.in-Ok-On-advance.ensures.spare;
+      spare = c.in-Ok-GoesOn-advance.ensures.spare;
       read = c.loop-reading.invariant.read;
       written = at-ok c.give_if_enough.result _ fine c.give_if_enough.ensures.calm ∙ c.loop-reading.invariant.written;
       goes = queue_given (g.O.Output.held c.give_if_enough.new.output) c.give_if_enough.new.answers.items on
@@ -127,11 +127,11 @@ returns-in-Ok-eq0-clause-text g c = λ ki ko.
     let now = g.O.Output.held c.loop-reading.output in
     let now' = g.O.Output.held c.refill.new.output in
     let rest' = g.I.Input.rest c.refill.new.input in
-    let came = subst (λ (outcome : StepOutcome). CameSoFar outcome c.loop-reading.reading c.advance.new.reading c.advance.new.queue.cells.items) c.in-Ok-Wants-advance.field-0-is c.in-Ok-Wants-advance.ensures.came in
+    let came = subst (λ (outcome : StepOutcome). CameSoFar outcome c.loop-reading.reading c.advance.new.reading c.advance.new.queue.cells.items) c.in-Ok-NeedsOctets-advance.field-0-is c.in-Ok-NeedsOctets-advance.ensures.came in
     let wants = came.0 in
     let on = queue_advanced (f.shows c.advance.new.follower) reading cells wants.own c.advance.new.answers.items
-    c.loop-reading.invariant.goes wants.cut (c.in-Ok-Wants-advance.ensures.goes_on
-    (λ ended. let bad : outcome.Wants ≡ outcome.Ended = sym c.in-Ok-Wants-advance.field-0-is ∙ ended in cc)) in
+    c.loop-reading.invariant.goes wants.cut (c.in-Ok-NeedsOctets-advance.ensures.goes_on
+    (λ ended. let bad : outcome.NeedsOctets ≡ outcome.Ended = sym c.in-Ok-NeedsOctets-advance.field-0-is ∙ ended in cc)) in
     let last = queue_refilled reading' rest' now' c.refill.new.answers.items (queue_empty on came.3) refl c.in-Ok-eq0.ensures.front_octets c.in-Ok-eq0.ensures.octets
     (λ ko. all_given now now' c.advance.new.answers.items c.refill.new.answers.items (c.in-Ok-eq0.ensures.given ko) c.in-Ok-eq0.ensures.none) in
     let none : c.in-Ok-eq0.field-0 ≡ 0 = omega arith in
@@ -156,11 +156,11 @@ returns-in-Ok-eq0-clause-front g c = λ ki ko.
     let now = g.O.Output.held c.loop-reading.output in
     let now' = g.O.Output.held c.refill.new.output in
     let rest' = g.I.Input.rest c.refill.new.input in
-    let came = subst (λ (outcome : StepOutcome). CameSoFar outcome c.loop-reading.reading c.advance.new.reading c.advance.new.queue.cells.items) c.in-Ok-Wants-advance.field-0-is c.in-Ok-Wants-advance.ensures.came in
+    let came = subst (λ (outcome : StepOutcome). CameSoFar outcome c.loop-reading.reading c.advance.new.reading c.advance.new.queue.cells.items) c.in-Ok-NeedsOctets-advance.field-0-is c.in-Ok-NeedsOctets-advance.ensures.came in
     let wants = came.0 in
     let on = queue_advanced (f.shows c.advance.new.follower) reading cells wants.own c.advance.new.answers.items
-    c.loop-reading.invariant.goes wants.cut (c.in-Ok-Wants-advance.ensures.goes_on
-    (λ ended. let bad : outcome.Wants ≡ outcome.Ended = sym c.in-Ok-Wants-advance.field-0-is ∙ ended in cc)) in
+    c.loop-reading.invariant.goes wants.cut (c.in-Ok-NeedsOctets-advance.ensures.goes_on
+    (λ ended. let bad : outcome.NeedsOctets ≡ outcome.Ended = sym c.in-Ok-NeedsOctets-advance.field-0-is ∙ ended in cc)) in
     let last = queue_refilled reading' rest' now' c.refill.new.answers.items (queue_empty on came.3) refl c.in-Ok-eq0.ensures.front_octets c.in-Ok-eq0.ensures.octets
     (λ ko. all_given now now' c.advance.new.answers.items c.refill.new.answers.items (c.in-Ok-eq0.ensures.given ko) c.in-Ok-eq0.ensures.none) in
     let none : c.in-Ok-eq0.field-0 ≡ 0 = omega arith in
@@ -185,17 +185,17 @@ returns-in-Ok-eq0-clause-left g c = λ ki.
     let now = g.O.Output.held c.loop-reading.output in
     let now' = g.O.Output.held c.refill.new.output in
     let rest' = g.I.Input.rest c.refill.new.input in
-    let came = subst (λ (outcome : StepOutcome). CameSoFar outcome c.loop-reading.reading c.advance.new.reading c.advance.new.queue.cells.items) c.in-Ok-Wants-advance.field-0-is c.in-Ok-Wants-advance.ensures.came in
+    let came = subst (λ (outcome : StepOutcome). CameSoFar outcome c.loop-reading.reading c.advance.new.reading c.advance.new.queue.cells.items) c.in-Ok-NeedsOctets-advance.field-0-is c.in-Ok-NeedsOctets-advance.ensures.came in
     let wants = came.0 in
     let on = queue_advanced (f.shows c.advance.new.follower) reading cells wants.own c.advance.new.answers.items
-    c.loop-reading.invariant.goes wants.cut (c.in-Ok-Wants-advance.ensures.goes_on
-    (λ ended. let bad : outcome.Wants ≡ outcome.Ended = sym c.in-Ok-Wants-advance.field-0-is ∙ ended in cc)) in
+    c.loop-reading.invariant.goes wants.cut (c.in-Ok-NeedsOctets-advance.ensures.goes_on
+    (λ ended. let bad : outcome.NeedsOctets ≡ outcome.Ended = sym c.in-Ok-NeedsOctets-advance.field-0-is ∙ ended in cc)) in
     let last = queue_refilled reading' rest' now' c.refill.new.answers.items (queue_empty on came.3) refl c.in-Ok-eq0.ensures.front_octets c.in-Ok-eq0.ensures.octets
     (λ ko. all_given now now' c.advance.new.answers.items c.refill.new.answers.items (c.in-Ok-eq0.ensures.given ko) c.in-Ok-eq0.ensures.none) in
     IfOk-weaker c.finish.result _ _ (λ done ends. queue_enough done last ki ends) c.finish.ensures.text
 
-pub loop-reading-preserved-in-Ok-On : goal.loop-reading-preserved-in-Ok-On
-loop-reading-preserved-in-Ok-On g c =
+pub loop-reading-preserved-in-Ok-GoesOn : goal.loop-reading-preserved-in-Ok-GoesOn
+loop-reading-preserved-in-Ok-GoesOn g c =
     let f = g.F.CellFollower in
     let before = c.loop-reading.reading in
     let after = c.give_and_go_ahead.new.reading in
@@ -208,22 +208,22 @@ loop-reading-preserved-in-Ok-On g c =
     let cells = c.loop-reading.queue.cells.items in
     let cells' = c.give_and_go_ahead.new.queue.cells.items in
     let fills = subst (λ (how : StepOutcome). FillsAhead f.rules shown shown' g.I.Input.is_known rest rest' before cells how after cells' []
-    c.give_and_go_ahead.new.answers.items) c.in-Ok-On.field-0-is c.in-Ok-On.ensures.ahead in
+    c.give_and_go_ahead.new.answers.items) c.in-Ok-GoesOn.field-0-is c.in-Ok-GoesOn.ensures.ahead in
     let filled = queue_refilled (with_window before fills.near) rest' now' [] c.loop-reading.invariant.goes refl fills.front fills.same
-    (λ ko. all_given now now' c.loop-reading.answers.items [] (c.in-Ok-On.ensures.given ko) refl) in
+    (λ ko. all_given now now' c.loop-reading.answers.items [] (c.in-Ok-GoesOn.ensures.given ko) refl) in
     let came = fills.came in
     let cut = ap (λ (xs : List ℕ). length xs) came.0.cut in
     record {
       bounded = omega (arith, cut, length-append came.0.own after.window, fills.bounded c.loop-reading.invariant.bounded);
       near = came.0.near c.loop-reading.invariant.near;
-      spare = c.in-Ok-On.ensures.spare;
-      read = c.in-Ok-On.ensures.reading ∙ c.loop-reading.invariant.read;
-      written = c.in-Ok-On.ensures.writing ∙ c.loop-reading.invariant.written;
+      spare = c.in-Ok-GoesOn.ensures.spare;
+      read = c.in-Ok-GoesOn.ensures.reading ∙ c.loop-reading.invariant.read;
+      written = c.in-Ok-GoesOn.ensures.writing ∙ c.loop-reading.invariant.written;
       goes = queue_advanced shown' after cells' came.0.own c.give_and_go_ahead.new.answers.items filled came.0.cut (fills.goes_on (λ e. cc));
     }
 
-pub loop-reading-preserved-in-Ok-Wants : goal.loop-reading-preserved-in-Ok-Wants
-loop-reading-preserved-in-Ok-Wants g c =
+pub loop-reading-preserved-in-Ok-NeedsOctets : goal.loop-reading-preserved-in-Ok-NeedsOctets
+loop-reading-preserved-in-Ok-NeedsOctets g c =
     let f = g.F.CellFollower in
     let before = c.loop-reading.reading in
     let after = c.give_and_go_ahead.new.reading in
@@ -236,9 +236,9 @@ loop-reading-preserved-in-Ok-Wants g c =
     let cells = c.loop-reading.queue.cells.items in
     let cells' = c.give_and_go_ahead.new.queue.cells.items in
     let fills = subst (λ (how : StepOutcome). FillsAhead f.rules shown shown' g.I.Input.is_known rest rest' before cells how after cells' []
-    c.give_and_go_ahead.new.answers.items) c.in-Ok-Wants.field-0-is c.in-Ok-Wants.ensures.ahead in
+    c.give_and_go_ahead.new.answers.items) c.in-Ok-NeedsOctets.field-0-is c.in-Ok-NeedsOctets.ensures.ahead in
     let filled = queue_refilled (with_window before fills.near) rest' now' [] c.loop-reading.invariant.goes refl fills.front fills.same
-    (λ ko. all_given now now' c.loop-reading.answers.items [] (c.in-Ok-Wants.ensures.given ko) refl) in
+    (λ ko. all_given now now' c.loop-reading.answers.items [] (c.in-Ok-NeedsOctets.ensures.given ko) refl) in
     let came = fills.came in
     let same : after.window ≡ before.window = ap (λ (reading : ReadingAhead). reading.window) came.1 in
     let place : after.reader.at ≡ before.reader.at = ap (λ (reading : ReadingAhead). reading.reader.at) came.1 in
@@ -246,9 +246,9 @@ loop-reading-preserved-in-Ok-Wants g c =
     record {
       bounded = omega (arith, long, c.loop-reading.invariant.bounded);
       near = omega (arith, place, c.loop-reading.invariant.near);
-      spare = c.in-Ok-Wants.ensures.spare;
-      read = c.in-Ok-Wants.ensures.reading ∙ c.loop-reading.invariant.read;
-      written = c.in-Ok-Wants.ensures.writing ∙ c.loop-reading.invariant.written;
+      spare = c.in-Ok-NeedsOctets.ensures.spare;
+      read = c.in-Ok-NeedsOctets.ensures.reading ∙ c.loop-reading.invariant.read;
+      written = c.in-Ok-NeedsOctets.ensures.writing ∙ c.loop-reading.invariant.written;
       goes = queue_advanced shown' after cells' [] c.give_and_go_ahead.new.answers.items filled (came.0 ∙ sym same) (fills.goes_on (λ e. cc));
     }
 

@@ -51,8 +51,8 @@ returns-in_default-clause-ahead g c =
     let filled = subst (λ (stop : Option StopReason). FillsAndReads known rest rest' first stop last spare fresh) c.in_default.is all in
     ahead_ended f.rules shown shown' known rest rest' first last cells spare fresh old new answers filled c.requires.spare
 
-pub returns-in-Wants-clause-ahead : goal.returns-in-Wants-clause-ahead
-returns-in-Wants-clause-ahead g c =
+pub returns-in-NeedsOctets-clause-ahead : goal.returns-in-NeedsOctets-clause-ahead
+returns-in-NeedsOctets-clause-ahead g c =
     let f = g.F.CellFollower in
     let known = g.I.Input.is_known in
     let shown = f.shows c.args.follower.now in
@@ -72,7 +72,7 @@ returns-in-Wants-clause-ahead g c =
     (sym c.take_next_cells.ensures.cells) c.in_ok-stop.ensures.filled in
     let filled = subst (λ (stop : Option StopReason). FillsAndReads known rest rest' first stop last spare fresh) c.in-Some.is all in
     ahead_on f.rules shown shown' known rest rest' filled.0 first last c.in-Some.stop cells spare fresh old new answers filled.1 filled.2 c.requires.spare
-    (inl c.in-Wants.is)
+    (inl c.in-NeedsOctets.is)
 
 pub returns-in-Enough-clause-ahead : goal.returns-in-Enough-clause-ahead
 returns-in-Enough-clause-ahead g c =

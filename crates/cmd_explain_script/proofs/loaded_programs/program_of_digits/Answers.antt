@@ -4,7 +4,7 @@ use Rattle.bpf_code.proofs.Public.{SpellsCode-unique}
 use Rattle.bpf_code.specs.OctetSpelling.{SpellsCode}
 use Rattle.text_words.specs.Hexadecimal.{octets_of_digits}
 use Rattle.cmd_explain_script.specs.ContractNumbers.{names_none}
-use Rattle.cmd_explain_script.specs.declared.contract_numbers.NamesNone.{NamesNone}
+use Rattle.cmd_explain_script.specs.declared.contract_numbers.NamesNoContract.{NamesNoContract}
 use Rattle.cmd_explain_script.proofs.loaded_programs.program_of_digits.Goals as goal
 
 some_of : {A B : Type 0} (f : A → B) (found : Option A) (value : Option B) (x : A) → value ≡ option_map f found → found ≡ Some x → value ≡ Some (f x)
@@ -17,4 +17,4 @@ returns-in-Ok c octets code read spells =
     let spelled : SpellsCode octets c.in-Ok.code.items =
     subst (λ (xs : List ℕ). SpellsCode xs c.in-Ok.code.items) (c.deref.ensures.value ∙ same) c.in-Ok.ensures.code in
     let one = SpellsCode-unique octets c.in-Ok.code.items code spelled spells in
-    ap (λ (program : NamesNone). Some program) (c.names_none.ensures ∙ ap names_none (c.deref-in-Ok.ensures.value ∙ one))
+    ap (λ (program : NamesNoContract). Some program) (c.names_none.ensures ∙ ap names_none (c.deref-in-Ok.ensures.value ∙ one))

@@ -23,10 +23,10 @@ loop-reading-init g c = record {
   goes = begun (LinksHere c.args.reading) g.I.Input.is_known (Unit {0}) c.args.reading.window (g.I.Input.rest c.args.input.now) [];
 }
 
-pub loop-reading-preserved-in-Ok-On : goal.loop-reading-preserved-in-Ok-On
-loop-reading-preserved-in-Ok-On g c =
+pub loop-reading-preserved-in-Ok-GoesOn : goal.loop-reading-preserved-in-Ok-GoesOn
+loop-reading-preserved-in-Ok-GoesOn g c =
     let before = c.loop-reading.reading in
-    let on : ReadsFrame before c.step.new.self = subst (λ (how : StepOutcome). StepsLinks before how c.step.new.self) c.in-Ok-On.field-0-is c.in-Ok-On.ensures in
+    let on : ReadsFrame before c.step.new.self = subst (λ (how : StepOutcome). StepsLinks before how c.step.new.self) c.in-Ok-GoesOn.field-0-is c.in-Ok-GoesOn.ensures in
     record {
       bounded = goes_shorter before c.step.new.self 524288 on c.loop-reading.invariant.bounded;
       near = goes_near before c.step.new.self on;
@@ -76,7 +76,7 @@ returns-in-Ok-eq0-clause-text g c = λ ki.
     let zero : c.in-Ok-eq0.field-0 ≡ 0 = omega arith in
     let same : near ≡ still.window = c.in-Ok-eq0.ensures.none (ap (λ n. Ok n) zero) in
     let at_end : rest' ≡ [] = c.in-Ok-eq0.ensures.end ki (ap (λ n. Ok n) zero) in
-    let wants : WantsMore before still = subst (λ (how : StepOutcome). StepsLinks before how still) c.in-Ok-Wants.field-0-is c.in-Ok-Wants.ensures in
+    let wants : WantsMore before still = subst (λ (how : StepOutcome). StepsLinks before how still) c.in-Ok-NeedsOctets.field-0-is c.in-Ok-NeedsOctets.ensures in
     let waits : c.octets.result.now ≡ near = c.octets.ensures in
     let ending = c.end-ending.result in
     let ends : EndsReading still.reader.format still.reader.at near ending =
@@ -105,7 +105,7 @@ returns-in-Ok-eq0-clause-left g c = λ ki.
     let rest' = g.I.Input.rest c.fill.new.input in
     let zero : c.in-Ok-eq0.field-0 ≡ 0 = omega arith in
     let same : near ≡ still.window = c.in-Ok-eq0.ensures.none (ap (λ n. Ok n) zero) in
-    let wants : WantsMore before still = subst (λ (how : StepOutcome). StepsLinks before how still) c.in-Ok-Wants.field-0-is c.in-Ok-Wants.ensures in
+    let wants : WantsMore before still = subst (λ (how : StepOutcome). StepsLinks before how still) c.in-Ok-NeedsOctets.field-0-is c.in-Ok-NeedsOctets.ensures in
     let waits : c.octets.result.now ≡ near = c.octets.ensures in
     let ending = c.end-ending.result in
     let ends : EndsReading still.reader.format still.reader.at near ending =
@@ -128,7 +128,7 @@ loop-reading-preserved g c =
     let before = c.loop-reading.reading in
     let still = c.step.new.self in
     let rest = g.I.Input.rest c.loop-reading.input in
-    let wants : WantsMore before still = subst (λ (how : StepOutcome). StepsLinks before how still) c.in-Ok-Wants.field-0-is c.in-Ok-Wants.ensures in
+    let wants : WantsMore before still = subst (λ (how : StepOutcome). StepsLinks before how still) c.in-Ok-NeedsOctets.field-0-is c.in-Ok-NeedsOctets.ensures in
     record {
       bounded = c.in-Ok.ensures.bounded;
       near = omega (arith, wants.place.at, c.loop-reading.invariant.near);

@@ -60,26 +60,26 @@ returns-in-Ok-Ended-clause-left g c = λ ki.
 pub returns-then-is_err-clause-front : goal.returns-then-is_err-clause-front
 returns-then-is_err-clause-front g c = λ ki ko.
     let j = g.J.CellJudge in
-    let came = subst (λ (outcome : StepOutcome). ForwardedSoFar outcome c.loop-written.reading c.step.new.self) c.in-Ok-On.field-0-is c.in-Ok-On.ensures.came in
+    let came = subst (λ (outcome : StepOutcome). ForwardedSoFar outcome c.loop-written.reading c.step.new.self) c.in-Ok-GoesOn.field-0-is c.in-Ok-GoesOn.ensures.came in
     let on = run_advanced (j.shows c.step.new.judge) c.step.new.self came.0 c.step.new.written.items c.loop-written.invariant.goes came.1
-    (c.in-Ok-On.ensures.goes_on (λ ended. let bad : outcome.On ≡ outcome.Ended = sym c.in-Ok-On.field-0-is ∙ ended in cc)) in
+    (c.in-Ok-GoesOn.ensures.goes_on (λ ended. let bad : outcome.GoesOn ≡ outcome.Ended = sym c.in-Ok-GoesOn.field-0-is ∙ ended in cc)) in
     run_front (g.O.Output.held c.give_if_enough.new.output) c.judges_each_cell.ensures on ki ko
     (at-err c.give_if_enough.result _ (sym c.is_err.ensures.value ∙ c.if-is_err.true) (c.give_if_enough.ensures.front ko))
 
 pub loop-written-preserved-else-is_err : goal.loop-written-preserved-else-is_err
 loop-written-preserved-else-is_err g c =
     let j = g.J.CellJudge in
-    let came = subst (λ (outcome : StepOutcome). ForwardedSoFar outcome c.loop-written.reading c.step.new.self) c.in-Ok-On.field-0-is c.in-Ok-On.ensures.came in
+    let came = subst (λ (outcome : StepOutcome). ForwardedSoFar outcome c.loop-written.reading c.step.new.self) c.in-Ok-GoesOn.field-0-is c.in-Ok-GoesOn.ensures.came in
     let cut = ap (λ (xs : List ℕ). length xs) came.1 in
     let on = run_advanced (j.shows c.step.new.judge) c.step.new.self came.0 c.step.new.written.items c.loop-written.invariant.goes came.1
-    (c.in-Ok-On.ensures.goes_on (λ ended. let bad : outcome.On ≡ outcome.Ended = sym c.in-Ok-On.field-0-is ∙ ended in cc)) in
+    (c.in-Ok-GoesOn.ensures.goes_on (λ ended. let bad : outcome.GoesOn ≡ outcome.Ended = sym c.in-Ok-GoesOn.field-0-is ∙ ended in cc)) in
     let fine = sym c.is_err.ensures.value ∙ c.if-is_err.false in
     record {
       bounded = omega (arith, cut, length-append came.0 c.step.new.self.window, c.loop-written.invariant.bounded);
       near = came.4;
       read = c.loop-written.invariant.read;
       written = at-ok c.give_if_enough.result _ fine c.give_if_enough.ensures.calm ∙ c.loop-written.invariant.written;
-      silent = c.in-Ok-On.ensures.silent (λ ended. let bad : outcome.On ≡ outcome.Ended = sym c.in-Ok-On.field-0-is ∙ ended in cc) ∙ c.loop-written.invariant.silent;
+      silent = c.in-Ok-GoesOn.ensures.silent (λ ended. let bad : outcome.GoesOn ≡ outcome.Ended = sym c.in-Ok-GoesOn.field-0-is ∙ ended in cc) ∙ c.loop-written.invariant.silent;
       goes = run_given (g.O.Output.held c.give_if_enough.new.output) c.give_if_enough.new.answers.items on
           (λ ko. at-ok c.give_if_enough.result _ fine (c.give_if_enough.ensures.moved ko));
     }
@@ -87,9 +87,9 @@ loop-written-preserved-else-is_err g c =
 pub returns-in-Err-refill-clause-front : goal.returns-in-Err-refill-clause-front
 returns-in-Err-refill-clause-front g c = λ ki ko.
     let j = g.J.CellJudge in
-    let came = subst (λ (outcome : StepOutcome). ForwardedSoFar outcome c.loop-written.reading c.step.new.self) c.in-Ok-Wants.field-0-is c.in-Ok-Wants.ensures.came in
+    let came = subst (λ (outcome : StepOutcome). ForwardedSoFar outcome c.loop-written.reading c.step.new.self) c.in-Ok-NeedsOctets.field-0-is c.in-Ok-NeedsOctets.ensures.came in
     let on = run_advanced (j.shows c.step.new.judge) c.step.new.self [] c.step.new.written.items c.loop-written.invariant.goes (sym came.0)
-    (c.in-Ok-Wants.ensures.goes_on (λ ended. let bad : outcome.Wants ≡ outcome.Ended = sym c.in-Ok-Wants.field-0-is ∙ ended in cc)) in
+    (c.in-Ok-NeedsOctets.ensures.goes_on (λ ended. let bad : outcome.NeedsOctets ≡ outcome.Ended = sym c.in-Ok-NeedsOctets.field-0-is ∙ ended in cc)) in
     run_front (g.O.Output.held c.refill.new.output) c.judges_each_cell.ensures on ki ko (c.in-Err-refill.ensures.front ko)
 
 pub loop-written-preserved : goal.loop-written-preserved
@@ -100,15 +100,15 @@ loop-written-preserved g c =
     let now = g.O.Output.held c.loop-written.output in
     let now' = g.O.Output.held c.refill.new.output in
     let rest' = g.I.Input.rest c.refill.new.input in
-    let came = subst (λ (outcome : StepOutcome). ForwardedSoFar outcome c.loop-written.reading c.step.new.self) c.in-Ok-Wants.field-0-is c.in-Ok-Wants.ensures.came in
+    let came = subst (λ (outcome : StepOutcome). ForwardedSoFar outcome c.loop-written.reading c.step.new.self) c.in-Ok-NeedsOctets.field-0-is c.in-Ok-NeedsOctets.ensures.came in
     let on = run_advanced (j.shows c.step.new.judge) reading [] c.step.new.written.items c.loop-written.invariant.goes (sym came.0)
-    (c.in-Ok-Wants.ensures.goes_on (λ ended. let bad : outcome.Wants ≡ outcome.Ended = sym c.in-Ok-Wants.field-0-is ∙ ended in cc)) in
+    (c.in-Ok-NeedsOctets.ensures.goes_on (λ ended. let bad : outcome.NeedsOctets ≡ outcome.Ended = sym c.in-Ok-NeedsOctets.field-0-is ∙ ended in cc)) in
     record {
       bounded = c.in-Ok.ensures.bounded;
       near = omega (arith, came.1, c.loop-written.invariant.near);
       read = c.in-Ok.ensures.reading ∙ c.loop-written.invariant.read;
       written = c.in-Ok.ensures.writing ∙ c.loop-written.invariant.written;
-      silent = c.in-Ok-Wants.ensures.silent (λ ended. let bad : outcome.Wants ≡ outcome.Ended = sym c.in-Ok-Wants.field-0-is ∙ ended in cc) ∙ c.loop-written.invariant.silent;
+      silent = c.in-Ok-NeedsOctets.ensures.silent (λ ended. let bad : outcome.NeedsOctets ≡ outcome.Ended = sym c.in-Ok-NeedsOctets.field-0-is ∙ ended in cc) ∙ c.loop-written.invariant.silent;
       goes = run_refilled reading' rest' now' c.refill.new.answers.items on refl c.in-Ok.ensures.front_octets c.in-Ok.ensures.octets
           (λ ko. all-moved now now' c.step.new.written.items c.refill.new.answers.items (c.in-Ok.ensures.given ko) c.in-Ok.ensures.none);
     }
@@ -121,14 +121,14 @@ returns-in-Ok-eq0-clause-text g c = λ ki ko.
     let now = g.O.Output.held c.loop-written.output in
     let now' = g.O.Output.held c.refill.new.output in
     let rest' = g.I.Input.rest c.refill.new.input in
-    let came = subst (λ (outcome : StepOutcome). ForwardedSoFar outcome c.loop-written.reading c.step.new.self) c.in-Ok-Wants.field-0-is c.in-Ok-Wants.ensures.came in
+    let came = subst (λ (outcome : StepOutcome). ForwardedSoFar outcome c.loop-written.reading c.step.new.self) c.in-Ok-NeedsOctets.field-0-is c.in-Ok-NeedsOctets.ensures.came in
     let on = run_advanced (j.shows c.step.new.judge) reading [] c.step.new.written.items c.loop-written.invariant.goes (sym came.0)
-    (c.in-Ok-Wants.ensures.goes_on (λ ended. let bad : outcome.Wants ≡ outcome.Ended = sym c.in-Ok-Wants.field-0-is ∙ ended in cc)) in
+    (c.in-Ok-NeedsOctets.ensures.goes_on (λ ended. let bad : outcome.NeedsOctets ≡ outcome.Ended = sym c.in-Ok-NeedsOctets.field-0-is ∙ ended in cc)) in
     let last = run_refilled reading' rest' now' c.refill.new.answers.items on refl c.in-Ok-eq0.ensures.front_octets c.in-Ok-eq0.ensures.octets
     (λ ko. all-moved now now' c.step.new.written.items c.refill.new.answers.items (c.in-Ok-eq0.ensures.given ko) c.in-Ok-eq0.ensures.none) in
     let none : c.in-Ok-eq0.field-0 ≡ 0 = omega arith in
     let at_end : rest' ≡ [] = c.in-Ok-eq0.ensures.end ki (ap (λ n. Ok n) none) in
-    let silent = c.in-Ok-Wants.ensures.silent (λ ended. let bad : outcome.Wants ≡ outcome.Ended = sym c.in-Ok-Wants.field-0-is ∙ ended in cc) ∙ c.loop-written.invariant.silent in
+    let silent = c.in-Ok-NeedsOctets.ensures.silent (λ ended. let bad : outcome.NeedsOctets ≡ outcome.Ended = sym c.in-Ok-NeedsOctets.field-0-is ∙ ended in cc) ∙ c.loop-written.invariant.silent in
     last_text c.finish.result j.rules c.args.others (j.shows c.args.judge.now) (j.shows c.step.new.judge) c.args.reading reading' g.I.Input.is_known g.O.Output.is_known
     (g.I.Input.rest c.args.input.now) rest' (g.O.Output.held c.args.output.now) now' (g.O.Output.held c.finish.new.output) c.refill.new.answers.items
     c.args.report.now.items c.step.new.report.items c.finish.new.report.items silent last ki ko at_end (c.finish.ensures.given ko) c.finish.ensures.said
@@ -141,9 +141,9 @@ returns-in-Ok-eq0-clause-front g c = λ ki ko.
     let now = g.O.Output.held c.loop-written.output in
     let now' = g.O.Output.held c.refill.new.output in
     let rest' = g.I.Input.rest c.refill.new.input in
-    let came = subst (λ (outcome : StepOutcome). ForwardedSoFar outcome c.loop-written.reading c.step.new.self) c.in-Ok-Wants.field-0-is c.in-Ok-Wants.ensures.came in
+    let came = subst (λ (outcome : StepOutcome). ForwardedSoFar outcome c.loop-written.reading c.step.new.self) c.in-Ok-NeedsOctets.field-0-is c.in-Ok-NeedsOctets.ensures.came in
     let on = run_advanced (j.shows c.step.new.judge) reading [] c.step.new.written.items c.loop-written.invariant.goes (sym came.0)
-    (c.in-Ok-Wants.ensures.goes_on (λ ended. let bad : outcome.Wants ≡ outcome.Ended = sym c.in-Ok-Wants.field-0-is ∙ ended in cc)) in
+    (c.in-Ok-NeedsOctets.ensures.goes_on (λ ended. let bad : outcome.NeedsOctets ≡ outcome.Ended = sym c.in-Ok-NeedsOctets.field-0-is ∙ ended in cc)) in
     let last = run_refilled reading' rest' now' c.refill.new.answers.items on refl c.in-Ok-eq0.ensures.front_octets c.in-Ok-eq0.ensures.octets
     (λ ko. all-moved now now' c.step.new.written.items c.refill.new.answers.items (c.in-Ok-eq0.ensures.given ko) c.in-Ok-eq0.ensures.none) in
     on_fault c.finish.result _ _ (c.finish.ensures.front ko)
@@ -157,9 +157,9 @@ returns-in-Ok-eq0-clause-left g c = λ ki.
     let now = g.O.Output.held c.loop-written.output in
     let now' = g.O.Output.held c.refill.new.output in
     let rest' = g.I.Input.rest c.refill.new.input in
-    let came = subst (λ (outcome : StepOutcome). ForwardedSoFar outcome c.loop-written.reading c.step.new.self) c.in-Ok-Wants.field-0-is c.in-Ok-Wants.ensures.came in
+    let came = subst (λ (outcome : StepOutcome). ForwardedSoFar outcome c.loop-written.reading c.step.new.self) c.in-Ok-NeedsOctets.field-0-is c.in-Ok-NeedsOctets.ensures.came in
     let on = run_advanced (j.shows c.step.new.judge) reading [] c.step.new.written.items c.loop-written.invariant.goes (sym came.0)
-    (c.in-Ok-Wants.ensures.goes_on (λ ended. let bad : outcome.Wants ≡ outcome.Ended = sym c.in-Ok-Wants.field-0-is ∙ ended in cc)) in
+    (c.in-Ok-NeedsOctets.ensures.goes_on (λ ended. let bad : outcome.NeedsOctets ≡ outcome.Ended = sym c.in-Ok-NeedsOctets.field-0-is ∙ ended in cc)) in
     let last = run_refilled reading' rest' now' c.refill.new.answers.items on refl c.in-Ok-eq0.ensures.front_octets c.in-Ok-eq0.ensures.octets
     (λ ko. all-moved now now' c.step.new.written.items c.refill.new.answers.items (c.in-Ok-eq0.ensures.given ko) c.in-Ok-eq0.ensures.none) in
     IfOk-weaker c.finish.result _ _

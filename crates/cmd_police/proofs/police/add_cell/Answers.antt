@@ -18,9 +18,9 @@ returns c =
     let vc = c.vc_at-vc.result in
     let clp : c.clp-clp.result ≡ has_low_priority captured.cell = c.clp-clp.ensures.test in
     let excess = c.excess_of-excess.result in
-    subst (λ (named : Vc). AddsCell c.args.side c.args.lines (shown_stored c.args.rules.now) c.args.begun captured named given c.args.card.now
+    subst (λ (named : Vc). AddsCell c.args.side c.args.lines (shown_stored c.args.rules.now) c.args.has_heading captured named given c.args.card.now
     c.args.answers.now.items c.end_line.new.answers.items true) c.vc_at-vc.ensures.connection
-    (adds_line c.args.side c.args.lines (shown_stored c.args.rules.now) c.args.begun captured vc given c.args.card.now excess
+    (adds_line c.args.side c.args.lines (shown_stored c.args.rules.now) c.args.has_heading captured vc given c.args.card.now excess
     c.args.answers.now.items c.add_heading_once.new.answers.items c.add_cell_columns.new.answers.items c.end_line.new.answers.items
     (sym (c.has_line.ensures captured.cell) ∙ c.if-not-has_line.false)
     c.in_ok-add_heading_once.ensures

@@ -60,7 +60,7 @@ returns-in-Ok-Ready g c =
     served-wider (IsCaptureText police_rules (filter_start tick c.args.choice.scope.link c.args.choice.scope.timing) first)
     (IsPoliceText c.args.choice.scope tick (shown_stored c.args.rules) script times) (λ octets text done printed. inr (set.card, set.reached, printed))
     g.I.Input c.args.input.now c.follow_cells.new.input g.O.Output c.args.output.now c.follow_cells.new.output c.follow_cells.result
-    (c.follow_cells.ensures first set.led (record { lines = refl; rules = refl; tick = refl; timed = set.shown; commanded = refl; begun = refl; spans = spans; not_judged = c.none.ensures }))
+    (c.follow_cells.ensures first set.led (record { lines = refl; rules = refl; tick = refl; timed = set.shown; commanded = refl; has_heading = refl; spans = spans; not_judged = c.none.ensures }))
 
 run_sends : IsSend PoliceRun.the_row
 run_sends = search (sendable, crosses, loaded_sends, timed_sends, spans_send) depth 40

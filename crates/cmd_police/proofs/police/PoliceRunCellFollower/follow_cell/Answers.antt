@@ -43,10 +43,10 @@ returns c =
     let given = answer_to cell c.in-Some.decision in
     let here : c.shape-side.result ≡ timed.card.core.shape = c.shape-side.ensures ∙ ap (λ (core : CoreView). core.shape) c.core.ensures in
     let At : TimedCard → Type 0 = λ after. FollowsArrived (ShowsPolice run) captured
-    (ShowsPolice (record run { timed = after; begun = c.in_ok-self.field-0; spans = c.count.new.self; not_judged = c.count-2.new.self }))
+    (ShowsPolice (record run { timed = after; has_heading = c.in_ok-self.field-0; spans = c.count.new.self; not_judged = c.count-2.new.self }))
     c.carry_out.new.answers.items c.add_cell.new.answers.items in
     polices_after c.args.self.now timed carried commanded captured
-    (ShowsPolice (record run { timed = c.arrive.new.self; begun = c.in_ok-self.field-0; spans = c.count.new.self; not_judged = c.count-2.new.self }))
+    (ShowsPolice (record run { timed = c.arrive.new.self; has_heading = c.in_ok-self.field-0; spans = c.count.new.self; not_judged = c.count-2.new.self }))
     c.args.answers.now.items c.carry_out.new.answers.items c.add_cell.new.answers.items
     c.in_ok-carried.ensures refl
     (subst At (sym c.arrive.ensures.rest) (polices_by run core given captured c.in_ok-self.field-0 c.go_on.new.self c.count.new.self c.count-2.new.self
@@ -54,9 +54,9 @@ returns c =
     (record { added = c.in_ok-go_on.ensures.text; spans = c.in_ok-go_on.ensures.spans })
     (subst (λ (o : Option (Result Judgement Unjudged)). ArrivesWithRoom timed.card.core cell captured.moment (option_map (λ decision. answer_to cell decision) o) core)
     c.in-Some.is c.arrive.ensures.arrives)
-    (subst (λ (shape : Shape). AddsCell shape.side run.lines (shown_stored run.rules) run.begun captured (vc_of shape.side cell) given (record timed.card { core = core })
+    (subst (λ (shape : Shape). AddsCell shape.side run.lines (shown_stored run.rules) run.has_heading captured (vc_of shape.side cell) given (record timed.card { core = core })
     c.go_on.new.answers.items c.add_cell.new.answers.items c.in_ok-self.field-0) here
-    (subst (λ (after : TimedCard). AddsCell c.shape-side.result.side run.lines (shown_stored run.rules) run.begun captured (vc_of c.shape-side.result.side cell) given after.card
+    (subst (λ (after : TimedCard). AddsCell c.shape-side.result.side run.lines (shown_stored run.rules) run.has_heading captured (vc_of c.shape-side.result.side cell) given after.card
     c.go_on.new.answers.items c.add_cell.new.answers.items c.in_ok-self.field-0) c.arrive.ensures.rest c.in_ok-self.ensures))
     (λ spans shown. subst (λ (shape : Shape). ShowsSpans c.count.new.self (spans_after spans (vc_of shape.side cell) given)) here (c.in_ok-count.ensures spans shown))
     (c.count-2.ensures cell)))

@@ -1,7 +1,7 @@
 -- The first mark cuts the text. A text without a mark isn't cut.
 use Rattle.std.proofs.Common.{arith, sym}
 use Rattle.text_script.proofs.MarkLemmas.{cut_there, uncut, not_true}
-use Rattle.text_script.proofs.script_words.cut.Goals as goal
+use Rattle.text_script.proofs.script_words.split_at_mark.Goals as goal
 
 pub returns-in-Some : goal.returns-in-Some
 returns-in-Some c =
