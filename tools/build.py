@@ -20,14 +20,14 @@ import kit
 # About the seconds that one processor takes for a crate, where four are at work. Only their proportions matter, for the order. A crate that isn't
 # here takes one for each LINES lines.
 SECONDS = {
-    "upc_cell": 25, "gen_arena": 45, "leaky": 35, "vc_table": 45, "bpf_code": 70, "bpf_verify": 75, "bpf_interp": 75, "bpf_asm": 160,
-    "line_record": 115, "card_core": 180, "port_card": 350, "text_io": 100, "text_words": 35, "text_script": 125, "text_card": 35,
-    "text_command_line": 120, "rules_code": 90, "rules_cells": 60, "rules_diagrams": 230, "rules_text": 240, "captures": 120,
-    "captures_text": 190, "cmd_programs": 70, "cmd_run": 105, "cmd_ports": 260, "cmd_list": 50, "cmd_rules": 135, "cmd_size": 80,
-    "cmd_differ": 120, "cmd_explain_script": 155, "cmd_explain_rules": 170, "cmd_explain": 220, "cmd_fit": 150, "cmd_setups": 230,
-    "cmd_police": 260, "cmd_forward": 200, "cmd_options": 160,
+    "upc_cell": 20, "gen_arena": 30, "leaky": 25, "vc_table": 30, "bpf_code": 45, "bpf_verify": 45, "bpf_interp": 60, "bpf_asm": 115,
+    "line_record": 90, "card_core": 120, "port_card": 220, "text_io": 70, "text_words": 20, "text_script": 85, "text_card": 20,
+    "text_command_line": 75, "rules_code": 60, "rules_cells": 45, "rules_diagrams": 150, "rules_text": 155, "captures": 95,
+    "captures_text": 120, "cmd_programs": 45, "cmd_run": 50, "cmd_ports": 150, "cmd_list": 25, "cmd_rules": 75, "cmd_size": 50,
+    "cmd_differ": 65, "cmd_explain_script": 90, "cmd_explain_rules": 95, "cmd_explain": 115, "cmd_fit": 80, "cmd_setups": 125,
+    "cmd_police": 130, "cmd_forward": 80, "cmd_options": 110,
 }
-LINES = 12
+LINES = 15
 
 
 def seconds(crate):
@@ -44,25 +44,54 @@ def chains(program):
     return longest
 
 
-def built(crate, jobs, nice):
+def is_current(crate):
+    """Returns whether the library is built, and no library below it was built later: statements fit only the libraries that they were made over."""
+    at = lambda it: os.path.getmtime(f"{os.path.dirname(it.rlib)}/stamp")
+    return crate.is_built() and all(it.is_built() and at(it) <= at(crate) for it in crate.below())
+
+
+def refused(crate, words, output, nice=0):
+    """Proves a crate and writes what is built of it. Returns what the prover printed if it refused, or nothing."""
+    rtlib = kit.module()
+    whole = ["nice", "-n", str(nice), *rtlib.guarded(), rtlib.RATTLE, "build", *words, "-o", output]
+    how = {"stdin": subprocess.DEVNULL, "stdout": subprocess.PIPE, "stderr": subprocess.STDOUT, "errors": "replace"}
+    ran = subprocess.run(whole, cwd=crate.folder, **how)
+    return ran.stdout or f"the status is {ran.returncode}" if ran.returncode else ""
+
+
+def library_refused(crate, jobs, nice):
     """Proves a library and builds it. Returns what the prover printed if it refused, or nothing."""
     rtlib, stamp = kit.module(), crate.stamp()
-    if crate.is_built():
+    if is_current(crate):
         return ""
     folder = os.path.dirname(crate.rlib)
     shutil.rmtree(folder, ignore_errors=True)
     os.makedirs(folder)
-    # What an earlier check kept serves again. Else nothing is kept: that is faster.
+    # What an earlier check kept serves again. Else nothing is kept, which is faster, and the library is written with its statements and without
+    # their proofs: the crates above it load a third of the modules.
     keeps = crate.has_kept()
-    words = crate.words(["--jobs", str(jobs)], keeps=keeps) + (rtlib.KEPT if keeps else [])
-    whole = ["nice", "-n", str(nice), *rtlib.guarded(), rtlib.RATTLE, "build", *words, "-o", crate.rlib]
-    how = {"stdin": subprocess.DEVNULL, "stdout": subprocess.PIPE, "stderr": subprocess.STDOUT, "errors": "replace"}
-    ran = subprocess.run(whole, cwd=crate.folder, **how)
-    if ran.returncode:
-        return ran.stdout
-    with open(f"{folder}/stamp", "w", encoding="utf-8") as it:
-        it.write(stamp)
-    return ""
+    cuts = ["--statements"] if "--statements" in rtlib.help_of("build") else []
+    output = refused(crate, crate.words(["--jobs", str(jobs)], keeps=keeps) + (rtlib.KEPT if keeps else cuts), crate.rlib, nice)
+    if not output:
+        with open(f"{folder}/stamp", "w", encoding="utf-8") as it:
+            it.write(stamp)
+    return output
+
+
+def program_refused(program, jobs, product):
+    """Proves a program or a static library, over libraries that are built, and builds it. Returns what was printed if it failed, or nothing."""
+    rtlib = kit.module()
+    words = [*program.words(["--jobs", str(jobs)], keeps=False), "--toolchain", f"{rtlib.KIT}/toolchain", "--backend", "llvm"]
+    os.makedirs(os.path.dirname(product), exist_ok=True)
+    if program.is_static:
+        return refused(program, words, product)
+    output = refused(program, words, f"{product}.o")
+    if output:
+        return output
+    words = ["--target", "x86_64-unknown-linux-gnu", "--toolchain", f"{rtlib.KIT}/toolchain", "-o", product, f"{product}.o"]
+    words += [f"{rtlib.KIT}/c/{it}" for it in ("libos_c.a", "liblibc_c.a")]
+    ran = subprocess.run([f"{rtlib.KIT}/bin/rattle-link", *words], stdout=subprocess.PIPE, stderr=subprocess.STDOUT, errors="replace")
+    return ran.stdout or f"the status is {ran.returncode}" if ran.returncode else ""
 
 
 def main(name):
@@ -91,7 +120,7 @@ def main(name):
                 leads = all(longest[crate.name] >= longest[it.name] for it, _ in running.values())
                 idle = lanes - sum(it for _, it in running.values())
                 jobs = max(lanes // 2 if leads else 1, idle // (len(free) + 1), 1)
-                running[pool.submit(built, crate, jobs, 0 if leads else 5)] = crate, jobs
+                running[pool.submit(library_refused, crate, jobs, 0 if leads else 5)] = crate, jobs
             for it in wait(running, return_when=FIRST_COMPLETED).done:
                 crate, _ = running.pop(it)
                 output = it.result()
@@ -100,16 +129,14 @@ def main(name):
                     return 1
                 ready.add(crate.name)
                 report(f"{crate.name} is proved, crate {len(ready)} of {number}, {kit.minutes(time.time() - begun)}")
-    for it in locks:
-        os.close(it)
     product = f"{program.folder}/out/" + (f"lib{name}.a" if program.is_static else name)
     if os.path.exists(product):
         os.remove(product)
-    # A program is only to be built: with no input it ends at once.
-    words = ["rt", "lib"] if program.is_static else ["rt", "run", "--jobs", str(lanes)]
-    ended = subprocess.run(words, cwd=program.folder, stdin=subprocess.DEVNULL, stdout=subprocess.PIPE, stderr=subprocess.STDOUT)
-    if not os.path.exists(product):
-        report("it is not built\n" + ended.stdout.decode(errors="replace"))
+    output = program_refused(program, lanes, product)
+    for it in locks:
+        os.close(it)
+    if output or not os.path.exists(product):
+        report(f"it is not built\n{output}")
         return 1
     report(f"{name} is proved and built, {kit.minutes(time.time() - begun)}")
     return 0
